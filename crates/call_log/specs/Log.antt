@@ -1,4 +1,4 @@
--- What the file system writes down, and what it may answer.
+-- The log of the file system, and the answers that it may give.
 use Rattle.std.specs.Prelude.{◌≡◌, nat_lt, List, [], ◌∷◌, ◌++◌, length, map, None, if◌then◌else◌}
 use Rattle.fuse_fs.specs.Answers.{default_stats}
 use Rattle.fuse_fs.specs.Calls.{FileCall, FileAnswer, Init, Destroy, Lookup, Forget, BatchForget, Open}
@@ -7,7 +7,8 @@ use Rattle.call_log.specs.declared.files.CallLog.{CallLog}
 use Rattle.call_log.specs.declared.log.LoggedCall.{LoggedCall}
 use Rattle.call_log.specs.declared.log.LoggedCall.TheVariants as log
 
--- a call as it is written down, a list of nodes to be forgotten node by node; other calls leave nothing
+-- the log entries of a call: one for each call of the six kinds, for BATCH_FORGET one for each node, and none
+-- for any other call
 abbrev pub entries_for : FileCall → List LoggedCall
 entries_for (Init capable) = log.Init ∷ []
 entries_for (Lookup who parent name) = log.Lookup parent ∷ []
@@ -17,17 +18,17 @@ entries_for (Read who node handle room size offset owner flags) = log.Read node 
 entries_for (Write who node handle bytes size offset owner delayed kill flags) = log.Write node ∷ []
 entries_for _ = []
 
--- a log with one more call; it holds 64
+-- a log after one more call; it holds at most 64
 abbrev pub kept : List LoggedCall → LoggedCall → List LoggedCall
 kept calls call = if nat_lt (length calls) 64 then calls ++ call ∷ [] else calls
 
--- a log after calls were written down one after another
+-- a log after several calls, one after another
 abbrev pub with_calls : List LoggedCall → List LoggedCall → List LoggedCall
 with_calls calls [] = calls
 with_calls calls (call ∷ more) = with_calls (kept calls call) more
 
--- what a call may be answered: a look-up finds node 2, or nothing (ENOENT); `init` asks for no option; what
--- isn't served has its default, which mostly is that there is no such call (ENOSYS)
+-- the answers that a call may have: a look-up finds node 2 or ENOENT, INIT wants no option, READ and WRITE
+-- may have any answer, and any other call has its default, mostly ENOSYS
 abbrev pub MayAnswerLogged : FileCall → FileAnswer → Type 0
 MayAnswerLogged (Init capable) (Wants options) = options ≡ 0
 MayAnswerLogged (Init capable) _ = ⊥
@@ -44,7 +45,7 @@ MayAnswerLogged (Opendir who node flags) answer = answer ≡ Opened None 0
 MayAnswerLogged (Statfs who node) answer = answer ≡ Stats default_stats
 MayAnswerLogged _ answer = answer ≡ Failed 38
 
--- each call grows the log by itself, and has one of the answers that it may have
+-- the file system's relation: a call adds its own entries to the log, and has an answer that it may have
 abbrev pub MayLog : CallLog → FileCall → FileAnswer → CallLog → Type 0
 MayLog before call answer after =
     (after.calls.items ≡ with_calls before.calls.items (entries_for call)) × MayAnswerLogged call answer

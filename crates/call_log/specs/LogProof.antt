@@ -1,5 +1,4 @@
--- A proof: what holds of the file system's log, whatever it is asked. It stands here since `files.rt` cites
--- it.
+-- A proof about the file system's log and its default answers. It is in `specs/` since `files.rt` cites it.
 use Rattle.std.proofs.Common.{◌≡◌, ℕ, List, [], ◌∷◌, Bool, true, false, refl, ap, ◌∙◌}
 use Rattle.fuse_fs.specs.declared.answers.Context.{Context}
 use Rattle.fuse_fs.specs.Answers.{ForgetsEach}
@@ -14,14 +13,14 @@ use Rattle.call_log.specs.declared.files.CallLog.{CallLog}
 use Rattle.call_log.specs.declared.log.LoggedCall.{LoggedCall}
 use Rattle.call_log.specs.Log.{MayLog, entries_for, with_calls}
 
--- calls that may be lacking
+-- whether a file system may lack the calls of a group
 abbrev pub is_lacked : Group → Bool
 is_lacked Opening = true
 is_lacked Changing = true
 is_lacked Rare = true
 is_lacked _ = false
 
--- each leaves nothing in the log, and has its default
+-- a lacking call adds nothing to the log, and has its default answer
 pub lacked_unlogged :
     (s : CallLog) (c : FileCall) → is_lacked (group_of c) ≡ true → MayLog s c (default_answer c) s
 lacked_unlogged s (Init a) e = absurd (cc)
@@ -78,7 +77,7 @@ opening_unlogged s c of_group = lacked_unlogged s c (ap is_lacked of_group)
 pub changing_unlogged : (s : CallLog) (c : FileCall) → group_of c ≡ Changing → MayLog s c (default_answer c) s
 changing_unlogged s c of_group = lacked_unlogged s c (ap is_lacked of_group)
 
--- nodes that are forgotten one after another are written down one after another
+-- nodes that are forgotten one after another are logged one after another
 pub forgets_logged : (before : CallLog) (who : Context) (counts : List (ℕ × ℕ)) (after : CallLog) →
     ForgetsEach MayLog before who counts after →
     after.calls.items ≡ with_calls before.calls.items (entries_for (BatchForget who counts))

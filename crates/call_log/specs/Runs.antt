@@ -1,5 +1,5 @@
--- What a whole run writes down: the calls of INIT, LOOKUP, FORGET, BATCH_FORGET, READ and WRITE that the
--- exchanged requests mean, and a forget if the entry of a LOOKUP had no room.
+-- The log of a whole run: the calls of the exchanged INIT, LOOKUP, FORGET, BATCH_FORGET, READ and WRITE
+-- requests, and a forget if the entry of a LOOKUP didn't fit the reply buffer.
 use Rattle.std.specs.Prelude.{◌≡◌, List, [], ◌∷◌, ◌++◌, map, flat_map, Option, Some, None}
 use Rattle.fuse_fs.specs.Calls.{FileCall}
 use Rattle.virtiofsd_fuse.specs.Grammar.{meaning}
@@ -11,18 +11,18 @@ use Rattle.plain_machine.specs.Run.{Answer, Done, Bytes, NewBlockIs, Served, Cop
 use Rattle.call_log.specs.declared.log.LoggedCall.{LoggedCall}
 use Rattle.call_log.specs.Log.{entries_for, with_calls, MayAnswerLogged}
 
--- what calls write down, one after another
+-- the log entries of several calls, one after another
 abbrev pub entries_of : List FileCall → List LoggedCall
 entries_of calls = flat_map entries_for calls
 
--- each call has one of the answers that the file system may give it: so a look-up whose entry had no room is
--- followed by the forget of node 2 by 1, and one that found nothing by no forget
+-- each call has an answer that the file system may give it; so a look-up whose entry didn't fit the reply
+-- buffer is followed by the forget of node 2 by 1, and a look-up that found nothing by no forget
 abbrev pub EachMayAnswer : Calls → Type 0
 EachMayAnswer [] = Unit {0}
 EachMayAnswer (step ∷ steps) = MayAnswerLogged step.0 step.1 × EachMayAnswer steps
 
--- what a request writes down that was answered so: the calls that it asks in some setting, each by the
--- answers before it, which make this exchange
+-- the entries are those of the calls of an exchange's request: in some setting the server makes these calls
+-- in turn, and their answers result in this exchange
 abbrev pub IsAnswered : Exchange → List LoggedCall → Type 0
 IsAnswered x entries = (s : Setting) × (steps : Calls)
     × EachSuits steps
@@ -32,17 +32,17 @@ IsAnswered x entries = (s : Setting) × (steps : Calls)
     (served s (meaning s.options x.request s.room) (answers_alone steps)))
     × (entries ≡ entries_of (calls_alone steps))
 
--- what an exchange with this fault writes down: a faulty chain nothing
+-- the log entries of an exchange with this fault: none for a faulty chain
 abbrev pub WritesDown : Option Fault → Exchange → List LoggedCall → Type 0
 WritesDown (Some (fault.Chain why)) x entries = entries ≡ []
 WritesDown (Some (fault.Served e)) x entries = IsAnswered x entries
 WritesDown None x entries = IsAnswered x entries
 
--- what an exchange writes down
+-- the log entries of an exchange
 abbrev pub IsLoggedBy : Exchange → List LoggedCall → Type 0
 IsLoggedBy x entries = WritesDown x.fault x entries
 
--- what exchanges write down, one after another
+-- the log entries of several exchanges, one after another
 unfoldable pub AreLoggedBy : List Exchange → List LoggedCall → Type 0
 AreLoggedBy [] entries = entries ≡ []
 AreLoggedBy (x ∷ xs) entries =
@@ -58,8 +58,7 @@ exchanges_in (Copied host) = []
 exchanges_in (Pages pages) = []
 exchanges_in (IsRefused why) = []
 
--- from one log to another, by commands that were answered so: it grew by the calls of the exchanges, in their
--- order, and by nothing else
+-- a log grows by the calls of the exchanges in these answers, in their order, and by nothing else
 abbrev pub Grows : List LoggedCall → List Answer → List LoggedCall → Type 0
 Grows before answers after =
     (entries : List LoggedCall)

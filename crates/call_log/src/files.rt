@@ -1,4 +1,4 @@
-//! The file system: three files that never change, and a log that grows by each call.
+//! The file system: three files that never change, and a log of its calls.
 
 ghost use Rattle.std.specs.Prelude.{◌≡◌, ⊤, [], option_map};
 ghost use Rattle.fuse_fs.specs.Answers.{attr_answer};
@@ -14,23 +14,23 @@ use virtiofsd_fuse::{
     PositionedFile, Timeout, WritevFlags, ZeroCopyReader, ZeroCopyWriter, defaults,
 };
 
-/// The node of the file `a`, which is `hello`.
+/// The node ID of the file `a`, whose bytes are `hello`.
 pub const HELLO: u64 = 2;
 
-/// The node of a file that has no name: its byte at k is k modulo 251, and it has no end.
+/// The node ID of a file without a name: its byte at offset k is k modulo 251, and it has no end.
 pub const PATTERN: u64 = 3;
 
-/// The node of a file that has no name: of its bytes, which are those of `hello`, one read gives at most
-/// three, and if there are none, that is EIO.
+/// The node ID of a file without a name, whose bytes are `hello`. One read returns at most three bytes, and
+/// EIO where it would return none.
 pub const BROKEN: u64 = 4;
 
-// The bytes of a file: those of `hello`, all at once or at most three a read, or the pattern.
+// The bytes of a file: `hello`, in one read or at most three bytes a read, or the pattern.
 #[derive(Drop)]
 struct FileContents {
     node: u64,
 }
 
-// The byte of the pattern at a place.
+// The byte of the pattern at an offset.
 fn pattern(at: u64) -> u8 {
     (at % 251) as u8
 }
@@ -68,10 +68,10 @@ impl PositionedFile for FileContents {
     }
 }
 
-// How many bytes of what is written are kept.
+// The most written bytes that are kept.
 const MOST_WRITTEN: usize = 256;
 
-// Bytes that were written, wherever that was, and how many times bytes were handed over.
+// The first bytes that were written, at any offset, and the number of `write_at` calls.
 #[derive(Drop)]
 struct WrittenBytes {
     bytes: ArrayVec<u8, MOST_WRITTEN>,
@@ -103,9 +103,9 @@ impl PositionedFile for WrittenBytes {
     }
 }
 
-/// A file system whose state is the log of its calls of six kinds: INIT, LOOKUP, FORGET, lists of nodes to
-/// forget, READ and WRITE, with the first bytes that were written. A look-up of `a` in node 1 may find node
-/// 2, and any may find nothing.
+/// A file system whose state is the log of its calls of six kinds (INIT, LOOKUP, FORGET, BATCH_FORGET, READ
+/// and WRITE), with the first bytes that were written. By its relation a look-up finds node 2 or ENOENT. The
+/// code finds node 2 for `a` in node 1, and ENOENT for any other name.
 #[derive(Drop)]
 pub struct CallLog {
     calls: ArrayVec<LoggedCall, MOST_CALLS>,
@@ -113,7 +113,7 @@ pub struct CallLog {
 }
 
 impl CallLog {
-    /// No call was made.
+    /// A file system with an empty log.
     pub fn new() -> CallLog
         ensures { result.calls.items ≡ [] }
     {
@@ -126,28 +126,28 @@ impl CallLog {
         }
     }
 
-    /// The calls of these kinds that were made, in order.
+    /// The logged calls, in order: the first 64.
     pub fn calls(&self) -> &[LoggedCall]
         ensures { result.now ≡ self.now.calls.items }
     {
         self.calls.as_slice()
     }
 
-    /// The first 256 bytes that were written, one after another, to whatever file and place.
+    /// The first 256 bytes that were written, one after another, to any file and offset.
     pub fn written(&self) -> &[u8]
         ensures { result.now ≡ self.now.written.bytes.items }
     {
         self.written.bytes.as_slice()
     }
 
-    /// How many times bytes were handed over to be written.
+    /// The number of `write_at` calls of all WRITEs, modulo 2^64.
     pub fn pieces(&self) -> u64
         ensures { result ≡ self.now.written.pieces }
     {
         self.written.pieces
     }
 
-    // Writes a call down, if there is room for it.
+    // Adds a call to the log, unless the log is full.
     fn note(&mut self, call: LoggedCall)
         ensures { self.new.calls.items ≡ kept self.old.calls.items call }
     {

@@ -1,4 +1,4 @@
-//! A file system that writes down what it is asked, and what follows from that for whole runs of a machine.
+//! A file system that logs its calls, with contracts for its log after whole runs of a machine.
 #![tactic(auto)]
 
 pub mod files;

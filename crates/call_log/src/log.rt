@@ -1,6 +1,6 @@
-//! Calls of a file system, as they are written down.
+//! The entries of the log.
 
-/// A call that was made, by its kind and its node.
+/// A logged call: its kind and its node ID, and for FORGET the count of lookups.
 #[derive(Clone, Copy, Debug, Default, PartialEq, Eq)]
 pub enum LoggedCall {
     #[default]
@@ -11,5 +11,5 @@ pub enum LoggedCall {
     Write { node: u64 },
 }
 
-/// How many calls a log holds; what comes after them isn't written down.
+/// The most calls that a log holds; later calls aren't logged.
 pub const MOST_CALLS: usize = 64;

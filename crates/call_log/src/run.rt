@@ -15,10 +15,10 @@ use fs_device::{Answer, Command, Machine};
 use std::alloc::{AllocError, Global};
 use vm_memory::Iommu;
 
-/// Does commands one after another, as `Machine::run`, which this run is of. The log grows by the calls of
-/// its six kinds that the exchanged requests mean, and by a forget if the entry of a LOOKUP had no room, in
-/// the order of the exchanges; nothing else that is done adds to it. For each node but 0, what the file
-/// system answered and was sent balances with what replies and requests say of it.
+/// Carries out commands one after another, as `Machine::run`, with its errors. The log grows by the calls of
+/// its six kinds of the exchanged requests, and by a forget if the entry of a LOOKUP didn't fit the reply
+/// buffer, in the order of the exchanges, and by nothing else. For each node but 0, the file system's
+/// lookups and forgets balance with those in replies and requests.
 pub fn run_logged<I: Iommu + Drop>(
     alloc: Global,
     machine: &mut Machine<CallLog, I>,
@@ -36,7 +36,7 @@ pub fn run_logged<I: Iommu + Drop>(
     ensures err { OnErr result (machine_of machine.new ≡ machine_of machine.old) }
     ensures memory { OnErr result (0 < length commands.items) }
 {
-    // for the proof: the books of each run balance.
+    // For the proof: the books of each run balance.
     law_books::<CallLog>();
     machine.run(alloc, commands)
 }

@@ -12,11 +12,11 @@ use std::alloc::Global;
 use vm_memory::GuestMemory;
 use vm_memory_core::HostBlocks;
 
-/// Serves the next chain of a queue, by its number from 0, as `Device::process_one`, with that call's
-/// refusals, and tells the used length that the driver finds, in bytes (VIRTIO 1.2, 2.7.8): above 0 it is the
-/// length in the reply's header (linux/fuse.h, `fuse_out_header.len`) and the number of bytes written over
-/// the chain's room; if it is 0, no byte of the room was written. None if no chain waits. Whatever it
-/// answers, memory, queues, options and files go as by a step that ends so.
+/// Serves the next chain of a queue, by its number from 0, as `Device::process_one`, with its errors. The
+/// result is the used element's length in bytes (VIRTIO 1.2, 2.7.8). Above 0 it is the length in the reply's
+/// header (linux/fuse.h, `fuse_out_header.len`), and the number of bytes written to the reply buffer. If it
+/// is 0, no byte of the reply buffer was written. None if no chain is available. In each case memory, queues,
+/// options and files change as by a step with this end.
 pub fn used_length<M: GuestMemory, H: HostBlocks>(
     alloc: Global,
     device: &mut Device<CallLog>,
@@ -32,7 +32,7 @@ pub fn used_length<M: GuestMemory, H: HostBlocks>(
         (M.memory mem.now (H.host host.new)))) }
     ensures shape { shape (H.host host.new) ≡ shape (H.host host.old) }
 {
-    // for the proof: what the used length of an exchange tells.
+    // For the proof: the meaning of an exchange's used length.
     law_used_length::<CallLog>();
     match device.process_one(alloc, host, mem, queue) {
         Ok(Some(exchanged)) => Ok(Some(exchanged.0.reply.len())),

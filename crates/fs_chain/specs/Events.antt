@@ -1,5 +1,5 @@
--- How driver and device say for which chains they want a notification: by VIRTIO_F_EVENT_IDX, or by the
--- flags of the rings (VIRTIO 1.2, 2.7.7 and 2.7.10).
+-- Notifications of driver and device, enabled by VIRTIO_F_EVENT_IDX or by the flags of the rings
+-- (VIRTIO 1.2, 2.7.7 and 2.7.10).
 use Rattle.std.specs.Prelude.{ℕ, ◌+◌, ◌*◌, Bool, not, ◌==◌, List, Option, Some, None, if◌then◌else◌}
 use Rattle.std.specs.Int.{w16, to_le_bytes, from_le_bytes}
 use Rattle.vm_iotlb.specs.declared.permissions.Permissions.TheVariants.{Read, Write}
@@ -18,13 +18,13 @@ used_event_at l = l.avail + 4 + 2 * l.size
 abbrev pub avail_event_at : QueueLayout → ℕ
 avail_event_at l = l.used + 4 + 8 * l.size
 
--- the guest address of the two bytes that say whether the driver wants a used buffer notification:
--- used_event, or the available ring's flags
+-- the guest address of the two bytes by which the driver enables used buffer notifications: used_event,
+-- or the available ring's flags
 abbrev pub seen_at : (event_index : Bool) → QueueLayout → ℕ
 seen_at event_index l = if event_index then used_event_at l else l.avail
 
--- whether the driver wants a notification for the next chain that is pushed. With the event index it does
--- if used_event is that chain's position in the used ring
+-- whether to notify the driver of the next chain that is pushed. With the event index, this is so if
+-- used_event is that chain's position in the used ring
 abbrev pub tells_of : QueueState → (seen : List ℕ) → Bool
 tells_of q seen = if q.event_index then from_le_bytes w16 seen == q.next_used else tells seen
 

@@ -35,8 +35,8 @@ abbrev pub TellsOffer : Memory → Course → ChainHandle → walked.PopOutcome 
 TellsOffer m course new told request =
     IsOfferOf new.descriptors.items told request (offer m course.limit (queue_of course))
 
--- a pop that goes on returns the queue's offer in each memory with these contents: the handle's regions,
--- the walk's loads with `bytes` added, and the request's bytes
+-- a pop that continues returns the queue's offer in each memory with these contents: the handle's
+-- regions, the walk's loads with `bytes` added, and the request's bytes
 pub record GoesOnByLoads (loaded : Loaded) (course : Course) (walk : QueueWalk) (bytes : List ℕ)
     (old new : ChainHandle) (told : walked.PopOutcome) : Type 0 where
   pub came : comes.CourseStep

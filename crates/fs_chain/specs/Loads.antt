@@ -35,12 +35,12 @@ HasNoPlace w from =
 abbrev pub came : ChainHandle → ℕ
 came w = length w.part.items
 
--- so many bytes are a whole load, given at once: all that was asked for, and the handle has none of them
+-- `len` bytes are a whole load, given at once: all that the pop asked for, and the handle has none of them
 -- yet
 abbrev pub AreWhole : ChainHandle → (len : ℕ) → Type 0
 AreWhole w len = (w.part.items ≡ []) × (len ≡ load_len w.state)
 
--- so many bytes are those that a pop still needs, up to the end of their region
+-- `len` bytes are those that a pop still needs, up to the end of their region
 abbrev pub AreWanted : ChainHandle → (len : ℕ) → Type 0
 AreWanted w len = (v : Window) × IsLoadWindow w (came w) v × (v.len ≡ len)
 
@@ -54,7 +54,7 @@ AreOthers w len =
 abbrev pub whole : ChainHandle → List ℕ → List ℕ
 whole w loaded = if load_len w.state == 0 then loaded else w.part.items ++ loaded
 
--- the result of these bytes: a part of the load, or the pop goes on, if nothing is wrong with it. The
+-- the result of these bytes: a part of the load, or the pop continues, if nothing is wrong with it. The
 -- session stays as it was
 abbrev pub GoesSo : (before : ChainHandle) → (q : QueueState) → (loaded : List ℕ) → went.LoadOutcome →
     (after : ChainHandle) → (q' : QueueState) → Type 0
@@ -99,8 +99,8 @@ LoadLacksMemory w len =
     ((came w + len ≡ load_len w.state) × LacksRoom w)
     ⊎ ((len < load_len w.state) × (vec_capacity w.part < came w + len) × RoomWasRefused len)
 
--- why a pop doesn't go on with these bytes, in three cases. The state or the queue forbids it, also if
--- they are only a part of the load. Or nothing else is wrong, and the allocation failed. Or they are
+-- why a pop doesn't continue with these bytes, in three cases. The state or the queue forbids it, also
+-- if they are only a part of the load. Or nothing else is wrong, and the allocation failed. Or they are
 -- neither the whole load nor the part that is needed
 abbrev pub RefusesWalk : ChainHandle → QueueState → (loaded : List ℕ) → ChainError → Type 0
 RefusesWalk w q loaded e =

@@ -1,4 +1,4 @@
--- Which calls go on from a chain's state, and which change nothing.
+-- The calls that a chain's state allows, and the errors of the others, which change nothing.
 use Rattle.std.specs.Prelude.{ℕ, ◌+◌, ◌-◌, ◌^◌, min, [], Bool, true, false, not, ◌==◌, ◌&&◌, ◌||◌, nat_lt}
 use Rattle.std.specs.Prelude.{length, List, Option, Some, None, if◌then◌else◌}
 use Rattle.fs_regions.specs.declared.course.Course.{Course}
@@ -41,12 +41,12 @@ abbrev pub memory_error : state.ChainState → (limit : ℕ) → Option ChainErr
 memory_error at.Free limit = if nat_lt limit 0x101000 || nat_lt (2 ^ 31) limit then Some BadArgument else None
 memory_error _ limit = Some ChainInFlight
 
--- why a pop can't begin with so many bytes
+-- why a pop can't begin with `len` bytes
 abbrev pub begin_error : QueueState → (len : ℕ) → Option ChainError
 begin_error q len =
     if not (len == 0) then Some BadArgument else if not (may_take q) then Some ChainInFlight else None
 
--- why a pop can't go on with so many bytes
+-- why a pop can't continue with `len` bytes
 abbrev pub give_error : QueueState → Course → PopId → (asked len : ℕ) → Option ChainError
 give_error q course pop_id asked len =
     if not (len == asked) then Some BadArgument
@@ -60,7 +60,7 @@ walk_error at.Free q len = begin_error q len
 walk_error (at.Walking course pop_id walk) q len = give_error q course pop_id (asked_len walk) len
 walk_error _ q len = Some WrongOrder
 
--- why a request can't be decoded from so many bytes
+-- why a request can't be decoded from `len` bytes
 abbrev pub ask_error : state.ChainState → (len : ℕ) → Option ChainError
 ask_error (at.Taken out) len = if nat_lt out.request_len len then Some BadArgument else None
 ask_error _ len = Some WrongOrder
@@ -81,7 +81,7 @@ front_len r = length (front_of r)
 abbrev pub reply_len : InFlight → ChainReply → ℕ
 reply_len out r = min (min (front_len r + r.behind) out.room_len) (2 ^ 32 - 1)
 
--- why a chain can't be pushed with a buffer of so many bytes for its front
+-- why a chain can't be pushed with a buffer of `len` bytes for its front
 abbrev pub return_error : state.ChainState → QueueState → (len : ℕ) → Option ChainError
 return_error (at.HasReply out reply) q len =
     if not (is_out_of q out) then Some OtherQueue

@@ -1,4 +1,5 @@
--- Which chains of a queue are in flight, and where the next one is pushed (VIRTIO 1.2, 2.7.6 and 2.7.8).
+-- The chains of a queue that are in flight, and the position of its next push (VIRTIO 1.2, 2.7.6 and
+-- 2.7.8).
 use Rattle.std.specs.Prelude.{ℕ, ◌+◌, ◌-◌, ◌%◌, ◌^◌, Bool, false, not, ◌==◌, ◌&&◌, nat_lt, None}
 use Rattle.fs_queue.specs.declared.layout.QueueLayout.{QueueLayout}
 use Rattle.fs_queue.specs.Queue.{Queue}

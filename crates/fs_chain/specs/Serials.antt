@@ -1,5 +1,5 @@
--- Which number an answer uses to name its call. Of 2^32 successive chains of the handle, no two have the
--- same number.
+-- The number by which an answer names its call. Of 2^32 successive chains of the handle, no two have
+-- the same number.
 use Rattle.std.specs.Prelude.{◌≡◌, ◌⊎◌, ℕ, ◌+◌, ◌%◌, ◌^◌, not, ◌==◌, Option, Some, None, Result, Err}
 use Rattle.std.specs.Prelude.{if◌then◌else◌}
 use Rattle.fs_chain.specs.declared.error.ChainError.{ChainError}

@@ -129,8 +129,8 @@ BeginsOn course pop_id old new before after told =
     (came : comes.CourseStep) × KeepsStep course pop_id came old new before after told
     × IsCourseStep (places_in old.regions) course.limit (queue_of course) nothing new.descriptors.items came
 
--- a pop goes on with the bytes of a load. For all loads that may have led to its walk, it reaches this
--- step, which is kept and returned
+-- a pop continues with the bytes of a load. For all loads that may have led to its walk, it reaches
+-- this step, which is kept and returned
 abbrev pub GoesOn : Course → PopId → QueueWalk → (bytes : List ℕ) → (old new : ChainHandle) →
     (before after : QueueState) → walked.PopOutcome → Type 0
 GoesOn course pop_id walk bytes old new before after told =
@@ -171,8 +171,8 @@ BeginsUnless None old new before after told =
 abbrev pub BeginsPop : (old new : ChainHandle) → (before after : QueueState) → walked.PopOutcome → Type 0
 BeginsPop old new before after told = BeginsUnless before.stopped old new before after told
 
--- a pop goes on, unless its queue was stopped meanwhile: then it is refused like every pop of a stopped
--- queue, and the handle is free
+-- a pop continues, unless its queue was stopped meanwhile: then it is refused like every pop of a
+-- stopped queue, and the handle is free
 abbrev pub GoesOnUnless : (stopped : Option QueueError) → Course → PopId → QueueWalk → (bytes : List ℕ) →
     (old new : ChainHandle) → (before after : QueueState) → walked.PopOutcome → Type 0
 GoesOnUnless (Some why) course pop_id walk bytes old new before after told =
@@ -180,8 +180,7 @@ GoesOnUnless (Some why) course pop_id walk bytes old new before after told =
 GoesOnUnless None course pop_id walk bytes old new before after told =
     GoesOn course pop_id walk bytes old new before after told
 
--- a pop goes on from the chain's state: with the bytes of the load that it asked for, or with none at its
--- beginning
+-- a pop continues from the chain's state: with the bytes of its load, or with none at its beginning
 abbrev pub WalksFrom : state.ChainState → (bytes : List ℕ) → (old new : ChainHandle) →
     (before after : QueueState) → walked.PopOutcome → Type 0
 WalksFrom at.Free bytes old new before after told = BeginsPop old new before after told

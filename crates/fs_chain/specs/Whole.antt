@@ -71,8 +71,8 @@ WantsBytes (wents.On _) = ⊥
 abbrev pub BeginsPopBy : (old new : ChainHandle) → (before after : QueueState) → went.LoadOutcome → Type 0
 BeginsPopBy old new before after told = (old.state ≡ at.Free) × GoesSo old before [] told new after
 
--- a pop by calls of the handle that weren't refused, the last one first. The first call has no bytes; each
--- later one has bytes for which the call before asked
+-- a pop by calls of the handle that weren't refused, the last one first. The first call has no bytes;
+-- each later one has bytes that the call before it asked for
 abbrev pub WalksBy : (given : List (List ℕ)) → (old new : ChainHandle) → (before after : QueueState) →
     went.LoadOutcome → Type 0
 WalksBy [] old new before after told = BeginsPopBy old new before after told
@@ -82,8 +82,8 @@ WalksBy (bs ∷ given) old new before after told =
     × WantsBytes earlier
     × GoesSo w q bs told new after
 
--- how a call of `pop`, which left these descriptors, extends the loads: a part of a load adds nothing yet,
--- a whole load adds the bytes that were asked for
+-- how a call of `pop`, which left these descriptors, extends the loads: a part of a load adds nothing
+-- yet, a whole load adds its bytes
 abbrev pub AddsSo : state.ChainState → went.LoadOutcome → List Descriptor → (before : Loaded) →
     (bytes : List ℕ) → (after : Loaded) → Type 0
 AddsSo at wents.Part ds before bs after = after ≡ before
@@ -284,7 +284,7 @@ step_loads l lost request =
     record { index = l.index; entry = l.entry; entries = l.entries ++ lost; request = request }
 
 -- besides the loads that resulted from bytes, a step knows only which addresses aren't mapped. They are
--- those of an index or a ring's entry, or of a table entry that was asked for last
+-- those of an index or a ring's entry, or of the table entry that the pop needed last
 abbrev pub LackPlaces : ChainHandle → QueueState → Loaded → (lost : List Load) → Type 0
 LackPlaces old before loaded lost =
     RingIsAsked (places_in old.regions) (queue_of (course_of before old.limit)) loaded

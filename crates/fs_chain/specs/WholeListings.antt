@@ -53,8 +53,8 @@ failed_by added.TooLong = Some EOVERFLOW
 failed_by _ = None
 
 -- how a listing ends after the entries that were added, one case a constructor: the directory ends; an
--- entry doesn't fit in the size that the request asked for; an entry fails the listing; an entry isn't
--- found; the directory can't be read on. Other entries may follow such an entry
+-- entry doesn't fit in the size in the request; an entry fails the listing; an entry isn't found; the
+-- directory can't be read on. Other entries may follow such an entry
 pub data Ending : Type 0 where
   EndsThere : Ending
   FullAt : Brought → (behind : List Listed) → Ending

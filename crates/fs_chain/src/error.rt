@@ -8,14 +8,14 @@ ghost use Rattle.fs_chain.specs.Numbers.{chain_error_number};
 pub enum ChainError {
     /// An allocation failed; the call may be made again.
     OutOfMemory,
-    /// A number out of range, or bytes of another length than was asked for.
+    /// A number is out of range, or the bytes have another length than the call needs.
     BadArgument,
     /// The buffer is too short.
     ShortBuffer,
     /// More data than a reply can hold; or a reply of the caller's own that exceeds the reply buffer or
     /// the used element's 32 bits.
     LongReply,
-    /// The chain isn't in a state from which this call goes on.
+    /// This call isn't allowed in the chain's state.
     WrongOrder,
     /// The queue isn't that of the chain or of its pop, or was reset since; or a chain was popped or given
     /// up since the pop began.

@@ -1,5 +1,5 @@
-//! How driver and device say for which chains they want a notification: by VIRTIO_F_EVENT_IDX, or by the
-//! flags of the rings (VIRTIO 1.2, 2.7.7 and 2.7.10).
+//! Notifications of driver and device, enabled by VIRTIO_F_EVENT_IDX or by the flags of the rings
+//! (VIRTIO 1.2, 2.7.7 and 2.7.10).
 
 ghost use Rattle.std.specs.Prelude.{◌≡◌, option_map};
 ghost use Rattle.fs_regions.specs.Places.{places_in};
@@ -37,7 +37,7 @@ fn avail_event_at(layout: &QueueLayout) -> u64
     layout.used() + 4 + 8 * u64::from(layout.size())
 }
 
-/// The guest address of the two bytes that say whether the driver wants a used buffer notification.
+/// The guest address of the two bytes by which the driver enables used buffer notifications.
 pub(crate) fn seen_at(event_index: bool, layout: &QueueLayout) -> u64
     ensures { result ≡ seen_at event_index layout.now }
 {
@@ -49,7 +49,7 @@ pub(crate) fn seen_at(event_index: bool, layout: &QueueLayout) -> u64
 }
 
 impl QueueState {
-    // Whether the driver wants a notification for the next chain that is pushed, by those two bytes.
+    // Whether to notify the driver of the next chain that is pushed, by those two bytes.
     pub(crate) fn tells(&self, seen: [u8; 2]) -> bool
         ensures { result ≡ tells_of self.now seen }
     {

@@ -1,4 +1,4 @@
-//! A pop goes on with the bytes that it asked for; and where these bytes lie.
+//! A pop continues with the bytes of its load; and the windows of these bytes.
 
 ghost use Rattle.std.specs.Prelude.{◌≡◌, ◌⊎◌, ◌<◌, ◌+◌, ◌-◌, Some, None, IfErr, IfOk, OnOk, OnErr, IfSome};
 ghost use Rattle.std.specs.Prelude.{OnSome, length, min};
@@ -53,7 +53,7 @@ fn take(walk: &mut QueueWalk, course: &Course) -> QueueWalk
     }
 }
 
-// Why a pop can't begin with so many bytes, on the queue as it is.
+// Why a pop can't begin with `len` bytes, on the queue as it is.
 fn begin_refusal(queue: &QueueState, len: usize) -> Option<ChainError>
     ensures { result ≡ begin_error queue.now len }
 {
@@ -66,7 +66,7 @@ fn begin_refusal(queue: &QueueState, len: usize) -> Option<ChainError>
     None
 }
 
-// Why a pop can't go on with so many bytes, on the queue as it is.
+// Why a pop can't continue with `len` bytes, on the queue as it is.
 #[inline(always)]
 fn give_refusal(
     queue: &QueueState,
@@ -144,7 +144,7 @@ impl ChainHandle {
         }
     }
 
-    // Goes on with a pop, if it asked for this many bytes and its queue is this one. A queue that was
+    // Continues a pop, if its load has this many bytes and its queue is this one. A queue that was
     // stopped meanwhile refuses it.
     #[inline(always)]
     fn go_on(&mut self, queue: &mut QueueState, loaded: &[u8]) -> Result<PopOutcome, ChainError>
@@ -208,8 +208,8 @@ impl ChainHandle {
         }
     }
 
-    /// Why a pop can't go on with a whole load of `len` bytes, on the queue as it is, or begin with none.
-    /// If this returns None, the pop can only run out of memory.
+    /// Why a pop can't begin, or continue with a whole load of `len` bytes, on the queue as it is. If
+    /// this returns None, the pop can only run out of memory.
     pub fn walk_refusal(&self, queue: &QueueState, len: usize) -> Option<ChainError>
         ensures { result ≡ walk_error self.now.state queue.now len }
     {

@@ -23,7 +23,7 @@ use std::mem;
 pub enum Added {
     /// It is in the list.
     In,
-    /// It doesn't fit in the size that the request asked for: the entries so far are the answer (`end`).
+    /// It doesn't fit in the size in the request: the entries so far are the answer (`end`).
     Full,
     /// It doesn't fit in the reply buffer: the listing fails by EIO (`fail`).
     NoRoom,

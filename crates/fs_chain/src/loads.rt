@@ -21,7 +21,7 @@ use vm_memory_core::VolatileSlice;
 pub enum LoadOutcome {
     /// The bytes are a part of the load, and the pop needs more of it.
     Part,
-    /// The pop went on.
+    /// The pop continued.
     On(PopOutcome),
 }
 
@@ -36,7 +36,7 @@ impl ChainHandle {
         self.load_window(self.part.len())
     }
 
-    // Whether so many bytes, which aren't a whole load, are those that a pop still needs.
+    // Whether a pop needs just `len` bytes next, which aren't a whole load.
     fn are_wanted(&self, len: usize) -> bool
         requires { AreWhole self.now len → ⊥ }
         ensures wanted { result ≡ true → AreWanted self.now len }

@@ -18,7 +18,7 @@ use std::mem;
 /// The result of a pop.
 #[derive(Clone, Copy, Debug, PartialEq, Eq)]
 pub enum PopOutcome {
-    /// The pop asks for a load of so many bytes.
+    /// The pop asks for a load of this many bytes.
     Load(usize),
     /// No chain is available.
     Idle,

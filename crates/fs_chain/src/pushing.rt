@@ -23,8 +23,8 @@ pub struct PushStores {
     pub front_len: usize,
     /// The used element, the used index, and the guest address of the available flags.
     pub used: Return,
-    /// The guest address of the two bytes that the caller loads then, behind a full barrier. They say
-    /// whether the driver wants a notification.
+    /// The guest address of the two bytes that the caller loads then, behind a full barrier. They
+    /// decide whether to notify the driver.
     pub seen_at: u64,
 }
 

@@ -1,4 +1,4 @@
--- The fields of a request's file call, as C gets them.
+-- The fields of a request's file call, as the library returns them to C.
 use Rattle.std.specs.Prelude.{◌==◌, ◌+◌, ◌-◌, ◌*◌, ◌/◌, ◌^◌, ℕ, Bool, true, false, List, length, take, drop}
 use Rattle.std.specs.Prelude.{min, nat_lt, bit_and, is_some, unwrap_or, if◌then◌else◌}
 use Rattle.std.specs.Int.{w32, w64, cast_unsigned, from_le_bytes}

@@ -1,4 +1,4 @@
--- What the exports do with the `ChainHandle` of a handle.
+-- The effects of the exports on the `ChainHandle` of a handle.
 use Rattle.std.specs.Prelude.{◌≡◌, ◌⊎◌, ◌-◌, ◌^◌, ℕ, Bool, true, false, List, [], min, Option, Some, None}
 use Rattle.memory_requests.specs.Refused.{RoomWasRefused}
 use Rattle.vm_memory.specs.Layout.{Region}
@@ -24,8 +24,8 @@ use Rattle.fs_chain_c.specs.Pushing.{DropsHandleChain, EndsHandlePush, PushesHan
 use Rattle.fs_chain_c.specs.Popping.{PopsHandle, no_step}
 use Rattle.fs_chain_c.specs.Windows.{FillsWindows}
 
--- a call does this with a handle's `ChainHandle`, or nothing if the handle has none. The handle neither gains
--- nor loses its `ChainHandle` by the call
+-- a call has this effect on a handle's `ChainHandle`, or none if the handle has none. The handle
+-- neither gains nor loses its `ChainHandle` by the call
 abbrev pub OnHandle : (Does : ChainHandle → ChainHandle → Type 0) → (Nothing : Type 0) → Option ChainHandle →
     Option ChainHandle → Type 0
 OnHandle Does Nothing None None = Nothing
@@ -52,7 +52,7 @@ IsNewHandle b =
     × (b.serial ≡ 1)
     × (b.list_len ≡ 0)
 
--- the next pops go over these regions, with the device's limit. No table translates their addresses
+-- the next pops use these regions, with the device's limit, and no table translates their addresses
 abbrev pub GoesOver : ChainHandle → FsDevice → List FsRegion → ChainHandle → Type 0
 GoesOver b d regions b' =
     (memory_error b.state d.limit ≡ None)

@@ -1,4 +1,4 @@
--- A pop by loads that C makes: in parts, where a load goes over the end of a region.
+-- A pop by loads that C makes: in parts, if a load crosses the end of a region.
 use Rattle.std.specs.Prelude.{◌≡◌, ◌+◌, ◌%◌, ◌^◌, ◌⊎◌, ℕ, List}
 use Rattle.vm_memory_core.specs.Window.{Window}
 use Rattle.fs_queue.specs.Numbers.{chain_fault_number, queue_number}
@@ -21,12 +21,12 @@ host_at v = (v.block + v.offset) % 2 ^ 64
 
 -- ---- the result
 
--- neither a load nor a chain
+-- the result without a load and without a chain
 abbrev pub no_step : FsPop
 no_step =
     record { load_at = 0; load_len = 0; request_len = 0; reply_len = 0; fault = 0; head = 0; ticket = 0 }
 
--- a load, by its host address and length
+-- the result that asks for a load, by its host address and length
 abbrev pub load_step : Window → FsPop
 load_step v = record no_step { load_at = host_at v; load_len = v.len }
 
@@ -56,7 +56,8 @@ TellsWent b (goes.On (comes.Faulty head fault)) step status =
 
 -- ---- a pop
 
--- a pop over the core's queue; on an error nothing changes, and the result is the load that is still needed
+-- a pop over the core's queue; on an error nothing changes, and the result is the load that the pop
+-- still needs
 abbrev pub WalksKept : ChainHandle → FsQueue → QueueState → (loaded : List ℕ) → FsPop → (status : ℕ) →
     ChainHandle → FsQueue → Type 0
 WalksKept b q k loaded step status b' q' =

@@ -8,8 +8,8 @@ use Rattle.fs_chain.specs.declared.chain_handle.ChainHandle.{ChainHandle}
 use Rattle.fs_chain_c.specs.declared.ranges.FsRange.{FsRange}
 use Rattle.fs_chain_c.specs.Handles.{OnHandle}
 
--- a range of the guest addresses of the reply buffer from byte `from` on, of 1 to `most` bytes: as long as
--- one descriptor goes on
+-- a range of the guest addresses of the reply buffer from byte `from` on, of 1 to `most` bytes; it ends
+-- with its descriptor at the latest
 abbrev pub IsReplyRange : ChainHandle → (from most : ℕ) → FsRange → Type 0
 IsReplyRange w from most told =
     (is_out w.state ≡ true)
@@ -33,7 +33,7 @@ range_bytes (r ∷ rs) = r.len + range_bytes rs
 abbrev pub RoomEnds : ChainHandle → (from : ℕ) → Type 0
 RoomEnds w from = is_out w.state ≡ true → total_len (of_direction true w.descriptors.items) ≤ from
 
--- the first of some ranges are filled: as many as there are elements and bytes for
+-- the first of some ranges are filled, as far as there are elements and bytes
 abbrev pub FillsRanges :
     ChainHandle → (from most : ℕ) → (ranges ranges' : List FsRange) → (count : ℕ) → Type 0
 FillsRanges w from most ranges ranges' count =

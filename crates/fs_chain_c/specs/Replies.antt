@@ -85,7 +85,7 @@ statfs_said s = answer.Stats (record {
   f_frsize = s.frsize;
 })
 
--- the answer of INIT: the options that the file system wants
+-- the answer of INIT: the options that the file system asks for
 abbrev pub wish_said : ℕ → FileAnswer
 wish_said wanted = answer.Wants (record { 0 = wanted; 1 = record {} })
 

@@ -9,8 +9,8 @@ use Rattle.fs_chain.specs.declared.chain_handle.ChainHandle.{ChainHandle}
 use Rattle.fs_chain_c.specs.declared.windows.FsWindow.{FsWindow}
 use Rattle.fs_chain_c.specs.Popping.{host_at}
 
--- a window of the bytes of one direction from byte `from` on, of 1 to `most` bytes: as long as one descriptor
--- and one region go on
+-- a window of the bytes of one direction from byte `from` on, of 1 to `most` bytes; it ends with its
+-- descriptor and its region at the latest
 abbrev pub IsStretch : ChainHandle → (write_only : Bool) → (from most : ℕ) → FsWindow → Type 0
 IsStretch w d from most told =
     (is_out w.state ≡ true)
@@ -39,7 +39,7 @@ HasNoMore w d from =
     → all_reach (places_in w.regions) (access_of d) (of_direction d w.descriptors.items) ≡ true
     → total_len (of_direction d w.descriptors.items) ≤ from
 
--- the first of some windows are filled: as many as there are elements and bytes for
+-- the first of some windows are filled, as far as there are elements and bytes
 abbrev pub FillsWindows : ChainHandle → (write_only : Bool) → (from most : ℕ) →
     (windows windows' : List FsWindow) → (count : ℕ) → Type 0
 FillsWindows w d from most windows windows' count =

@@ -154,7 +154,7 @@ pub fn statfs_said(statfs: &FsStatfs) -> FileAnswer
     })
 }
 
-/// The answer of INIT: the options that the file system wants.
+/// The answer of INIT: the options that the file system asks for.
 pub fn wish_said(wanted: u64) -> FileAnswer
     ensures { result ≡ wish_said wanted }
 {

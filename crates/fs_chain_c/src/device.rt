@@ -22,7 +22,7 @@ pub struct FsDevice {
     pub options: u64,
 }
 
-// Whether a guest's pages may have so many bytes.
+// Whether a guest's pages may have `bytes` bytes.
 fn is_page_size(bytes: u32) -> bool
     ensures { result ≡ is_page_size bytes }
 {

@@ -1,4 +1,4 @@
-//! A pop by loads that C makes: in parts, if a load goes over the end of a region.
+//! A pop by loads that C makes: in parts, if a load crosses the end of a region.
 
 ghost use Rattle.std.specs.Prelude.{◌≡◌};
 ghost use Rattle.fs_chain_c.specs.Popping.{TellsLoad, TellsWanted, TellsWent, PopsHandle, host_at, no_step};

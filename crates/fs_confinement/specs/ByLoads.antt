@@ -1,5 +1,5 @@
--- What a queue reads for an offer, beside the loads by which the offer comes: the read set of a step holds no
--- address that wasn't loaded, and each whose byte came.
+-- The reads of an offer, compared with the loads that determine it: the read set is just the addresses
+-- of the successful loads.
 use Rattle.std.specs.Prelude.{◌≡◌, ℕ, List, [], ◌∷◌, ◌++◌, length, Option, Some, None, flat_map}
 use Rattle.vm_memory.specs.Memory.{Memory, addresses}
 use Rattle.fs_queue.specs.Queue.{Queue, avail_index_at, ring_entry_at}
@@ -9,28 +9,28 @@ use Rattle.fs_queue.specs.Loads.{Load, chain_exactly, AreEntriesOf}
 use Rattle.fs_queue.specs.OfferLoads.{offer_by, AreLoadsOf}
 use Rattle.fs_confinement.specs.ReadSet.{walk_reads, request_reads, offer_reads}
 
--- the addresses of a load, unless one of them has no place
+-- the addresses of a load; none if one of them isn't mapped
 abbrev pub came_at : (address : ℕ) → Option (List ℕ) → List ℕ
 came_at a None = []
 came_at a (Some bs) = addresses a (length bs)
 
--- those of some loads, one after another
+-- the addresses of some loads, one after another
 abbrev pub all_came : List Load → List ℕ
 all_came ls = flat_map (λ l. came_at l.address l.came) ls
 
--- those that the chain asks to be read which some loads find
+-- the addresses of the request in the chain that was found
 abbrev pub asked_by : Option Found → List ℕ
 asked_by None = []
 asked_by (Some found) = request_reads found
 
--- those of the bytes of a request, by the chain of the head that is offered
+-- the addresses of the loaded request bytes, in the chain of the offered head
 abbrev pub request_came : Queue → List Load → (request : List ℕ) → Offer → List ℕ
 request_came q ls [] offered = []
 request_came q ls (b ∷ bs) (Offers head fetched) = asked_by (chain_exactly ls q head)
 request_came q ls (b ∷ bs) (Refuses e) = []
 request_came q ls (b ∷ bs) Idle = []
 
--- a walk reads just where the loads came by which it finds its chain
+-- theorem: a walk reads just the addresses of the loads by which it finds its chain
 abbrev pub WalksReadTheirLoads : Type 0
 WalksReadTheirLoads =
     (m : Memory) (q : Queue) (head : ℕ) (ls : List Load) (f : Found) →
@@ -38,8 +38,8 @@ WalksReadTheirLoads =
     chain_exactly ls q head ≡ Some f →
     walk_reads m q head ≡ all_came ls
 
--- and an offer just where its loads came: those of the index, of the ring's entry, of the tables' entries and
--- of the request
+-- theorem: an offer reads just the addresses of its loads: the index, the ring's entry, the tables'
+-- entries and the request
 abbrev pub OffersReadTheirLoads : Type 0
 OffersReadTheirLoads =
     (m : Memory) (limit : ℕ) (q : Queue) (index entry : Option (List ℕ)) (ls : List Load) (request : List ℕ)

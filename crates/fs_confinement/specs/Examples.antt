@@ -1,4 +1,5 @@
--- Worked read sets that compute: what a step reads, a step with its return, and runs over small memories.
+-- Worked read sets that compute: of offers, of a step that returns a chain, and of runs over small
+-- memories.
 use Rattle.std.specs.Prelude.{◌≡◌, ℕ, true, false, List, [], ◌∷◌, ◌++◌, map, Some, None, refl}
 use Rattle.vm_iotlb.specs.declared.permissions.Permissions.TheVariants.{Read, Write, ReadWrite}
 use Rattle.vm_iotlb.specs.Ranges.{table_kept}
@@ -22,23 +23,26 @@ use Rattle.fs_confinement.specs.ReadSet.{is_among, offer_reads, flag_reads, plac
 use Rattle.fs_confinement.specs.ReadSet.{run_touches}
 use Rattle.fs_confinement.specs.Hidden.{hides, leaves_hidden}
 
--- ---- what a step reads before its calls; the queue's table is at 0, its rings are at 0x100 and 0x200
+-- ---- the reads of a step before its calls; the queue's table is at 0, its rings are at 0x100 and
+-- 0x200
 
+-- the reads of the queue's offer
 abbrev reads : Memory → List ℕ
 reads m = offer_reads m 0x101000 queue
 
--- nothing waits: the index alone
+-- no chain is available: only the index is read
 index_alone : reads blank ≡ 0x102 ∷ 0x103 ∷ []
 unfolding offer place addresses stored_all path found
 index_alone = refl
 
--- a request of 40 bytes at 0x1000: index, ring entry, two descriptors, request; the room at 0x2000 isn't read
+-- a request of 40 bytes at 0x1000: index, ring entry, two descriptors, request; the reply buffer at
+-- 0x2000 isn't read
 one_request_read : reads with_one_request ≡ addresses 0x102 2 ++ addresses 0x104 2 ++ addresses 0 16
     ++ addresses 16 16 ++ addresses 0x1000 40
 unfolding offer place addresses stored_all path found
 one_request_read = refl
 
--- by a table at 0x3000: the descriptor that names it, and its entries
+-- an indirect table at 0x3000: the descriptor with its address is read, and its entries
 by_table_read : reads with_descriptors ≡ addresses 0x102 2 ++ addresses 0x104 2 ++ addresses 0 16
     ++ addresses 0x3000 16 ++ addresses 0x3010 16 ++ addresses 0x1000 40
 unfolding offer place addresses stored_all path found
@@ -54,27 +58,27 @@ past_table_read : reads (put with_one_request 0x104 (le16 4)) ≡ addresses 0x10
 unfolding offer place addresses stored_all path found
 past_table_read = refl
 
--- next is past the table's end: the descriptor before it is read, and no request
+-- `next` is past the table's end: the descriptor before it is read, and no request
 past_next_read : reads (put with_one_request 0 (descriptor_bytes 0x1000 40 1 4))
     ≡ addresses 0x102 2 ++ addresses 0x104 2 ++ addresses 0 16
 unfolding offer place addresses stored_all path found
 past_next_read = refl
 
--- the room has no place: both descriptors are read, and no request
+-- the reply buffer isn't mapped: both descriptors are read, and no request
 no_room_read : reads (put with_one_request 16 (descriptor_bytes 0x20000 16 2 0))
     ≡ addresses 0x102 2 ++ addresses 0x104 2 ++ addresses 0 16 ++ addresses 16 16
 unfolding offer place addresses stored_all path found
 no_room_read = refl
 
--- a descriptor that leads to itself is read at each step: four times as one of the chain, and once more,
--- where the chain is too long
+-- a descriptor whose `next` is itself is read at each step: four times as one of the chain, and once
+-- more to find that the chain is too long
 loop_read : reads (put with_one_request 0 (descriptor_bytes 0x1000 40 1 0))
     ≡ addresses 0x102 2 ++ addresses 0x104 2 ++ addresses 0 16 ++ addresses 0 16 ++ addresses 0 16
     ++ addresses 0 16 ++ addresses 0 16
 unfolding offer place addresses stored_all path found
 loop_read = refl
 
--- a table has no place: the descriptor that names it is read, and none of its entries
+-- an indirect table isn't mapped: the descriptor with its address is read, and none of its entries
 no_table_read : reads (put with_one_request 0 (descriptor_bytes 0x20000 32 4 0))
     ≡ addresses 0x102 2 ++ addresses 0x104 2 ++ addresses 0 16
 unfolding offer place addresses stored_all path found
@@ -91,12 +95,12 @@ stopped_read : offer_reads with_one_request 0x101000 (with_stop queue) ≡ []
 unfolding offer
 stopped_read = refl
 
--- once a chain went back, the flags
+-- after a chain was returned, the flags are read
 flags_read : flag_reads queue (Exchanged unknown_exchange true) ≡ 0x100 ∷ 0x101 ∷ []
 unfolding addresses
 flags_read = refl
 
--- ---- places: two I/O addresses that are mapped to the same bytes are one place of the block
+-- ---- places: two I/O addresses that are mapped to the same byte are one place of the block
 
 abbrev twice : Memory
 twice =
@@ -117,7 +121,7 @@ one_place : map (λ a. is_among 0 9 (places_for twice Read (a ∷ []))) (0 ∷ 1
 unfolding place table_kept
 one_place = refl
 
--- a request at an I/O address that is mapped to 0x1000, and all else to itself
+-- a request at an I/O address that is mapped to 0x1000; the other addresses are mapped to themselves
 abbrev translated : Memory
 translated =
     record (put with_one_request 0 (descriptor_bytes 0x8000 40 1 1)) {
@@ -129,7 +133,7 @@ translated =
       translates = true;
     }
 
--- it is read where it is mapped to
+-- the request is read at the address that it is mapped to
 translated_read : map (λ a. is_among 0 a (places_for translated Read (reads translated)))
     (0x1000 ∷ 0x1027 ∷ 0x1028 ∷ 0x8000 ∷ 0x2000 ∷ []) ≡ true ∷ true ∷ false ∷ false ∷ false ∷ []
 unfolding offer place addresses stored_all path found table_kept
@@ -137,7 +141,7 @@ translated_read = refl
 
 -- ---- runs
 
--- 4 zeros from address 0 on
+-- 4 zeros from address 0 on, and a second block that no region shows
 abbrev small : State Nothing
 small =
     device (memory_of (record { blocks = new_block 4 ∷ new_block 2 ∷ []; tables = []; io_marks = [] })
@@ -171,7 +175,7 @@ accesses_touch : run_touches may small accesses ([] ∷ [] ∷ []) written acces
 unfolding run_touches accessed place addresses
 accesses_touch = refl
 
--- a byte that is read matters: with 9 at address 1 the same command is answered otherwise
+-- a byte that is read matters: with 9 at address 1 the same command has another answer
 abbrev other : State Nothing
 other =
     record small {
@@ -186,7 +190,7 @@ read_byte_matters : effect other (run.GuestRead 1 2) ≡ Some (run.Bytes (9 ∷ 
 unfolding effect place addresses
 read_byte_matters = refl
 
--- an access that is refused touches nothing
+-- a refused access touches nothing
 abbrev past_the_end : List (Command × Answer)
 past_the_end = (run.GuestRead 3 2, run.IsRefused why.NoPlace) ∷ []
 
@@ -201,7 +205,7 @@ refused_touches = refl
 
 -- ---- kicks
 
--- the exchange that makes no call
+-- an exchange without a call
 abbrev turn : Turn
 turn = record { exchange = unknown_exchange; notice = true; calls = [] }
 
@@ -209,18 +213,18 @@ served : KickRun may (device with_one_request queue) 0 1 (turn ∷ []) None (aft
 unfolding KickRun
 served = (after_reply with_one_request queue, one_step, refl)
 
--- a kick of one chain writes the room, the used element and the used index
+-- a kick of one chain writes the reply buffer, the used element and the used index
 kick_writes : (kick_touches may (device with_one_request queue) 0 1 (turn ∷ []) None
     (after_reply with_one_request queue) served).written
     ≡ map at (addresses 0x2000 16 ++ addresses 0x204 8 ++ addresses 0x202 2)
 unfolding kick_touches served offer place addresses stored_all path found
 kick_writes = refl
 
--- what is read for one chain
+-- the reads of a step that takes the chain
 abbrev all_read : List ℕ
 all_read = addresses 0x102 2 ++ addresses 0x104 2 ++ addresses 0 16 ++ addresses 16 16 ++ addresses 0x1000 40
 
--- and it reads what its step reads, and the flags
+-- the kick reads just that, and the flags
 kick_reads : (kick_touches may (device with_one_request queue) 0 1 (turn ∷ []) None
     (after_reply with_one_request queue) served).read ≡ map at (all_read ++ addresses 0x100 2)
 unfolding kick_touches served offer place addresses stored_all path found
@@ -236,7 +240,8 @@ none_touched : kick_touches may (device with_one_request queue) 0 0 [] None (dev
 unfolding kick_touches
 none_touched = refl
 
--- one that ends for want of memory counts as if it had read all that it was offered, and writes nothing
+-- a kick that ends with a failed allocation counts as if it had read all of its offer; it writes
+-- nothing
 lacking : KickRun may (device with_one_request queue) 0 1 []
     (Some (device_error.Queue queue_error.OutOfMemory)) (device with_one_request queue)
 unfolding KickRun offer place addresses stored_all path found

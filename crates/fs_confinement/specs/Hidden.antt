@@ -1,5 +1,5 @@
--- A block that no region shows is a secret: nothing that the device answers, stores or asks a file system
--- tells what stands in it.
+-- A block that no region shows is secret: the device's answers, stores and file calls don't depend on
+-- its bytes.
 use Rattle.std.specs.Prelude.{◌≡◌, ◌≢◌, ◌==◌, ℕ, Bool, false, not, IsTrue, List, map}
 use Rattle.std.specs.List.{list_all, list_any}
 use Rattle.vm_memory.specs.Layout.{Region}
@@ -18,13 +18,13 @@ is_of block r = r.block == block
 abbrev pub hides : (block : ℕ) → List Region → Bool
 hides block layout = not (list_any (is_of block) layout)
 
--- whether a command gives a block no region, and answers no bytes of all blocks
+-- whether a command gives a block no region, and isn't an image or a harvest
 abbrev pub leaves_hidden : (block : ℕ) → Command → Bool
 leaves_hidden block (run.InsertRegion base other) = not (other == block)
 leaves_hidden block (run.SetLayout layout) = hides block layout
 leaves_hidden block command = not (copies command)
 
--- no region shows a block when these commands begin, and none of them shows it
+-- no region shows a block before these commands, and none of the commands gives it one
 abbrev pub IsHidden : {F : Type 0} → (block : ℕ) → State F → List Command → Type 0
 IsHidden block s commands =
     IsTrue (hides block s.memory.layout) × IsTrue (list_all (leaves_hidden block) commands)
@@ -36,13 +36,13 @@ pub record DifferInBlock {F : Type 0} (block : ℕ) (a b : State F) : Type 0 whe
       other ≢ block →
       byte_of a.memory.host other offset ≡ byte_of b.memory.host other offset
 
--- a run neither reads nor writes the block
+-- a run neither reads nor writes this block
 pub record TouchesNothingOf {F : Type 0} (may : May F) (block : ℕ) (a after : State F) (events : List (Command
     × Answer)) (tolds : List Turns) (ran : RunTold may a events tolds after) : Type 0 where
   pub unread : (offset : ℕ) → is_among block offset (read_set may a events tolds after ran) ≡ false
   pub unwritten : (offset : ℕ) → is_among block offset (written_set may a events tolds after ran) ≡ false
 
--- so that run is allowed whatever stands in the block
+-- theorem: a run beside a hidden block doesn't touch it, and is allowed with any other bytes in it
 abbrev pub HiddenBlocksAreSecret : {F : Type 0} → May F → Type 0
 HiddenBlocksAreSecret {F} may =
     (block : ℕ) (a after : State F) (events : List (Command
@@ -51,8 +51,8 @@ HiddenBlocksAreSecret {F} may =
     TouchesNothingOf may block a after events tolds ran
     × ((b : State F) → DifferInBlock block a b → AllowsToo may a b after events tolds ran)
 
--- a run has exchanges, notices and calls behind its answers that may come with the same answers whatever
--- stands in a block, and leave a state that again differs only there
+-- a run has exchanges, notifications and calls behind its answers that are also possible with any other
+-- bytes in a block. The state afterwards then differs only in that block
 abbrev pub KeepsSecret :
     {F : Type 0} → May F → (block : ℕ) → (before after : State F) → List (Command × Answer) → Type 0
 KeepsSecret {F} may block before after events =

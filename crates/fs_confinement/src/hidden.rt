@@ -1,4 +1,4 @@
-//! Runs beside blocks that the guest has no way to.
+//! Runs beside a block that the guest can't reach.
 
 ghost use Rattle.std.specs.Prelude.{◌≡◌, ◌<◌, ℕ, length, map, zip, IfOk, OnErr};
 ghost use Rattle.fs_device.specs.CommandView.{answer_of, command_of};
@@ -12,10 +12,10 @@ use fuse_fs::FileSystem;
 use std::alloc::{AllocError, Global};
 use vm_memory::Iommu;
 
-/// Does commands one after another, as `Machine::run`, which this run is of. What stands in a block that no
-/// region shows, neither before nor by these commands, is told by none of the answers, neither by a reply nor
-/// by a notice, and by none of the calls that the file system was asked: with any other bytes there the same
-/// may come, and what the machine is then differs only there.
+/// Runs commands one after another, with the contract of `Machine::run` and more. A block that no
+/// region shows, neither before nor by these commands, stays secret: with any other bytes in it, the
+/// same answers, replies, notifications and file calls are possible, and the machine afterwards differs
+/// only in that block.
 pub fn run_beside_secrets<F: FileSystem, I: Iommu + Drop>(
     alloc: Global,
     machine: &mut Machine<F, I>,

@@ -1,4 +1,5 @@
-//! Laws of what a run reads, each the contract of a function that does nothing but call another.
+//! Theorems on the reads of a run: each is the contract of a function that does nothing but call
+//! another.
 
 ghost use Rattle.fs_confinement.specs.Answered.{AnswersAreSeen};
 ghost use Rattle.fs_confinement.specs.ByLoads.{OffersReadTheirLoads, WalksReadTheirLoads};
@@ -7,34 +8,34 @@ ghost use Rattle.fs_confinement.specs.Hidden.{HiddenBlocksAreSecret};
 
 use fuse_fs::FileSystem;
 
-/// A step reads before its calls just where its loads came. By loads that find what a memory has, a walk's
-/// read set is the addresses of those whose bytes came, in their order; that of an offer is those of the
-/// index, of the ring's entry, of the tables' entries and of the request. There are such loads for each offer
-/// (`fs_queue::laws::law_loads`).
+/// Before its calls a step reads just the addresses of its loads. If the loads are those of one memory,
+/// a walk's read set is the addresses of its loads, in their order. The read set of an offer is the
+/// addresses of the index, the ring's entry, the tables' entries and the request. Each offer has such
+/// loads (`fs_queue::laws::law_loads`).
 pub fn law_reads_are_loads()
     ensures walks { WalksReadTheirLoads }
     ensures offers { OffersReadTheirLoads }
 {}
 
-/// What a run doesn't read doesn't matter to it: two states that differ only in bytes outside its read set
-/// allow it, with the same answers, exchanges, notices and calls, if no image and no harvest is among its
-/// commands. It reads and writes the same places there, and keeps the difference but for what it writes.
+/// A run doesn't depend on bytes outside its read set, if it has no image and no harvest. Two states
+/// that differ only there allow the same run, with the same answers, exchanges, notifications and
+/// calls. It reads and writes the same places in both, and they still differ only in bytes that
+/// differed before and weren't written.
 pub fn law_confinement<F: FileSystem>()
     ensures { Confinement F.may }
 {}
 
-/// What stands in a block that no region shows is a secret: no run without an image and a harvest that gives
-/// it no region reads or writes it, so each is allowed whatever stands there.
+/// A block that no region shows is secret. A run without an image or a harvest that gives the block no
+/// region neither reads nor writes it, and is allowed with any other bytes in it.
 pub fn law_hidden_blocks<F: FileSystem>()
     ensures { HiddenBlocksAreSecret F.may }
 {
     law_confinement::<F>();
 }
 
-/// What goes over in a step: the calls are told by the request's bytes, the length of its room, the agreed
-/// options and what was answered before; none by what the room holds. The guest finds the reply, the used
-/// element and the used index there, which are told by the same and the answers; and all else in its memory
-/// is as it was.
+/// A step's calls depend only on the request's bytes, the length of its reply buffer, the agreed
+/// options and the earlier answers, not on the reply buffer's bytes. The reply, the used element and
+/// the used index depend on the same and on the answers. All other bytes of the guest's memory stay.
 pub fn law_answers_are_seen<F: FileSystem>()
     ensures { AnswersAreSeen F.may }
 {}

@@ -1,4 +1,4 @@
-//! What a run of the device doesn't look at doesn't matter to it.
+//! A run of the device doesn't depend on the bytes that it doesn't read.
 #![tactic(auto)]
 
 mod hidden;

@@ -1,4 +1,4 @@
--- What the server's answer to one request comes to, for a chain of which only lengths are reported.
+-- The server's answer to one request, for a chain whose exchange has only lengths.
 use Rattle.std.specs.Prelude.{◌≡◌, ◌≤◌, ℕ, List, length, Option, Some, None}
 use Rattle.virtiofsd_fuse.specs.declared.server.Server.{Server}
 use Rattle.virtiofsd_fuse.specs.Serving.{May}
@@ -6,8 +6,8 @@ use Rattle.fs_device.specs.declared.answer_by_copy.CopiedReply.{CopiedReply}
 use Rattle.plain_machine.specs.Step.{Calls}
 use Rattle.fs_device.specs.DeviceView.{server_state, AnswersRequest}
 
--- a request is answered into a room, by a reply that fits or a fault; or an allocation failed, and nothing
--- changed
+-- a request is answered with a reply that fits its reply buffer, or with a fault; or an allocation
+-- failed, and nothing changed
 abbrev pub IsAnswered :
     {F : Type 0} → May F → Server F → (request : List ℕ) → (room : ℕ) → Option CopiedReply → Server F → Type 0
 IsAnswered may before request room (Some r) after =

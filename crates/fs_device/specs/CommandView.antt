@@ -1,4 +1,4 @@
--- Commands, answers and kicks, as the plain machine has them.
+-- Commands, answers and kicks in the plain machine's terms.
 use Rattle.std.specs.Prelude.{◌≡◌, ◌<◌, ℕ, Bool, IsTrue, List, length, map, Option, None, Result, Ok, Err}
 use Rattle.std.specs.Prelude.{slice_get}
 use Rattle.fs_queue.specs.declared.fault.QueueError.TheVariants as stop
@@ -17,15 +17,15 @@ use Rattle.plain_machine.specs.Run.{Image, Harvest, KickAnswer, Answer, Done, By
 use Rattle.plain_machine.specs.Run.{Copied, Pages, IsRefused, Turns, shown, KickRun, kick_takes_memory}
 use Rattle.fs_device.specs.DeviceView.{exchange_of}
 
--- an exchange with its notice
+-- an exchange with whether the driver is notified, in the plain machine's terms
 abbrev pub exchanged_of : code.Exchange × Bool → Exchange × Bool
 exchanged_of x = (exchange_of x.0, x.1)
 
--- what a kick lists
+-- the answer to a kick, in the plain machine's terms
 abbrev pub kicked_of : QueueRun → KickAnswer
 kicked_of run = record { exchanges = map exchanged_of run.done.items; refused = run.refused }
 
--- a command
+-- a command, in the plain machine's terms
 abbrev pub command_of : fetched.Command → Command
 command_of (fetched.TheVariants.GuestRead a n) = GuestRead a n
 command_of (fetched.TheVariants.GuestWrite a bs) = GuestWrite a bs.items
@@ -42,7 +42,7 @@ command_of (fetched.TheVariants.ResetQueue queue l) = ResetQueue queue l.size l.
 command_of fetched.TheVariants.Image = Image
 command_of fetched.TheVariants.Harvest = Harvest
 
--- its answer
+-- an answer, in the plain machine's terms
 abbrev pub answer_of : told.Answer → Answer
 answer_of told.TheVariants.Done = Done
 answer_of (told.TheVariants.Bytes bs) = Bytes bs.items
@@ -52,14 +52,14 @@ answer_of (told.TheVariants.Copied host) = Copied host
 answer_of (told.TheVariants.Pages pages) = Pages (map page_view pages.items)
 answer_of (told.TheVariants.Refused why) = IsRefused why
 
--- a kick of a queue that is there lists these exchanges, each with the calls that it made
+-- a kick of an existing queue lists these exchanges, each with the calls that it made
 abbrev pub KickLists : {F : Type 0} → May F → State F → (queue most : ℕ) → List (Exchange × Bool) →
     Option DeviceError → State F → Type 0
 KickLists may s i most listed refused after =
     (told : Turns) × KickRun may s i most told refused after × (listed ≡ map shown told)
 
--- what serving a queue's chains answers: of a missing queue that alone; nothing is done if there is no room
--- for so many exchanges
+-- the result of serving a queue's chains: `NoSuchQueue` if it is missing; `OutOfMemory` if the list of
+-- exchanges can't be allocated, and then nothing is done; else a kick
 abbrev pub ServesQueue :
     {F : Type 0} → May F → State F → (queue most : ℕ) → Result QueueRun DeviceError → State F → Type 0
 ServesQueue may s i most (Ok run) after =

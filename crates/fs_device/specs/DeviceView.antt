@@ -1,4 +1,4 @@
--- A device and what it answers, as the plain machine has them.
+-- A device and its results in the plain machine's terms.
 use Rattle.std.specs.Prelude.{◌≡◌, ℕ, Bool, List, [], length, Option, Some, None, Result, Ok, Err}
 use Rattle.vm_memory.specs.Memory.{Memory}
 use Rattle.fs_queue.specs.Taking.{RequestAndRoom, IsRequest, CannotFetch}
@@ -11,17 +11,17 @@ use Rattle.plain_machine.specs.Step.{State, Exchange, StepEnd, Idle, Refused, Ex
 use Rattle.plain_machine.specs.Step.{faulty, served_exchange, served_fault}
 use Rattle.fs_device.specs.DevicePartsView.{DeviceParts}
 
--- an exchange
+-- an exchange, in the plain machine's terms
 abbrev pub exchange_of : code.Exchange → Exchange
 exchange_of e = record { head = e.head; request = e.request.items; reply = e.reply.items; fault = e.fault }
 
--- how a step ends
+-- the end of a step, in the plain machine's terms
 abbrev pub outcome_of : Result (Option (code.Exchange × Bool)) DeviceError → StepEnd
 outcome_of (Ok None) = Idle
 outcome_of (Ok (Some x)) = Exchanged (exchange_of x.0) x.1
 outcome_of (Err e) = Refused e
 
--- a device over a memory, as the plain machine
+-- a device over a memory, in the plain machine's terms
 abbrev pub state_of : {F : Type 0} → Memory → DeviceParts F → State F
 state_of m d =
     record {
@@ -33,7 +33,7 @@ state_of m d =
       page_size = d.page_size;
     }
 
--- what a step may change of a server: the options that were agreed, and the file system
+-- the parts of a server that a step may change: the agreed options and the file system
 abbrev pub server_state : {F : Type 0} → Server F → ℕ × F
 server_state server = (server.options.0, server.fs)
 
@@ -42,7 +42,7 @@ abbrev pub request_of : RequestAndRoom → List ℕ
 request_of (IsRequest request room) = request
 request_of (CannotFetch why) = []
 
--- serving a chain that was offered so: a faulty one makes no call
+-- a chain is served by these calls and this exchange; a faulty chain makes no call
 abbrev pub ServesChain : {F : Type 0} → May F → (page_size : ℕ) → ℕ × F → (head : ℕ) → RequestAndRoom →
     Calls → Exchange → ℕ × F → Type 0
 ServesChain may page_size old head (CannotFetch why) calls x new =
@@ -53,7 +53,8 @@ ServesChain may page_size old head (IsRequest request room) calls x new =
     × (x ≡ served_exchange head request given)
     × (new.0 ≡ given.options)
 
--- from these options and this file system a request is answered by this reply or fault, after these calls
+-- a request is answered with this reply or fault, after these calls, from these options and this file
+-- system
 abbrev pub AnswersRequest : {F : Type 0} → May F → (page_size : ℕ) → ℕ × F → (request : List ℕ) → (room : ℕ) →
     Calls → (reply : List ℕ) → Option Fault → ℕ × F → Type 0
 AnswersRequest may page_size old request room calls reply fault new =

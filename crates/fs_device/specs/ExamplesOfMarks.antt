@@ -14,12 +14,12 @@ use Rattle.plain_machine.specs.MarkedPages.{block_mark, io_mark}
 
 -- ---- the length in a header
 
--- an error is its header alone, of 16 bytes
+-- an error is only its header, of 16 bytes
 tells_length_of_error : header_length (error_bytes 1 38) ≡ 16 ∷ 0 ∷ 0 ∷ 0 ∷ []
 unfolding error_bytes fields.field_bytes
 tells_length_of_error = refl
 
--- with three bytes behind it the header says 19
+-- with three bytes behind it, the header has the length 19
 tells_length_of_data : header_length (reply_bytes 1 (7 ∷ 8 ∷ 9 ∷ [])) ≡ 19 ∷ 0 ∷ 0 ∷ 0 ∷ []
 unfolding reply_bytes fields.field_bytes
 tells_length_of_data = refl
@@ -38,29 +38,29 @@ two_pages on =
     })
     (record { start = 0; size = 0x2000; block = 0 } ∷ []) 0 0 on
 
--- the marks of both pages of the block, and of three pages of the set, after a byte was written at an address
+-- the marks of both pages of the block, and of three pages of the set, after a write of one byte
 abbrev marks_after : (on : Bool) (address : ℕ) → List (Option Bool)
 marks_after on address =
     let h : Host = (stored_all (two_pages on) ((address, 7) ∷ [])).host in
     block_mark h 0 0 ∷ block_mark h 0 1 ∷ io_mark h 0 0 ∷ io_mark h 0 1 ∷ io_mark h 0 2 ∷ []
 
--- with the IOMMU off, the page of the place in its block
+-- with the IOMMU off, a write marks the page of the place in its block
 marks_page_of_place : marks_after false 0x1000 ≡ Some false ∷ Some true ∷ Some false ∷ Some false ∷ None ∷ []
 unfolding place stored_all
 marks_page_of_place = refl
 
--- with it on, the page of the address in the set, wherever its place is
+-- with the IOMMU on, a write marks the page of the address in the set, not that of its place
 marks_page_of_address : marks_after true 0x1ff8 ≡ Some false ∷ Some false ∷ Some false ∷ Some true ∷ None ∷ []
 unfolding place stored_all table_kept
 marks_page_of_address = refl
 
--- a page past the end of the set is left out
+-- a page past the end of the set isn't marked
 marks_none_past_the_set :
     marks_after true 0x2000 ≡ Some false ∷ Some false ∷ Some false ∷ Some false ∷ None ∷ []
 unfolding place stored_all table_kept
 marks_none_past_the_set = refl
 
--- an address that isn't mapped has no place: nothing is written, and nothing marked
+-- an address that isn't mapped: nothing is written, and nothing is marked
 marks_none_without_a_place :
     marks_after true 0x1000 ≡ Some false ∷ Some false ∷ Some false ∷ Some false ∷ None ∷ []
 unfolding place stored_all table_kept

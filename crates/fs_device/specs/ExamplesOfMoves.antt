@@ -1,5 +1,5 @@
--- A worked move that computes: an image of eight bytes, a guest's write after it, and the harvest that brings
--- it up to the host.
+-- A worked move that computes: an image of eight bytes, a guest's write after it, and a harvest after
+-- which image and host agree.
 use Rattle.std.specs.Prelude.{◌≡◌, ℕ, Bool, true, false, List, [], ◌∷◌, refl, Some, None}
 use Rattle.vm_memory_core.specs.Host.{Host, Place, byte_at, lengths}
 use Rattle.vm_memory.specs.Layout.{place}
@@ -13,7 +13,7 @@ use Rattle.plain_machine.specs.Examples.{queue, Nothing, may, device}
 use Rattle.fs_device.specs.Moving.{RunsFromImage, page_mark, pages_answered}
 use Rattle.fs_device.specs.Migrating.{IsMoved}
 
--- a machine of these bytes at 0, their page marked or not
+-- a machine with these bytes at 0, their page marked or not
 abbrev of_eight : List ℕ → Bool → State Nothing
 of_eight bytes marked =
     device
@@ -22,9 +22,11 @@ of_eight bytes marked =
     (record { start = 0; size = 8; block = 0 } ∷ []))
     queue
 
+-- the bytes at the image
 abbrev old_bytes : List ℕ
 old_bytes = 1 ∷ 2 ∷ 3 ∷ 4 ∷ 5 ∷ 6 ∷ 7 ∷ 8 ∷ []
 
+-- the bytes after the write
 abbrev new_bytes : List ℕ
 new_bytes = 1 ∷ 2 ∷ 3 ∷ 4 ∷ 5 ∷ 70 ∷ 80 ∷ 8 ∷ []
 
@@ -32,13 +34,13 @@ new_bytes = 1 ∷ 2 ∷ 3 ∷ 4 ∷ 5 ∷ 70 ∷ 80 ∷ 8 ∷ []
 abbrev copy : Host
 copy = (of_eight old_bytes false).memory.host
 
--- two bytes are written at 5, and the page harvested
+-- the guest writes two bytes at 5, and the page is harvested
 abbrev events : List (Command × Answer)
 events =
     (run.GuestWrite 5 (70 ∷ 80 ∷ []), run.Done)
     ∷ (run.Harvest, run.Pages (record { block = 0; offset = 0; bytes = new_bytes } ∷ [])) ∷ []
 
--- what the law asks of a run is met
+-- the run meets the theorem's conditions
 moves : RunsFromImage may (of_eight old_bytes true) copy events (of_eight new_bytes false)
 unfolding RunTold effect place addresses stored_all block_pages host_pages
 moves = record {
@@ -51,7 +53,7 @@ moves = record {
   );
 }
 
--- between the two the byte at 5 is stale, and its page marked
+-- between the two the byte at 5 is stale, and its page is marked
 abbrev at_five : Place
 at_five = record { block = 0; offset = 5; io = None }
 
@@ -64,7 +66,7 @@ host_is_new = refl
 host_is_marked : page_mark (of_eight new_bytes true).memory.host at_five ≡ Some true
 host_is_marked = refl
 
--- the page has its place in the image, which then is the host
+-- the page fits into the image, which then equals the host
 page_has_its_place : first_refused (lengths copy) 0 (pages_answered events) ≡ None
 unfolding first_refused
 page_has_its_place = refl
@@ -73,8 +75,8 @@ image_is_the_host : pages_put copy (pages_answered events) ≡ (of_eight new_byt
 unfolding pages_put
 image_is_the_host = refl
 
--- so the machine is moved, the write on the way and its page harvested last, and goes on there as it would
--- have here
+-- the machine is moved, with the write in the meantime and its page in the last harvest, and could go
+-- on here in the same way
 is_moved : IsMoved may (of_eight old_bytes true) ((run.GuestWrite 5 (70 ∷ 80 ∷ []), run.Done) ∷ [])
     (of_eight new_bytes false)
 unfolding RunTold effect place addresses stored_all block_pages host_pages pages_put

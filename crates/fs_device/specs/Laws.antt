@@ -1,4 +1,4 @@
--- Laws that follow from what a step is.
+-- Theorems that follow from the definition of a step.
 use Rattle.std.specs.Prelude.{◌≡◌, ◌↔◌, ℕ, List, length, flat_map}
 use Rattle.vm_memory.specs.Memory.{Memory, bytes}
 use Rattle.fs_queue.specs.Queue.{Queue}
@@ -7,12 +7,12 @@ use Rattle.fs_queue.specs.Taking.{readable, writable, total_len, IsRequest, requ
 use Rattle.virtiofsd_fuse.specs.Serving.{May, ServedMessage}
 use Rattle.plain_machine.specs.Step.{Calls, ServesRequest}
 
--- the flat bytes of a chain's request
+-- the joined bytes of a chain's request
 abbrev pub joined_request : Memory → List Descriptor → List ℕ
 joined_request m ds = flat_map (λ d. bytes m d.addr d.len) (readable ds)
 
--- two chains in two memories, whose joined requests are the same bytes and whose rooms have the same length,
--- are served alike, however they are cut
+-- theorem: two chains in two memories are served alike, if their joined requests have the same bytes
+-- and their reply buffers the same length; the cuts into descriptors don't matter
 abbrev pub CutsDoNotMatter : {F : Type 0} → May F → Type 0
 CutsDoNotMatter {F} may =
     (m n : Memory) (limit other : ℕ) (ds es : List Descriptor) (request room request' room' : List ℕ) →
@@ -24,15 +24,15 @@ CutsDoNotMatter {F} may =
     ServesRequest may page_size options request (length room) before calls given after
     ↔ ServesRequest may page_size options request' (length room') before calls given after
 
--- a queue offers a chain of these descriptors, direct or by a table, which asks this request and has this
--- room
+-- a queue offers a chain of these descriptors, direct or by an indirect table, with this request and
+-- reply buffer
 pub record OffersChain (m : Memory) (limit : ℕ) (q : Queue) (ds : List Descriptor) (request room : List ℕ) :
     Type 0 where
   pub head : ℕ
   pub walked : chain m q head ≡ IsChain ds
   pub offered : offer m limit q ≡ Offers head (IsRequest request room)
 
--- so are two chains that two queues offer, each of its own memory
+-- theorem: two such chains that two queues offer, each in its own memory, are served alike
 abbrev pub OffersAreServedAlike : {F : Type 0} → May F → Type 0
 OffersAreServedAlike {F} may =
     (m n : Memory) (limit other : ℕ) (q p : Queue) (ds es : List Descriptor)

@@ -12,6 +12,7 @@ pub mod Laws
 pub mod Marks
 pub mod Moving
 pub mod Migrating
+pub mod ExamplesOfKicks
 pub mod ExamplesOfRuns
 pub mod ExamplesOfMoves
 pub mod ExamplesOfMarks

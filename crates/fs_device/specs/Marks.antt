@@ -1,4 +1,4 @@
--- Marks change nothing else: two states that differ in marks alone allow the same runs.
+-- Marks change nothing else: two states that differ only in marks allow the same runs.
 use Rattle.std.specs.Prelude.{◌≡◌, Bool, false, List, [], ◌∷◌, map}
 use Rattle.vm_memory_core.specs.Host.{Host, unmarked}
 use Rattle.virtiofsd_fuse.specs.Serving.{May}
@@ -6,7 +6,7 @@ use Rattle.plain_machine.specs.Step.{State}
 use Rattle.plain_machine.specs.Run.{Command, Answer, Done, Bytes, NewBlockIs, Served, Copied, Pages}
 use Rattle.plain_machine.specs.Run.{IsRefused, Turns, RunTold, with_host}
 
--- as many pages, none of which is marked
+-- as many pages, with no mark set
 abbrev pub none_marked : List Bool → List Bool
 none_marked marks = map (λ _. false) marks
 
@@ -14,16 +14,16 @@ none_marked marks = map (λ _. false) marks
 abbrev pub without_marks : Host → Host
 without_marks h = record h { blocks = map unmarked h.blocks; io_marks = map none_marked h.io_marks }
 
--- the state over its host with no page marked
+-- the state with no page of its host marked
 abbrev pub without_its_marks : {F : Type 0} → State F → State F
 without_its_marks s = with_host s (without_marks s.memory.host)
 
--- two states that differ in marks alone
+-- two states that differ only in marks
 abbrev pub SameButMarks : {F : Type 0} → State F → State F → Type 0
 SameButMarks a b = without_its_marks a ≡ without_its_marks b
 
--- the same answer: of a harvest only that it answers pages, and of an image a copy that differs in marks
--- alone
+-- the same answer, but for marks: two harvests may answer any pages, and the copies of two images may
+-- differ in marks
 abbrev pub SameAnswer : Answer → Answer → Type 0
 SameAnswer (Pages pages) (Pages others) = Unit {0}
 SameAnswer (Pages pages) answer = ⊥
@@ -43,9 +43,9 @@ SameEvents (event ∷ events) [] = ⊥
 SameEvents (event ∷ events) (other ∷ others) =
     (other.0 ≡ event.0) × SameAnswer event.1 other.1 × SameEvents events others
 
--- from two states that differ in marks alone the same runs are allowed, what harvests answer and marks apart,
--- with the same exchanges, notices and calls behind the answers, and they end in states that differ in marks
--- alone
+-- theorem: two states that differ only in marks allow the same runs, up to the answers of harvests and
+-- marks, with the same exchanges, notifications and calls behind the answers. The states afterwards
+-- differ only in marks
 abbrev pub MarksDoNotMatter : {F : Type 0} → May F → Type 0
 MarksDoNotMatter {F} may =
     (a b after : State F) (events : List (Command × Answer)) (tolds : List Turns) →

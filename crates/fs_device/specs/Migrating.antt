@@ -1,4 +1,4 @@
--- A machine that is moved: as it goes on there, it would have gone on here.
+-- A machine that is moved: each of its later runs could have been one of the old machine.
 use Rattle.std.specs.Prelude.{◌≡◌, ◌⊎◌, ◌++◌, List, [], ◌∷◌, length, map, zip}
 use Rattle.std.specs.List.{flat_map}
 use Rattle.plain_machine.specs.Harvested.{Page}
@@ -12,16 +12,16 @@ use Rattle.plain_machine.specs.Run.{with_host}
 use Rattle.fs_device.specs.CommandView.{answer_of}
 use Rattle.fs_device.specs.Moving.{RunsFromImage, pages_answered, pages_of_answer}
 
--- the pages that these answers have, in order
+-- the pages in these answers, in order
 abbrev pub pages_of_answers : List told.Answer → List Page
 pages_of_answers answers = flat_map pages_of_answer (map answer_of answers)
 
--- what was done here, from an image of the host to a last harvest
+-- the events between an image of the host and a last harvest, and the harvest
 abbrev pub until_harvest : List (Command × Answer) → (last : List Page) → List (Command × Answer)
 until_harvest events last = events ++ (Harvest, Pages last) ∷ []
 
--- whatever runs there could have run here, after these events with this behind their answers: the same
--- commands with the same answers, the same calls, exchanges and notices behind them, and the same state at
+-- each run there could have been a run here after these events and their exchanges: with the same
+-- commands and answers, the same calls, exchanges and notifications behind them, and the same state at
 -- the end
 abbrev pub CouldRunHere : {F : Type 0} → May F → State F → List (Command × Answer) → (before : List Turns) →
     (there : State F) → Type 0
@@ -30,9 +30,9 @@ CouldRunHere {F} may s events before there =
     RunTold may there later tolds end →
     RunTold may s (events ++ later) (before ++ tolds) end
 
--- by one run here, from an image that answered its copy over these events to a last harvest: the machine
--- there is the one here over the copy with all harvested pages put in, in order; this is the one here, marks
--- and all; and whatever runs there could have run here, after that run
+-- a machine is moved by a run here from an image to a last harvest. The machine there is the one here
+-- over the copy, with all harvested pages applied in order; it equals the one here, marks and all; and
+-- each of its runs could have followed here
 pub record IsMoved {F : Type 0} (may : May F) (s : State F) (events : List (Command
     × Answer)) (there : State F) : Type 0 where
   pub copy : Host
@@ -47,7 +47,7 @@ pub record IsMoved {F : Type 0} (may : May F) (s : State F) (events : List (Comm
 abbrev pub StaysAtOnce : {F : Type 0} → May F → State F → (answers : List Answer) → State F → Type 0
 StaysAtOnce may s answers after = (answers ≡ []) × (image : Answer) × Run may s ((Image, image) ∷ []) after
 
--- each command was done, after an image, and then a harvest was made or refused
+-- each command was done after an image, and then a harvest was made or refused
 abbrev pub StaysAtLast :
     {F : Type 0} → May F → State F → List Command → (answers : List Answer) → State F → Type 0
 StaysAtLast may s commands answers after =
@@ -55,7 +55,7 @@ StaysAtLast may s commands answers after =
     × (copy : Host) × (harvest : Answer)
     × Run may s ((Image, Copied copy) ∷ zip commands answers ++ (Harvest, harvest) ∷ []) after
 
--- the machine stayed, none or all of the commands done
+-- the machine stayed, with none or all of the commands done
 abbrev pub StaysHere :
     {F : Type 0} → May F → State F → List Command → (answers : List Answer) → State F → Type 0
 StaysHere may s commands answers after =

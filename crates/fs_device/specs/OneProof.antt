@@ -1,5 +1,5 @@
--- That a host has what memory behind an IOMMU names has one proof, as a ghost field that keeps it needs.
--- Nothing here has to be believed.
+-- A ghost field needs that its proposition has one proof: here, that a host has the blocks, table and
+-- I/O pages of a memory behind an IOMMU. Nothing here has to be believed.
 use Rattle.std.specs.Prelude.{ℕ, List}
 use Rattle.std.specs.Coded.{le_prop}
 use Rattle.vm_memory_core.specs.Host.{Host, lengths}

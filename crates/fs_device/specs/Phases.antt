@@ -1,5 +1,4 @@
--- A step in its phases: a chain is taken into a place, its request is fetched and answered, and it is given
--- back.
+-- A step in its phases: a chain is taken, its request is copied and answered, and it is returned.
 use Rattle.std.specs.Prelude.{◌≡◌, ℕ, Bool, IsTrue, true, false, List, [], ◌∷◌, length, Some, Result, Ok, Err}
 use Rattle.std.specs.Prelude.{slice_get, MatchResult}
 use Rattle.vm_memory_core.specs.Host.{Host}
@@ -19,7 +18,7 @@ use Rattle.plain_machine.specs.Step.{State, Exchange, Idle, Refused, Calls, Step
 use Rattle.plain_machine.specs.declared.fault.Fault.TheVariants as fault
 use Rattle.fs_device.specs.DeviceView.{AnswersRequest, ServesChain, request_of}
 
--- a chain was taken from queue i: over this memory, with this limit, the queue offers it, and the place has
+-- a chain was taken from queue i: the queue offers it over this memory, with this limit, and `t` has
 -- its windows
 pub record HasTaken (m : Memory) (limit : ℕ) (queues : List Queue) (i : ℕ) (t : Taken) : Type 0 where
   pub queue : Queue
@@ -28,15 +27,15 @@ pub record HasTaken (m : Memory) (limit : ℕ) (queues : List Queue) (i : ℕ) (
   pub offered : offer m limit queue ≡ Offers t.head fetched
   pub taken : IsTaken m queue fetched t
 
--- the place has the windows of a chain that was taken from queue i, whatever the queue offers by now
+-- `t` has the windows of a chain that was taken from queue i, which may offer another by now
 pub record IsTakenFrom (m : Memory) (queues : List Queue) (i : ℕ) (t : Taken) : Type 0 where
   pub queue : Queue
   pub fetched : RequestAndRoom
   pub there : slice_get queues i ≡ Some queue
   pub taken : IsTaken m queue fetched t
 
--- taking is a whole step without a call if nothing waits or the step is refused; else the chain of this queue
--- was taken, and nothing changed
+-- taking a chain: if none is available or the step is refused, it is a whole step without a call; else
+-- the chain of this queue was taken, and nothing changed
 abbrev pub TakesOrEnds :
     {F : Type 0} → May F → State F → ℕ → Taken → Result Bool DeviceError → State F → Type 0
 TakesOrEnds may before i t (Ok true) after =
@@ -44,7 +43,7 @@ TakesOrEnds may before i t (Ok true) after =
 TakesOrEnds may before i t (Ok false) after = Step may before i [] Idle after
 TakesOrEnds may before i t (Err e) after = Step may before i [] (Refused e) after
 
--- so it goes with these queues, whatever the options, the file system and the size of a page
+-- taking a chain with these queues, for all options, file systems and page sizes
 abbrev pub TakesFrom : {F : Type 0} → May F → Memory → (limit : ℕ) → List Queue → ℕ → Taken →
     Result Bool DeviceError → List Queue → Type 0
 TakesFrom {F} may m limit before i t result after =
@@ -66,19 +65,19 @@ TakesFrom {F} may m limit before i t result after =
       page_size = page_size;
     })
 
--- what holds of a place once a chain was taken into it
+-- this holds of `t` if a chain was taken
 abbrev pub IfTaken : (Taken → Type 0) → Taken → Result Bool DeviceError → Type 0
 IfTaken P t (Ok true) = P t
 IfTaken P t (Ok false) = Unit {0}
 IfTaken P t (Err e) = Unit {0}
 
--- a place is empty unless a chain was taken into it
+-- `t` is empty unless a chain was taken
 abbrev pub IsEmptyUnlessDeviceTook : Result Bool DeviceError → Taken → Type 0
 IsEmptyUnlessDeviceTook (Ok true) t = Unit {0}
 IsEmptyUnlessDeviceTook (Ok false) t = IsEmpty t
 IsEmptyUnlessDeviceTook (Err e) t = IsEmpty t
 
--- these are the bytes of the request of a chain that was taken, in each memory of this host in which it was
+-- these are the request's bytes of a taken chain, in each memory of this host
 abbrev pub HoldsRequest : Host → Taken → (bytes : List ℕ) → Type 0
 HoldsRequest h t bytes =
     (m : Memory) (fetched : RequestAndRoom) →
@@ -86,7 +85,7 @@ HoldsRequest h t bytes =
     HoldsChain m fetched t.chain →
     bytes ≡ request_of fetched
 
--- a chain has no fault
+-- a chain isn't faulty
 abbrev pub IsUnfaulty : Result Chain ChainFault → Type 0
 IsUnfaulty (Ok c) = Unit {0}
 IsUnfaulty (Err fault) = ⊥
@@ -95,22 +94,22 @@ IsUnfaulty (Err fault) = ⊥
 abbrev pub in_one_segment : List ℕ → ReaderView
 in_one_segment bytes = record { left = bytes; segments = filled (length bytes ∷ []); read = 0 }
 
--- memory may be wanting to answer a chain that was taken: it has no fault, and the server may want some for
--- its request
+-- the server may fail to allocate for a taken chain: the chain isn't faulty, and its request may need
+-- an allocation
 abbrev pub MayLackToAnswer : (options : ℕ) → Taken → (bytes : List ℕ) → Type 0
 MayLackToAnswer options t bytes =
     IsUnfaulty t.chain × IsTrue (may_take_memory options (in_one_segment bytes) (room_places t.chain))
 
--- the chain that was taken is served by this exchange, if these are the bytes of its request; a faulty chain
--- makes no call
+-- a taken chain is served by this exchange, if these are its request's bytes; a faulty chain makes no
+-- call
 abbrev pub ServesTaken :
     {F : Type 0} → May F → (page_size : ℕ) → ℕ × F → Taken → (bytes : List ℕ) → Exchange → ℕ × F → Type 0
 ServesTaken may page_size old t bytes x new =
     (m : Memory) (q : Queue) (fetched : RequestAndRoom) → IsTaken m q fetched t → bytes ≡ request_of fetched →
     (calls : Calls) × ServesChain may page_size old t.head fetched calls x new
 
--- whatever chain a request was fetched of: one that isn't faulty is served as these bytes mean in so much
--- room, and a faulty one makes no call
+-- these bytes are served as the request of a chain, with a reply buffer of `room` bytes; a faulty chain
+-- makes no call
 abbrev pub ServesBytes : {F : Type 0} → May F → (page_size : ℕ) → ℕ × F → Taken → (room : ℕ) →
     (bytes : List ℕ) → Exchange → ℕ × F → Type 0
 ServesBytes may page_size old t room bytes x new =
@@ -118,7 +117,7 @@ ServesBytes may page_size old t room bytes x new =
     (λ c. (calls : Calls) × AnswersRequest may page_size old bytes room calls x.reply x.fault new)
     (λ why. (x.reply ≡ []) × (x.fault ≡ Some (fault.Chain why)) × (new ≡ old))
 
--- the chain that was taken from queue i goes back to it with a reply over its room, and the driver is told or
+-- a taken chain is returned to queue i with a reply in its reply buffer, and the driver is notified or
 -- not (VIRTIO 1.2, 2.7.8 and 2.7.7)
 pub record GoesBack {F : Type 0} (before : State F) (i : ℕ) (t : Taken) (has : IsTakenFrom before.memory
     before.queues i t) (reply : List ℕ) (notice : Bool) (after : State F) : Type 0 where

@@ -1,5 +1,5 @@
--- What a chain is answered that is yet to be written: all of the reply, or its header, with the data in its
--- place already.
+-- The bytes of a reply that are still to be written: all of them, or only the header if the data is
+-- already in the reply buffer.
 use Rattle.std.specs.Prelude.{◌≡◌, ℕ, Bool, true, false, List, length, map, Option}
 use Rattle.vm_memory_core.specs.Host.{Host, Place}
 use Rattle.vm_memory_core.specs.Window.{byte_in}
@@ -17,27 +17,27 @@ use Rattle.fs_device.specs.declared.answer_by_copy.CopiedReply.{CopiedReply}
 use Rattle.plain_machine.specs.Step.{Calls, Exchange}
 use Rattle.fs_device.specs.DeviceView.{AnswersRequest, ServesChain, request_of, server_state}
 
--- the bytes that are yet to be written
+-- the bytes that are still to be written
 abbrev pub front_bytes : ReplyFront → List ℕ
 front_bytes (front.Reply bytes) = bytes.items
 front_bytes (front.Header bytes) = bytes
 
--- whether they are the header's alone
+-- whether only the header is still to be written
 abbrev pub is_header : ReplyFront → Bool
 is_header (front.Reply bytes) = false
 is_header (front.Header bytes) = true
 
--- a reply that is yet to be written whole
+-- a reply that is still to be written whole
 abbrev pub whole : CopiedReply → PreparedReply
 whole r = record { front = front.Reply r.bytes; len = length r.bytes.items; fault = r.fault }
 
--- the exchange of a chain with this head that was offered so, by this reply or fault
+-- the exchange of an offered chain with this head, by this reply or fault
 abbrev pub replied : (head : ℕ) → RequestAndRoom → (reply : List ℕ) → Option Fault → Exchange
 replied head fetched reply fault =
     record { head = head; request = request_of fetched; reply = reply; fault = fault }
 
--- the request at some places is answered by a reply of this length, which stands in its room but for its
--- front
+-- the request at some places is answered by a reply of this length; the reply buffer already has all of
+-- it but its front
 pub record AnswersAt {F : Type 0} (may : May F) (before : Server F) (old : Host) (request room : List Place)
     (a : PreparedReply) (new : Host) (after : Server F) : Type 0 where
   pub reply : List ℕ
@@ -47,7 +47,7 @@ pub record AnswersAt {F : Type 0} (may : May F) (before : Server F) (old : Host)
       × AnswersRequest may before.page_size (server_state before) (map (byte_in old) request) (length room)
       calls reply a.fault (server_state after)
 
--- a chain is served by a reply of this length, which stands in its room but for its front
+-- a chain is served by a reply of this length; the reply buffer already has all of it but its front
 pub record AnswersFront {F : Type 0} (may : May F) (before : Server F) (old : Host) (taken : Taken)
     (fetched : RequestAndRoom) (a : PreparedReply) (new : Host) (after : Server F) : Type 0 where
   pub reply : List ℕ

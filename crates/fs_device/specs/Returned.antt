@@ -1,12 +1,12 @@
--- What is told of a step by lengths alone.
+-- The results of a step by lengths alone.
 use Rattle.std.specs.Prelude.{◌≡◌, ℕ, Bool, length, Option, Some, None, Result, Ok, Err}
 use Rattle.virtiofsd_fuse.specs.Serving.{May}
 use Rattle.plain_machine.specs.declared.error.DeviceError.{DeviceError}
 use Rattle.fs_device.specs.declared.returned.Returned.{Returned}
 use Rattle.plain_machine.specs.Step.{State, Exchange, StepEnd, Idle, Refused, Exchanged, Calls, Step}
 
--- an exchange: its head, the lengths of its request and its reply in bytes, its fault, and whether the driver
--- is told (VIRTIO 1.2, 2.7.7 and 2.7.8)
+-- an exchange by its head, the lengths of its request and reply in bytes, its fault, and whether the
+-- driver is notified (VIRTIO 1.2, 2.7.7 and 2.7.8)
 abbrev pub told_exchange : Exchange → (notice : Bool) → Returned
 told_exchange x notice =
     record {
@@ -17,13 +17,13 @@ told_exchange x notice =
       notify = notice;
     }
 
--- how a step ends: nothing waits, a chain was exchanged, or it is refused
+-- the end of a step: no chain is available, a chain was exchanged, or it is refused
 abbrev pub told : StepEnd → Result (Option Returned) DeviceError
 told Idle = Ok None
 told (Exchanged x notice) = Ok (Some (told_exchange x notice))
 told (Refused e) = Err e
 
--- there are calls and an end by which a step on queue i goes so, and this tells that end
+-- a step on queue i may have this result, with some calls, and leave this state
 abbrev pub StepTold :
     {F : Type 0} → May F → State F → ℕ → Result (Option Returned) DeviceError → State F → Type 0
 StepTold may before i result after =

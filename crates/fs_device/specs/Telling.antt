@@ -1,5 +1,5 @@
--- What a run tells of its file calls: in their order they are a run of the file system, and each exchange is
--- what its request means in some setting.
+-- The file calls of a run: in their order they are a run of the file system, and each exchange follows
+-- from the meaning of its request.
 use Rattle.std.specs.Prelude.{◌≡◌, List, [], flat_map, Option, Some, None}
 use Rattle.std.specs.List.{AllByRecursion}
 use Rattle.fuse_fs.specs.Calls.{FileRun}
@@ -14,11 +14,12 @@ use Rattle.plain_machine.specs.Run.{Turn, Turns, Command, Answer, RunTold}
 abbrev pub calls_of : Turns → Calls
 calls_of told = flat_map (λ t. t.calls) told
 
--- and of a run
+-- the calls of a run, in their order
 abbrev pub calls_told : List Turns → Calls
 calls_told tolds = flat_map calls_of tolds
 
--- in some setting the request means these calls, each by the answers before it, and they make this exchange
+-- in some setting the request means these calls, each determined by the answers before it, and this
+-- exchange
 abbrev pub IsMeant : Turn → Type 0
 IsMeant t = (s : Setting)
     × ((served s (meaning s.options t.exchange.request s.room) (answers_alone t.calls)).calls
@@ -26,18 +27,18 @@ IsMeant t = (s : Setting)
     × (t.exchange ≡ served_exchange t.exchange.head t.exchange.request
     (served s (meaning s.options t.exchange.request s.room) (answers_alone t.calls)))
 
--- by its fault: a faulty chain makes no call
+-- an exchange and its calls are as its fault says: a faulty chain makes no call
 abbrev pub IsServedBy : Option Fault → Turn → Type 0
 IsServedBy (Some (fault.Chain why)) t = t.calls ≡ []
 IsServedBy (Some (fault.Served e)) t = IsMeant t
 IsServedBy None t = IsMeant t
 
--- an exchange and its calls are what its request means
+-- an exchange and its calls follow from the meaning of its request
 abbrev pub IsServed : Turn → Type 0
 IsServed t = IsServedBy t.exchange.fault t
 
--- all calls of a run are a run of the file system from its first state to its last, and each exchange is what
--- its request means in some setting
+-- theorem: all calls of a run are a run of the file system from its first state to its last, and each
+-- exchange follows from its request's meaning in some setting
 abbrev pub CallsAreTold : {F : Type 0} → May F → Type 0
 CallsAreTold {F} may =
     (s after : State F) (events : List (Command × Answer)) (tolds : List Turns) →

@@ -1,4 +1,4 @@
-//! A chain is answered by a copy of its request, and the exchange has the bytes of both.
+//! A chain is answered by a copy of its request, and the exchange has the bytes of request and reply.
 
 ghost use Rattle.std.specs.Prelude.{◌≡◌, ◌≤◌, ◌<◌, ◌^◌, [], false, length, IfOk, IsSome, OnErr};
 ghost use Rattle.fs_queue.specs.Windows.{room_places};
@@ -11,7 +11,7 @@ use plain_machine::Fault;
 use std::alloc::{AllocError, Global};
 use virtiofsd_fuse::{Error, Reader, Server, Writer};
 
-/// A reply, or why there is none.
+/// A reply, or the fault instead of it.
 #[derive(Drop)]
 pub(crate) struct CopiedReply {
     pub bytes: Vec<u8>,
@@ -24,15 +24,15 @@ ghost use Rattle.fs_device.specs.DeviceView.{exchange_of, server_state};
 ghost use Rattle.fs_device.specs.Phases.{MayLackToAnswer, ServesBytes, ServesTaken};
 ghost use Rattle.virtiofsd_fuse.specs.WantOfMemory.{may_take_memory};
 
-// Whether an allocation failed.
+// Whether the server's error is a failed allocation.
 fn is_memory(error: Error) -> bool
     ensures { result ≡ is_memory error }
 {
     matches!(error, Error::OutOfMemory)
 }
 
-// Has the server answer what a reader has left into a writer's room; nothing if an allocation failed, and
-// then nothing changed.
+// The server answers the rest of a reader's request into a writer's reply buffer. None if an allocation
+// failed, and then nothing changed.
 #[inline(always)]
 pub(crate) fn answer<F: FileSystem>(
     alloc: Global,
@@ -64,7 +64,7 @@ pub(crate) fn answer<F: FileSystem>(
     }
 }
 
-/// Serves a chain that was taken, by its request. Nothing is refused once the file system was asked.
+/// Serves a chain that was taken, by its request. It refuses nothing once the file system was called.
 #[inline(always)]
 pub(crate) fn serve<F: FileSystem>(
     alloc: Global,

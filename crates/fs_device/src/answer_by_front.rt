@@ -1,5 +1,5 @@
-//! A chain is answered by the front of its request, which is copied once and says which data may stay where
-//! it stands; no byte of the request is handed out.
+//! A chain is answered by a copy of the front of its request, which shows the data that may stay in
+//! guest memory. No byte of the request is returned.
 
 ghost use Rattle.std.specs.Prelude.{◌≡◌, ◌↔◌, ℕ, ◌≤◌, ◌<◌, ◌^◌, length, map, IfNone, IfOk, IfSome, IsTrue};
 ghost use Rattle.std.specs.Prelude.{Ok, OnErr, []};
@@ -25,8 +25,8 @@ use std::alloc::{AllocError, Global};
 use virtiofsd_fuse::{REQUEST_FRONT, Reader, Server, Writer, writes_data};
 use vm_memory_core::HostBlocks;
 
-// Has the server answer a request by a copy of its front, and by the rest, which is read where it stands.
-// Nothing if an allocation failed, and then nothing changed.
+// The server answers a request by a copy of its front and by the other bytes, which it reads in guest
+// memory. None if an allocation failed, and then nothing changed.
 #[inline(always)]
 fn answer_behind<F: FileSystem, H: HostBlocks>(
     alloc: Global,
@@ -45,7 +45,7 @@ fn answer_behind<F: FileSystem, H: HostBlocks>(
     ensures page_size { server.new.page_size ≡ server.old.page_size }
 {
     let segments = segments_behind(alloc, host, &chain.readable, front)?;
-    // for the proof: the segments are as long as the request, whose length is a usize.
+    // For the proof: the segments are as long as the request, whose length is a usize.
     let _len = chain.request_len();
     match Reader::new(segments) {
         Ok(reader) => answer(alloc, server, reader, room),
@@ -53,8 +53,8 @@ fn answer_behind<F: FileSystem, H: HostBlocks>(
     }
 }
 
-// Has the server answer a request that is longer than its front: the data of a WRITE stays where it stands,
-// and any other is fetched whole. Nothing if an allocation failed, and then nothing changed.
+// The server answers a request that is longer than its front. It reads the data of a WRITE in guest
+// memory, and copies any other request whole. None if an allocation failed, and then nothing changed.
 #[inline(always)]
 fn answer_longer<F: FileSystem, H: HostBlocks>(
     alloc: Global,
@@ -81,7 +81,7 @@ fn answer_longer<F: FileSystem, H: HostBlocks>(
     }
 }
 
-// Has the server answer a chain's request, of which these are the first bytes, into a buffer. Nothing if an
+// The server answers a chain's request, which begins with the bytes `front`, into a buffer. None if an
 // allocation failed, and then nothing changed.
 #[inline(always)]
 fn answer_in_buffer<F: FileSystem, H: HostBlocks>(
@@ -107,8 +107,8 @@ fn answer_in_buffer<F: FileSystem, H: HostBlocks>(
     }
 }
 
-// Copies the front of a chain's request, and has the server answer it by that: the data of a READ is put
-// where it goes, if that can be. Nothing if an allocation failed, and then nothing changed.
+// Copies the front of a chain's request, and the server answers the request by it: a READ in place, if
+// `read_in_place` applies, else into a buffer. None if an allocation failed, and then nothing changed.
 #[inline(always)]
 fn answer_chain<F: FileSystem, H: HostBlocks>(
     alloc: Global,
@@ -144,7 +144,7 @@ fn answer_chain<F: FileSystem, H: HostBlocks>(
     }
 }
 
-/// The length of the request of a chain that was taken, in bytes; a faulty chain has none.
+/// The length in bytes of the request of a chain that was taken; 0 if the chain is faulty.
 #[inline(always)]
 pub(crate) fn request_len(taken: &Taken) -> usize
     ensures { (m : Memory) (fetched : RequestAndRoom)
@@ -157,8 +157,8 @@ pub(crate) fn request_len(taken: &Taken) -> usize
     }
 }
 
-/// Answers a chain that was taken, with what is yet to be written of its reply. Nothing is refused once the
-/// file system was asked.
+/// Answers a chain that was taken. The result has the bytes of its reply that are still to be written.
+/// AllocError if an allocation fails, always before the file system is called.
 #[inline(always)]
 pub(crate) fn answer_front<F: FileSystem, H: HostBlocks>(
     alloc: Global,

@@ -1,4 +1,4 @@
-//! Pages put into a host.
+//! Harvested pages are applied to a host.
 
 ghost use Rattle.std.specs.Prelude.{◌≡◌, map, None, OnErr, OnOk, slice_get};
 ghost use Rattle.vm_memory_core.specs.Host.{lengths, shape};
@@ -9,7 +9,7 @@ use crate::harvested::HarvestedPage;
 use thiserror::Error;
 use vm_memory_core::{HostMemory, PageBitmap};
 
-/// Why pages are not put into a host: the first that has no place there, by its number in the list from 0 on.
+/// Why pages weren't applied to a host: the number in the list, from 0, of the first that doesn't fit.
 #[derive(Clone, Copy, Debug, PartialEq, Eq, Error)]
 pub enum ApplyError {
     #[error("page {0} is of a block that is not there")]
@@ -22,7 +22,7 @@ pub enum ApplyError {
 impl ApplyError {
     ghost use Rattle.fs_device.specs.Applying.{apply_error_number};
 
-    /// The number that tells the refusal apart.
+    /// The error's number: 1 for `UnknownBlock`, 2 for `OutOfRange`.
     pub fn number(&self) -> u8
         ensures { result ≡ apply_error_number self.now }
     {
@@ -33,7 +33,7 @@ impl ApplyError {
     }
 }
 
-// Whether a page, which has this number in a list, has its place in the host.
+// Whether a page, the one with this number in a list, fits into its block.
 fn check_page(
     host: &HostMemory<PageBitmap>,
     number: usize,
@@ -51,7 +51,7 @@ fn check_page(
     Ok(())
 }
 
-// Whether each page has its place in the host.
+// Whether each page fits into its block.
 fn check(host: &HostMemory<PageBitmap>, pages: &[HarvestedPage]) -> Result<(), ApplyError>
     ensures { result ≡ applied (first_refused (lengths host.now) 0 (map page_view pages.now)) }
 {
@@ -61,7 +61,7 @@ fn check(host: &HostMemory<PageBitmap>, pages: &[HarvestedPage]) -> Result<(), A
     Ok(())
 }
 
-// Puts in pages that have their places in the host.
+// Writes pages that fit into their blocks.
 fn put(host: &mut HostMemory<PageBitmap>, pages: &[HarvestedPage])
     requires { first_refused (lengths host.old) 0 (map page_view pages.now) ≡ None }
     ensures put { host.new ≡ pages_put host.old (map page_view pages.now) }
@@ -72,8 +72,8 @@ fn put(host: &mut HostMemory<PageBitmap>, pages: &[HarvestedPage])
     }
 }
 
-/// Puts pages into a host, in order, and marks none. Where one has no place there nothing changes, and the
-/// refusal, UnknownBlock or OutOfRange, tells the first such page.
+/// Writes pages to a host, in order, and marks none of them. Errors, with the number of the first page
+/// that doesn't fit: `UnknownBlock`, `OutOfRange`. Then nothing changes.
 pub fn apply(host: &mut HostMemory<PageBitmap>, pages: &[HarvestedPage]) -> Result<(), ApplyError>
     ensures outcome { result ≡ applied (first_refused (lengths host.old) 0 (map page_view pages.now)) }
     ensures ok { OnOk result (host.new ≡ pages_put host.old (map page_view pages.now)) }

@@ -1,4 +1,4 @@
-//! What follows the first bytes of a room, where these are apart from it.
+//! The reply buffer behind its first bytes, if it has no byte in common with them.
 
 ghost use Rattle.std.specs.Prelude.{◌≡◌, ◌↔◌, ℕ, ◌<◌, ◌≤◌, ◌+◌, ◌∷◌, List, IfSome, IsSome, IsTrue, drop};
 ghost use Rattle.std.specs.Prelude.{length, map, sum, take};
@@ -10,7 +10,7 @@ ghost use Rattle.fs_device.specs.Behind.{IsFrontWindow, HasBehind};
 use crate::room_left::RoomLeft;
 use vm_memory_core::VolatileSlice;
 
-// The window in which a byte is that is counted from the beginning of one of them, and where it is there.
+// The window with byte `at`, counted from the beginning of window `index`, and the byte's offset in it.
 fn window_at(windows: &[VolatileSlice], index: usize, at: usize) -> (usize, usize)
     requires { at < length (places (drop index windows.now)) }
     ensures within { (w : Window)
@@ -33,7 +33,7 @@ fn window_at(windows: &[VolatileSlice], index: usize, at: usize) -> (usize, usiz
 }
 
 impl<'a> RoomLeft<'a> {
-    // What follows the first bytes of a room, if it has as many; its length in bytes is told.
+    // The reply buffer without its first `count` bytes; `len` is its length in bytes.
     fn behind(windows: &'a [VolatileSlice], len: usize, count: usize) -> RoomLeft<'a>
         requires counted { len ≡ length (places windows.now) }
         requires enough { count ≤ len }
@@ -48,7 +48,7 @@ impl<'a> RoomLeft<'a> {
         }
     }
 
-    /// How many bytes are left.
+    /// The number of bytes that are left.
     pub fn len(&self) -> usize
         ensures len { result ≡ length self.now.places }
         ensures rooms { (sum self.now.rooms ≡ length self.now.places)
@@ -57,7 +57,7 @@ impl<'a> RoomLeft<'a> {
         self.len
     }
 
-    // The first bytes that are left, in the first window that has one: all that it has, or `most` of them.
+    // The next bytes that are left: all that their window has, or `most` of them.
     pub(crate) fn front(&mut self, most: usize) -> VolatileSlice
         requires { 0 < length self.old.places }
         ensures same { self.new ≡ self.old }
@@ -71,7 +71,7 @@ impl<'a> RoomLeft<'a> {
         window.subslice(at, most.min(window.len() - at)).unwrap()
     }
 
-    // Leaves out the first bytes.
+    // Removes the first `count` bytes.
     pub(crate) fn advance(&mut self, count: usize)
         requires { count ≤ length self.old.places }
         ensures windows { self.new.windows ≡ self.old.windows }
@@ -83,7 +83,7 @@ impl<'a> RoomLeft<'a> {
     }
 }
 
-// Whether two windows are of different blocks, or one of them ends before the other begins.
+// Whether two windows are of different blocks, or one ends where the other begins or before.
 fn are_apart(one: &VolatileSlice, other: &VolatileSlice) -> bool
     ensures { result ≡ are_apart one.now other.now }
 {
@@ -94,7 +94,7 @@ fn are_apart(one: &VolatileSlice, other: &VolatileSlice) -> bool
         || other_end <= one.block_offset()
 }
 
-// Whether a window has no byte in common with the room that follows the first bytes of some windows.
+// Whether a window has no byte in common with the reply buffer behind its first `count` bytes.
 fn is_apart(window: &VolatileSlice, windows: &[VolatileSlice], len: usize, count: usize) -> bool
     requires some { 0 < window.now.len }
     requires counted { len ≡ length (places windows.now) }
@@ -112,7 +112,7 @@ fn is_apart(window: &VolatileSlice, windows: &[VolatileSlice], len: usize, count
     true
 }
 
-// Whether the first bytes of some windows, joined, have none in common with those that follow.
+// Whether the first `count` bytes of a reply buffer have none in common with the bytes behind them.
 fn front_is_apart(windows: &[VolatileSlice], len: usize, count: usize) -> bool
     requires counted { len ≡ length (places windows.now) }
     requires enough { count ≤ len }
@@ -131,8 +131,8 @@ fn front_is_apart(windows: &[VolatileSlice], len: usize, count: usize) -> bool
     true
 }
 
-/// What follows the first `count` bytes of a room of `len` bytes, where none of its bytes is one of those;
-/// else None.
+/// A reply buffer of `len` bytes without its first `count` bytes. None if it has fewer, or if one of
+/// these is also one of the bytes behind them.
 pub fn room_behind<'a>(
     windows: &'a [VolatileSlice],
     len: usize,

@@ -1,4 +1,4 @@
-//! What is asked of a machine, and what it answers.
+//! The commands of a machine, and its answers.
 
 ghost use Rattle.std.specs.Prelude.{◌≡◌};
 ghost use Rattle.fs_device.specs.CommandView.{command_of};
@@ -11,70 +11,73 @@ use plain_machine::Refusal;
 use vm_memory::GuestMemoryMmap;
 use vm_memory_core::{HostMemory, PageBitmap, Permissions};
 
-/// What a guest or its monitor does.
+/// An action of a guest or its VMM.
 #[derive(Drop)]
 pub enum Command {
-    /// The guest reads `len` bytes from a physical address on, all of them or none.
+    /// The guest reads `len` bytes from a physical address on: all of them, or none.
     GuestRead {
         addr: u64,
         len: usize,
     },
-    /// The guest writes bytes from a physical address on, all of them or none.
+    /// The guest writes bytes from a physical address on: all of them, or none.
     GuestWrite {
         addr: u64,
         bytes: Vec<u8>,
     },
-    /// The host gets a block of `len` zeros more, none of whose pages is marked.
+    /// The host gets a new block of `len` zeros, without a marked page.
     NewBlock {
         len: usize,
     },
-    /// All of a block lies in guest memory from an address on, once more if it lies there already.
+    /// The guest's memory gets a region from an address on that shows all of a block. The block may
+    /// already have other regions.
     InsertRegion {
         base: u64,
         block: usize,
     },
-    /// The region that begins at an address and has `size` of them goes; its block stays.
+    /// The region with this first address and size is removed; its block stays.
     RemoveRegion {
         base: u64,
         size: u64,
     },
-    /// Other regions take the place of all that are there.
+    /// Other regions replace all that exist.
     SetLayout(GuestMemoryMmap),
-    /// The device's addresses from `iova` on, `len` of them, are mapped to those from a physical address on.
+    /// `len` of the device's I/O addresses from `iova` on are mapped to those from a physical address
+    /// on.
     Map {
         iova: u64,
         target: u64,
         len: usize,
         perm: Permissions,
     },
-    /// `len` of the device's addresses, from one on, are mapped no more.
+    /// The mappings of `len` I/O addresses from `iova` on are removed.
     Unmap {
         iova: u64,
         len: usize,
     },
-    /// None of the device's addresses is mapped any more.
+    /// The mappings of all I/O addresses are removed.
     UnmapAll,
-    /// The IOMMU is turned on or off. While it is on, the device's addresses are those of its table.
+    /// The IOMMU is turned on or off. While it is on, its table translates the device's addresses.
     SetIommu(bool),
-    /// A queue's chains are served, at most so many.
+    /// The device serves at most `most` chains of a queue.
     Kick {
         queue: usize,
         most: u16,
     },
-    /// A queue begins anew, with this layout.
+    /// A queue is reset to this layout.
     ResetQueue {
         queue: usize,
         layout: QueueLayout,
     },
-    /// The host is copied, and no page of a block is marked from then on: what is written later is harvested.
+    /// The host is copied, and the marks of its blocks are cleared: a later harvest has the pages
+    /// written since.
     Image,
-    /// The marked pages of blocks are copied, and marked no more.
+    /// The marked pages of blocks are copied, and their marks are cleared.
     Harvest,
 }
 
 impl Command {
-    /// Whether the command may follow an image on the way to another host (`Machine::migrate`): no block is
-    /// made, no mapping changes, the IOMMU isn't turned on, and no other image is made.
+    /// Whether the command may follow an image during `Machine::migrate`: it isn't a new block, a
+    /// change of mappings, turning on the IOMMU, or another image.
     pub fn follows_image(&self) -> bool
         ensures { result ≡ follows_image (command_of self.now) }
     {
@@ -97,8 +100,8 @@ impl Command {
     }
 }
 
-/// What a command comes to: `Bytes` answers a `GuestRead`, `Block` a `NewBlock`, `Served` a `Kick`, `Copied`
-/// an `Image` and `Pages` a `Harvest`; others are `Done`. Each may be `Refused`.
+/// The answer to a command: `Bytes` to `GuestRead`, `Block` to `NewBlock`, `Served` to `Kick`, `Copied`
+/// to `Image`, `Pages` to `Harvest`, and `Done` to others. Any command may be `Refused`.
 #[derive(Debug, Drop)]
 pub enum Answer {
     Done,
@@ -106,7 +109,7 @@ pub enum Answer {
     /// The number of a new block.
     Block(usize),
     Served(QueueRun),
-    /// The host as it was, but that no page of a block is marked.
+    /// A copy of the host, without a marked page of a block.
     Copied(HostMemory<PageBitmap>),
     /// The pages that were marked, by block and page.
     Pages(Vec<HarvestedPage>),

@@ -1,4 +1,4 @@
-//! What a machine copies of its host.
+//! The copies that a machine makes of its host.
 
 ghost use Rattle.std.specs.Prelude.{◌≡◌, []};
 ghost use Rattle.plain_machine.specs.Run.{Harvest, Image, Performs};

@@ -1,4 +1,4 @@
-//! The device: its queues are served one chain a step.
+//! The device: each step serves one chain of a queue.
 
 ghost use Rattle.std.specs.Prelude.{◌≡◌, ◌≤◌, ◌<◌, ◌^◌, length, set, slice_get, IfErr, None, OnOk};
 ghost use Rattle.std.specs.Prelude.{option_map};
@@ -18,19 +18,19 @@ use virtiofsd_fuse::{MAX_REQUEST_LEN, Server};
 use vm_memory::GuestMemory;
 use vm_memory_core::HostBlocks;
 
-/// The least limit that a device may have, in bytes: the longest request that its server takes, which is a
-/// WRITE of 1 MiB with a page for its headers.
+/// The least limit of a device, in bytes: the server's longest request, a WRITE of 1 MiB and a page for
+/// its headers.
 pub const LEAST_LIMIT: u32 = MAX_REQUEST_LEN;
 
-/// A virtio-fs device (VIRTIO 1.2, 5.11): a server behind its queues, of which there are 1 to 64, numbered
-/// from 0. A request or a room longer than the limit, from `LEAST_LIMIT` to `fs_queue::MOST_LIMIT` bytes,
-/// makes a chain faulty (`ChainFault::OverLimit`).
+/// A virtio-fs device (VIRTIO 1.2, 5.11): a server with 1 to 64 queues, numbered from 0. A chain is
+/// faulty (`ChainFault::OverLimit`) if its request or its reply buffer is longer than the limit, which
+/// is from `LEAST_LIMIT` to `fs_queue::MOST_LIMIT` bytes.
 #[derive(Drop)]
 pub struct Device<F> {
     pub(crate) server: Server<F>,
     pub(crate) queues: Vec<Queue>,
     pub(crate) limit: u32,
-    // The place into which chains are taken that go back within the same call.
+    // The chain that a call takes and returns itself.
     pub(crate) taken: Taken,
     ghost short: { limit < 2 ^ 32 },
     pub ghost some: { 1 ≤ length queues.items },
@@ -57,7 +57,7 @@ ghost use Rattle.fs_device.specs.DeviceView.{outcome_of, state_of};
 ghost use Rattle.plain_machine.specs.declared.error.DeviceError.TheVariants.{NoSuchQueue};
 
 impl<F: FileSystem> Device<F> {
-    /// A device of a server and its queues, each as it was made or resumed; the limit is in bytes.
+    /// A device of a server and its queues, each new or resumed; the limit is in bytes.
     pub fn new(server: Server<F>, queues: Vec<Queue>, limit: u32) -> Device<F>
         requires some { 1 ≤ length queues.items }
         requires few { length queues.items ≤ 64 }
@@ -80,14 +80,14 @@ impl<F: FileSystem> Device<F> {
         }
     }
 
-    /// A queue by its number, from 0; none if there is no such queue.
+    /// The queue with this number, from 0. None if there is no such queue.
     pub fn queue(&self, queue: usize) -> Option<&Queue>
         ensures { option_map (λ q. q.now) result ≡ slice_get self.now.queues queue }
     {
         self.queues.get(queue)
     }
 
-    /// The server, with the options that were agreed and the file system.
+    /// The server, with the options that were agreed in INIT and the file system.
     pub fn server(&self) -> &Server<F>
         ensures files { result.now.fs ≡ self.now.files }
         ensures options { result.now.options.0 ≡ self.now.options }
@@ -96,7 +96,7 @@ impl<F: FileSystem> Device<F> {
         &self.server
     }
 
-    /// The greatest length of a request and of a room, in bytes.
+    /// The greatest length of a request and of a reply buffer, in bytes.
     pub fn limit(&self) -> u32
         ensures { result ≡ self.now.limit }
     {
@@ -113,7 +113,7 @@ impl<F: FileSystem> Device<F> {
         server
     }
 
-    // The same device with other options and queues, as a record has them: its server goes on with these.
+    // The same device with the options and queues of a record: its server goes on with these.
     #[tactic(auto, using(virtiofsd_fuse::proofs::Options::known_bits_are))]
     pub(crate) fn resumed_with(self, options: FsOptions, queues: Vec<Queue>) -> Device<F>
         requires { IsSavable options.0 queues.items }
@@ -135,10 +135,10 @@ impl<F: FileSystem> Device<F> {
         }
     }
 
-    /// Serves the next chain of a queue, by its number from 0: what was exchanged, and whether the driver
-    /// wants to be told (VIRTIO 1.2, 2.7.7); None if no chain waits. `NoSuchQueue` and
-    /// `QueueError::OutOfMemory` change nothing, nor does `Stopped`; every other `QueueError` stops the
-    /// queue, and the file system isn't asked.
+    /// Serves the next chain of a queue, by its number from 0. The result is the exchange, and whether
+    /// to notify the driver (VIRTIO 1.2, 2.7.7). None if no chain is available. Errors: `NoSuchQueue`,
+    /// `QueueError`. `NoSuchQueue`, `OutOfMemory` and `Stopped` change nothing; any other stops the
+    /// queue. An error means that no file call was made.
     pub fn process_one<M: GuestMemory, H: HostBlocks>(
         &mut self,
         alloc: Global,
@@ -171,7 +171,7 @@ impl<F: FileSystem> Device<F> {
         Ok(Some((exchange, notify)))
     }
 
-    /// Begins a queue anew, as a driver's reset does (VIRTIO 1.2, 2.6.1): its position is 0, and it isn't
+    /// Resets a queue, as a driver's reset does (VIRTIO 1.2, 2.6.1): its position is 0, and it isn't
     /// stopped. `NoSuchQueue` if it is missing.
     pub fn reset_queue(&mut self, queue: usize, layout: QueueLayout) -> Result<(), DeviceError>
         ensures missing { IfErr result (λ e. (e ≡ NoSuchQueue)

@@ -1,4 +1,4 @@
-//! A request that was fetched, before the server is asked.
+//! A request that was copied before the server answers it.
 
 ghost use Rattle.std.specs.Prelude.{◌≡◌, [], IfOk, OnErr};
 ghost use Rattle.vm_memory_core.specs.Host.{lengths};
@@ -9,8 +9,8 @@ use std::alloc::{AllocError, Global};
 use virtiofsd_fuse::Writer;
 use vm_memory_core::HostBlocks;
 
-/// The bytes of the request of a chain that was taken, and a writer as long as the room for its reply: all
-/// the memory that its exchange takes of the device.
+/// The request's bytes of a chain that was taken, and a writer as long as its reply buffer. The device
+/// allocates nothing else for the exchange.
 #[derive(Drop)]
 pub struct FetchedRequest {
     pub(crate) bytes: Vec<u8>,
@@ -20,7 +20,7 @@ pub struct FetchedRequest {
 
 ghost use Rattle.fs_device.specs.Phases.{HoldsRequest, IsUnfaulty};
 
-// The bytes of a chain's request. A faulty chain has none, and takes no memory.
+// The bytes of a chain's request. A faulty chain has none, and nothing is allocated for it.
 #[inline(always)]
 fn fetch_bytes<H: HostBlocks>(alloc: Global, host: &H, taken: &Taken) -> Result<Vec<u8>, AllocError>
     requires { TakenLiesIn (lengths (H.host host.now)) taken.now }
@@ -33,7 +33,7 @@ fn fetch_bytes<H: HostBlocks>(alloc: Global, host: &H, taken: &Taken) -> Result<
     }
 }
 
-// A writer with a chain's room. A faulty chain has none, and takes no memory.
+// A writer as long as a chain's reply buffer. A faulty chain has none, and nothing is allocated for it.
 #[inline(always)]
 fn make_room(alloc: Global, taken: &Taken) -> Result<Writer, AllocError>
     ensures unwritten { IfOk result (λ room. room.written ≡ []) }
@@ -51,8 +51,8 @@ fn make_room(alloc: Global, taken: &Taken) -> Result<Writer, AllocError>
 }
 
 impl FetchedRequest {
-    /// Fetches the request of a chain that was taken, and makes room for its reply. AllocError if an
-    /// allocation fails. A faulty chain has no request and no room, and takes no memory.
+    /// Copies the request of a chain that was taken, and allocates a writer for its reply. AllocError
+    /// if an allocation fails. A faulty chain has neither, and nothing is allocated for it.
     #[inline(always)]
     pub fn of<H: HostBlocks>(
         alloc: Global,
@@ -71,7 +71,7 @@ impl FetchedRequest {
         })
     }
 
-    /// The bytes of the request; none of a faulty chain.
+    /// The bytes of the request; none if the chain is faulty.
     #[inline(always)]
     pub fn bytes(&self) -> &[u8]
         ensures { result.now ≡ self.now.bytes.items }

@@ -15,7 +15,7 @@ use vm_memory_core::{HostMemory, PageBitmap};
 pub struct HarvestedPage {
     /// The number of its block.
     pub block: usize,
-    /// Where it begins in its block, in bytes: a multiple of 4096 in a page that was harvested.
+    /// Its offset in its block, in bytes: a multiple of 4096 if the page was harvested.
     pub offset: usize,
     /// Its 4096 bytes; the last page of a block may have fewer.
     pub bytes: Vec<u8>,
@@ -87,8 +87,8 @@ pub(crate) fn clear(host: &mut HostMemory<PageBitmap>)
     }
 }
 
-/// Each marked page with its bytes, by block and page; the marks are cleared. AllocError if an allocation
-/// fails; then nothing changes.
+/// Copies each marked page, by block and page, and clears the marks. AllocError if an allocation fails;
+/// then nothing changes.
 pub fn harvest(
     alloc: Global,
     host: &mut HostMemory<PageBitmap>,

@@ -1,4 +1,4 @@
-//! What a machine does to its blocks and its layout.
+//! The commands that change a machine's blocks and layout.
 
 ghost use Rattle.std.specs.Prelude.{◌≡◌, []};
 ghost use Rattle.std.specs.List.{list_any};
@@ -68,7 +68,7 @@ impl<F: FileSystem, I: Iommu + Drop> Machine<F, I> {
         let Ok(region) = Arc::new(alloc, region) else {
             return Answer::Refused(Refusal::OutOfMemory);
         };
-        // It overlaps none, so it isn't refused but for want of memory.
+        // It overlaps none, so only an allocation can fail.
         match self.mem.get_backend().insert_region(region) {
             Ok(layout) => {
                 self.mem.set_backend(layout);
@@ -98,8 +98,8 @@ impl<F: FileSystem, I: Iommu + Drop> Machine<F, I> {
         }
     }
 
-    /// Other regions take the place of all that are there: `Done`, or refused `UnknownBlock` if one of them
-    /// lies over a block that the host doesn't have so, and then nothing changed.
+    /// Replaces all regions by others: `Done`, or refused with `UnknownBlock` if the host has no such
+    /// block of that length for one of them. Then nothing changed.
     pub fn set_layout(&mut self, layout: GuestMemoryMmap) -> Answer
         ensures { Performs F.may (machine_of self.old) (SetLayout layout) [] (answer_of result)
             (machine_of self.new) }

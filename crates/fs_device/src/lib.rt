@@ -1,4 +1,5 @@
-//! A virtio-fs device, the machine of a guest and its device, and the copies by which it moves.
+//! A virtio-fs device, the machine of a guest and its device, and the copies for a move to another
+//! host.
 #![tactic(auto)]
 
 mod answer_by_copy;

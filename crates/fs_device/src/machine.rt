@@ -9,7 +9,7 @@ use fuse_fs::FileSystem;
 use vm_memory::{GuestMemoryMmap, Iommu, IommuMemory};
 use vm_memory_core::{HostMemory, PageBitmap};
 
-/// A guest's memory, the IOMMU before it, and its device. Each event is one `Command`.
+/// A guest's memory, its IOMMU and its device. A `Command` is one event of the machine.
 #[derive(Drop)]
 pub struct Machine<F, I: Iommu + Drop> {
     pub host: HostMemory<PageBitmap>,
@@ -20,8 +20,8 @@ pub struct Machine<F, I: Iommu + Drop> {
 }
 
 impl<F: FileSystem, I: Iommu + Drop> Machine<F, I> {
-    /// A machine of a host, a layout over its blocks behind an IOMMU, and a device. The host has the IOMMU's
-    /// table and its set of I/O pages too: `HostMemory::holds` tests it.
+    /// A machine of a host, a layout over its blocks with an IOMMU, and a device. The host must have
+    /// the IOMMU's table and its set of I/O pages: `HostMemory::holds` tests it.
     pub fn new(
         host: HostMemory<PageBitmap>,
         mem: IommuMemory<GuestMemoryMmap, I>,

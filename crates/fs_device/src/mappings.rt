@@ -1,4 +1,4 @@
-//! What a machine does to the table that its device's addresses go by.
+//! The commands that change the table of a machine's IOMMU.
 
 ghost use Rattle.std.specs.Prelude.{◌≡◌, ◌<◌, [], List, length};
 ghost use Rattle.vm_iotlb.specs.declared.range.IotlbRange.{IotlbRange};
@@ -18,11 +18,11 @@ use plain_machine::Refusal;
 use vm_memory::Iommu;
 use vm_memory_core::{GuestAddress, HostMemory, IommuError, Iotlb, PageBitmap, Permissions};
 
-// Each table's ranges ascend and are as long as can be, which a look-up of no address tells.
+// A table's ranges ascend and are as long as possible, as the contract of a look-up of no address says.
 fn keeps_ranges(table: &Iotlb)
     ensures { AreRanges table.now }
 {
-    // for the proof: nothing is looked up.
+    // For the proof: nothing is looked up.
     let _ = table.lookup(GuestAddress(0), 0, Permissions::No);
 }
 
@@ -50,7 +50,7 @@ fn map_in(
     done
 }
 
-// Takes the mapping of addresses out of a table of a host.
+// Removes the mappings of addresses from a table of a host.
 fn unmap_in(
     host: &mut HostMemory<PageBitmap>,
     number: usize,
@@ -72,7 +72,7 @@ fn unmap_in(
     done
 }
 
-// Takes each mapping out of a table of a host.
+// Removes all mappings from a table of a host.
 fn unmap_all_in(host: &mut HostMemory<PageBitmap>, number: usize)
     requires { number < length host.old.tables }
     ensures changed { host.new ≡ with_table_at host.old number [] }

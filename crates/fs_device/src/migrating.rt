@@ -28,8 +28,8 @@ use std::alloc::{AllocError, Global};
 use vm_memory::Iommu;
 use vm_memory_core::{HostMemory, PageBitmap};
 
-/// A machine that was moved: as it goes on there, what its commands answered on the way, and its device's
-/// record, version 2, from which it goes on.
+/// A machine that was moved: the machine on the other host, the answers to its commands, and the
+/// device's record, version 2, from which the new device was made.
 #[derive(Drop)]
 pub struct Migrated<F, I: Iommu + Drop> {
     pub machine: Machine<F, I>,
@@ -37,23 +37,24 @@ pub struct Migrated<F, I: Iommu + Drop> {
     pub device_record: Vec<u8>,
 }
 
-/// A machine that wasn't moved, since an allocation failed. It goes on where it is; what was done, none of
-/// the commands or all, has its answers. Its blocks' marks may be gone, taken by the image and by harvests.
+/// A machine that wasn't moved, since an allocation failed. It goes on where it is. The answers are
+/// those to all commands, or none if no command was done. The image and the harvests may have cleared
+/// the marks of blocks.
 #[derive(Drop)]
 pub struct Stayed<F, I: Iommu + Drop> {
     pub machine: Machine<F, I>,
     pub answers: Vec<Answer>,
 }
 
-// What a run from an image brings: the copy that the image answered, the answers of the commands, and the
-// pages of the last harvest.
+// The result of a run from an image: the copy of the host, the answers to the commands, and the pages
+// of the last harvest.
 struct ImageRun {
     copy: HostMemory<PageBitmap>,
     answers: Vec<Answer>,
     last: Vec<HarvestedPage>,
 }
 
-// Puts the pages that answers have into a copy of a host, in order.
+// Writes the pages in some answers to a copy of a host, in order.
 fn put_answered(copy: &mut HostMemory<PageBitmap>, answers: &[Answer])
     requires { first_refused (lengths copy.old) 0 (pages_of_answers answers.now) ≡ None }
     ensures put { copy.new ≡ pages_put copy.old (pages_of_answers answers.now) }
@@ -66,7 +67,7 @@ fn put_answered(copy: &mut HostMemory<PageBitmap>, answers: &[Answer])
     }
 }
 
-// Puts the pages of answers, and then those of a last harvest, into a copy of a host, in order.
+// Writes the pages in some answers, and then those of a last harvest, to a copy of a host, in order.
 fn put_harvested(copy: &mut HostMemory<PageBitmap>, answers: &[Answer], last: &[HarvestedPage])
     requires { first_refused (lengths copy.old) 0 (pages_of_answers answers.now ++ map page_view last.now)
         ≡ None }
@@ -77,7 +78,7 @@ fn put_harvested(copy: &mut HostMemory<PageBitmap>, answers: &[Answer], last: &[
 }
 
 impl<F: FileSystem> Device<F> {
-    // The options and the queues that a device's record brings over, and the record.
+    // The options and the queues of the device's record, and the record.
     fn brought_over(&self, alloc: Global) -> Result<(FsOptions, Vec<Queue>, Vec<u8>), AllocError>
         ensures options { IfOk result (λ v. v.0.0 ≡ self.now.options) }
         ensures queues { IfOk result (λ v. v.1.items ≡ self.now.queues) }
@@ -99,8 +100,8 @@ impl<F: FileSystem> Device<F> {
 }
 
 impl<F: FileSystem, I: Iommu + Drop> Machine<F, I> {
-    // An image, commands and a last harvest, one after another; or the commands' answers, if an allocation
-    // failed.
+    // Makes an image, runs commands and makes a last harvest. If an allocation fails, the error has the
+    // commands' answers.
     fn run_from_image(
         &mut self,
         alloc: Global,
@@ -135,8 +136,8 @@ impl<F: FileSystem, I: Iommu + Drop> Machine<F, I> {
         })
     }
 
-    // The machine as it goes on over the copy of its host that a run brought, into which the harvested pages
-    // are put, with a device that goes on from its record.
+    // The machine over the copy of its host, with the harvested pages written to it, and with a device
+    // from the record.
     fn moved_onto(self, alloc: Global, run: ImageRun) -> Result<Migrated<F, I>, Stayed<F, I>>
         requires places { first_refused (lengths run.copy) 0
             (pages_of_answers run.answers.items ++ map page_view run.last.items) ≡ None }
@@ -176,13 +177,14 @@ impl<F: FileSystem, I: Iommu + Drop> Machine<F, I> {
         })
     }
 
-    /// Moves the machine to another host, as a monitor would: an image of its host; then commands, which are
-    /// what the guest and the device do in the meantime and the harvests between (`Command::Harvest`); a last
-    /// harvest; and there the image with all harvested pages put in, in order, and a device that goes on from
-    /// its record. The IOMMU is off (`mem.get_iommu_enabled()`), and each command may follow an image
-    /// (`Command::follows_image`). A command that is refused stops nothing. There the machine is as here
-    /// after the last harvest, marks and all, and whatever runs there could have run here. If an allocation
-    /// fails the machine stays, with none of the commands done or with all. Either may be moved again.
+    /// Moves the machine to another host, as a VMM would: an image; then commands, which are those of
+    /// the guest and the device in the meantime, and harvests (`Command::Harvest`); then a last
+    /// harvest. The new machine has the image with all harvested pages, in order, and a device from the
+    /// record. The IOMMU must be off (`mem.get_iommu_enabled()`), and each command must satisfy
+    /// `Command::follows_image`. A refused command doesn't end the move. The new machine equals this
+    /// one after the last harvest, marks and all, and each of its runs could have been one of this
+    /// machine. If an allocation fails the machine stays, with none or all of the commands done. Either
+    /// may be moved again.
     pub fn migrate(
         mut self,
         alloc: Global,

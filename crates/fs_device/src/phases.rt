@@ -1,6 +1,6 @@
-//! The phases of a step: a chain is taken into a place, its request is fetched (`FetchedRequest`) and
-//! answered, and it is given back. `process_one` and `serve_one` go by the functions behind them; a monitor
-//! that does something of its own in between goes by these.
+//! The phases of a step: a chain is taken, its request is copied (`FetchedRequest`) and answered, and
+//! the chain is returned. `process_one` and `serve_one` use the functions behind these. They are for a
+//! VMM that does something of its own between the phases.
 
 ghost use Rattle.std.specs.Prelude.{◌≡◌, ℕ, ◌<◌, ◌≤◌, length, slice_get, Some, IfOk, OnErr};
 ghost use Rattle.vm_memory_core.specs.Host.{changed_at, lengths, shape};
@@ -25,7 +25,7 @@ use vm_memory::GuestMemory;
 use vm_memory_core::HostBlocks;
 
 impl<F: FileSystem> Device<F> {
-    // Takes the next chain of one of a device's queues into a place, which is empty unless a chain was taken.
+    // Takes the next chain of a device's queue. `taken` is empty unless a chain was taken.
     #[inline(always)]
     pub(crate) fn take_from<M: GuestMemory, H: HostBlocks>(
         alloc: Global,
@@ -57,11 +57,11 @@ impl<F: FileSystem> Device<F> {
         }
     }
 
-    /// Takes the next chain of a queue, by its number from 0, into a place that the caller keeps from chain
-    /// to chain; false if no chain waits; unless a chain was taken, the place is empty then. The file system
-    /// isn't asked. `NoSuchQueue` and `QueueError::OutOfMemory` change nothing of the device, nor does
-    /// `Stopped`; every other `QueueError` stops the queue. A chain that was taken and isn't given back waits
-    /// still.
+    /// Takes the next chain of a queue, by its number from 0, into `taken`, which the caller can use
+    /// for all chains. False if no chain is available; `taken` is empty then, as after an error. No
+    /// file call is made. Errors: `NoSuchQueue`, `QueueError`. `NoSuchQueue`, `OutOfMemory` and
+    /// `Stopped` leave the device as it was; any other stops the queue. A chain that was taken stays
+    /// available until `give_back`.
     #[inline(always)]
     pub fn take<M: GuestMemory, H: HostBlocks>(
         &mut self,
@@ -85,8 +85,8 @@ impl<F: FileSystem> Device<F> {
         Self::take_from(alloc, host, mem, self.limit, &mut self.queues, queue, taken)
     }
 
-    /// Has the server answer a chain that was taken, by its request. Only memory that the server wants before
-    /// it asks the file system can be lacking (`AllocError`), none for a faulty chain; then nothing changed.
+    /// The server answers a chain that was taken, by its request. AllocError if an allocation fails
+    /// before the first file call, never for a faulty chain; then nothing changed.
     #[inline(always)]
     pub fn answer(
         &mut self,
@@ -109,11 +109,11 @@ impl<F: FileSystem> Device<F> {
         serve(alloc, &mut self.server, taken, request)
     }
 
-    /// Gives a chain that was taken back to its queue with a reply (VIRTIO 1.2, 2.7.8), and answers whether
-    /// the driver wants to be told (2.7.7). The place is emptied, and the queue goes on by one chain. So it
-    /// is too if the queue was stopped, or the guest's bytes changed, since the chain was taken. A chain of
-    /// another queue, or of this one before it was begun anew, is stored where it was taken, and both rings
-    /// are wrong then.
+    /// Returns a taken chain to its queue, with a reply (VIRTIO 1.2, 2.7.8). The result is
+    /// whether to notify the driver (2.7.7). `taken` is empty then, and the queue's position is one
+    /// further. This also holds if the queue was stopped or the guest wrote since the chain was taken.
+    /// The chain must be of this queue, and the queue not reset since: else the reply is stored where
+    /// the chain was taken, and both rings are wrong.
     #[inline(always)]
     pub fn give_back<H: HostBlocks>(
         &mut self,

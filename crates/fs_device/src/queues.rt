@@ -12,8 +12,8 @@ use std::alloc::{AllocError, Global};
 use vm_memory::GuestMemory;
 use vm_memory_core::HostBlocks;
 
-/// The chains that were exchanged one after another, each with whether the driver is to be told, and why none
-/// came after them, if that is a refusal.
+/// The exchanges of a queue, in order, each with whether to notify the driver, and the refusal after
+/// the last of them, if there is one.
 #[derive(Debug, Drop)]
 pub struct QueueRun {
     pub done: Vec<(Exchange, bool)>,
@@ -21,7 +21,7 @@ pub struct QueueRun {
 }
 
 impl QueueRun {
-    // Chains after which none waits, or no more were asked for.
+    // The exchanges of a run that ended since no chain was available, or after `most` exchanges.
     pub(crate) fn ended(done: Vec<(Exchange, bool)>) -> QueueRun
         ensures { result ≡ record { done = done; refused = None } }
     {
@@ -31,7 +31,7 @@ impl QueueRun {
         }
     }
 
-    // Chains after which a step was refused.
+    // The exchanges of a run that ended with a refused step.
     pub(crate) fn refused(done: Vec<(Exchange, bool)>, error: DeviceError) -> QueueRun
         ensures { result ≡ record { done = done; refused = Some error } }
     {
@@ -42,7 +42,7 @@ impl QueueRun {
     }
 }
 
-// Room for so many exchanges: it takes no memory if none is asked for.
+// A list for `most` exchanges. It allocates nothing for 0.
 fn room_for(alloc: Global, most: u16) -> Result<Vec<(Exchange, bool)>, AllocError>
     ensures items { IfOk result (λ done. done.items ≡ []) }
     ensures room { IfOk result (λ done. most ≤ vec_capacity done) }
@@ -59,10 +59,10 @@ ghost use Rattle.fs_device.specs.DeviceView.{state_of};
 ghost use Rattle.fs_device.specs.CommandView.{ServesQueue};
 
 impl<F: FileSystem> Device<F> {
-    /// Serves the next chains of a queue, by its number from 0, one after another, until `most` are done,
-    /// none waits or a step is refused, which `QueueRun` tells. `NoSuchQueue` comes first, whatever memory
-    /// there is, and a stopped queue needs none; `QueueError::OutOfMemory` if there is no memory for a list
-    /// of `most` exchanges, and then nothing was done.
+    /// Serves the next chains of a queue, by its number from 0, until `most` are done, none is
+    /// available, or a step is refused (`QueueRun`). Errors: `NoSuchQueue`; then
+    /// `QueueError::OutOfMemory` if the list of `most` exchanges can't be allocated, and then nothing
+    /// was done. A stopped queue allocates nothing.
     #[tactic(auto, using(crate::proofs::KickLemmas::room_wanted))]
     pub fn process_queue<M: GuestMemory, H: HostBlocks>(
         &mut self,

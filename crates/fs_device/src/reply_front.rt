@@ -1,4 +1,4 @@
-//! What is yet to be written of a reply.
+//! The bytes of a reply that are still to be written.
 
 ghost use Rattle.std.specs.Prelude.{◌≡◌};
 
@@ -6,7 +6,8 @@ use crate::answer_by_copy::CopiedReply;
 use plain_machine::Fault;
 use virtiofsd_fuse::REPLY_FRONT;
 
-/// What is yet to be written of a reply: all of it, or what stands before its data, which is in its place.
+/// The bytes of a reply that are still to be written: all of them, or only the header if the data is
+/// already in the reply buffer.
 #[derive(Drop)]
 pub(crate) enum ReplyFront {
     Reply(Vec<u8>),
@@ -16,7 +17,7 @@ pub(crate) enum ReplyFront {
 ghost use Rattle.fs_device.specs.ReplyFront.{front_bytes};
 
 impl ReplyFront {
-    /// The bytes that are yet to be written.
+    /// The bytes that are still to be written.
     pub(crate) fn bytes(&self) -> &[u8]
         ensures { result.now ≡ front_bytes self.now }
     {
@@ -27,8 +28,8 @@ impl ReplyFront {
     }
 }
 
-/// What came of a chain that was taken: what is yet to be written of its reply, the length of all of it in
-/// bytes, and why there is none.
+/// The answer to a chain that was taken: the bytes of the reply that are still to be written, the
+/// length of the whole reply in bytes, and the fault if there is no reply.
 #[derive(Drop)]
 pub(crate) struct PreparedReply {
     pub front: ReplyFront,
@@ -39,7 +40,7 @@ pub(crate) struct PreparedReply {
 impl PreparedReply {
     ghost use Rattle.fs_device.specs.ReplyFront.{whole};
 
-    /// A reply that is yet to be written whole, or the fault.
+    /// A reply that is still to be written whole, or a fault.
     #[inline(always)]
     pub(crate) fn whole(reply: CopiedReply) -> PreparedReply
         ensures { result ≡ whole reply }

@@ -1,4 +1,4 @@
-//! A request's bytes by the windows where they stand: its front is copied, and what follows is lent.
+//! A request's bytes in its windows: the front is copied, and the other bytes are lent.
 
 ghost use Rattle.std.specs.Prelude.{◌≡◌, ◌≤◌, ◌<◌, ◌+◌, ◌++◌, IfSome, drop, length, map, take, vec_capacity};
 ghost use Rattle.std.specs.Prelude.{vec_len};
@@ -9,7 +9,7 @@ ghost use Rattle.vm_memory_core.specs.Window.{AllLieIn, byte_in, places};
 use std::alloc::Global;
 use vm_memory_core::{HostBlocks, VolatileSlice};
 
-// Puts bytes in a buffer from a place on.
+// Copies bytes to a buffer from an offset on.
 fn put_at(buffer: &mut [u8], at: usize, bytes: &[u8])
     requires { at + length bytes.now ≤ length buffer.old }
     ensures stored { buffer.new ≡ take at buffer.old ++ bytes.now ++ drop (at + length bytes.now) buffer.old }
@@ -18,7 +18,7 @@ fn put_at(buffer: &mut [u8], at: usize, bytes: &[u8])
     buffer[at..at + bytes.len()].copy_from_slice(bytes);
 }
 
-/// Copies the first bytes of some windows, joined, to a buffer that they fill.
+/// Copies the first bytes of some windows, joined, to a buffer, which they fill.
 #[tactic(auto, unfolding(vm_memory_core::specs::Window::AllLieIn))]
 #[inline(always)]
 pub(crate) fn copy_front<H: HostBlocks>(host: &H, windows: &[VolatileSlice], buffer: &mut [u8])
@@ -38,7 +38,7 @@ pub(crate) fn copy_front<H: HostBlocks>(host: &H, windows: &[VolatileSlice], buf
     }
 }
 
-// Appends a segment, for which there is room.
+// Appends a segment, for which the list has space.
 #[inline(always)]
 fn push_segment<'a>(segments: &mut Vec<&'a [u8]>, segment: &'a [u8])
     requires { vec_len segments.old < vec_capacity segments.old }
@@ -49,8 +49,8 @@ fn push_segment<'a>(segments: &mut Vec<&'a [u8]>, segment: &'a [u8])
     segments.push(segment).unwrap();
 }
 
-/// A front, and the bytes that follow as many of some windows, joined, as they stand; None if an allocation
-/// failed.
+/// A front as the first segment, and the bytes behind it in some windows, lent as they are. None if an
+/// allocation failed.
 #[tactic(auto, unfolding(vm_memory_core::specs::Window::AllLieIn))]
 #[inline(always)]
 pub(crate) fn segments_behind<'a, H: HostBlocks>(

@@ -1,4 +1,4 @@
-//! What is told of a chain by lengths alone, and a step that tells no more.
+//! An exchange by its lengths alone, and a step that returns no bytes.
 
 ghost use Rattle.std.specs.Prelude.{◌≡◌};
 ghost use Rattle.vm_memory_core.specs.Host.{shape};
@@ -11,9 +11,10 @@ use std::alloc::Global;
 use vm_memory::GuestMemory;
 use vm_memory_core::HostBlocks;
 
-/// What is told of a chain that was taken and returned (VIRTIO 1.2, 2.7): the index of its head in the
-/// descriptor table, the length of its request in bytes (0 of a faulty chain), the used length, which is that
-/// of the reply in bytes, why there is no reply, and whether the driver wants to be told (2.7.7).
+/// A chain that was taken and returned (VIRTIO 1.2, 2.7): the index of its head in the descriptor
+/// table, the length of its request in bytes (0 if the chain is faulty), the length of its reply in
+/// bytes, which is the used length, the fault if there is one, and whether to notify the driver
+/// (2.7.7).
 #[derive(Clone, Copy, Debug, PartialEq, Eq)]
 pub struct Returned {
     pub head: u16,
@@ -27,13 +28,14 @@ ghost use Rattle.fs_device.specs.DeviceView.{state_of};
 ghost use Rattle.fs_device.specs.Returned.{StepTold};
 
 impl<F: FileSystem> Device<F> {
-    /// Serves the next chain of a queue, by its number from 0, as `process_one` does, and tells what was
-    /// exchanged without its bytes; None if no chain waits. The first `REQUEST_FRONT` bytes of the request
-    /// are copied, or all of a shorter one. The data of a WRITE, which stands behind these, isn't: the file
-    /// system reads it where it stands, one window after another. Nor is that of a READ of no more bytes, if
-    /// none of what is behind the `REPLY_FRONT` bytes of the reply's header in the room is one of these, if
-    /// reads that fail put nothing in (`FileSystem::reads_whole`): the file system puts it where it goes, one
-    /// window after another. The refusals are those of `process_one`.
+    /// Serves the next chain of a queue, by its number from 0, as `process_one` does, but returns the
+    /// exchange without its bytes. None if no chain is available. It copies the first `REQUEST_FRONT`
+    /// bytes of the request, or all of a shorter one. The file system reads the data of a WRITE in
+    /// guest memory, one window after another. It puts the data of a READ straight into the reply
+    /// buffer, one window after another, if three conditions hold: the request is only those first
+    /// bytes, the first `REPLY_FRONT` bytes of the reply buffer have none in common with the others,
+    /// and a failed read puts nothing in (`FileSystem::reads_whole`). The errors are those of
+    /// `process_one`.
     pub fn serve_one<M: GuestMemory, H: HostBlocks>(
         &mut self,
         alloc: Global,

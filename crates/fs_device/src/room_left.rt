@@ -1,15 +1,15 @@
-//! What is left of a room in host memory.
+//! The rest of a reply buffer in host memory.
 
 use std::marker::Model;
 use vm_memory_core::VolatileSlice;
 
-/// What is left of a room in host memory, whose windows are lent, one after another.
+/// The rest of a reply buffer in host memory. Its windows are lent one after another.
 #[derive(Drop)]
 pub struct RoomLeft<'a> {
     pub(crate) windows: &'a [VolatileSlice],
-    // The window from whose beginning `at` counts.
+    // The window at whose beginning `at` starts to count.
     pub(crate) index: usize,
-    // How many bytes are before what is left.
+    // The number of bytes from there to the rest.
     pub(crate) at: usize,
     pub(crate) len: usize,
 }

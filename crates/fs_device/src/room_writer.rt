@@ -1,4 +1,4 @@
-//! A room in host memory that files fill.
+//! A reply buffer in host memory that files fill.
 
 ghost use Rattle.std.specs.Prelude.{◌≡◌, ℕ, All, List, length, min};
 ghost use Rattle.std.proofs.Props.{props};
@@ -14,17 +14,17 @@ use fuse_base::Errno;
 use fuse_fs::{PositionedFile, ZeroCopyWriter};
 use vm_memory_core::HostBlocks;
 
-/// A room in host memory, of which files fill one place after another: a file is asked for one window after
-/// another. It isn't dropped but ended: so who lent the memory knows what stands there.
+/// A reply buffer in host memory that files fill from its first byte on, one read for each window. It
+/// must be ended (`end`), not dropped: its lender then knows the memory's bytes.
 pub struct RoomWriter<'a, 'b, 'c, H: HostBlocks> {
     pub host: &'a mut H,
-    /// The places that are free.
+    /// The part that is still free.
     pub room: &'b mut RoomLeft<'c>,
     pub ghost lies: { All (LiesIn (lengths (H.host host.now))) room.now.windows } by { Prim.hlevel props },
 }
 
 impl<'a, 'b, 'c, H: HostBlocks> RoomWriter<'a, 'b, 'c, H> {
-    /// The end of the loan: what stands in the memory now is what its lender finds.
+    /// Ends the loan: the lender has the memory as it is now.
     pub fn end(self)
         ensures { self.exit.0.now ≡ self.entry.host.now }
     {
@@ -34,8 +34,8 @@ impl<'a, 'b, 'c, H: HostBlocks> RoomWriter<'a, 'b, 'c, H> {
         } = self;
     }
 
-    // Puts in what one call of a file reads, at most `count` bytes, in the first window that has room; no
-    // call is made if there is no room or `count` is 0.
+    // Puts the bytes of one read of a file, at most `count`, into the first window with free bytes. It
+    // makes no call if nothing is free or `count` is 0.
     #[tactic(auto, unfolding(vm_memory_core::specs::Window::AllLieIn))]
     fn read_once<F: PositionedFile>(
         &mut self,

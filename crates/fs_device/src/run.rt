@@ -1,4 +1,4 @@
-//! A machine does commands one after another.
+//! A machine runs commands.
 
 ghost use Rattle.std.specs.Prelude.{◌≡◌, ◌<◌, [], IfOk, OnErr, true, length, map, zip};
 ghost use Rattle.vm_iotlb.specs.declared.permissions.Permissions.TheVariants.{Read, Write};
@@ -19,8 +19,7 @@ use vm_memory::Iommu;
 use vm_memory_core::{GuestAddress, Permissions};
 
 impl<F: FileSystem, I: Iommu + Drop> Machine<F, I> {
-    /// Whether the guest reaches that many bytes from a physical address on, all of them, by an access that
-    /// its regions allow.
+    /// Whether each of `len` bytes from a physical address on is in a region that allows this access.
     pub fn reaches(&self, addr: u64, len: usize, access: Permissions) -> bool
         ensures { result ≡ reach (physical (machine_of self.now).memory) access addr len }
     {
@@ -30,7 +29,7 @@ impl<F: FileSystem, I: Iommu + Drop> Machine<F, I> {
         }
     }
 
-    // Reads bytes that the guest reaches.
+    // Reads bytes that are all mapped.
     fn fill(&self, addr: u64, buffer: &mut [u8])
         requires { reach (physical (machine_of self.now).memory) Read addr (length buffer.old) ≡ true }
         ensures { buffer.new ≡ bytes (physical (machine_of self.now).memory) addr (length buffer.old) }
@@ -39,7 +38,7 @@ impl<F: FileSystem, I: Iommu + Drop> Machine<F, I> {
         let _ = layout.read_slice(&self.host, buffer, GuestAddress(addr));
     }
 
-    // Writes bytes that the guest reaches.
+    // Writes bytes that are all mapped.
     fn store(&mut self, addr: u64, bytes: &[u8])
         requires { reach (physical (machine_of self.old).memory) Write addr (length bytes.now) ≡ true }
         ensures { machine_of self.new ≡ record (machine_of self.old) {
@@ -50,8 +49,8 @@ impl<F: FileSystem, I: Iommu + Drop> Machine<F, I> {
         let _ = layout.write_slice(&mut self.host, bytes, GuestAddress(addr));
     }
 
-    /// The guest reads `len` bytes from a physical address on: `Bytes`, or refused `NoPlace` if it doesn't
-    /// reach all of them, or `OutOfMemory`.
+    /// The guest reads `len` bytes from a physical address on: `Bytes`, or refused with `NoPlace` if
+    /// one of them isn't mapped, or with `OutOfMemory`.
     pub fn guest_read(&self, alloc: Global, addr: u64, len: usize) -> Answer
         ensures { Performs F.may (machine_of self.now) (GuestRead addr len) [] (answer_of result)
             (machine_of self.now) }
@@ -69,8 +68,8 @@ impl<F: FileSystem, I: Iommu + Drop> Machine<F, I> {
         Answer::Bytes(bytes)
     }
 
-    /// The guest writes bytes from a physical address on: `Done`, or refused `NoPlace` if it doesn't reach
-    /// all of them, and then nothing changed.
+    /// The guest writes bytes from a physical address on: `Done`, or refused with `NoPlace` if one of
+    /// them isn't mapped, and then nothing changed.
     pub fn guest_write(&mut self, addr: u64, bytes: &[u8]) -> Answer
         ensures { Performs F.may (machine_of self.old) (GuestWrite addr bytes.now) [] (answer_of result)
             (machine_of self.new) }
@@ -111,7 +110,7 @@ impl<F: FileSystem, I: Iommu + Drop> Machine<F, I> {
         }
     }
 
-    // Does one command.
+    // Runs one command.
     fn perform(&mut self, alloc: Global, command: Command) -> Answer
         ensures { (told : Turns)
             × Performs F.may (machine_of self.old) (command_of command) told (answer_of result)
@@ -140,9 +139,9 @@ impl<F: FileSystem, I: Iommu + Drop> Machine<F, I> {
         }
     }
 
-    /// Does commands one after another, and answers each, in order. Room for the answers is made before
-    /// anything is done: `AllocError` if there is none, and then nothing changed. No command takes no room. A
-    /// command that is refused stops nothing.
+    /// Runs commands in order, and returns the answer to each. It allocates the list of answers first:
+    /// AllocError if that fails, and then nothing changed. It allocates no list for no commands. A
+    /// refused command doesn't end the run.
     pub fn run(&mut self, alloc: Global, commands: Vec<Command>) -> Result<Vec<Answer>, AllocError>
         ensures run { IfOk result (λ answers. Run F.may (machine_of self.old)
             (zip (map command_of commands.items) (map answer_of answers.items))

@@ -1,4 +1,4 @@
-//! A device's record: it is saved, and a device goes on from it.
+//! A device's record: a device is saved to it, and restored from it.
 
 ghost use Rattle.std.specs.Prelude.{◌≡◌, ◌≤◌, ◌^◌, ℕ, List, IsTrue, IfOk, IfErr, OnOk};
 ghost use Rattle.std.specs.Io.KnownBytes.{Consumes};
@@ -16,7 +16,7 @@ use std::alloc::Global;
 use virtiofsd_fuse::Server;
 
 impl<F: FileSystem> Device<F> {
-    // The options that were agreed, each of which is known.
+    // The options that were agreed in INIT; each bit of them is a known option.
     #[tactic(auto, using(virtiofsd_fuse::proofs::Options::known_bits_are))]
     fn options(&self) -> FsOptions
         ensures value { result.0 ≡ self.now.options }
@@ -25,9 +25,9 @@ impl<F: FileSystem> Device<F> {
         self.server().options()
     }
 
-    /// Puts the device's record, of version 2, into a sink: its queues, the options that were agreed, the
-    /// bytes of a guest's page and the limit. WriteFault if the sink answers an error or takes nothing: a
-    /// part of the record went out, and not all of it.
+    /// Writes the device's record, of version 2, to a sink: its queues, the agreed options, the bytes
+    /// of a guest's page and the limit. WriteFault if the sink returns an error or takes no byte: it
+    /// then has only a part of the record.
     pub fn save<S: RecordSink>(&self, sink: &mut S) -> Result<(), WriteFault>
         ensures goes_out { GoesOut (device_bytes self.now) (S.sent sink.old) (S.failed sink.old) result
             (S.sent sink.new) (S.failed sink.new) }
@@ -42,11 +42,10 @@ impl<F: FileSystem> Device<F> {
         )
     }
 
-    /// A device that goes on from the record, of version 1 or 2, that stands next in a source, over a file
-    /// system that was carried over. The guest's pages have `page_size` bytes, a power of two from 4096 to
-    /// 65536; the limit is from 0x101000 to 2^31. Version 1 tells neither; Mismatch if version 2 tells
-    /// another. Each refusal says what stands in the source, as `restore_record` does, and hands the file
-    /// system back.
+    /// A device from the record, of version 1 or 2, that a source has next, over a file system that the
+    /// caller carried over. `page_size` is the bytes of a guest's page, a power of two from 4096 to
+    /// 65536; `limit` is from 0x101000 to 2^31. Version 1 has neither of them; `Mismatch` if version 2
+    /// has others. The errors are those of `restore_record`, and return the file system.
     pub fn restore<S: RecordSource>(
         alloc: Global,
         source: &mut S,

@@ -1,4 +1,4 @@
-//! The short way: a READ is answered with its data put where it goes.
+//! The short way: a READ is answered with its data straight in the reply buffer.
 
 ghost use Rattle.std.specs.Prelude.{◌≡◌, ℕ, ◌+◌, ◌<◌, ◌≤◌, ◌^◌, ◌↔◌, List, ◌++◌, length, IfNone, IfSome};
 ghost use Rattle.std.specs.Prelude.{IsSome, IsTrue, Ok};
@@ -20,7 +20,7 @@ use std::alloc::Global;
 use virtiofsd_fuse::{REPLY_FRONT, REQUEST_FRONT, ReadReply, ReadRequest, Server};
 use vm_memory_core::HostBlocks;
 
-// Has a READ's data put into a room, which is what follows the place of the reply's header.
+// The server answers a READ: the file's data goes to the reply buffer behind the header's 16 bytes.
 #[tactic(auto, unfolding(vm_memory_core::specs::Window::AllLieIn))]
 fn read_to_room<F: FileSystem, H: HostBlocks>(
     server: &mut Server<F>,
@@ -49,9 +49,10 @@ fn read_to_room<F: FileSystem, H: HostBlocks>(
     reply
 }
 
-/// Answers a chain whose request begins so, if that is all of it and a READ, and none of the bytes behind the
-/// first 16 of its room is one of those: the data is put there. None of any other chain, and if reads that
-/// fail may put something in; then nothing changed.
+/// Answers a READ in place: the file's data goes straight to the reply buffer. Applies only if the
+/// request is exactly a READ's two records, the reply buffer's first 16 bytes have none in common with
+/// the others, and a failed read puts nothing in (`FileSystem::reads_whole`). Otherwise returns None
+/// and changes nothing.
 #[inline(always)]
 pub(crate) fn read_in_place<F: FileSystem, H: HostBlocks>(
     alloc: Global,

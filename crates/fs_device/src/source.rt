@@ -1,4 +1,4 @@
-//! A file as what host memory is read from.
+//! A file as the source of a read to host memory.
 
 ghost use Rattle.std.specs.Prelude.{◌≡◌, ℕ, ◌≤◌, List, length};
 ghost use Rattle.vm_memory_core.specs.Host.{lengths, shape};
@@ -9,15 +9,15 @@ use fuse_base::Errno;
 use fuse_fs::PositionedFile;
 use vm_memory_core::{HostBlocks, ReadVolatile, VolatileSlice};
 
-// A file from a place on, in bytes from its start. It isn't dropped but ended: so who lent the file knows
-// what became of it.
+// A file from an offset on, in bytes. It must be ended (`end`), not dropped: its lender then knows the
+// file's state.
 struct FileAt<'a, F: PositionedFile> {
     file: &'a mut F,
     off: u64,
 }
 
 impl<'a, F: PositionedFile> FileAt<'a, F> {
-    // The end of the loan: what the file is now is what its lender finds.
+    // Ends the loan: the lender has the file as it is now.
     fn end(self)
         ensures { self.exit.0.now ≡ self.entry.file.now }
     {
@@ -39,7 +39,7 @@ impl<'a, F: PositionedFile> ReadVolatile for FileAt<'a, F> {
     }
 }
 
-// Has one call of a file read to the first places of a window. It is lent the window's bytes, and no other
+// One read of a file to the first bytes of a window. The file is lent the window's bytes, and no other
 // memory.
 #[tactic(auto, using(crate::proofs::LentLemmas::lent_length))]
 pub(crate) fn read_to_window<H: HostBlocks, F: PositionedFile>(

@@ -7,10 +7,10 @@ use crate::harvested::clear;
 use std::alloc::{AllocError, Global};
 use vm_memory_core::{HostMemory, PageBitmap};
 
-/// A copy of a host, in which no page of a block is marked; the host's own marks of these are cleared, so
-/// that what is marked later was written after the copy. I/O pages and tables stay. AllocError if an
-/// allocation fails; then nothing changes. The copy has its memory from the host's own allocator, as whatever
-/// the host makes.
+/// A copy of a host, without a marked page of a block. It clears the marks of the host's blocks too:
+/// pages marked later were written after the copy. I/O pages and tables stay. AllocError if an
+/// allocation fails; then nothing changes. The copy is allocated by the host's own allocator, as all
+/// that the host makes.
 pub fn image(
     _alloc: Global,
     host: &mut HostMemory<PageBitmap>,

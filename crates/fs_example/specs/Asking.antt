@@ -1,4 +1,4 @@
--- What a monitor and its guest do with one request after another.
+-- A VMM whose guest makes one request after another.
 use Rattle.std.specs.Prelude.{◌≡◌, ◌<◌, ℕ, zero, suc, ◌+◌, ◌%◌, ◌^◌, Bool, List, [], ◌∷◌, ◌++◌, length}
 use Rattle.std.specs.Prelude.{Option, Some}
 use Rattle.vm_values.specs.Fields.{AllFit, spelled}
@@ -19,7 +19,7 @@ use Rattle.fuse_files.specs.Directory.{Directory}
 use Rattle.fs_example.specs.Driver.{offered, reply_at}
 use Rattle.fs_example.specs.Reading.{ReadingStep}
 
--- the machine that a monitor runs: its guest's memory, and the device over it
+-- the machine of a VMM: its guest's memory, and the device over it
 abbrev pub machine_of_monitor : Monitor → State Directory
 machine_of_monitor m = state_of (memory_of m.host m.mem) m.device
 
@@ -27,19 +27,19 @@ machine_of_monitor m = state_of (memory_of m.host m.mem) m.device
 abbrev pub layout_of : Monitor → List Region
 layout_of m = m.mem
 
--- how many chains its guest has offered, modulo 2^16
+-- how many chains its guest has made available, modulo 2^16
 abbrev pub chains_of : Monitor → ℕ
 chains_of m = m.offered
 
--- memory of so many zeros from 0 on, no page of which is marked
+-- memory of `size` zeros from address 0 on, with no page marked
 unfoldable pub zeros : (size : ℕ) → Memory
 zeros size =
     memory_of (record { blocks = new_block size ∷ []; tables = []; io_marks = [] })
     (record { start = 0; size = size; block = 0 } ∷ [])
 
--- the machine of a new monitor over these files: 64 KiB of zeros, one queue of 4 descriptors of which no
--- chain was returned (its table at 0, its available ring at 0x100 and its used ring at 0x200), no options
--- agreed on, a limit of 1 MiB and 4 KiB, and pages of 4 KiB
+-- the machine is that of a new VMM over these files: 64 KiB of zeros, a new queue of 4 descriptors (its table
+-- at 0, its available ring at 0x100, its used ring at 0x200), no options, a limit of 1 MiB and 4 KiB, and
+-- pages of 4 KiB
 pub record IsNew (files : List OwnedFile) (s : State Directory) : Type 0 where
   pub memory : s.memory ≡ zeros 0x10000
   pub queues : s.queues ≡ fresh 4 0 0x100 0x200 ∷ []
@@ -48,9 +48,8 @@ pub record IsNew (files : List OwnedFile) (s : State Directory) : Type 0 where
   pub limit : s.limit ≡ 0x101000
   pub page_size : s.page_size ≡ 4096
 
--- a request is offered in the guest's memory as the chain of this number, and in the step that follows the
--- device exchanges a chain, by which this request is replied to; that reply is what the guest then finds in
--- its room by the used ring
+-- the guest makes a request available as the chain of this number, the device's next step serves it with this
+-- reply, and then the guest reads this reply in its memory (`reply_at`)
 abbrev pub IsAsked : State Directory → (chain : ℕ) → (request reply : List ℕ) → State Directory → Type 0
 IsAsked s chain request reply after =
     (x : Exchange) × (notice : Bool)
@@ -59,21 +58,21 @@ IsAsked s chain request reply after =
     × (x.reply ≡ reply)
     × (reply_at after.memory chain ≡ Some reply)
 
--- a request is asked, and the guest finds the good reply to the request of this unique number in its room,
--- with this piece behind the header
+-- the guest makes a request, and reads the good reply to it, with this `unique` and this piece after the
+-- header
 abbrev pub GetsPiece :
     State Directory → (chain unique : ℕ) → (request piece : List ℕ) → State Directory → Type 0
 GetsPiece s chain unique request piece after =
     IsAsked s (chain % 2 ^ 16) request (reply_bytes unique piece) after
 
--- a READ of at most 4096 bytes of a node from an offset on gets a piece
+-- the guest makes a READ of at most 4096 bytes of a node from an offset on, and reads this piece
 abbrev pub ReadsPiece :
     State Directory → (chain unique node offset : ℕ) → (piece : List ℕ) → State Directory → Type 0
 ReadsPiece s chain unique node offset piece after =
     GetsPiece s chain unique (read_bytes unique node 0 offset 0x1000) piece after
 
--- so many READs of a node, from chain `first` and from unique number 2 on, each from where the pieces before
--- it end and of at least a byte; together they are the contents
+-- the guest makes `count` READs of a node, from chain `first` and from `unique` 2 on, each from the end of
+-- the piece before; each piece has at least a byte, and together they are the contents
 abbrev pub GetsPieces :
     State Directory → (first node count : ℕ) → (contents : List ℕ) → State Directory → Type 0
 GetsPieces s first node zero contents after = (contents ≡ []) × (after ≡ s)
@@ -92,8 +91,8 @@ IsEntry bytes node =
     × (bytes ≡ spelled (entry_out entry))
     × (entry.nodeid ≡ node)
 
--- a guest that has offered so many chains looks a name up under the root, node 1, and reads the node that the
--- reply's entry tells, until a READ behind the last piece gets nothing: the contents are the pieces together
+-- after `chains` chains the guest looks up a name under the root, node 1, and reads the node of the reply's
+-- entry until a READ after the last piece returns no byte; the contents are the pieces together
 abbrev pub ReadsFile : State Directory → (chains : ℕ) → (name contents : List ℕ) → State Directory → Type 0
 ReadsFile s chains name contents after =
     (looked last : State Directory) × (entry : List ℕ) × (node count : ℕ)

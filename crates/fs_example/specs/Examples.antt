@@ -1,5 +1,5 @@
--- A read worked out: a file with the bytes `hello`, which is node 2, and a guest that reads three bytes of it
--- from the second on, and then looks at its memory.
+-- A worked example of a READ: node 2 is a file with the bytes `hello`, and the guest reads three bytes from
+-- the second on, and then reads its memory.
 use Rattle.std.specs.Prelude.{◌≡◌, ℕ, ◌-◌, ◌^◌, Bool, true, false, not, ◌&&◌, List, [], ◌∷◌, ◌++◌, nat_le}
 use Rattle.std.specs.Prelude.{map, take, drop, Option, Some, None}
 use Rattle.std.specs.Prelude.{option_map, Ok, Err, refl, if◌then◌else◌}
@@ -29,11 +29,11 @@ use Rattle.fs_example.specs.Reading.{IsRead, read_reply}
 abbrev pub request : List ℕ
 request = in_header_bytes 80 15 2 2 ++ le64 0 ++ le64 1 ++ le32 3 ++ zeros 20
 
--- what the file system is asked
+-- the file system's call
 abbrev call : (room : ℕ) → FileCall
 call room = Read nobody 2 0 (room - 16) 3 1 None 0
 
--- by whether the room has a place for a header
+-- the request's meaning, by whether the reply buffer is long enough for a header
 means : (room : ℕ) (place : Bool) →
     ended 2 (and_then {A = Unit {0} × List ℕ} (if place then Ok (tt, []) else Err (Faults EncodeMessage))
     (λ x. Ok (Asks (One 2 (call room)), x.1)))
@@ -41,19 +41,19 @@ means : (room : ℕ) (place : Bool) →
 means room true = refl
 means room false = refl
 
--- whatever was agreed on, and whatever the room
+-- the request is a READ for any options and any length of the reply buffer
 is_read : IsRead request 2 2 3 1
 unfolding meaning meant reading_of row
 is_read = (nobody, 0, 0, None, λ options room. means room (nat_le 16 room))
 
--- the request at 0x1000 in a chain with a room of this length at 0x2000
+-- memory with the request at 0x1000, in a chain with a reply buffer of this length at 0x2000
 abbrev pub offering : (room : ℕ) → Memory
 offering room =
     let a = put blank 0x1000 request in
     let b = put a 0 (descriptor_bytes 0x1000 80 1 1 ++ descriptor_bytes 0x2000 room 2 0) in
     put b 0x100 (le16 0 ++ le16 1 ++ le16 0)
 
--- it is offered
+-- the queue offers this chain
 offered : offer (offering 32) 0x101000 queue ≡ Offers 0 (taking.IsRequest request (addresses 0x2000 32))
 unfolding offer place addresses stored_all path found
 offered = refl
@@ -62,12 +62,12 @@ offered = refl
 abbrev pub ell : List ℕ
 ell = 101 ∷ 108 ∷ 108 ∷ []
 
--- the memory after a step, with a reply in a room of 32 bytes
+-- the memory after a step, with a reply in a reply buffer of 32 bytes
 abbrev pub left : Memory
 left = returned (offering 32) queue 0 (addresses 0x2000 32) (read_reply 32 2 ell)
 
--- the reply stands in the room: 19 bytes, no error, the request's number, and the bytes; behind it nothing
--- changed
+-- the reply in the reply buffer: 19 bytes, no error, the request's `unique`, and the bytes; the byte after it
+-- is unchanged
 reply_stands : bytes left 0x2000 20 ≡ le32 19 ++ le32 0 ++ le64 2 ++ 101 ∷ 108 ∷ 108 ∷ 0 ∷ []
 unfolding place addresses stored_all reply_bytes field_bytes
 reply_stands = refl
@@ -77,18 +77,18 @@ element_stands : bytes left 0x202 10 ≡ le16 1 ++ le32 0 ++ le32 19
 unfolding place addresses stored_all reply_bytes field_bytes
 element_stands = refl
 
--- a room of one byte less than the reply gets the error -5
+-- a reply buffer that is one byte too short gets the error -5 (EIO)
 short_room : read_reply 18 2 ell ≡ le32 16 ++ le32 (2 ^ 32 - 5) ++ le64 2
 unfolding error_bytes field_bytes
 short_room = refl
 
--- one without a place for a header gets nothing
+-- a reply buffer that is shorter than a header gets no reply
 no_room : read_reply 15 2 ell ≡ []
 no_room = refl
 
--- ---- what the guest gets
+-- ---- the bytes that the guest reads
 
--- whether no element of a list is equal to one after it
+-- whether no element of a list equals a later one
 abbrev none_again : {X : Type 0} → (X → X → Bool) → List X → Bool
 none_again same [] = true
 none_again same (x ∷ xs) = list_all (λ y. not (same x y)) xs && none_again same xs
@@ -115,7 +115,7 @@ by_test same (x ∷ xs) e =
     let tests = two_tests _ _ e in
     (each_other same x xs tests.0, by_test same xs tests.1)
 
--- the room, the used element and the used index lie apart
+-- the reply buffer, the used element and the used index don't overlap
 writes_apart : WritesApart (offering 32) queue (addresses 0x2000 32)
 unfolding place addresses stored_all
 writes_apart = by_test is_one_byte _ refl
@@ -125,7 +125,7 @@ no_table : (offering 32).translates ≡ false
 unfolding place addresses stored_all
 no_table = refl
 
--- a place that no table gave marks its own page
+-- a place that is found without an IOMMU's table marks its own page
 own_page : (layout : List Region) (a : ℕ) → place layout a ≡ option_map bare (place layout a)
 unfolding place
 own_page [] a = refl
@@ -145,7 +145,7 @@ own_pages layout (a ∷ as') =
     rw (own_pages layout as')
     (ap (λ (o : Option Place). o ∷ map (λ b. option_map bare (place layout b)) as') (own_page layout a))
 
--- if no table is used, a guest looks at a room by the room's own addresses
+-- if no table is used, the guest reads a reply buffer at the buffer's own addresses
 looks_plainly : (m : Memory) (room : List ℕ) (k a n : ℕ) → m.translates ≡ false →
     take n (drop k room) ≡ addresses a n → LooksAtRoom m room k a n
 looks_plainly m room k a n off is =
@@ -153,21 +153,21 @@ looks_plainly m room k a n off is =
     ∙ ap (λ (l : List ℕ). map (λ b. option_map bare (place m.layout b)) l) (sym is)
     ∙ ap (λ (t : Bool). map (device_place (record m { translates = t })) (take n (drop k room))) (sym off)
 
--- the addresses behind the header
+-- the addresses after the header
 behind_header : take 3 (drop 16 (addresses 0x2000 32)) ≡ addresses 0x2010 3
 unfolding addresses
 behind_header = refl
 
--- so behind the header
+-- the guest reads the reply buffer after the header at its own addresses
 looks_behind : LooksAtRoom (offering 32) (addresses 0x2000 32) 16 0x2010 3
 looks_behind = looks_plainly (offering 32) (addresses 0x2000 32) 16 0x2010 3 no_table behind_header
 
--- behind the header it gets the bytes alone
+-- after the header the guest reads exactly the file's bytes
 gets_ell : GetsFile (offering 32) 32 16 0x2010 3 2 ell ell
 unfolding place addresses stored_all reply_bytes field_bytes
 gets_ell = (refl, λ fits behind within. refl)
 
--- those bytes stand there
+-- the memory has these bytes there
 ell_stands : bytes left 0x2010 3 ≡ ell
 unfolding place addresses stored_all reply_bytes field_bytes
 ell_stands = refl

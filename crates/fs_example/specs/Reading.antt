@@ -1,4 +1,4 @@
--- What steps and runs over the directory give a guest that reads.
+-- Steps and runs over the directory, and the replies to a guest that reads files.
 use Rattle.std.specs.Prelude.{◌≡◌, ◌⊎◌, ℕ, ◌-◌, nat_le, nat_lt, List, [], length, take, drop, Option, Some}
 use Rattle.std.specs.Prelude.{None, if◌then◌else◌, slice_get}
 use Rattle.std.specs.List.{AllByRecursion}
@@ -17,11 +17,11 @@ use Rattle.fuse_files.specs.declared.owned_table.OwnedFile.{OwnedFile}
 use Rattle.fuse_files.specs.OwnedTable.{files_of}
 use Rattle.fuse_files.specs.Directory.{Directory, file_at, DirectoryAnswers}
 
--- what a READ means: a fault, if its room has no place for the header of the reply
+-- the meaning of a READ: its call, or a fault if the reply buffer is shorter than a reply's header
 abbrev pub read_in_room : (unique room : ℕ) → FileCall → Meaning
 read_in_room unique room call = if nat_le 16 room then Asks (One unique call) else IsFault EncodeMessage
 
--- whatever was agreed on, the bytes of this request are a READ of so many bytes of a node from an offset on
+-- a request's bytes are a READ of `size` bytes of a node from an offset on, for any options and reply buffer
 abbrev pub IsRead : (request : List ℕ) → (unique node size offset : ℕ) → Type 0
 IsRead request unique node size offset =
     (who : Context) × (handle flags : ℕ) × (owner : Option ℕ)
@@ -29,20 +29,20 @@ IsRead request unique node size offset =
     meaning options request room
     ≡ read_in_room unique room (Read who node handle (room - 16) size offset owner flags))
 
--- the bytes of a file from an offset on, at most so many
+-- the bytes of a file from an offset on, at most `size`
 abbrev pub wanted : OwnedFile → (size offset : ℕ) → List ℕ
 wanted f size offset = take size (drop offset f.contents.items)
 
--- the reply with these bytes; EIO if the room behind the header is too short; nothing if it has no place for
--- one
+-- the reply with these bytes, or EIO if the reply buffer is too short for them, or no byte if it is shorter
+-- than a header
 abbrev pub read_reply : (room unique : ℕ) → List ℕ → List ℕ
 read_reply room unique bytes =
     if nat_le 16 room then (if nat_lt (room - 16) (length bytes) then error_bytes unique EIO
     else reply_bytes unique bytes)
     else []
 
--- if a step took a READ of a file from queue i, the reply was written over its chain's room, then what
--- follows it
+-- if a step served a READ of a file from queue i, it wrote this reply to the reply buffer, and then the used
+-- element and the used index
 abbrev pub ReadsIntoRoom : State Directory → (i : ℕ) → StepEnd → State Directory → Type 0
 ReadsIntoRoom s i (Exchanged x notice) after =
     (q : Queue) (head : ℕ) (request room : List ℕ) (unique node size offset : ℕ) (f : OwnedFile) →
@@ -53,17 +53,17 @@ ReadsIntoRoom s i (Exchanged x notice) after =
 ReadsIntoRoom s i Idle after = Unit {0}
 ReadsIntoRoom s i (Refused e) after = Unit {0}
 
--- a step of a device over the directory
+-- a step of a device over the directory, in which a READ gets the reply of `ReadsIntoRoom`
 abbrev pub ReadingStep : State Directory → (i : ℕ) → StepEnd → State Directory → Type 0
 ReadingStep s i outcome after =
     (calls : Calls) × Step DirectoryAnswers s i calls outcome after × ReadsIntoRoom s i outcome after
 
--- the good reply with the bytes of the file from there on, at most so many; or EIO
+-- the reply is a good one with the bytes of the file from the offset on, at most `size`, or it is EIO
 abbrev pub GivesBytes : (reply : List ℕ) → (unique size offset : ℕ) → OwnedFile → Type 0
 GivesBytes reply unique size offset f =
     (reply ≡ reply_bytes unique (wanted f size offset)) ⊎ (reply ≡ error_bytes unique EIO)
 
--- if an exchange without a fault read a file, the reply gives its bytes
+-- if an exchange without a fault is a READ of a file, its reply has the file's bytes or is EIO
 abbrev pub ReadsTrue : List OwnedFile → Turn → Type 0
 ReadsTrue fs t =
     (unique node size offset : ℕ) (f : OwnedFile) →
@@ -72,7 +72,8 @@ ReadsTrue fs t =
     t.exchange.fault ≡ None →
     GivesBytes t.exchange.reply unique size offset f
 
--- a run in which each exchange reads so; the directory is as it was
+-- a run over the directory in which `ReadsTrue` holds of each exchange, and which leaves the directory
+-- unchanged
 abbrev pub ReadingRun : State Directory → List (Command × Answer) → State Directory → Type 0
 ReadingRun s events after =
     (tolds : List Turns) × RunTold DirectoryAnswers s events tolds after

@@ -1,4 +1,4 @@
-//! What a monitor does: one request after another.
+//! A VMM whose guest makes one request after another.
 
 ghost use Rattle.std.specs.Prelude.{◌≡◌, ◌+◌, ◌%◌, ◌<◌, ◌^◌, true, length, IfOk};
 ghost use Rattle.vm_memory_core.specs.Host.{shape};
@@ -26,14 +26,15 @@ use vm_values::ByteValued;
 // The size of a guest's page.
 const PAGE_SIZE: u32 = 4096;
 
-// How many bytes are read at once: the room without a reply's header.
+// The bytes of one READ: the reply buffer without a reply's header.
 const PIECE: u32 = ROOM_LEN - 16;
 
 // The longest name (NAME_MAX in linux/limits.h).
 const NAME_MAX: usize = 255;
 
 impl Monitor {
-    /// A guest with 64 KiB of zeros from 0 on, and a device of one queue of which no chain was returned.
+    /// A guest with 64 KiB of zeros from address 0 on, and a device with one new queue. `Regions` or `Memory`
+    /// if an allocation fails.
     pub fn new(alloc: Global, files: Vec<OwnedFile>) -> Result<Monitor, MonitorError>
         requires { length files.items < 2 ^ 32 }
         ensures machine { IfOk result (λ monitor. IsNew files.items (machine_of_monitor monitor)) }
@@ -56,11 +57,13 @@ impl Monitor {
         })
     }
 
-    /// The guest offers a request as its next chain, the device takes a step, and the guest reads the reply
-    /// from its memory, as long as the used ring says. `NoReply`: the device finds no chain, the one that it
-    /// takes asks something else, it has not returned this one, or it did with more bytes than the room has
-    /// or others than it replied. A request longer than 52 KiB has no place in memory (`Place`). After
-    /// `Device` the monitor is of no more use: its chain still waits.
+    /// The guest makes a request available as its next chain, and the device takes a step. Then the guest
+    /// reads the reply from its memory, with the used element's length. Errors, in this order:
+    /// - `Place`: the request is longer than 52 KiB, the rest of memory.
+    /// - `Device`: the device refused. The chain is still available, so don't use this monitor again.
+    /// - `NoReply`: the device found no chain, didn't return this one, or returned it with more bytes than
+    ///   the reply buffer has; or request or reply differs from that of the device's exchange.
+    /// - `Place`: an allocation for the reply failed.
     pub fn ask(&mut self, request: &[u8]) -> Result<Vec<u8>, MonitorError>
         ensures asked { IfOk result (λ reply.
             IsAsked (machine_of_monitor self.old) ((chains_of self.old + 1) % 2 ^ 16) request.now reply.items
@@ -93,8 +96,9 @@ impl Monitor {
         }
     }
 
-    /// Has the guest look a name up, and read its file piece by piece until there is no more: each READ but
-    /// the last gets at least a byte. A name that no file has is `Failed(-2)` (ENOENT).
+    /// The guest looks up a name, and reads its file piece by piece until a READ returns no byte. `LongName`
+    /// for more than 255 bytes, `Memory` if an allocation fails, `Failed(-2)` (ENOENT) if no file has the
+    /// name, and the errors of `ask`.
     pub fn read_file(&mut self, name: &[u8]) -> Result<Vec<u8>, MonitorError>
         ensures { IfOk result (λ contents.
             ReadsFile (machine_of_monitor self.old) (chains_of self.old) name.now contents.items
@@ -119,14 +123,14 @@ impl Monitor {
     }
 }
 
-// Whether the same bytes stand in two places.
+// Whether two slices have the same bytes.
 fn are_same(bytes: &[u8], others: &[u8]) -> bool
     ensures { result ≡ true → bytes.now ≡ others.now }
 {
     *bytes == *others
 }
 
-// What follows the header of the reply to a request, unless that is an error.
+// The bytes after the header of the reply to this request. `Failed` for an error, else `NoReply`.
 #[tactic(auto, using(crate::proofs::AskingLemmas::good_reply))]
 fn told(reply: &[u8], unique: u64) -> Result<&[u8], MonitorError>
     ensures { IfOk result (λ bytes. reply.now ≡ reply_bytes unique bytes.now) }
@@ -138,7 +142,7 @@ fn told(reply: &[u8], unique: u64) -> Result<&[u8], MonitorError>
     }
 }
 
-/// Reads one of the files by its name, as a guest of a new monitor does.
+/// Reads one of the files by its name, as the guest of a new `Monitor`. Errors as for `Monitor::read_file`.
 pub fn read_file(alloc: Global, files: Vec<OwnedFile>, name: &[u8]) -> Result<Vec<u8>, MonitorError>
     requires { length files.items < 2 ^ 32 }
     ensures { IfOk result (λ contents. (before after : State Directory)

@@ -1,5 +1,5 @@
-//! A driver in a guest that has one request at a time: it offers a chain of two descriptors, one that holds
-//! the request and one with the room for its reply, and looks at what the device returned (VIRTIO 1.2, 2.7).
+//! A guest's driver with one request at a time (VIRTIO 1.2, 2.7). It makes a chain of two descriptors
+//! available, one for the request and one for the reply buffer, and reads the reply.
 
 ghost use Rattle.std.specs.Prelude.{◌≡◌, ◌+◌, ◌<◌, ◌^◌, length, map, option_map, IfOk, OnOk};
 ghost use Rattle.std.specs.Int.{w16, w32};
@@ -12,7 +12,7 @@ use std::alloc::Global;
 use vm_memory::{GuestMemoryError, GuestMemoryMmap};
 use vm_memory_core::{GuestAddress, HostMemory, PageBitmap};
 
-/// How many descriptors the queue has.
+/// The queue's size in descriptors.
 pub const QUEUE_SIZE: u16 = 4;
 
 /// The address of its descriptor table: 16 bytes for each descriptor.
@@ -24,21 +24,21 @@ pub const AVAIL: u64 = 0x100;
 /// The address of its used ring.
 pub const USED: u64 = 0x200;
 
-/// Where the room for a reply stands.
+/// The address of the reply buffer.
 pub const ROOM: u64 = 0x1000;
 
-/// How many bytes it has: a page and a reply's header (struct fuse_out_header).
+/// The length of the reply buffer in bytes: a page and a reply's header (struct fuse_out_header).
 pub const ROOM_LEN: u32 = 0x1010;
 
-/// Where a request stands.
+/// The address of the request.
 pub const REQUEST: u64 = 0x3000;
 
-// The flags of a descriptor after which another comes, and of one that the device writes (VIRTIO 1.2, 2.7.5).
+// VIRTQ_DESC_F_NEXT and VIRTQ_DESC_F_WRITE (VIRTIO 1.2, 2.7.5).
 const NEXT: u16 = 1;
 
 const WRITE: u16 = 2;
 
-// Puts bytes at an address.
+// Writes bytes to an address.
 fn put_at(
     host: &mut HostMemory<PageBitmap>,
     mem: &GuestMemoryMmap,
@@ -53,7 +53,7 @@ fn put_at(
     mem.write_slice(host, bytes, GuestAddress(addr))
 }
 
-// Puts a descriptor at an address.
+// Writes a descriptor to an address.
 fn put_descriptor(
     host: &mut HostMemory<PageBitmap>,
     mem: &GuestMemoryMmap,
@@ -75,9 +75,10 @@ fn put_descriptor(
     put_at(host, mem, at + 14, &next.to_le_bytes())
 }
 
-/// Puts a request into memory and offers it as the queue's chain of this number, counted from 1 on modulo
-/// 2^16. Its head is descriptor 0; so is each entry of an available ring of zeros. An error of memory is that
-/// an address has no place: `InvalidGuestAddress`, or `PartialBuffer` if only some bytes have one.
+/// Writes a request to memory, and makes it available as the queue's chain of this number, counted from 1 on
+/// modulo 2^16. Its head is descriptor 0, which each entry of an available ring of zeros already names.
+/// `InvalidGuestAddress` for 4 GiB or more, or if the first byte of a write isn't mapped. `PartialBuffer` if
+/// only some first bytes are.
 pub fn offer(
     host: &mut HostMemory<PageBitmap>,
     mem: &GuestMemoryMmap,
@@ -98,7 +99,7 @@ pub fn offer(
     put_at(host, mem, AVAIL + 2, &number.to_le_bytes())
 }
 
-// The bytes from an address on.
+// Reads `len` bytes from an address on.
 fn bytes_at(
     alloc: Global,
     host: &HostMemory<PageBitmap>,
@@ -118,7 +119,7 @@ fn bytes_at(
     Ok(found)
 }
 
-// The number of 16 bits at an address.
+// Reads the le16 at an address.
 fn u16_at(
     host: &HostMemory<PageBitmap>,
     mem: &GuestMemoryMmap,
@@ -133,7 +134,7 @@ fn u16_at(
     Ok(u16::from_le_bytes(found))
 }
 
-// The number of 32 bits at an address.
+// Reads the le32 at an address.
 fn u32_at(
     host: &HostMemory<PageBitmap>,
     mem: &GuestMemoryMmap,
@@ -148,10 +149,10 @@ fn u32_at(
     Ok(u32::from_le_bytes(found))
 }
 
-/// The reply to the request that was offered as the chain of this number, which was the last: what stands in
-/// its room, as many bytes as the used ring says. Nothing if the device has not returned the chain, or says
-/// that there are more bytes than the room has. `InvalidGuestAddress` or `PartialBuffer` if an address has no
-/// place, or `OutOfMemory`.
+/// The reply to the chain of this number, which is the last: the first bytes of the reply buffer, as many as
+/// the used element's length. None if the device hasn't returned the chain, or if this length is greater than
+/// the reply buffer's. `InvalidGuestAddress` or `PartialBuffer` if an address isn't mapped, `OutOfMemory` if
+/// an allocation fails.
 pub fn reply(
     alloc: Global,
     host: &HostMemory<PageBitmap>,

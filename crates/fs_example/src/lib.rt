@@ -1,5 +1,5 @@
-//! The device over a read-only directory (`OwnedTable` of `fuse_files`), from end to end: what a step and a
-//! run over it leave in the memory of a guest that reads; and a monitor that has a guest read one file.
+//! The device over a read-only directory (`OwnedTable` of `fuse_files`), from end to end. Contracts of a step
+//! and a run give the bytes in the memory of a guest that reads; a VMM's guest reads one file.
 #![tactic(auto)]
 
 mod asking;

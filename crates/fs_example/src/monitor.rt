@@ -1,4 +1,4 @@
-//! A monitor with the guest that it stands in for: memory with a ring in it, and a device over it.
+//! A VMM with its guest: memory with a virtqueue in it, and a device over it.
 
 ghost use Rattle.vm_memory_core.specs.Host.{lengths};
 ghost use Rattle.vm_memory.specs.Layout.{HostHolds};
@@ -12,7 +12,7 @@ use thiserror::Error;
 use vm_memory::{FromRangesError, GuestMemoryError, GuestMemoryMmap};
 use vm_memory_core::{HostMemory, PageBitmap};
 
-/// Why a file is not read.
+/// Why a file isn't read.
 #[derive(Debug, Drop, Error)]
 pub enum MonitorError {
     #[error("out of memory")]
@@ -27,21 +27,21 @@ pub enum MonitorError {
     Device(#[from] DeviceError),
     #[error("the request has no reply")]
     NoReply,
-    /// An error number of Linux, below 0.
+    /// The file system's error: an errno of Linux, negated (`fuse_out_header.error`).
     #[error("the file system answers error {0}")]
     Failed(i32),
     #[error("a name has at most 255 bytes")]
     LongName,
 }
 
-/// A guest, and the device that serves it the files.
+/// A guest, and the device that serves the files to it.
 #[derive(Drop)]
 pub struct Monitor {
     pub(crate) alloc: Global,
     pub(crate) host: HostMemory<PageBitmap>,
     pub(crate) mem: GuestMemoryMmap,
     pub(crate) device: Device<Files<OwnedTable, ReadOnly>>,
-    // How many chains the guest has offered, modulo 2^16.
+    // How many chains the guest has made available, modulo 2^16.
     pub(crate) offered: u16,
     pub(crate) ghost held: { HostHolds host mem } by { AreHeld-prop (lengths host) mem },
 }

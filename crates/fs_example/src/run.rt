@@ -1,4 +1,4 @@
-//! Runs of a machine over the directory.
+//! Runs of a machine whose file system is the directory.
 
 ghost use Rattle.std.specs.Prelude.{◌≡◌, ◌<◌, length, map, IfOk, OnErr};
 ghost use Rattle.std.specs.List.{zip};
@@ -13,11 +13,12 @@ use fuse_files::{Files, OwnedTable, ReadOnly};
 use std::alloc::{AllocError, Global};
 use vm_memory::Iommu;
 
-/// Does commands one after another, as `Machine::run`. Whatever the guest does: if an exchange without a
-/// fault reads a file, its reply has the file's bytes, or is EIO. Where a kick takes one chain that reads a
-/// file, no byte is written twice as it goes back, and the guest looks at that chain's room next, it gets
-/// what stood there with the reply laid over: behind the header, if the room is long enough, the file's
-/// bytes.
+/// Carries out commands one after another, as `Machine::run`, with its errors. If an exchange without a fault
+/// reads a file, its reply has the file's bytes or is EIO, for any guest.
+///
+/// Suppose that a kick serves one chain that reads a file, that its return writes no byte twice, and that the
+/// guest reads its reply buffer next. Then the guest reads the old bytes with the reply written over them.
+/// After the reply's header these are the file's bytes, if the buffer is long enough.
 pub fn run_directory<I: Iommu + Drop>(
     alloc: Global,
     machine: &mut Machine<Files<OwnedTable, ReadOnly>, I>,
@@ -31,7 +32,7 @@ pub fn run_directory<I: Iommu + Drop>(
     ensures err { OnErr result (machine_of machine.new ≡ machine_of machine.old) }
     ensures memory { OnErr result (0 < length commands.items) }
 {
-    // for the proof: a run's calls are those that its requests mean.
+    // For the proof: a run's calls are those of its requests.
     law_calls::<Files<OwnedTable, ReadOnly>>();
     machine.run(alloc, commands)
 }

@@ -1,4 +1,4 @@
-//! Steps of a device over the directory.
+//! Steps of a device whose file system is the directory.
 
 ghost use Rattle.std.specs.Prelude.{◌≡◌};
 ghost use Rattle.vm_memory_core.specs.Host.{shape};
@@ -11,9 +11,9 @@ use std::alloc::Global;
 use vm_memory::GuestMemory;
 use vm_memory_core::HostBlocks;
 
-/// Serves the next chain of a queue, as `Device::process_one`. If that is a READ of a file, the reply with
-/// the file's bytes is written over the chain's room; EIO, if it is too short for them; or nothing, if it has
-/// no place for a header; and then the used element and the used index.
+/// Serves the next chain of a queue, as `Device::process_one`, with its errors. For a READ of a file it
+/// writes the reply with the file's bytes to the reply buffer, or EIO if the buffer is too short for them, or
+/// nothing if it is shorter than a header. Then it writes the used element and the used index.
 pub fn step_directory<M: GuestMemory, H: HostBlocks>(
     alloc: Global,
     device: &mut Device<Files<OwnedTable, ReadOnly>>,

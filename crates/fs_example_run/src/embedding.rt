@@ -1,4 +1,4 @@
-//! The device in a monitor.
+//! The device in a VMM.
 
 ghost use Rattle.std.specs.Prelude.{◌≡◌};
 ghost use Rattle.vm_memory_core.specs.Host.{shape};
@@ -12,29 +12,31 @@ use virtiofsd_fuse::{FileSystem, Server};
 use vm_memory::GuestMemoryMmap;
 use vm_memory_core::{GuestAddress, HostMemory, PageBitmap};
 
-// What a monitor lends to its guest, and to the device.
+// The memory that a VMM lends to its guest, and to the device.
 pub type LentHost = HostMemory<PageBitmap>;
 
 // The size of a guest's page.
 const PAGE_SIZE: u32 = 4096;
 
-// What runs the guest: a monitor's vCPUs.
+// The VMM's vCPUs, which run the guest.
 pub trait Vcpu {
-    // Runs the guest until it notifies a queue, and answers which; nothing once it has ended.
+    // Runs the guest until it notifies a queue, and returns that queue; None once the guest has ended.
+    // An error ends the embedding.
     fn run(&mut self, host: &mut LentHost, mem: &GuestMemoryMmap) -> anyhow::Result<Option<usize>>
         requires { HostHolds host.old mem.now }
         ensures { shape host.new ≡ shape host.old };
 
-    // Tells the guest that the device gave a chain of the queue back (VIRTIO 1.2, 2.7.7).
+    // Notifies the driver that the device returned a chain of the queue (VIRTIO 1.2, 2.7.7).
     fn interrupt(&mut self, queue: usize);
 
-    // Tells the guest that the queue stopped, and with it the device, until it is reset (VIRTIO 1.2, 2.1.2).
+    // Notifies the driver that the queue stopped, and the device with it until it is reset (VIRTIO 1.2,
+    // 2.1.2: DEVICE_NEEDS_RESET).
     fn needs_reset(&mut self, queue: usize);
 }
 
-// The whole embedding: 64 KiB of memory from 0 on, a device with one queue over a file system, and a step for
-// each chain that waits once the guest notified. No refusal ends it: if an allocation fails the chain still
-// waits for a later step.
+// The whole embedding: 64 KiB of memory from 0 on, a device with one queue over a file system, and after each
+// notification a step for each available chain. No refusal ends it: if an allocation fails, a later step
+// serves the chain, which is still available.
 pub fn serve_guest<F: FileSystem + Drop, V: Vcpu>(
     alloc: Global,
     files: F,

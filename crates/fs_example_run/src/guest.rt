@@ -1,4 +1,4 @@
-//! A guest that mounts, looks a file up and reads it, and then breaks its ring.
+//! A guest that mounts, looks up a file and reads it, and then breaks its virtqueue.
 
 ghost use Rattle.std.specs.Prelude.{◌≡◌, ◌≤◌, length};
 ghost use Rattle.vm_memory_core.specs.Host.{shape};
@@ -14,7 +14,7 @@ use std::alloc::Global;
 use vm_memory::GuestMemoryMmap;
 use vm_values::ByteValued;
 
-// The protocol's version that the guest speaks.
+// The guest's FUSE version (`struct fuse_init_in`).
 const VERSION: InitInCompat = InitInCompat {
     major: 7,
     minor: 38,
@@ -22,8 +22,8 @@ const VERSION: InitInCompat = InitInCompat {
     flags: 0,
 };
 
-// A guest, by how many requests it offered, how often it was interrupted and how often told that a queue
-// stopped; and what it read, in the end.
+// A guest: the number of requests that it made available, of its interrupts and of its notifications that the
+// device needs a reset; and the file's bytes, in the end.
 #[derive(Drop)]
 pub struct ReadingGuest<'a> {
     alloc: Global,
@@ -37,7 +37,7 @@ pub struct ReadingGuest<'a> {
 }
 
 impl<'a> ReadingGuest<'a> {
-    // A guest that is going to read the file of this name.
+    // A guest that will read the file of this name.
     pub fn new(alloc: Global, name: &'a [u8]) -> ReadingGuest<'a>
         requires { length name.now ≤ 255 }
     {
@@ -51,7 +51,7 @@ impl<'a> ReadingGuest<'a> {
         }
     }
 
-    // What the guest has in its memory behind the header of the last reply, if that is a good one.
+    // The bytes after the header of the last reply, from guest memory. An error if that isn't a good reply.
     fn received(&self, host: &LentHost, mem: &GuestMemoryMmap) -> anyhow::Result<Vec<u8>>
         requires { HostHolds host.now mem.now }
     {
@@ -87,7 +87,7 @@ impl<'a> Vcpu for ReadingGuest<'a> {
             }
             3 => {
                 self.contents = self.received(host, mem)?;
-                // More chains than the queue has entries: its index is out of the device's reach.
+                // The available index is more than a queue's size ahead, so the device refuses it.
                 self.offered = self.offered.wrapping_add(QUEUE_SIZE);
                 self.contents.clone()?
             }

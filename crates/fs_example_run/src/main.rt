@@ -1,5 +1,5 @@
-//! A guest mounts a file system that this program has, looks a file up and reads it; what it then has in its
-//! memory is printed. At last it breaks its ring, which stops its queue and nothing else.
+//! A guest mounts this program's file system, looks up a file and reads it; the program prints the bytes in
+//! guest memory. At last the guest breaks its virtqueue, which stops the queue and nothing else.
 #![tactic(auto)]
 
 mod embedding;
@@ -10,7 +10,7 @@ use crate::guest::ReadingGuest;
 use fuse_files::{Files, OwnedFile, OwnedTable, ReadOnly};
 use std::alloc::{AllocError, Global};
 
-// The files that the guest finds.
+// The files in the guest's directory.
 fn files(alloc: Global) -> Result<OwnedTable, AllocError> {
     let hello = OwnedFile::copied(alloc, b"hello.txt", b"Hello, guest!\n")?;
     let empty = OwnedFile::copied(alloc, b"empty.txt", b"")?;

@@ -1,4 +1,4 @@
--- Pops between whose calls others go on with the queue, or of which some calls were refused.
+-- Pops between whose calls other handles changed the queue, or some calls of which were refused.
 use Rattle.std.specs.Prelude.{◌≡◌, ◌≤◌, ◌+◌, ℕ, List, [], ◌∷◌, Some, None, slice_get}
 use Rattle.fs_queue.specs.declared.fault.QueueError.{QueueError}
 use Rattle.fs_queue.specs.declared.fault.QueueError.TheVariants.{Stopped}
@@ -20,10 +20,10 @@ use Rattle.fs_chain.specs.declared.chain_handle.ChainHandle.{ChainHandle}
 use Rattle.fs_live.specs.Live.{Declines, Happens, LiveState, Walks, after_walk}
 use Rattle.fs_live.specs.Handles.{IsPopDone, IsHeld, counted, live_of}
 
--- a pop by calls of the handle, the last one first, which finds the queue as `now`. Before each call but the
--- first, others may have gone on with the queue. Calls of the pop itself may have been refused, which left
--- the handle as it was. The call itself checks that no other chain was popped, and that the queue wasn't
--- reset
+-- a pop by calls of the handle, the last one first, which finds the queue as `now`. Before each call
+-- but the first, other handles may have changed the queue. Calls of the pop itself may have been
+-- refused, which left the handle as it was. The call itself checks that no other chain was popped, and
+-- that the queue wasn't reset
 abbrev pub WalksAmong : (given : List (List ℕ)) → (old new : ChainHandle) → (before now after : QueueState) →
     went.LoadOutcome → Type 0
 WalksAmong [] old new before now after told = (now ≡ before) × BeginsPopBy old new before after told
@@ -69,7 +69,7 @@ HandleWalksAmong {F} may =
     ≡ Some (live_of after))
     × IsHeld s i (live_of now) loaded came new
 
--- each load that such a pop wants is mapped, so no call is refused for it
+-- each load that such a pop asks for is mapped, so no call is refused for it
 abbrev pub WantedAmongHasAPlace : Type 0
 WantedAmongHasAPlace =
     (given : List (List ℕ)) (old new : ChainHandle) (before now after : QueueState)
@@ -96,8 +96,8 @@ HandleLoadsAmong =
     (walks : WalksAmong given old new before now after told) →
     load_count_among given old new before now after told walks ≤ before.layout.size + 4
 
--- a pop that goes on and finds its queue stopped meanwhile is refused as each pop of a stopped queue, after
--- any loads. The handle is free then, and the queue stays as it is
+-- a pop that continues and finds its queue stopped meanwhile is refused as each pop of a stopped queue,
+-- after any loads. The handle is free then, and the queue stays as it is
 abbrev pub HandleFindsStopped : {F : Type 0} → May F → Type 0
 HandleFindsStopped {F} may =
     (s : LiveState F) (i : ℕ) (bs : List ℕ) (w new : ChainHandle) (now after : QueueState)

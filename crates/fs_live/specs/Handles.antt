@@ -61,7 +61,7 @@ live_of q = record {
 
 -- ---- pops
 
--- the pop wants no further load
+-- the pop asks for no further load
 abbrev pub IsPopDone : walked.PopOutcome → Type 0
 IsPopDone (says.Load n) = ⊥
 IsPopDone _ = Unit {0}
@@ -158,8 +158,8 @@ abbrev pub calls_told : (behind : List ℕ) → told.Decoded → List FileCall
 calls_told behind (asks.Call made) = call_of behind made ∷ []
 calls_told behind _ = []
 
--- the given bytes were enough to decode the request. A decoding that wants more bytes is no event: the handle
--- keeps only its session
+-- the given bytes were enough to decode the request. A decoding that needs more bytes is no event: the
+-- handle keeps only its session
 abbrev pub IsDecodedWhole : told.Decoded → Type 0
 IsDecodedWhole (asks.More n) = ⊥
 IsDecodedWhole _ = Unit {0}

@@ -96,7 +96,7 @@ first_answered = record first { phase = Asked lookup 0 ((looks, Failed 2) ∷ []
 abbrev pub second_asked : OutChain
 second_asked = record second { phase = Asked init 0 [] }
 
--- INIT was answered: the file system wants no further option
+-- INIT was answered: the file system asks for no further option
 abbrev pub second_answered : OutChain
 second_answered = record second { phase = Asked init 0 ((starts, Wants 0) ∷ []) }
 

@@ -93,7 +93,7 @@ pub record LiveState (F : Type 0) : Type 0 where
 
 -- an event of the device
 pub data LiveEvent : Type 0 where
-  -- a pop of queue i ended with this after these loads, with these descriptors
+  -- a pop of queue i ended with this result after these loads, with these descriptors
   Walks : (i : ℕ) → Loaded → List Descriptor → comes.CourseStep → LiveEvent
   -- a pop of queue i was refused with this error, before any load, or because the queue was stopped meanwhile
   Declines : (i : ℕ) → QueueError → LiveEvent
@@ -101,8 +101,8 @@ pub data LiveEvent : Type 0 where
   Asks : OutChain → (request : List ℕ) → (told : List FileCall) → LiveEvent
   -- the pending call of the chain was answered
   Answers : OutChain → FileCall → FileAnswer → LiveEvent
-  -- it was returned. `last` bytes of the reply were stored last, and the stores `used` after the reply. The
-  -- two bytes at `seen_at` say whether the driver enabled the notification
+  -- it was returned. `last` bytes of the reply were stored last, and the stores `used` after the reply.
+  -- By the two bytes at `seen_at` the driver enables or disables the notification
   Returns :
       OutChain → Exchange → (notice : Bool) → (last : ℕ) → (used : List Store) → (seen : List ℕ) → LiveEvent
   -- before the device sleeps, and when it wakes, it enables or disables the notifications of queue i

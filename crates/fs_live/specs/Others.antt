@@ -1,5 +1,5 @@
--- Calls of handles that answer nothing, as events of a run: chains that are given up, freed, or replied to
--- with bytes of the caller's own; other regions; and moves.
+-- Calls of handles that answer no file call, as events of a run: giving a chain up, freeing a handle,
+-- replying with the caller's own bytes, other regions, and moves.
 use Rattle.std.specs.Prelude.{◌≡◌, ◌⊎◌, ◌≤◌, ◌<◌, ◌^◌, ℕ, Bool, List, [], ◌∷◌, ◌++◌, length, map, Some, None}
 use Rattle.std.specs.Prelude.{slice_get}
 use Rattle.std.specs.List.{AllByRecursion}
@@ -33,8 +33,8 @@ use Rattle.fs_live.specs.Handles.{IsKept, IsOut, IsReached, IsReturn, live_of}
 
 -- ---- chains that are given up, and handles that are freed
 
--- giving up a chain with a handle is the event `Drops`; the queue is then as the call left it. Giving up a
--- pop that hasn't ended is no event: it changes no queue
+-- giving up a chain with a handle is the event `Drops`, and leaves the queue as the call's contract
+-- says. Giving up a pop that hasn't ended is no event: it changes no queue
 abbrev pub HandleDrops : {F : Type 0} → May F → Type 0
 HandleDrops {F} may =
     (s : LiveState F) (c : OutChain) (before behind : List OutChain) (w : ChainHandle) (kept : QueueState) →
@@ -46,7 +46,8 @@ HandleDrops {F} may =
     Happens may s (Drops c) (after_drop s before behind c (live_of kept))
     × (slice_get (after_drop s before behind c (live_of kept)).queues c.queue ≡ Some (live_of (untook kept)))
 
--- freeing a handle, in any phase of its chain, leaves the chain in flight, and changes no queue
+-- freeing a handle, in any phase of its chain, is the event `Abandons`: the chain stays in flight, and
+-- no queue changes
 abbrev pub HandleAbandons : {F : Type 0} → May F → Type 0
 HandleAbandons {F} may =
     (s : LiveState F) (c : OutChain) (before behind : List OutChain) →
@@ -56,7 +57,7 @@ HandleAbandons {F} may =
 
 -- ---- replies of the caller's own bytes
 
--- the state of a handle whose caller replied to the chain with so many bytes
+-- the state of a handle whose caller replied to the chain with these bytes
 pub record IsOwn (c : OutChain) (reply : List ℕ) (st : state.ChainState) : Type 0 where
   pub out : InFlight
   pub head : out.head ≡ c.head
@@ -65,15 +66,15 @@ pub record IsOwn (c : OutChain) (reply : List ℕ) (st : state.ChainState) : Typ
   pub counts : length reply < 2 ^ 32
   pub state : st ≡ at.HasReply out (own_reply (length reply))
 
--- in this state a chain is in flight without a reply
+-- P, if a chain is in flight without a reply
 abbrev pub IfOut : state.ChainState → (InFlight → Type 0) → Type 0
 IfOut (at.Taken out) P = P out
 IfOut (at.Waits out waiting) P = P out
 IfOut (at.Lists out listing) P = P out
 IfOut _ P = ⊥
 
--- such a reply by a handle is the event `Replies`. The chain wasn't decoded; its request may be any, as its
--- caller loaded it
+-- a reply of the caller's own to a chain that wasn't decoded is the event `Replies`. The request may be
+-- any, as its caller loaded it
 abbrev pub HandleReplies : {F : Type 0} → May F → Type 0
 HandleReplies {F} may =
     (s : LiveState F) (c : OutChain) (before behind : List OutChain) (w : ChainHandle) (serial options : ℕ)
@@ -89,7 +90,8 @@ HandleReplies {F} may =
     × IfOut w.state
     (λ out. IsOwn (record c { phase = Own request reply }) reply (at.HasReply out (own_reply (length reply))))
 
--- a handle has this decoded chain: the pending call, or the listing that gathers entries, is of it
+-- a handle has this decoded chain: its pending call, or the listing that gathers entries, is the
+-- chain's
 pub record IsHeldAsked (c : OutChain) (w : ChainHandle) : Type 0 where
   pub out : InFlight
   pub head : out.head ≡ c.head
@@ -104,8 +106,8 @@ AskedIsHeld =
     IsKept page_size options request c (asks.Call made) w →
     IsHeldAsked c w
 
--- so is such a reply to a decoded chain, instead of the answer to its pending call. The file system may have
--- answered any of its calls by then
+-- a reply of the caller's own to a decoded chain, instead of the answer to its pending call, is the
+-- event `Replies` too. The file system may have answered any of its calls by then
 abbrev pub HandleRepliesInstead : {F : Type 0} → May F → Type 0
 HandleRepliesInstead {F} may =
     (s : LiveState F) (c : OutChain) (before behind : List OutChain) (w : ChainHandle)
@@ -129,7 +131,8 @@ pub record GoesBackOwn (back : QueueState) (room reply : List ℕ) (from : state
       (λ kept s. acts ≡ return_acts (reply_stores room reply last ++ stores_of s.used) flags) stores
   pub notified : notice ≡ tells_of back flags
 
--- that is the event of its return. Any chains of its queue may have been popped and returned meanwhile
+-- such a return is the event of the chain's return. Any chains of its queue may have been popped and
+-- returned meanwhile
 abbrev pub HandleReturnsOwn : {F : Type 0} → May F → Type 0
 HandleReturnsOwn {F} may =
     (s : LiveState F) (c : OutChain) (before behind : List OutChain) (st : state.ChainState)
@@ -144,8 +147,9 @@ HandleReturnsOwn {F} may =
 
 -- ---- other regions
 
--- other regions of a handle are the event `Maps`, and its next pops are events with them. They must map the
--- returns of the queues of chains in flight as the regions before did: so it is while none is in flight
+-- setting other regions of a handle is the event `Maps`, and its next pops are events with them. For
+-- the queues of chains in flight, the new regions must map the addresses of returns just where the old
+-- ones do
 abbrev pub HandleMaps : {F : Type 0} → May F → Type 0
 HandleMaps {F} may =
     (s : LiveState F) (w : ChainHandle) →
@@ -164,9 +168,9 @@ pub record AreBegunBy (queues : List Queue) (kept : List QueueState) : Type 0 wh
   pub even : AllByRecursion IsEven (map live_of kept)
   pub few : AllByRecursion MayBeOut (map live_of kept)
 
--- a record is made of a run's options and queues, while no chain is in flight, and read elsewhere: that is
--- the event `Moves`. The options that are read are the run's, and the queues that are reset from the record
--- are the run's from then on
+-- making a record of a run's options and queues while no chain is in flight, and reading it elsewhere,
+-- is the event `Moves`. The options that are read are the run's. The queues that are reset from the
+-- record are the run's from then on
 abbrev pub HandleMoves : {F : Type 0} → May F → Type 0
 HandleMoves {F} may =
     (s : LiveState F) (here there : List QueueState) (m : Memory) (bytes : List ℕ) (v v' : Version)

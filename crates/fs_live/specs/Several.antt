@@ -43,8 +43,8 @@ untook w = record w { queue = record (w.queue) { position = (w.queue.position + 
 abbrev pub InFlightId : Type 0
 InFlightId = ℕ × ℕ
 
--- an event of a queue: a chain with this head is popped; the chain that was popped last is given up; a chain
--- is returned with so long a reply, by these stores
+-- an event of a queue: a chain with this head is popped; the chain that was popped last is given up; a
+-- chain is returned with a reply of `len` bytes, by these stores
 pub data QueueEvent : Type 0 where
   Takes : (head : ℕ) → QueueEvent
   Drops : InFlightId → QueueEvent
@@ -163,7 +163,7 @@ avail_event_at q = q.used + 4 + 8 * q.size
 abbrev pub seen_at : LiveQueue → ℕ
 seen_at w = if w.event_index then used_event_at w.queue else w.queue.avail
 
--- whether an index that went from old to new passed an event (vring_need_event of linux/virtio_ring.h)
+-- whether an index that moved from old to new passed an event (vring_need_event of linux/virtio_ring.h)
 abbrev pub passes : (event old new : ℕ) → Bool
 passes event old new = nat_lt ((new + (2 ^ 16 - 1 - event)) % 2 ^ 16) ((new + (2 ^ 16 - old)) % 2 ^ 16)
 

@@ -74,20 +74,21 @@ pub fn law_examples<F: FileSystem>()
     ensures init { InitBeside F.may }
 {}
 
-/// The theorems that calls of handles are events of a run, by their contracts, while any other chains are in
-/// flight.
-/// - A pop that finds its queue as its previous call left it is an event, also if it is refused. It leaves
-///   the queue as the contract says, and makes few loads.
-/// - So is a pop between whose calls others went on with the queue, or some calls of which were refused. Its
-///   loads are as few, and each load that it wants is mapped. If it finds its queue stopped meanwhile, it is
-///   declined.
+/// The theorems that calls of handles are events of a run, by their contracts, while any other chains
+/// are in flight.
+/// - A pop that finds its queue as its previous call left it is an event, also if it is refused. It
+///   leaves the queue as the contract says, and makes few loads.
+/// - So is a pop between whose calls other handles changed the queue, or some calls of which were
+///   refused. It makes as few loads, and each load that it asks for is mapped. If it finds its queue
+///   stopped meanwhile, it is declined.
 /// - So are a decoding and each answer: of the call, of a listing's look-ups, of a FORGET.
 /// - So are the return of a chain, also of a faulty one, and a store before a sleep, if its address is
 ///   mapped.
 /// - So is the reset of a queue, once no call of its chains is pending.
-/// - So are giving up a chain, freeing its handle, a reply of the caller's own bytes, and the return with
-///   them.
-/// - While no chain is in flight, so are other regions, and a record that is made here and read elsewhere.
+/// - So are giving up a chain, freeing its handle, a reply of the caller's own bytes, and the return
+///   with them.
+/// - While no chain is in flight, so are other regions, and a record that is made here and read
+///   elsewhere.
 pub fn law_handles<F: FileSystem>()
     ensures walks { HandleWalks F.may }
     ensures among { HandleWalksAmong F.may }

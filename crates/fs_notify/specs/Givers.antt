@@ -20,7 +20,7 @@ use Rattle.notify.specs.Kicks.{Rules, right, NotifyState, Publishes, IndexArrive
 use Rattle.notify.specs.Kicks.{must, after}
 use Rattle.fs_notify.specs.Takers.{SaysWish}
 
--- the rules that a device keeps as the giver of this queue's used chains
+-- the rules that a device keeps when it returns chains to this queue
 abbrev pub rules_of : QueueState → Rules
 rules_of q = right q.layout.size q.event_index
 
@@ -36,8 +36,8 @@ PublishesByStore =
     ≡ first ++ record { address = index_at (at_return q out); bytes = to_le_bytes w16 published } ∷ [])
     × ((gave q).next_used ≡ published)
 
--- of the two bytes that are loaded behind a barrier, a return tells what the model's giver checks: whether it
--- must notify of the one chain that it published
+-- by the two bytes that are loaded behind a barrier, a return's result is that of the check by the
+-- model's giver: whether to notify of the one chain that it published
 abbrev pub ChecksBySeen : Type 0
 ChecksBySeen =
     (q : QueueState) (seen : List ℕ) (u : NotifyState)
@@ -62,7 +62,7 @@ ReturnsInOrder =
     let end = after rules (after rules (after rules u (Publishes 1)) (IndexArrives 1)) Checks in
     Runs rules u (Publishes 1 ∷ IndexArrives 1 ∷ Checks ∷ []) end × (end.published ≡ (gave q).next_used)
 
--- the plain machine has no event index: so it publishes and checks by the available ring's flags
+-- the plain machine has no event index: it publishes and checks by the available ring's flags
 abbrev pub MachineChecks : Type 0
 MachineChecks =
     (m : Memory) (q : Queue) (event : ℕ)

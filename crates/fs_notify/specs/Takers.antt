@@ -26,7 +26,7 @@ use Rattle.notify.specs.Threads.{Ways, right_ways, ThreadedQueue, Walker, Asker,
 use Rattle.notify.specs.Threads.{ActsOver}
 use Rattle.notify.specs.Threads.{Wishes, WishIsThere, Silences, TakesOne, DropsOne, SleepsNow, Returns}
 
--- the ways that a queue's threads keep
+-- the rules that a queue's threads keep
 abbrev pub ways_of : QueueState → Ways
 ways_of q = right_ways q.layout.size q.max_in_flight q.event_index
 
@@ -34,22 +34,22 @@ ways_of q = right_ways q.layout.size q.max_in_flight q.event_index
 abbrev pub IsCounted : QueueState → Type 0
 IsCounted q = (q.next_avail < 2 ^ 16) × (q.next_used < 2 ^ 16) × (q.max_in_flight < 2 ^ 16)
 
--- the model's queue takes where this one does, and has as many chains in flight
+-- the model's queue has the same next position and as many chains in flight
 abbrev pub IsOf : QueueState → ThreadedQueue → Type 0
 IsOf q s = (s.position ≡ q.next_avail) × (s.out ≡ in_flight q)
 
--- ---- the wish
+-- ---- the wish: the store that enables notifications
 
--- where the device stores its wish
+-- the address at which the device stores its wish
 abbrev pub wish_at : QueueState → ℕ
 wish_at q = if q.event_index then avail_event_at q.layout else q.layout.used
 
--- these two bytes there are the wish that the model's memory has
+-- these two bytes at that address are the wish in the model's memory
 abbrev pub SaysWish : (event_index : Bool) → (bytes : List ℕ) → (event : ℕ) → (muted : Bool) → Type 0
 SaysWish true bytes event muted = from_le_bytes w16 bytes ≡ event
 SaysWish false bytes event muted = has_bit (from_le_bytes w16 bytes) 0 ≡ muted
 
--- the store that asks for a notification is the wish for the next chain, once it has reached memory
+-- the store that enables notifications is the wish for the next chain, once it has reached memory
 abbrev pub AsksByStore : Type 0
 AsksByStore =
     (q : QueueState) (s : ThreadedQueue)
@@ -66,7 +66,7 @@ AsksByStore =
     × SaysWish q.event_index store.bytes asked.event asked.muted
     × IsOf q asked
 
--- the store that asks for none says so; with the event index there is none
+-- the store that disables notifications is the model's; with the event index there is none
 abbrev pub MutesBy : (event_index : Bool) → QueueState → ThreadedQueue → Option Store → Type 0
 MutesBy true q s store = store ≡ None
 MutesBy false q s None = ⊥
@@ -82,20 +82,20 @@ MutesByStore =
     → MutesBy q.event_index q s (notification_store q false)
     × IsTrue (may_act (ways_of q) s (Silences s.event))
 
--- ---- the walk
+-- ---- the pop
 
--- a walk took a chain
+-- a pop returned a chain
 abbrev pub HasTaken : walked.PopOutcome → Type 0
 HasTaken (says.Chain head request_len room_len) = Unit {0}
 HasTaken (says.Faulty head fault) = Unit {0}
 HasTaken _ = ⊥
 
--- the available index that a walk was given
+-- the available index that a pop was given
 abbrev pub IsIndex : Loaded → (index : ℕ) → Type 0
 IsIndex loaded index = (bytes : List ℕ) × (loaded.index ≡ Some bytes) × (from_le_bytes w16 bytes ≡ index)
 
--- a walk that takes a chain was given an index by which the model's thread may take it, now or earlier; the
--- queue is then the model's
+-- a pop that returns a chain was given an index by which the model's thread may take it, now or
+-- earlier. The queue afterwards is the model's
 abbrev pub TakesByWalk : Type 0
 TakesByWalk =
     (given : List (List ℕ)) (old new : ChainHandle) (before after : QueueState)
@@ -113,8 +113,9 @@ TakesByWalk =
     × (s.known ≡ index
     → IsTrue (may_act (ways_of before) s TakesOne) × IsOf after (after_act (ways_of before) s TakesOne))
 
--- a walk that finds no chain was given an index by which the model's thread may sleep, if it has stored its
--- wish, the barrier was made, and that is the index in memory: a load of now, and not an earlier one
+-- a pop that finds no chain was given an index by which the model's thread may sleep, if two conditions
+-- hold: its wish is in memory, behind a barrier, and that index is the one in memory now, not an
+-- earlier one
 abbrev pub FindsNoneByWalk : Type 0
 FindsNoneByWalk =
     (given : List (List ℕ)) (old new : ChainHandle) (before after : QueueState) (s : ThreadedQueue)
@@ -132,7 +133,8 @@ FindsNoneByWalk =
     × (s.index ≡ index
     → IsTrue (may_act (ways_of before) s SleepsNow) × IsOf after (after_act (ways_of before) s SleepsNow))
 
--- so may one whose walk is refused since as many chains are in flight as may be
+-- the model's thread may also sleep after a pop that is refused because the maximum of chains is in
+-- flight
 abbrev pub FullIsAnAct : Type 0
 FullIsAnAct =
     (q : QueueState) (s : ThreadedQueue)
@@ -142,7 +144,7 @@ FullIsAnAct =
     → s.hidden ≡ false
     → IsTrue (may_act (ways_of q) s SleepsNow) × IsOf q (after_act (ways_of q) s SleepsNow)
 
--- a wish, its barrier and a walk that finds no chain, in this order, are a run of the model
+-- a wish, its barrier and a pop that finds no chain, in this order, are a run of the model
 abbrev pub SleepsInOrder : Type 0
 SleepsInOrder =
     (q : QueueState) (s : ThreadedQueue)

@@ -23,8 +23,9 @@ ghost use Rattle.fs_notify.specs.Takers.{AsksByStore, DropIsAnAct, FindsNoneByWa
 ghost use Rattle.fs_notify.specs.Takers.{MutesByStore, ReturnIsAnAct};
 ghost use Rattle.fs_notify.specs.Takers.{SleepsInOrder, TakesByWalk};
 
-/// The acts of a thread that holds the queue's lock: what its calls return allows the act and makes it. A
-/// wish and a look behind it, in this order, are a run of the model to a thread that sleeps.
+/// The acts of a thread that holds the queue's lock: a call's result allows the act, and the call makes
+/// it. A wish and a later pop that finds no chain, in this order, are a run of the model after which
+/// the thread sleeps.
 pub fn law_takers()
     ensures asks { AsksByStore }
     ensures mutes { MutesByStore }
@@ -36,8 +37,9 @@ pub fn law_takers()
     ensures order { SleepsInOrder }
 {}
 
-/// The steps of a device that gives used chains to the driver: by the handle, and by the plain machine. The
-/// store of the used index, the barrier and the load, in this order, are a run of the model.
+/// The steps of a device that returns used chains to the driver: by the handle, and by the plain
+/// machine. The store of the used index, the barrier and the load, in this order, are a run of the
+/// model.
 pub fn law_givers()
     ensures publishes { PublishesByStore }
     ensures checks { ChecksBySeen }

@@ -1,4 +1,4 @@
--- What holds of a walk whatever its loads find, as a guest that writes meanwhile may have it (VIRTIO 1.2,
+-- Theorems about a walk whose loads may have any bytes, since the guest may write meanwhile (VIRTIO 1.2,
 -- 2.7.5).
 use Rattle.std.specs.Prelude.{◌≡◌, ◌⊎◌, ℕ, ◌+◌, ◌<◌, ◌≤◌, List, [], ◌∷◌, ◌++◌, length, map, Option, Some}
 use Rattle.std.specs.Prelude.{if◌then◌else◌}
@@ -10,48 +10,49 @@ use Rattle.fs_queue.specs.Chain.{entry_address}
 use Rattle.fs_queue.specs.Loads.{Load, Ahead, Reads, Ends, reads_entry, step_by, ahead_at, ahead_after}
 use Rattle.fs_queue.specs.Loads.{chain_by}
 
--- what lies before the walk from a head
+-- the state of the walk from a head before its first load
 abbrev pub ahead_of_head : Queue → ℕ → Ahead
 ahead_of_head q head = ahead_at q.size (first_visit q head)
 
--- the load of a step's entry where this came
+-- the load of a step's entry with these bytes, or none if it isn't mapped
 abbrev pub load_at : Visit → Option (List ℕ) → Load
 load_at v came = record { address = entry_address v; came = came }
 
--- the loads of a walk to which this comes, one after another; it leaves what comes after its end
+-- the loads of a walk, if the caller passes these bytes one after another; those after its end stay
+-- unused
 unfoldable pub loads_by : (size : ℕ) → (came : List (Option (List ℕ))) → Ahead → List Load
 loads_by size [] a = []
 loads_by size (c ∷ cs) (Ends f) = []
 loads_by size (c ∷ cs) (Reads v) =
     load_at v c ∷ loads_by size cs (ahead_after size v (step_by size v (load_at v c)))
 
--- whatever comes, a walk makes at most size + 2 loads
+-- theorem: a walk makes at most size + 2 loads, for any bytes
 abbrev pub FewLoads : Type 0
 FewLoads =
     (q : Queue) (head : ℕ) (came : List (Option (List ℕ))) →
     length (loads_by q.size came (ahead_of_head q head)) ≤ q.size + 2
 
--- where so much comes it ends
+-- theorem: a walk ends if the caller passes the bytes of size + 2 loads
 abbrev pub LoadsEnd : Type 0
 LoadsEnd =
     (q : Queue) (head : ℕ) (came : List (Option (List ℕ))) → q.size + 2 ≤ length came →
     (f : Found) × (chain_by (loads_by q.size came (ahead_of_head q head)) q head ≡ Some f)
 
--- the steps of a walk by some loads, from one on: each reads its entry by the next load, but for a last one
--- past its table's end, which is at fault unread
+-- the steps of a walk by some loads. Each step reads its entry by the next load; a last step past its
+-- table's end is a fault without a load
 unfoldable pub steps_by : (size : ℕ) → List Load → Visit → List Visit
 steps_by size [] v = if reads_entry v then [] else v ∷ []
 steps_by size (l ∷ ls) v =
     v ∷ (if reads_entry v then onward (steps_by size ls) (next_visit v (step_by size v l)) else [])
 
--- the descriptor that joins a chain by a step
+-- the descriptors that join the chain at a step: one or none
 abbrev pub joined : WalkStep → List Descriptor
 joined (Ordinary d) = d ∷ []
 joined (Table table) = []
 joined (Faulty fault) = []
 joined Stops = []
 
--- those that some loads tell, the k-th load at the k-th step, in their order
+-- the descriptors that join the chain, in order: the k-th load is that of the k-th step
 abbrev pub joined_by : (size : ℕ) → List Visit → List Load → List Descriptor
 joined_by size [] ls = []
 joined_by size (v ∷ vs) [] = []
@@ -63,7 +64,8 @@ pub record LastStep (size : ℕ) (ls : List Load) (first : Visit) : Type 0 where
   pub last : Visit
   pub steps : steps_by size ls first ≡ front ++ last ∷ []
 
--- it came to this by the load that stands at the step's place, which is of the step's entry
+-- the last step has this result, by the load at the same position in the list, whose address is the
+-- step's entry
 pub record WasReadBy (size : ℕ) (ls : List Load) (first : Visit) (w : WalkStep) : Type 0 where
   pub step : LastStep size ls first
   pub before : List Load
@@ -74,47 +76,48 @@ pub record WasReadBy (size : ℕ) (ls : List Load) (first : Visit) (w : WalkStep
   pub entry : load.address ≡ entry_address step.last
   pub tells : step_by size step.last load ≡ w
 
--- it is past its table's end, where nothing is loaded
+-- the last step is past its table's end, so it makes no load
 pub record PastTable (size : ℕ) (ls : List Load) (first : Visit) : Type 0 where
   pub step : LastStep size ls first
   pub past : step.last.table.entries ≤ step.last.index
 
--- a chain is told by the bytes of the loads for its steps; a fault by those of the load for the walk's last
--- step, unless that is past its table's end; a stop by a load for it that found no place
+-- a walk's result follows from its loads. A chain follows from the loads of its steps. A fault follows
+-- from the load of the last step, unless that is past its table's end. A stop follows from a load that
+-- isn't mapped
 abbrev pub IsReadIn : (size : ℕ) → List Load → (first : Visit) → Found → Type 0
 IsReadIn size ls first (IsChain ds) = ds ≡ joined_by size (steps_by size ls first) ls
 IsReadIn size ls first (HasFault fault) =
     WasReadBy size ls first (Faulty fault) ⊎ ((fault ≡ NextOutOfTable) × PastTable size ls first)
 IsReadIn size ls first StopsQueue = WasReadBy size ls first Stops
 
--- so is what a walk by any loads finds
+-- theorem: the result of a walk by any loads follows from them
 abbrev pub EndsAreRead : Type 0
 EndsAreRead =
     (q : Queue) (head : ℕ) (ls : List Load) (f : Found) →
     chain_by ls q head ≡ Some f →
     IsReadIn q.size ls (first_visit q head) f
 
--- the steps of a walk by some loads whose entries were loaded
+-- the steps of a walk by some loads that read an entry
 unfoldable pub visits_by : (size : ℕ) → List Load → Ahead → List Visit
 visits_by size [] a = []
 visits_by size (l ∷ ls) (Ends f) = []
 visits_by size (l ∷ ls) (Reads v) = v ∷ visits_by size ls (ahead_after size v (step_by size v l))
 
--- the loads that a walk uses are one for each of its steps, in their order, at the step's entry
+-- the loads that a walk uses are one for each step, in their order, at the step's entry
 pub record OneForEach (size : ℕ) (ls : List Load) (a : Ahead) : Type 0 where
   pub used : List Load
   pub left : List Load
   pub parts : ls ≡ used ++ left
   pub each : map (λ l. l.address) used ≡ map entry_address (visits_by size ls a)
 
--- so no entry is loaded again unless the chain visits it again
+-- theorem: an entry is loaded again only if the chain visits it again
 abbrev pub Once : Type 0
 Once =
     (q : Queue) (head : ℕ) (ls : List Load) (f : Found) →
     chain_by ls q head ≡ Some f →
     OneForEach q.size ls (ahead_of_head q head)
 
--- and no two entries of a table have an address in common
+-- theorem: no two entries of a table have an address in common
 abbrev pub EntriesApart : Type 0
 EntriesApart =
     (v w : Visit) →

@@ -10,8 +10,8 @@ use Rattle.fs_queue.specs.declared.fault.ChainFault.TheVariants.{IndirectWithNex
 use Rattle.fs_queue.specs.declared.fault.ChainFault.TheVariants.{IndirectLength, TableUnreachable}
 use Rattle.fs_queue.specs.Queue.{Queue, has_bit}
 
--- an entry of a descriptor table: where its bytes are, how many, its flags, and the entry that follows
--- (2.7.5)
+-- an entry of a descriptor table: its guest address, its length in bytes, its flags and the index of the
+-- next entry (2.7.5)
 pub record Descriptor : Type 0 where
   pub addr : ℕ
   pub len : ℕ
@@ -36,41 +36,41 @@ has_next d = has_bit d.flags 0
 abbrev pub is_writable : Descriptor → Bool
 is_writable d = has_bit d.flags 1
 
--- VIRTQ_DESC_F_INDIRECT: its bytes are a table
+-- VIRTQ_DESC_F_INDIRECT: the descriptor's bytes are a table of descriptors
 abbrev pub is_indirect : Descriptor → Bool
 is_indirect d = has_bit d.flags 2
 
--- a table of descriptors: where it begins, how many entries it has, and whether a descriptor names it; else
--- it is the queue's own
+-- a table of descriptors: its address, its number of entries, and whether a descriptor refers to it (an
+-- indirect table) or it is the queue's own
 pub record DescriptorTable : Type 0 where
   pub address : ℕ
   pub entries : ℕ
   pub indirect : Bool
 
--- a step of a walk: an entry of a table, and how many ordinary descriptors the walk passed before it
+-- a step of a walk: an entry of a table, and the number of ordinary descriptors before it
 pub record Visit : Type 0 where
   pub table : DescriptorTable
   pub index : ℕ
   pub earlier : ℕ
 
--- where a step's entry is
+-- the guest address of a step's entry
 abbrev pub entry_address : Visit → ℕ
 entry_address v = v.table.address + 16 * v.index
 
--- what a step comes to: an ordinary descriptor, which joins the chain, a table to be read on from, a faulty
--- chain, or a stop of the queue
+-- the result of a step: an ordinary descriptor, which joins the chain; an indirect table, to walk next;
+-- a fault of the chain; or a stop of the queue
 pub data WalkStep : Type 0 where
   Ordinary : Descriptor → WalkStep
   Table : DescriptorTable → WalkStep
   Faulty : ChainFault → WalkStep
   Stops : WalkStep
 
--- its end is an address
+-- whether the end of a descriptor's bytes, its address plus its length, fits 64 bits
 abbrev pub ends_in_64_bits : Descriptor → Bool
 ends_in_64_bits d = nat_lt (d.addr + d.len) (2 ^ 64)
 
--- a descriptor that names a table, which is read from its entry 0 on (2.7.5.3 and 2.7.5.3.2). It isn't
--- counted, and its WRITE says nothing
+-- the step at a descriptor that refers to an indirect table. The next step is at the table's entry 0
+-- (2.7.5.3). The descriptor isn't counted, and its WRITE is ignored (2.7.5.3.2)
 abbrev pub indirect_step : Visit → Descriptor → WalkStep
 indirect_step v d =
     if has_next d then Faulty IndirectWithNext
@@ -79,27 +79,27 @@ indirect_step v d =
     else if not (ends_in_64_bits d) then Faulty AddressOverflow
     else Table (record { address = d.addr; entries = d.len / 16; indirect = true })
 
--- any other, in the chain of a queue of this size, which has no more descriptors than that (2.7.5.3.1)
+-- the step at any other descriptor. A chain has no more descriptors than its queue's size (2.7.5.3.1)
 abbrev pub ordinary_step : (size : ℕ) → Visit → Descriptor → WalkStep
 ordinary_step size v d =
     if v.earlier == size then Faulty TooLong
     else if nat_lt 0 d.len && not (ends_in_64_bits d) then Faulty AddressOverflow
     else Ordinary d
 
--- what a step comes to whose entry is at an address, in the chain of a queue of this size
+-- the step whose entry is at an address, in a chain of a queue of this size
 abbrev pub walk_step_at : Memory → (size : ℕ) → Visit → ℕ → WalkStep
 walk_step_at m size v a =
     if not (reach m Read a 16) then (if v.table.indirect then Faulty TableUnreachable else Stops)
     else if is_indirect (descriptor_at m a) then indirect_step v (descriptor_at m a)
     else ordinary_step size v (descriptor_at m a)
 
--- what a step comes to, in the chain of a queue of this size
+-- the result of a step, in a chain of a queue of this size
 abbrev pub walk_step : Memory → (size : ℕ) → Visit → WalkStep
 walk_step m size v =
     if nat_le v.table.entries v.index then Faulty NextOutOfTable
     else walk_step_at m size v (v.table.address + 16 * v.index)
 
--- the step after one, if any
+-- the step that follows, if one does
 abbrev pub next_visit : Visit → WalkStep → Option Visit
 next_visit v (Ordinary d) =
     if has_next d then Some (record { table = v.table; index = d.next; earlier = v.earlier + 1 }) else None
@@ -107,12 +107,12 @@ next_visit v (Table table) = Some (record { table = table; index = 0; earlier = 
 next_visit v (Faulty fault) = None
 next_visit v Stops = None
 
--- the steps from the next one on, if there is one
+-- the steps from the next step on, if there is a next step
 abbrev pub onward : (Visit → List Visit) → Option Visit → List Visit
 onward next None = []
 onward next (Some v) = next v
 
--- the steps from one on, at most n of them, in the chain of a queue of this size
+-- the first n steps of a walk from a step on, in a chain of a queue of this size
 unfoldable pub path : Memory → (size n : ℕ) → Visit → List Visit
 path m size zero v = []
 path m size (suc n) v = v ∷ onward (path m size n) (next_visit v (walk_step m size v))
@@ -125,34 +125,34 @@ own_table q = record { address = q.desc; entries = q.size; indirect = false }
 abbrev pub first_visit : Queue → ℕ → Visit
 first_visit q head = record { table = own_table q; index = head; earlier = 0 }
 
--- the walk from a head. It has at most size + 2 steps, and none that the rules lead to is left out (Laws)
+-- the walk from a head. It has at most size + 2 steps: this bound leaves none out (Laws)
 abbrev pub walk : Memory → Queue → ℕ → List Visit
 walk m q head = path m q.size (q.size + 2) (first_visit q head)
 
--- what a walk finds
+-- the result of a walk: the descriptors of a chain, a fault, or a stop of the queue
 pub data Found : Type 0 where
   IsChain : List Descriptor → Found
   HasFault : ChainFault → Found
   StopsQueue : Found
 
--- a descriptor in front of what the rest is found to be
+-- the result of a walk with one more descriptor at the chain's front
 abbrev pub with_front : Descriptor → Found → Found
 with_front d (IsChain ds) = IsChain (d ∷ ds)
 with_front d (HasFault fault) = HasFault fault
 with_front d StopsQueue = StopsQueue
 
--- what a step and the rest come to
+-- the result of a walk, from its first step and the result of the other steps
 abbrev pub after_walk_step : WalkStep → Found → Found
 after_walk_step (Ordinary d) rest = with_front d rest
 after_walk_step (Table table) rest = rest
 after_walk_step (Faulty fault) rest = HasFault fault
 after_walk_step Stops rest = StopsQueue
 
--- the ordinary descriptors of some steps, if each passes; otherwise what the last step has
+-- the result of some steps: the chain of their ordinary descriptors, or the first fault or stop
 unfoldable pub found : Memory → (size : ℕ) → List Visit → Found
 found m size [] = IsChain []
 found m size (v ∷ vs) = after_walk_step (walk_step m size v) (found m size vs)
 
--- what the walk from a head finds
+-- the result of the walk from a head
 abbrev pub chain : Memory → Queue → ℕ → Found
 chain m q head = found m q.size (walk m q head)

@@ -1,5 +1,5 @@
--- Worked offers that compute, behind an IOMMU: a queue of one descriptor with a room of 4 bytes at 0x28. Then
--- chains of two descriptors in a table.
+-- Worked offers that compute, behind an IOMMU: a queue of one descriptor with a room of 4 bytes at 0x28.
+-- Then chains of two descriptors in an indirect table.
 use Rattle.std.specs.Prelude.{◌≡◌, ℕ, ◌+◌, Bool, true, false, List, [], ◌∷◌, refl}
 use Rattle.vm_iotlb.specs.declared.permissions.Permissions.{Permissions}
 use Rattle.vm_iotlb.specs.declared.permissions.Permissions.TheVariants.{Read, Write, ReadWrite}
@@ -27,7 +27,7 @@ block_bytes =
 abbrev range : (start end : ℕ) → Permissions → IotlbRange
 range start end perm = record { start = start; end = end; target = 0x100 + start; perm = perm }
 
--- these bytes at 0x100, behind a table
+-- the memory of these bytes at 0x100, behind a table
 abbrev memory : List IotlbRange → Memory
 memory ranges =
     io_memory (record {
@@ -37,19 +37,19 @@ memory ranges =
     })
     (record { start = 0x100; size = 0x2c; block = 0 } ∷ []) 0 0
 
--- its descriptor stands at 0, its rings at 0x10 and 0x18
+-- the queue: its descriptor table is at 0, its rings at 0x10 and 0x18
 abbrev queue : Queue
 queue = record { size = 1; desc = 0; avail = 0x10; used = 0x18; position = 0; stopped = false }
 
--- what the queue offers there
+-- the queue's offer behind a table of these ranges
 abbrev gives : List IotlbRange → Offer
 gives ranges = offer (memory ranges) 0x1000 queue
 
--- whether taking what it offers may be refused since an allocation fails
+-- whether a failed allocation may refuse that offer
 abbrev may_lack : List IotlbRange → Bool
 may_lack ranges = may_lack_memory (gives ranges)
 
--- all may be read and written
+-- the device may read and write all
 room_offered : gives (range 0 0x2c ReadWrite ∷ []) ≡ Offers 0 (IsRequest [] (addresses 0x28 4))
 unfolding offer place addresses table_kept path found
 room_offered = refl
@@ -59,56 +59,56 @@ entry_unmapped : gives (range 0 0x14 ReadWrite ∷ []) ≡ Refuses stop.RingEntr
 unfolding offer place addresses table_kept path found
 entry_unmapped = refl
 
--- want of memory doesn't hide that
+-- a failed allocation doesn't hide that refusal
 entry_unmapped_takes : may_lack (range 0 0x14 ReadWrite ∷ []) ≡ false
 unfolding offer place addresses table_kept path found
 entry_unmapped_takes = refl
 
--- the ring's entry is mapped to where no region is
+-- the ring's entry is mapped to addresses that no region has
 abbrev entry_elsewhere : List IotlbRange
 entry_elsewhere =
     range 0 0x14 ReadWrite ∷ record { start = 0x14; end = 0x16; target = 0x400; perm = Read } ∷ []
 
--- so it can't be read either
+-- so the device can't read it either
 entry_nowhere : gives entry_elsewhere ≡ Refuses stop.RingEntryUnreachable
 unfolding offer place addresses table_kept path found
 entry_nowhere = refl
 
--- nor that
+-- a failed allocation doesn't hide that refusal either
 entry_nowhere_takes : may_lack entry_elsewhere ≡ false
 unfolding offer place addresses table_kept path found
 entry_nowhere_takes = refl
 
--- the used ring may only be read
+-- the device may only read the used ring
 used_not_written : gives (range 0 0x18 ReadWrite ∷ range 0x18 0x28 Read ∷ range 0x28 0x2c ReadWrite ∷ [])
     ≡ Refuses stop.UsedUnreachable
 unfolding offer place addresses table_kept path found
 used_not_written = refl
 
--- the available flags aren't mapped, but the index and the entry behind them are
+-- the available flags aren't mapped, but the index and the entry after them are
 flags_unmapped :
     gives (range 0 0x10 ReadWrite ∷ range 0x12 0x2c ReadWrite ∷ []) ≡ Refuses stop.AvailFlagsUnreachable
 unfolding offer place addresses table_kept path found
 flags_unmapped = refl
 
--- the room may only be read
+-- the device may only read the room
 room_not_written :
     gives (range 0 0x28 ReadWrite ∷ range 0x28 0x2c Read ∷ []) ≡ Offers 0 (CannotFetch RoomUnreachable)
 unfolding offer place addresses table_kept path found
 room_not_written = refl
 
--- such a chain goes back unserved, and want of memory may keep it waiting
+-- a chain with that fault is returned without a reply; a failed allocation may delay it
 room_not_written_takes : may_lack (range 0 0x28 ReadWrite ∷ range 0x28 0x2c Read ∷ []) ≡ true
 unfolding offer place addresses table_kept path found
 room_not_written_takes = refl
 
--- it need not be read, nor need the used ring
+-- the device needs no read access to the room or to the used ring
 room_written :
     gives (range 0 0x18 Read ∷ range 0x18 0x2c Write ∷ []) ≡ Offers 0 (IsRequest [] (addresses 0x28 4))
 unfolding offer place addresses table_kept path found
 room_written = refl
 
--- a head that names a table of two entries at 0x20, and an entry that nothing names; in the table a
+-- a head that refers to a table of two entries at 0x20, and an entry that no chain has. The table has a
 -- descriptor with NEXT, then one without
 abbrev table_bytes : List ℕ
 table_bytes =
@@ -117,14 +117,14 @@ table_bytes =
     ∷ 0x40 ∷ 0 ∷ 0 ∷ 0 ∷ 0 ∷ 0 ∷ 0 ∷ 0 ∷ 4 ∷ 0 ∷ 0 ∷ 0 ∷ 1 ∷ 0 ∷ 1 ∷ 0
     ∷ 0x44 ∷ 0 ∷ 0 ∷ 0 ∷ 0 ∷ 0 ∷ 0 ∷ 0 ∷ 8 ∷ 0 ∷ 0 ∷ 0 ∷ 2 ∷ 0 ∷ 0 ∷ 0 ∷ []
 
--- these bytes at 0, by physical addresses
+-- the memory of these bytes at 0, by physical addresses
 abbrev table_memory : Memory
 table_memory =
     memory_of
     (record { blocks = record { bytes = table_bytes; marks = false ∷ [] } ∷ []; tables = []; io_marks = [] })
     (record { start = 0; size = 0x40; block = 0 } ∷ [])
 
--- two descriptors in a queue of one are too long a chain, though none follows the second
+-- two descriptors are too long a chain for a queue of one, though no descriptor follows the second
 one_more_than_the_queue : chain table_memory (fresh 1 0 0x50 0x60) 0 ≡ HasFault TooLong
 unfolding place addresses path found
 one_more_than_the_queue = refl
@@ -136,8 +136,8 @@ as_many_as_the_queue : chain table_memory (fresh 2 0 0x50 0x60) 0
 unfolding place addresses path found
 as_many_as_the_queue = refl
 
--- the last position of a queue of four comes before position 0: its slot is 3, and the used index after it is
--- 0
+-- at the last position of a queue of four, 2^16 - 1, the index in the ring is 3, and the next used index
+-- is 0
 last_position : stores_after_reply
     (record { size = 4; desc = 0; avail = 0x50; used = 0x60; position = 0xffff; stopped = false }) 2 16
     ≡ record { address = 0x7c; bytes = 2 ∷ 0 ∷ 0 ∷ 0 ∷ [] }
@@ -145,7 +145,7 @@ last_position : stores_after_reply
     ∷ record { address = 0x62; bytes = 0 ∷ 0 ∷ [] } ∷ []
 last_position = refl
 
--- bit 0 of the flags alone says that the driver isn't told
+-- bit 0 of the flags alone disables used buffer notifications
 not_told : tells (1 ∷ 0xff ∷ []) ≡ false
 not_told = refl
 

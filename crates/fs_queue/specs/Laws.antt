@@ -1,10 +1,10 @@
--- Laws that follow from what a walk is.
+-- Theorems about walks.
 use Rattle.std.specs.Prelude.{◌≡◌, ◌≤◌, ℕ, ◌+◌}
 use Rattle.vm_memory.specs.Memory.{Memory}
 use Rattle.fs_queue.specs.Queue.{Queue}
 use Rattle.fs_queue.specs.Chain.{path, first_visit, walk}
 
--- a walk ends by itself: with any greater bound it has the same steps
+-- theorem: a walk ends by itself, so any greater bound has the same steps
 abbrev pub WalksEnd : Type 0
 WalksEnd =
     (m : Memory) (q : Queue) (head n : ℕ) →

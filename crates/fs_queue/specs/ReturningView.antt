@@ -1,5 +1,5 @@
--- How the code says the way back of a chain: its stores as a value, and what a place's windows make of a
--- return. Nothing here is needed to say what a device does.
+-- The values of the code's returns, in the definitions' terms: stores, and the windows of a `Taken`. No
+-- definition of a device's behaviour needs this file.
 use Rattle.std.specs.Prelude.{ℕ, Bool, List, [], ◌∷◌, zip, map}
 use Rattle.std.specs.Int.{w16, w32, to_le_bytes}
 use Rattle.vm_memory_core.specs.Host.{Host}
@@ -9,20 +9,20 @@ use Rattle.fs_queue.specs.Queue.{Queue}
 use Rattle.fs_queue.specs.Returning.{Store, tells, used_bytes}
 use Rattle.fs_queue.specs.Windows.{Taken, chain_places}
 
--- what is stored after the reply, as the code says it
+-- the stores after the reply, from a return of the code
 abbrev pub stores_of : Return → List Store
 stores_of r =
     record { address = r.head.address; bytes = to_le_bytes w32 r.head.value }
     ∷ record { address = r.len.address; bytes = to_le_bytes w32 r.len.value }
     ∷ record { address = r.index.address; bytes = to_le_bytes w16 r.index.value } ∷ []
 
--- the host after a place went back, whatever was taken into it and when: bytes stand at the first places of
--- its room, the return's at its own, and no others change
+-- the host after any `Taken` is returned: bytes are stored at the first places of its room, and the
+-- return's bytes at their own places. Nothing else changes
 abbrev pub put_back : Host → Queue → Taken → (front : List ℕ) → (len : ℕ) → Host
 put_back h q t front len =
     put_all (put_all h (zip (chain_places t.chain) front))
     (zip (places t.return_windows.used.items) (used_bytes q t.head len))
 
--- whether the driver wants to be told, by the flags that the place's windows have then
+-- whether the driver asks for a used buffer notification, by the flags at the windows of a `Taken`
 abbrev pub tells_by : Host → Taken → Bool
 tells_by h t = tells (map (byte_in h) (places t.return_windows.flags.items))

@@ -1,4 +1,4 @@
--- What the values of a walk say of the available ring, by the plain definitions.
+-- The values of the code's walk of an available ring, in the definitions' terms.
 use Rattle.std.specs.Prelude.{◌≡◌, ℕ, true, List, [], ◌∷◌, Option, if◌then◌else◌}
 use Rattle.fs_queue.specs.declared.fault.QueueError.{QueueError}
 use Rattle.fs_queue.specs.declared.fault.QueueError.TheVariants.{Stopped}
@@ -13,25 +13,25 @@ use Rattle.fs_queue.specs.Loads.{holding, index_load, entry_load, asks_entry, ah
 use Rattle.fs_queue.specs.SteppingView.{ahead_of, IfWants}
 use Rattle.fs_queue.specs.WalkingView.{at_position}
 
--- what waits, by the load of the index alone
+-- the next entry of the available ring, by the load of the index alone
 abbrev pub by_index : Queue → Option (List ℕ) → NextAvail
 by_index q index = next_avail (holding (index_load q index ∷ [])) q
 
--- what waits, by the loads of the index and of the entry
+-- the next entry of the available ring, by the loads of the index and of the entry
 abbrev pub by_entry : Queue → (index entry : Option (List ℕ)) → NextAvail
 by_entry q index entry = next_avail (holding (index_load q index ∷ entry_load q entry ∷ [])) q
 
--- how far the loads of the ring bring a walk: it asks for the index or for the entry, or they tell what waits
+-- the stage of a walk of the ring: it asks for the index, it asks for the entry, or it has the result
 pub data Stage : Type 0 where
   AsksIndex : Stage
   AsksEntry : Stage
   Told : NextAvail → Stage
 
--- by what the index alone tells
+-- the stage after the load of the index, by the result that the index alone gives
 abbrev pub stage_at : NextAvail → Stage
 stage_at next = if asks_entry next then AsksEntry else Told next
 
--- as the code says it
+-- the stage of a walk of the code
 abbrev pub stage_of : code.Walk → Stage
 stage_of (says.Index w) = AsksIndex
 stage_of (says.RingEntry w) = AsksEntry
@@ -39,30 +39,30 @@ stage_of (says.Chain head progress) = Told (Head head)
 stage_of says.Idle = Told Idle
 stage_of (says.Refused e) = Told (Refused e)
 
--- a walk at a position of a queue asks for its index
+-- a walk begins at a position of a queue: it asks for the index
 abbrev pub BeginsAt : QueueLayout → (position : ℕ) → code.Walk → Type 0
 BeginsAt l position (says.Index w) = (w.layout ≡ l) × (w.position ≡ position)
 BeginsAt l position _ = ⊥
 
--- the walk of a queue: at its position, unless it is stopped
+-- a walk of a queue begins: at the queue's position, or with `Stopped` if the queue is stopped
 abbrev pub BeginsWalk : Queue → code.Walk → Type 0
 BeginsWalk q (says.Index w) = at_position w.layout w.position ≡ q
 BeginsWalk q (says.Refused e) = (q.stopped ≡ true) × (e ≡ Stopped)
 BeginsWalk q _ = ⊥
 
--- where a chain waits, its walk begins
+-- if a chain is available, the walk through it begins at its head
 abbrev pub BeginsChain : QueueLayout → code.Walk → Type 0
 BeginsChain l (says.Chain head progress) =
     (ahead_of progress ≡ ahead_at l.size (first_visit (at_position l 0) head))
     × IfWants progress (λ w. w.size ≡ l.size)
 BeginsChain l _ = Unit {0}
 
--- of a walk that asks for the ring's entry
+-- if a walk asks for the ring's entry, its value has a property
 abbrev pub IfRingEntry : code.Walk → (RingEntryWalk → Type 0) → Type 0
 IfRingEntry (says.RingEntry w) P = P w
 IfRingEntry _ P = Unit {0}
 
--- of a refusal
+-- if a walk refuses, the refusal has a property
 abbrev pub IfRefuses : code.Walk → (QueueError → Type 0) → Type 0
 IfRefuses (says.Refused e) P = P e
 IfRefuses _ P = Unit {0}

@@ -1,4 +1,4 @@
--- What a queue offers: a chain's request and room, or why there is none.
+-- The offer of a queue: a chain's request and room, or the reason why there is none.
 use Rattle.std.specs.Prelude.{ℕ, Bool, true, false, not, ◌&&◌, ◌||◌, nat_lt, List, [], Option, Some, None}
 use Rattle.std.specs.Prelude.{if◌then◌else◌, sum_by, filter, flat_map}
 use Rattle.std.specs.List.{list_all}
@@ -15,44 +15,43 @@ use Rattle.fs_queue.specs.Chain.{Descriptor, is_writable, Found, IsChain, HasFau
 use Rattle.fs_queue.specs.NextAvail.{NextAvail, next_avail}
 use Rattle.fs_queue.specs.NextAvail as avail
 
--- the entries that the device reads, in their order
+-- the descriptors that the device reads, in their order
 abbrev pub readable : List Descriptor → List Descriptor
 readable ds = filter (λ d. not (is_writable d)) ds
 
--- those that it writes
+-- the descriptors that the device writes, in their order
 abbrev pub writable : List Descriptor → List Descriptor
 writable ds = filter is_writable ds
 
--- the descriptors of one direction: those that the device writes, or those that it reads
+-- the descriptors of one direction: true for those that the device writes, false for those that it reads
 abbrev pub of_direction : Bool → List Descriptor → List Descriptor
 of_direction true ds = writable ds
 of_direction false ds = readable ds
 
--- the access that the device needs to them
+-- the access that the device needs to the descriptors of a direction
 abbrev pub access_of : Bool → Permissions
 access_of true = Write
 access_of false = Read
 
--- the addresses of some descriptors, joined
+-- the addresses of some descriptors' bytes, joined
 abbrev pub addresses_of : List Descriptor → List ℕ
 addresses_of ds = flat_map (λ d. addresses d.addr d.len) ds
 
--- how many bytes some descriptors have
+-- the number of bytes that some descriptors have
 abbrev pub total_len : List Descriptor → ℕ
 total_len ds = sum_by (λ d. d.len) ds
 
--- whether each address of some descriptors has a place, with this access
+-- whether each address of some descriptors is mapped for an access
 abbrev pub all_reach : Memory → Permissions → List Descriptor → Bool
 all_reach m access ds = list_all (λ d. reach m access d.addr d.len) ds
 
--- what is fetched of a chain: the flat bytes of its request, and the addresses of its room; or why they can't
--- be
+-- the request's bytes, joined, and the addresses of the room; or the fault that prevents both
 pub data RequestAndRoom : Type 0 where
   IsRequest : (request : List ℕ) (room : List ℕ) → RequestAndRoom
   CannotFetch : ChainFault → RequestAndRoom
 
--- what is fetched by the descriptors of a chain: too much, what can't be read, what can't be written, in this
--- order, or a request and a room
+-- the request and the room of a chain's descriptors, or the first of these faults: `OverLimit`,
+-- `RequestUnreachable`, `RoomUnreachable`
 abbrev pub request_and_room : Memory → ℕ → List Descriptor → RequestAndRoom
 request_and_room m limit ds =
     if nat_lt limit (total_len (readable ds)) || nat_lt limit (total_len (writable ds))
@@ -62,7 +61,7 @@ request_and_room m limit ds =
     else IsRequest (flat_map (λ d. bytes m d.addr d.len) (readable ds))
     (flat_map (λ d. addresses d.addr d.len) (writable ds))
 
--- why that can't be fetched, if it can't
+-- the fault of a chain's descriptors alone, if they have one, in the same order
 abbrev pub chain_fault : Memory → (limit : ℕ) → List Descriptor → Option ChainFault
 chain_fault m limit ds =
     if nat_lt limit (total_len (readable ds)) || nat_lt limit (total_len (writable ds)) then Some OverLimit
@@ -70,20 +69,20 @@ chain_fault m limit ds =
     else if not (all_reach m Write (writable ds)) then Some RoomUnreachable
     else None
 
--- what a queue offers: nothing, a refusal, or a chain's head with its request and room
+-- the offer of a queue: nothing, a refusal, or a chain's head with its request and room
 pub data Offer : Type 0 where
   Idle : Offer
   Refuses : QueueError → Offer
   Offers : (head : ℕ) → RequestAndRoom → Offer
 
--- what is offered by what the walk from a head finds
+-- the offer, by the result of the walk from a head
 abbrev pub offer_of : Memory → ℕ → ℕ → Found → Offer
 offer_of m limit head (IsChain ds) = Offers head (request_and_room m limit ds)
 offer_of m limit head (HasFault fault) = Offers head (CannotFetch fault)
 offer_of m limit head StopsQueue = Refuses stop.DescriptorUnreachable
 
--- what is offered once a head waits and the walk from it found this, by the places of what a return writes
--- and reads (2.7.8 and 2.7.7)
+-- the offer once a head is available and its walk has this result. A return whose addresses aren't
+-- mapped is refused first (2.7.8 and 2.7.7)
 abbrev pub on_found : Memory → ℕ → Queue → (head : ℕ) → Found → Offer
 on_found m limit q head f =
     if not (reach m Write (element_at q) 8 && reach m Write (index_at q) 2) then Refuses stop.UsedUnreachable
@@ -93,36 +92,36 @@ on_found m limit q head f =
 abbrev pub on_head : Memory → ℕ → Queue → (head : ℕ) → Offer
 on_head m limit q head = on_found m limit q head (chain m q head)
 
--- why a chain can't go back, if it can't: the used element or the used index can't be written, the available
--- flags can't be read (2.7.8 and 2.7.7)
+-- the refusal if a chain can't be returned: used element or used index can't be written, or the
+-- available flags can't be read (2.7.8 and 2.7.7)
 abbrev pub return_fault : Memory → Queue → Option QueueError
 return_fault m q =
     if not (reach m Write (element_at q) 8 && reach m Write (index_at q) 2) then Some stop.UsedUnreachable
     else if not (reach m Read q.avail 2) then Some stop.AvailFlagsUnreachable
     else None
 
--- what is offered by what the available ring holds
+-- the offer, by the next entry of the available ring
 abbrev pub on_next_avail : Memory → ℕ → Queue → NextAvail → Offer
 on_next_avail m limit q avail.Idle = Idle
 on_next_avail m limit q (avail.Refused e) = Refuses e
 on_next_avail m limit q (avail.Head head) = on_head m limit q head
 
--- the next offer (2.7.13 from the device's side), with the first refusal that applies
+-- the offer of a queue (2.7.13 from the device's side), with the first refusal that applies
 unfoldable pub offer : Memory → ℕ → Queue → Offer
 offer m limit q = if q.stopped then Refuses stop.Stopped else on_next_avail m limit q (next_avail m q)
 
--- whether nothing waits: no chain, and no refusal
+-- whether an offer is neither a chain nor a refusal
 abbrev pub is_idle : Offer → Bool
 is_idle Idle = true
 is_idle _ = false
 
--- whether a step may be refused since an allocation fails: only if a chain is offered, so that no other
--- refusal is hidden
+-- whether a failed allocation may refuse this offer: only if it is a chain, so that a failed allocation
+-- hides no other refusal
 abbrev pub may_lack_memory : Offer → Bool
 may_lack_memory (Offers head fetched) = true
 may_lack_memory _ = false
 
--- whether a refusal stops the queue: all but those of a stopped queue and of a failed allocation do
+-- whether a refusal stops the queue: each does but `Stopped` and `OutOfMemory`
 abbrev pub stops_queue : QueueError → Bool
 stops_queue stop.Stopped = false
 stops_queue stop.OutOfMemory = false
@@ -132,7 +131,7 @@ stops_queue _ = true
 abbrev pub after_refusal : Queue → QueueError → Queue
 after_refusal q e = if stops_queue e then with_stop q else q
 
--- the addresses of the room of what was fetched
+-- the addresses of the room, none if there is a fault
 abbrev pub room_of : RequestAndRoom → List ℕ
 room_of (IsRequest request room) = room
 room_of (CannotFetch why) = []

@@ -1,4 +1,4 @@
--- What the values of the code say, by the plain definitions.
+-- The values of the code's walks, in the definitions' terms.
 use Rattle.std.specs.Prelude.{◌≡◌, ℕ, ◌+◌, ◌*◌, ◌^◌, ◌<◌, true, false, All, List}
 use Rattle.vm_iotlb.specs.declared.permissions.Permissions.TheVariants.{Read}
 use Rattle.vm_memory.specs.Memory.{Memory, bytes, reach}
@@ -11,26 +11,26 @@ use Rattle.fs_queue.specs.Queue.{Queue, resumed}
 use Rattle.fs_queue.specs.Chain.{Descriptor, DescriptorTable, Visit, WalkStep, Ordinary, Table, Faulty, Stops}
 use Rattle.fs_queue.specs.Chain.{Found, IsChain, HasFault, StopsQueue}
 
--- the queue with the numbers of a layout, at a position, which isn't stopped
+-- the queue of a layout at a position, not stopped
 abbrev pub at_position : QueueLayout → (position : ℕ) → Queue
 at_position l position = resumed l.size l.desc l.avail l.used position false
 
--- a step at an entry of a table
+-- the step at an entry of a table, after `earlier` ordinary descriptors
 abbrev pub in_table : DescriptorTable → (index earlier : ℕ) → Visit
 in_table table index earlier = record { table = table; index = index; earlier = earlier }
 
--- what a step comes to, as the code says it
+-- the definitions' step for a step of the code
 abbrev pub walk_step_of : code_step.WalkStep → WalkStep
 walk_step_of (says.Ordinary d) = Ordinary d
 walk_step_of (says.Table table) = Table table
 walk_step_of (says.Faulty fault) = Faulty fault
 walk_step_of says.Stops = Stops
 
--- a table's end is an address
+-- a table ends below 2^64
 abbrev pub EndsIn64Bits : DescriptorTable → Type 0
 EndsIn64Bits table = table.address + 16 * table.entries < 2 ^ 64
 
--- these are the bytes of n addresses from a on, each of which can be read
+-- these are the bytes at the n addresses from a on, and the device can read each of them
 abbrev pub AreTheBytes : Memory → (a n : ℕ) → List ℕ → Type 0
 AreTheBytes m a n bs = (bs ≡ bytes m a n) × (reach m Read a n ≡ true)
 
@@ -38,30 +38,30 @@ AreTheBytes m a n bs = (bs ≡ bytes m a n) × (reach m Read a n ≡ true)
 abbrev pub AreTheTable : Memory → DescriptorTable → List ℕ → Type 0
 AreTheTable m table bs = AreTheBytes m table.address (16 * table.entries) bs
 
--- these are the bytes of an available ring, but for what follows its entries
+-- these are the bytes of an available ring up to the end of its entries: flags, index and entries
 abbrev pub AreTheRing : Memory → QueueLayout → List ℕ → Type 0
 AreTheRing m l bs = AreTheBytes m l.avail (4 + 2 * l.size) bs
 
--- what a walk found, and the descriptors that it collected
+-- the definitions' result for a walk of the code that collected these descriptors
 abbrev pub found_of : walked.WalkEnd → List Descriptor → Found
 found_of comes_to.Chain ds = IsChain ds
 found_of (comes_to.Faulty fault) ds = HasFault fault
 found_of comes_to.Stopped ds = StopsQueue
 
--- of an ordinary descriptor, which joins the chain
+-- if a step is at an ordinary descriptor, that descriptor has a property
 abbrev pub IfOrdinary : code_step.WalkStep → (Descriptor → Type 0) → Type 0
 IfOrdinary (says.Ordinary d) P = P d
 IfOrdinary (says.Table table) P = Unit {0}
 IfOrdinary (says.Faulty fault) P = Unit {0}
 IfOrdinary says.Stops P = Unit {0}
 
--- of a table that a descriptor names
+-- if a step is at a descriptor that refers to an indirect table, that table has a property
 abbrev pub IfTable : code_step.WalkStep → (DescriptorTable → Type 0) → Type 0
 IfTable (says.Ordinary d) P = Unit {0}
 IfTable (says.Table table) P = P table
 IfTable (says.Faulty fault) P = Unit {0}
 IfTable says.Stops P = Unit {0}
 
--- no descriptor of a chain ends past 2^64 - 1
+-- each of some descriptors ends below 2^64
 unfoldable pub AllEndIn64Bits : List Descriptor → Type 0
 AllEndIn64Bits ds = All (λ d. d.addr + d.len < 2 ^ 64) ds

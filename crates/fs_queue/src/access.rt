@@ -1,4 +1,4 @@
-//! Reads and windows of guest memory that need all of a range.
+//! Reads and windows of a whole range of guest memory.
 
 ghost use Rattle.std.specs.Prelude.{◌≡◌, ◌+◌, ◌<◌, ◌^◌, IsTrue, IfOk, IfSome};
 ghost use Rattle.std.specs.Prelude.{length, Some, None, if◌then◌else◌};
@@ -14,8 +14,8 @@ use vm_memory::GuestMemory;
 use vm_memory_core::{GuestAddress, HostBlocks, Permissions, Windows};
 use vm_values::{ByteValued, Le16};
 
-/// Reads a buffer full of bytes from an address on, or answers false if one of them isn't there. A
-/// translation that fails may want memory: without it, it fails all the same.
+/// Fills a buffer with the bytes from an address on. False if one of the addresses isn't mapped. A
+/// translation allocates only if it fails, so a failed allocation is false too.
 #[inline(always)]
 pub(crate) fn read<M: GuestMemory, H: HostBlocks>(
     alloc: Global,
@@ -36,7 +36,7 @@ pub(crate) fn read<M: GuestMemory, H: HostBlocks>(
     }
 }
 
-/// Whether each of some addresses that follow one another has a place, for an access.
+/// Whether each of the `len` addresses from `addr` on is mapped for an access.
 pub(crate) fn reaches<M: GuestMemory, H: HostBlocks>(
     alloc: Global,
     host: &H,
@@ -54,7 +54,7 @@ pub(crate) fn reaches<M: GuestMemory, H: HostBlocks>(
     }
 }
 
-// The number that two bytes spell as le16.
+// The number of two bytes, le16.
 #[tactic(auto, using(crate::proofs::ReadLemmas::spelled_number))]
 pub(crate) fn le16_number(bytes: &[u8; 2]) -> u16
     ensures { result ≡ from_le_bytes w16 bytes.now }
@@ -62,8 +62,8 @@ pub(crate) fn le16_number(bytes: &[u8; 2]) -> u16
     Le16::get_bytes(bytes).to_native()
 }
 
-/// The bytes of some addresses that follow one another, if one window has all of them. None says nothing of
-/// them: parts of the range are then read by themselves.
+/// The bytes of the `len` addresses from `addr` on, if one window has all of them. With None the caller
+/// has to read parts of the range one by one: they may be mapped or not.
 #[inline(always)]
 pub(crate) fn whole_bytes<'a, M: GuestMemory, H: HostBlocks>(
     alloc: Global,
@@ -86,8 +86,8 @@ pub(crate) fn whole_bytes<'a, M: GuestMemory, H: HostBlocks>(
     }
 }
 
-/// Adds the windows of `len` addresses from `addr` on, for an access, or answers false if one of them can't
-/// be reached. An error is a failed allocation.
+/// Adds the windows of the `len` addresses from `addr` on, for an access. False if one of them isn't
+/// mapped. AllocError if an allocation fails.
 #[inline(always)]
 pub(crate) fn add_windows<M: GuestMemory, H: HostBlocks>(
     alloc: Global,
@@ -107,7 +107,7 @@ pub(crate) fn add_windows<M: GuestMemory, H: HostBlocks>(
     ensures lie { AllLieIn (lengths (H.host host.now)) windows.old.items
         → AllLieIn (lengths (H.host host.now)) windows.new.items }
 {
-    // No address is translated for nothing.
+    // Don't translate an address without bytes.
     if len == 0 {
         return Ok(true);
     }

@@ -1,4 +1,4 @@
-//! Which addresses have places, and what a chain and its return need of them.
+//! Whether the addresses of a chain and of its return are mapped.
 
 ghost use Rattle.std.specs.Prelude.{◌≡◌, ◌-◌, ◌^◌, [], ◌∷◌, min};
 ghost use Rattle.vm_memory.specs.Memory.{reach};
@@ -14,20 +14,20 @@ use std::alloc::Global;
 use vm_memory::GuestMemory;
 use vm_memory_core::{HostBlocks, Permissions};
 
-/// What tells which guest addresses have places: a memory, or its regions alone.
+/// Which guest addresses are mapped: by a memory, or by its regions alone.
 pub trait AddressMap {
     ghost use Rattle.vm_memory.specs.Memory.{Memory};
 
-    // the memory whose places these are
+    // the memory with these mapped addresses
     ghost places: { Self → Memory };
 
-    /// Whether each of some addresses that follow one another has a place, for an access. None of them has
-    /// one if they end past 2^64 - 1.
+    /// Whether each of the `len` addresses from `addr` on is mapped for an access. False if they end
+    /// past 2^64 - 1.
     fn has_places(&self, addr: u64, len: usize, access: Permissions) -> bool
         ensures { result ≡ reach (places self.now) access addr len };
 }
 
-/// The places of a memory whose bytes stand in a host.
+/// The addresses that a memory over a host maps.
 #[derive(Drop)]
 pub(crate) struct HostAddressMap<'a, M: GuestMemory, H: HostBlocks> {
     pub(crate) alloc: Global,
@@ -43,8 +43,8 @@ impl<'a, M: GuestMemory, H: HostBlocks> AddressMap for HostAddressMap<'a, M, H> 
     }
 }
 
-/// Why a chain at a position of a queue can't go back: `UsedUnreachable` or `AvailFlagsUnreachable`; none if
-/// it can (VIRTIO 1.2, 2.7.8 and 2.7.7).
+/// Why the chain at a position of a queue can't be returned: `UsedUnreachable`, then
+/// `AvailFlagsUnreachable`. None if it can (VIRTIO 1.2, 2.7.8 and 2.7.7).
 pub fn return_fault<P: AddressMap>(
     places: &P,
     layout: QueueLayout,
@@ -65,9 +65,9 @@ pub fn return_fault<P: AddressMap>(
     None
 }
 
-/// How many bytes the descriptors of a chain have in one direction: those that the device writes, or those
-/// that it reads. The answer is 2^64 - 1 if there are more. A chain with more than its limit in one of them
-/// is `OverLimit`.
+/// The number of bytes of a chain's descriptors in one direction, at most 2^64 - 1. With `write_only` it
+/// counts those that the device writes, else those that it reads. A chain with more than its limit in
+/// one of them is `OverLimit`.
 pub fn count_bytes(descriptors: &[Descriptor], write_only: bool) -> u64
     ensures { result ≡ min (total_len (of_direction write_only descriptors.now)) (2 ^ 64 - 1) }
 {
@@ -80,7 +80,7 @@ pub fn count_bytes(descriptors: &[Descriptor], write_only: bool) -> u64
     sum
 }
 
-// The access that the device needs to the descriptors of one direction.
+// The access that the device needs to the descriptors of a direction.
 #[inline]
 pub(crate) fn access_of(write_only: bool) -> Permissions
     ensures { result ≡ access_of write_only }
@@ -92,7 +92,7 @@ pub(crate) fn access_of(write_only: bool) -> Permissions
     }
 }
 
-// Whether all bytes of a descriptor have places, if it is of this direction.
+// Whether a descriptor is of the other direction, or all of its bytes are mapped.
 fn has_descriptor<P: AddressMap>(places: &P, descriptor: &Descriptor, write_only: bool) -> bool
     ensures { result ≡ all_reach (P.places places.now) (access_of write_only)
         (of_direction write_only (descriptor.now ∷ [])) }
@@ -108,7 +108,7 @@ fn has_descriptor<P: AddressMap>(places: &P, descriptor: &Descriptor, write_only
     }
 }
 
-// Whether all bytes of one direction of a chain have places.
+// Whether all bytes of one direction of a chain are mapped.
 fn has_bytes<P: AddressMap>(places: &P, descriptors: &[Descriptor], write_only: bool) -> bool
     ensures { result ≡ all_reach (P.places places.now) (access_of write_only)
         (of_direction write_only descriptors.now) }
@@ -121,8 +121,8 @@ fn has_bytes<P: AddressMap>(places: &P, descriptors: &[Descriptor], write_only: 
     true
 }
 
-/// Why the request or the room of a chain can't be fetched: `OverLimit` if one of them has more than `limit`
-/// bytes, then `RequestUnreachable`, then `RoomUnreachable`; none if both can (VIRTIO 1.2, 2.7.5).
+/// Why a chain has no request and room, None if it has (VIRTIO 1.2, 2.7.5): `OverLimit` if one of them
+/// has more than `limit` bytes, then `RequestUnreachable`, then `RoomUnreachable`.
 pub fn chain_fault<P: AddressMap>(
     places: &P,
     limit: u32,

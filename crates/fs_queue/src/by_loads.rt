@@ -1,4 +1,4 @@
-//! A walk whose loads are made from host memory: what waits in the available ring, and the chain of its head.
+//! Walks by loads from host memory: of the available ring, and of the chain at a head.
 
 ghost use Rattle.std.specs.Prelude.{◌≡◌, ℕ, ◌+◌, ◌*◌, ◌<◌, ◌≤◌, ◌^◌, IfOk, IfSome, IsTrue, OnOk, OnErr, Some};
 ghost use Rattle.std.specs.Prelude.{None, if◌then◌else◌, length, take, drop};
@@ -24,7 +24,7 @@ use std::alloc::{AllocError, Global};
 use vm_memory::GuestMemory;
 use vm_memory_core::HostBlocks;
 
-// Loads an entry from host memory.
+// Loads an entry of a table from host memory, None if it isn't mapped.
 fn load_entry<M: GuestMemory, H: HostBlocks>(
     alloc: Global,
     host: &H,
@@ -44,8 +44,8 @@ fn load_entry<M: GuestMemory, H: HostBlocks>(
     }
 }
 
-// The bytes of a table, if one window has all of them. None says nothing of the table: each entry is then
-// read by itself.
+// The bytes of a table, if one window has all of them. With None, each entry is loaded by itself: it may
+// be mapped or not.
 #[inline(always)]
 fn table_bytes<'a, M: GuestMemory, H: HostBlocks>(
     alloc: Global,
@@ -66,7 +66,7 @@ fn table_bytes<'a, M: GuestMemory, H: HostBlocks>(
     )
 }
 
-// An entry of a table whose bytes are at hand.
+// The 16 bytes of a table's entry, from the table's bytes.
 fn entry_of(bytes: &[u8], index: u16) -> [u8; 16]
     requires { 16 * index + 16 ≤ length bytes.now }
     ensures { result ≡ take 16 (drop (16 * index) bytes.now) }
@@ -76,7 +76,7 @@ fn entry_of(bytes: &[u8], index: u16) -> [u8; 16]
     entry
 }
 
-// Loads an entry of a table, from the table's bytes if they are at hand.
+// Loads an entry of a table, from the table's bytes if one window has them. None if it isn't mapped.
 #[inline(always)]
 fn load_from_table<M: GuestMemory, H: HostBlocks>(
     alloc: Global,
@@ -99,7 +99,7 @@ fn load_from_table<M: GuestMemory, H: HostBlocks>(
     }
 }
 
-// The bytes of a table, if one window has all of them; those of another may be at hand.
+// The bytes of a table, if one window has them: `whole`, if the other table is the same one.
 #[inline(always)]
 fn bytes_of<'a, M: GuestMemory, H: HostBlocks>(
     alloc: Global,
@@ -121,9 +121,10 @@ fn bytes_of<'a, M: GuestMemory, H: HostBlocks>(
     }
 }
 
-/// The walk through the chain of a head, whose ordinary descriptors take the place of those that a list has.
-/// An error is a failed allocation, for a chain of more descriptors than the list has room for: the walk goes
-/// on without keeping them, so that none of its faults and no stop is hidden by it.
+/// Walks the chain at a head, and puts its ordinary descriptors into the list in place of the former
+/// ones. AllocError if the chain has more descriptors than the list has room for and the allocation
+/// fails. The walk still continues, without keeping them, so a failed allocation hides no fault and no
+/// stop.
 #[inline(always)]
 pub(crate) fn walk_chain<M: GuestMemory, H: HostBlocks>(
     alloc: Global,
@@ -169,7 +170,7 @@ pub(crate) fn walk_chain<M: GuestMemory, H: HostBlocks>(
     }
 }
 
-// Two bytes of a ring whose bytes are at hand.
+// Two bytes of the available ring, from the ring's bytes.
 fn pair_of(bytes: &[u8], offset: usize) -> [u8; 2]
     requires { offset + 2 ≤ length bytes.now }
     ensures { result ≡ take 2 (drop offset bytes.now) }
@@ -179,7 +180,7 @@ fn pair_of(bytes: &[u8], offset: usize) -> [u8; 2]
     pair
 }
 
-// Loads two bytes from host memory.
+// Loads two bytes from host memory, None if they aren't mapped.
 #[inline(always)]
 fn load_pair<M: GuestMemory, H: HostBlocks>(
     alloc: Global,
@@ -200,7 +201,7 @@ fn load_pair<M: GuestMemory, H: HostBlocks>(
     }
 }
 
-// The bytes of the available ring, if one window has them, but for what follows its entries.
+// The bytes of the available ring, flags, index and entries, if one window has them.
 #[inline(always)]
 fn ring_bytes<'a, M: GuestMemory, H: HostBlocks>(
     alloc: Global,
@@ -215,7 +216,8 @@ fn ring_bytes<'a, M: GuestMemory, H: HostBlocks>(
     whole_bytes(alloc, host, mem, layout.avail(), len)
 }
 
-// Loads two bytes of the available ring, from its bytes if they are at hand.
+// Loads two bytes of the available ring, from its bytes if one window has them. None if they aren't
+// mapped.
 #[inline(always)]
 fn load_from_ring<M: GuestMemory, H: HostBlocks>(
     alloc: Global,
@@ -237,7 +239,7 @@ fn load_from_ring<M: GuestMemory, H: HostBlocks>(
     }
 }
 
-/// What waits at a position of a queue that isn't stopped: the walk as far as the loads of the ring bring it.
+/// The walk at a position of a queue that isn't stopped, after the loads of the available ring.
 #[inline(always)]
 pub(crate) fn walk_ring<M: GuestMemory, H: HostBlocks>(
     alloc: Global,

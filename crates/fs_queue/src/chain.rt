@@ -1,4 +1,4 @@
-//! A chain that was taken from a queue.
+//! A chain that was popped from a queue.
 
 ghost use Rattle.std.specs.Prelude.{◌≡◌, ◌<◌, ◌^◌, [], length, MatchResult};
 ghost use Rattle.vm_memory_core.specs.Window.{places};
@@ -9,16 +9,16 @@ use std::alloc::Global;
 use std::marker::Model;
 use vm_memory_core::Windows;
 
-/// A chain (VIRTIO 1.2, 2.7.5): the windows of its request, which the device reads, and of the room for its
-/// reply, which it writes, each in the order of its descriptors, however these are mixed. The head is its
-/// first descriptor's index in the queue's table.
+/// A chain (VIRTIO 1.2, 2.7.5): the windows of its request, which the device reads, and of the room for
+/// its reply, which the device writes. Each has the order of the descriptors, also if readable and
+/// writable ones are mixed.
 #[derive(Drop)]
 pub struct Chain {
     /// The index of its first descriptor in the queue's table.
     pub head: u16,
-    /// Where the request's bytes stand.
+    /// The windows of the request's bytes.
     pub readable: Windows,
-    /// Where the reply's bytes go.
+    /// The windows of the room, for the reply's bytes.
     pub writable: Windows,
     pub(crate) request_len: usize,
     pub(crate) room_len: usize,
@@ -28,7 +28,7 @@ pub struct Chain {
 }
 
 impl Chain {
-    /// A chain without bytes, whose windows take no memory.
+    /// A chain without windows. It allocates nothing.
     pub fn empty(alloc: Global) -> Chain
         ensures readable { result.readable.items ≡ [] }
         ensures writable { result.writable.items ≡ [] }
@@ -42,7 +42,7 @@ impl Chain {
         }
     }
 
-    // Takes its bytes away. The lists keep their memory.
+    // Removes the windows. The lists keep their memory.
     #[inline(always)]
     pub(crate) fn clear(&mut self)
         ensures readable { self.new.readable.items ≡ [] }
@@ -54,14 +54,14 @@ impl Chain {
         self.room_len = 0;
     }
 
-    /// How many bytes the request has.
+    /// The number of bytes in the request.
     pub fn request_len(&self) -> usize
         ensures { result ≡ length (places self.now.readable.items) }
     {
         self.request_len
     }
 
-    /// How many bytes of reply there is room for.
+    /// The number of bytes in the room: the greatest length of a reply.
     pub fn room_len(&self) -> usize
         ensures { result ≡ length (places self.now.writable.items) }
     {
@@ -69,18 +69,18 @@ impl Chain {
     }
 }
 
-/// The windows of a used element, 8 bytes, and, after it, of the used index, 2 bytes, and those of the
-/// available flags, 2 bytes: almost always one each.
+/// The windows of a return: of a used element, 8 bytes, and then the used index, 2 bytes; and of the
+/// available flags, 2 bytes. Almost always there is one window each.
 #[derive(Drop)]
 pub struct ReturnWindows {
-    /// Where the used element and then the used index are stored.
+    /// The windows of the used element and then the used index, which a return writes.
     pub used: Windows,
-    /// Where the available flags are loaded.
+    /// The windows of the available flags, which a return reads.
     pub flags: Windows,
 }
 
 impl ReturnWindows {
-    /// No windows; they take no memory.
+    /// No windows. It allocates nothing.
     pub fn empty(alloc: Global) -> ReturnWindows
         ensures used { result.used.items ≡ [] }
         ensures flags { result.flags.items ≡ [] }
@@ -91,7 +91,7 @@ impl ReturnWindows {
         }
     }
 
-    // Takes the windows away. The lists keep their memory.
+    // Removes the windows. The lists keep their memory.
     #[inline(always)]
     pub(crate) fn clear(&mut self)
         ensures used { self.new.used.items ≡ [] }
@@ -102,9 +102,9 @@ impl ReturnWindows {
     }
 }
 
-/// A place for a chain that was taken and not yet given back, or its fault, with the windows of its return
-/// and the descriptors that were walked. It is made once, and one chain after another is taken into it; its
-/// lists keep the memory that they grew to, also if a chain is faulty.
+/// A chain that was popped and not yet returned, or its fault, with the windows of its return and its
+/// descriptors. The caller makes one `Taken` and pops one chain after another into it. Its lists keep
+/// the memory that they grew to, also if a chain is faulty.
 #[derive(Drop)]
 pub struct Taken {
     pub(crate) head: u16,
@@ -126,8 +126,8 @@ impl Model for Taken {
 impl Taken {
     ghost use Rattle.fs_queue.specs.Windows.{IsEmpty};
 
-    /// A place into which nothing was taken: it has no windows, of a chain or of a return. It takes no
-    /// memory.
+    /// A `Taken` into which nothing was popped: it has no windows of a chain or of a return. It
+    /// allocates nothing.
     pub fn empty(alloc: Global) -> Taken
         ensures { IsEmpty result }
     {
@@ -140,7 +140,7 @@ impl Taken {
         }
     }
 
-    // Takes all windows away, so that nothing can be given back, read or written. The lists keep their
+    // Removes all windows, so that nothing can be returned, read or written by it. The lists keep their
     // memory.
     #[inline(always)]
     pub(crate) fn clear(&mut self)
@@ -158,7 +158,7 @@ impl Taken {
         self.head
     }
 
-    /// The chain, or the `ChainFault` that was found as it was walked (VIRTIO 1.2, 2.7.5).
+    /// The chain, or the `ChainFault` of its walk, its request or its room (VIRTIO 1.2, 2.7.5).
     pub fn chain(&self) -> Result<&Chain, ChainFault>
         ensures { MatchResult result (λ c. self.now.chain ≡ Ok c.now) (λ fault. self.now.chain ≡ Err fault) }
     {

@@ -1,5 +1,5 @@
-//! The walk through a chain of descriptors by loads that another makes: it touches no memory (VIRTIO 1.2,
-//! 2.7.5).
+//! The walk through a chain of descriptors by loads that the caller makes. It touches no memory (VIRTIO
+//! 1.2, 2.7.5).
 
 ghost use Rattle.std.specs.Prelude.{◌≡◌, ◌+◌, ◌*◌, ◌<◌, ◌≤◌, ◌^◌, IfOk, IfSome, OnErr, true, false};
 
@@ -10,7 +10,7 @@ use crate::walk_step::{DescriptorTable, WalkStep, indirect_step, ordinary_step, 
 use std::alloc::AllocError;
 use vm_values::ByteValued;
 
-/// A walk that asks for an entry of a table, once.
+/// A walk that asks for an entry of a table. `give` consumes it, so each load is made once.
 #[derive(Debug, Drop)]
 pub struct ChainWalk {
     size: u16,
@@ -22,21 +22,21 @@ pub struct ChainWalk {
     pub ghost few: { earlier ≤ size },
 }
 
-/// What a walk through a chain came to.
+/// The result of a walk through a chain.
 #[derive(Clone, Copy, Debug, PartialEq, Eq)]
 pub enum WalkEnd {
-    /// A chain: the descriptors that joined it, in their order.
+    /// A chain of the descriptors that joined it, in their order.
     Chain,
-    /// A faulty chain, which goes back unserved.
+    /// A faulty chain, which the device returns without a reply.
     Faulty(ChainFault),
-    /// An entry of the queue's own table can't be reached: `DescriptorUnreachable`, which stops the queue.
+    /// An entry of the queue's own table isn't mapped: `DescriptorUnreachable`, which stops the queue.
     Stopped,
 }
 
 impl WalkEnd {
     ghost use Rattle.fs_queue.specs.declared.chain_walk.WalkEnd.TheVariants as ended;
 
-    // What a walk answers that ended so: a chain only if its descriptors were kept.
+    // The result of a walk that ended. AllocError if it is a chain whose descriptors weren't all kept.
     pub(crate) fn if_kept(self, kept: bool) -> Result<WalkEnd, AllocError>
         ensures same { IfOk result (λ w. (w ≡ self) × (self ≡ ended.Chain → kept ≡ true)) }
         ensures lost { OnErr result ((self ≡ ended.Chain) × (kept ≡ false)) }
@@ -48,7 +48,7 @@ impl WalkEnd {
     }
 }
 
-/// How far a walk through a chain has come.
+/// The state of a walk through a chain.
 #[derive(Debug, Drop)]
 pub enum Progress {
     /// It asks for an entry of a table.
@@ -57,12 +57,12 @@ pub enum Progress {
     Ends(WalkEnd),
 }
 
-/// What came of a load.
+/// The result of a load.
 #[derive(Debug, Drop)]
 pub struct WalkAdvance {
-    /// An ordinary descriptor, which joins the chain, or none.
+    /// The ordinary descriptor that joins the chain, if one does.
     pub joins: Option<Descriptor>,
-    /// How far the walk has come.
+    /// The state of the walk after it.
     pub then: Progress,
 }
 
@@ -74,7 +74,7 @@ impl ChainWalk {
     ghost use Rattle.fs_queue.specs.WalkingView.{at_position, in_table, walk_step_of, IfOrdinary, IfTable};
     ghost use Rattle.fs_queue.specs.WalkingView.{EndsIn64Bits};
 
-    // At an entry of a table, or past its end.
+    // The walk at an entry of a table, or its end with `NextOutOfTable` if the index is past the table.
     #[inline(always)]
     fn at(size: u16, table: DescriptorTable, index: u16, earlier: u16) -> Progress
         requires ends { EndsIn64Bits table }
@@ -95,7 +95,7 @@ impl ChainWalk {
         }
     }
 
-    /// The walk from an entry of the queue's table.
+    /// The walk from the head's entry of the queue's own table.
     pub fn begin(layout: QueueLayout, head: u16) -> Progress
         ensures at { ahead_of result ≡ ahead_at layout.size (first_visit (at_position layout 0) head) }
         ensures size { IfWants result (λ w. w.size ≡ layout.size) }
@@ -103,7 +103,7 @@ impl ChainWalk {
         Self::at(layout.size(), queue_table(layout), head, 0)
     }
 
-    /// The address of the 16 bytes that it asks for, which end below 2^64.
+    /// The guest address of the 16 bytes that it asks for. They end below 2^64.
     pub fn address(&self) -> u64
         ensures address { result ≡ entry_address (visit_of self.now) }
         ensures fits { result + 16 < 2 ^ 64 }
@@ -111,7 +111,7 @@ impl ChainWalk {
         self.table.address + 16 * u64::from(self.index)
     }
 
-    /// The table that the entry is of, and its index there.
+    /// The entry that it asks for: its table and its index there.
     pub fn entry(&self) -> (DescriptorTable, u16)
         ensures table { result.0 ≡ self.now.table }
         ensures index { result.1 ≡ self.now.index }
@@ -121,8 +121,7 @@ impl ChainWalk {
         (self.table, self.index)
     }
 
-    // What the step comes to. `came` has the entry's bytes, or is none if one of their addresses can't be
-    // reached.
+    // The result of the step by the entry's bytes, or by None if one of their addresses isn't mapped.
     #[inline(always)]
     fn step(self, came: Option<[u8; 16]>) -> WalkStep
         ensures step { walk_step_of result ≡ step_by self.size (visit_of self) (load_of self came) }
@@ -147,8 +146,8 @@ impl ChainWalk {
         }
     }
 
-    /// Takes the entry's bytes, or none if one of their addresses can't be reached, and answers the next
-    /// state of the walk. Each time fewer steps are left.
+    /// Takes the entry's 16 bytes, or None if one of their addresses isn't mapped, and returns the next
+    /// state of the walk. Each call leaves fewer steps.
     #[inline(always)]
     pub fn give(self, came: Option<[u8; 16]>) -> WalkAdvance
         ensures joins { result.joins ≡ joining (step_by self.size (visit_of self) (load_of self came)) }

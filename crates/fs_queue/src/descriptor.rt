@@ -8,17 +8,17 @@ use smallvec::SmallVec;
 use std::marker::Model;
 use vm_values::{ByteValued, get_fields, put_fields};
 
-/// An entry of a descriptor table: le64 addr, le32 len, le16 flags, le16 next, 16 bytes in all (VIRTIO 1.2,
-/// 2.7.5).
+/// An entry of a descriptor table, `struct virtq_desc`: le64 addr, le32 len, le16 flags, le16 next, 16
+/// bytes in all (VIRTIO 1.2, 2.7.5).
 #[derive(Clone, Copy, Debug, Default, PartialEq, Eq)]
 pub struct Descriptor {
-    /// The guest address of its bytes.
+    /// The guest address of the descriptor's bytes.
     pub addr: u64,
-    /// How many bytes it has.
+    /// The number of its bytes.
     pub len: u32,
-    /// NEXT, WRITE and INDIRECT, bits 0 to 2.
+    /// VIRTQ_DESC_F_NEXT, _WRITE and _INDIRECT, bits 0 to 2.
     pub flags: u16,
-    /// The index in the same table of the descriptor that follows, if NEXT says that one does.
+    /// With NEXT, the index of the next descriptor in the same table.
     pub next: u16,
 }
 
@@ -32,7 +32,7 @@ impl Model for Descriptor {
     ghost inverse = { λ d. record { addr = d.addr; len = d.len; flags = d.flags; next = d.next } };
 }
 
-/// Descriptors in order, of which the first eight take no memory.
+/// Descriptors in order. The first eight need no allocation.
 pub type Descriptors = SmallVec<Descriptor, 8>;
 
 const NEXT: u16 = 1;
@@ -44,21 +44,21 @@ const INDIRECT: u16 = 4;
 impl Descriptor {
     ghost use Rattle.fs_queue.specs.Chain.{has_next, is_writable, is_indirect};
 
-    /// Whether another descriptor follows.
+    /// Whether another descriptor follows: NEXT is set.
     pub fn has_next(&self) -> bool
         ensures { result ≡ has_next self.now }
     {
         self.flags & NEXT != 0
     }
 
-    /// Whether the device writes its bytes; else it reads them.
+    /// Whether WRITE is set: the device writes the descriptor's bytes; else it reads them.
     pub fn is_write_only(&self) -> bool
         ensures { result ≡ is_writable self.now }
     {
         self.flags & WRITE != 0
     }
 
-    /// Whether its bytes are a table of descriptors.
+    /// Whether INDIRECT is set: the descriptor's bytes are a table of descriptors.
     pub fn refers_to_indirect_table(&self) -> bool
         ensures { result ≡ is_indirect self.now }
     {

@@ -1,14 +1,15 @@
-//! What is wrong with a chain, a queue or a queue's layout.
+//! Errors of a chain, of a queue and of a queue's layout.
 
 ghost use Rattle.std.specs.Prelude.{◌≡◌};
 
 use thiserror::Error;
 
-/// The greatest limit that a request and a room may have, in bytes (`ChainFault::OverLimit`).
+/// The greatest limit of a request and of a room, in bytes (`ChainFault::OverLimit`).
 pub const MOST_LIMIT: u32 = 1 << 31;
 
-/// Why a chain is returned without being served: it breaks a rule of VIRTIO 1.2, 2.7.5 or 2.7.5.3, is longer
-/// than the device takes, or names memory that isn't there. Numbered from 1 to 10.
+/// Why the device returns a chain without serving it. The chain breaks a rule of VIRTIO 1.2, 2.7.5 or
+/// 2.7.5.3, is longer than the device takes, or refers to memory that isn't mapped. Numbered from 1 to
+/// 10.
 #[derive(Clone, Copy, Debug, PartialEq, Eq, Error)]
 pub enum ChainFault {
     #[error("more descriptors than the queue has")]
@@ -36,7 +37,7 @@ pub enum ChainFault {
 impl ChainFault {
     ghost use Rattle.fs_queue.specs.Numbers.{chain_fault_number};
 
-    /// The number that tells the fault apart.
+    /// The fault's number, 1 to 10.
     pub fn number(&self) -> u8
         ensures { result ≡ chain_fault_number self.now }
     {
@@ -72,14 +73,14 @@ impl QueueError {
     ghost use Rattle.fs_queue.specs.Numbers.{queue_number};
     ghost use Rattle.fs_queue.specs.Taking.{stops_queue};
 
-    /// Whether it stops the queue: all but `Stopped` and `OutOfMemory` do.
+    /// Whether the refusal stops the queue: each does but `Stopped` and `OutOfMemory`.
     pub(crate) fn stops_queue(&self) -> bool
         ensures { result ≡ stops_queue self.now }
     {
         !matches!(self, QueueError::Stopped | QueueError::OutOfMemory)
     }
 
-    /// The number that tells the refusal apart.
+    /// The refusal's number, 1 to 9.
     pub fn number(&self) -> u8
         ensures { result ≡ queue_number self.now }
     {
@@ -101,7 +102,7 @@ pub enum QueueLayoutError {
 impl QueueLayoutError {
     ghost use Rattle.fs_queue.specs.Numbers.{layout_error_number};
 
-    /// The number that tells the error apart.
+    /// The error's number, 1 to 3.
     pub fn number(&self) -> u8
         ensures { result ≡ layout_error_number self.now }
     {

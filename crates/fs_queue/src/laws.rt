@@ -1,4 +1,4 @@
-//! Laws of the definitions, each the contract of a function that does nothing.
+//! Theorems about the definitions, each the contract of a function that does nothing.
 
 ghost use Rattle.fs_queue.specs.AnyLoads.{FewLoads, LoadsEnd, EndsAreRead, Once, EntriesApart};
 ghost use Rattle.fs_queue.specs.Laws.{WalksEnd};
@@ -8,14 +8,14 @@ ghost use Rattle.fs_queue.specs.OfferLoads.{OfferIsStill, OfferFinds, OnlyPlaces
 ghost use Rattle.fs_queue.specs.Returning.{ReturnsByStores};
 ghost use Rattle.fs_queue.specs.Paths.{WalksArePaths, PathsAreFronts, NothingFollows, WalksFind};
 
-/// The bound of a walk cuts nothing short.
+/// A walk ends within its bound of size + 2 steps.
 pub fn law_walks_end()
     ensures { WalksEnd }
 {}
 
-/// The walk from a head is the longest path that the standard's words allow (VIRTIO 1.2, 2.7.5 and 2.7.5.3).
-/// It finds a chain exactly if each of its steps passes, and otherwise the first fault of its last one, or
-/// that it stops the queue.
+/// The walk from a head is the longest path that the standard's words allow (VIRTIO 1.2, 2.7.5 and
+/// 2.7.5.3). It finds a chain exactly if each of its steps passes. Else it finds the first fault of its
+/// last step, or a stop of the queue.
 pub fn law_paths()
     ensures path { WalksArePaths }
     ensures longest { PathsAreFronts }
@@ -23,9 +23,9 @@ pub fn law_paths()
     ensures finds { WalksFind }
 {}
 
-/// A walk by loads that find what a memory has is the walk in that memory, and there are such loads for each
-/// walk: just those that it asks for. So it is of what a queue offers; besides its loads that depends on
-/// nothing but whether the places of its return and of its chain are there.
+/// A walk by loads that read a memory is the walk in that memory. Each walk has loads of the memory that
+/// are exactly those that it asks for. The same holds for the offer of a queue. Besides its loads an
+/// offer depends only on whether the addresses of its return and its chain are mapped.
 pub fn law_loads()
     ensures still { Still }
     ensures finds { Finds }
@@ -40,14 +40,14 @@ pub fn law_loads()
     ensures offers_confined { OffersAreConfined }
 {}
 
-/// The stores of a return are its writes.
+/// A return writes the reply and then its stores.
 pub fn law_returns()
     ensures { ReturnsByStores }
 {}
 
-/// Of a guest that writes meanwhile: whatever the loads of a walk find, they are few and end it, each fault
-/// and stop is that of the bytes that were loaded, and no entry is loaded again unless the chain visits it
-/// again.
+/// For a guest that writes meanwhile, so that the loads may have any bytes: a walk makes few loads and
+/// ends. Each chain, fault and stop follows from the loaded bytes. An entry is loaded again only if the
+/// chain visits it again.
 pub fn law_any_loads()
     ensures few { FewLoads }
     ensures end { LoadsEnd }

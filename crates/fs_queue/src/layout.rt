@@ -1,12 +1,12 @@
-//! Where the driver puts a queue's three parts (VIRTIO 1.2, 2.7).
+//! The layout of a queue: the addresses of its three parts, which the driver sets (VIRTIO 1.2, 2.7).
 
 ghost use Rattle.std.specs.Prelude.{◌≡◌, ◌+◌, ◌*◌, ◌<◌, ◌^◌, Ok, Err, MatchResult, None, Some, nat_le};
 ghost use Rattle.fs_queue.specs.Lawful.{layout_error};
 
 use crate::fault::QueueLayoutError;
 
-/// A queue's size and the guest addresses of its descriptor table (16 bytes for each descriptor), available
-/// ring (6 bytes, and 2 for each descriptor) and used ring (6 bytes, and 8 for each descriptor).
+/// A queue's size and the guest addresses of its parts. A descriptor has 16 bytes in the table, 2 in the
+/// available ring and 8 in the used ring; each ring has 6 bytes besides.
 #[derive(Clone, Copy, Debug)]
 pub struct QueueLayout {
     size: u16,
@@ -28,9 +28,11 @@ fn ends_past(addr: u64, len: u64) -> bool
 }
 
 impl QueueLayout {
-    /// The layout of a queue of `size` descriptors, whose parts begin at these addresses. Refused, in this
-    /// order: `BadSize` if the size is no power of two, `Misaligned` if the table, the available ring or the
-    /// used ring isn't aligned to 16, 2 and 4 bytes, `EndOverflow` if one of them ends past 2^64 - 1.
+    /// The layout of a queue of `size` descriptors whose parts begin at these guest addresses. Errors,
+    /// in this order:
+    /// - `BadSize` if the size is no power of two,
+    /// - `Misaligned` unless table, available ring and used ring are aligned to 16, 2 and 4 bytes,
+    /// - `EndOverflow` if one of them ends past 2^64 - 1.
     pub fn new(size: u16, desc: u64, avail: u64, used: u64) -> Result<QueueLayout, QueueLayoutError>
         ensures { MatchResult result
             (λ l. (layout_error size desc avail used ≡ None)
@@ -61,28 +63,28 @@ impl QueueLayout {
         })
     }
 
-    /// How many descriptors the table has: a power of two from 1 to 32768.
+    /// The number of descriptors in the table: a power of two from 1 to 32768.
     pub fn size(&self) -> u16
         ensures { result ≡ self.now.size }
     {
         self.size
     }
 
-    /// The address of the descriptor table.
+    /// The guest address of the descriptor table.
     pub fn desc(&self) -> u64
         ensures { result ≡ self.now.desc }
     {
         self.desc
     }
 
-    /// The address of the available ring.
+    /// The guest address of the available ring.
     pub fn avail(&self) -> u64
         ensures { result ≡ self.now.avail }
     {
         self.avail
     }
 
-    /// The address of the used ring.
+    /// The guest address of the used ring.
     pub fn used(&self) -> u64
         ensures { result ≡ self.now.used }
     {

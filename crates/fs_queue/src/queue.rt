@@ -18,8 +18,9 @@ use std::marker::Model;
 use vm_memory::GuestMemory;
 use vm_memory_core::HostBlocks;
 
-/// A split virtqueue from the device's side: where its parts are, how many chains were taken, modulo 2^16
-/// (its position; each goes back before the next is taken), and whether it stopped.
+/// A split virtqueue from the device's side: its layout, its position, and whether it is stopped. The
+/// position counts the chains that were returned, modulo 2^16: the caller returns each before it takes
+/// the next.
 #[derive(Debug, Drop)]
 pub struct Queue {
     layout: QueueLayout,
@@ -52,7 +53,7 @@ ghost use Rattle.fs_queue.specs.Windows.{Takes, after_taking, taken_if, IsTaken,
 ghost use Rattle.fs_queue.specs.Windows.{room_places, chain_places, HasItsWindows};
 ghost use Rattle.fs_queue.specs.Windows.{IsEmpty, IsEmptyUnlessTaken};
 
-// Writes the reply over the room of a chain.
+// Writes a reply into the room of a chain.
 #[tactic(auto, unfolding(vm_memory_core::specs::Window::put_all))]
 #[inline(always)]
 fn write_reply<H: HostBlocks>(host: &mut H, taken: &Taken, reply: &[u8])
@@ -69,7 +70,7 @@ fn write_reply<H: HostBlocks>(host: &mut H, taken: &Taken, reply: &[u8])
 }
 
 impl Queue {
-    /// A queue of which no chain was returned.
+    /// A new queue with this layout: its position is 0, and it isn't stopped.
     pub fn new(layout: QueueLayout) -> Queue
         ensures { result ≡ fresh layout.size layout.desc layout.avail layout.used }
     {
@@ -80,7 +81,7 @@ impl Queue {
         }
     }
 
-    /// A queue of which so many chains were taken and returned, modulo 2^16, and which is stopped or not.
+    /// A queue with this layout at this position, stopped or not.
     pub fn resume(layout: QueueLayout, position: u16, stopped: bool) -> Queue
         ensures { result ≡ resumed layout.size layout.desc layout.avail layout.used position stopped }
     {
@@ -91,14 +92,14 @@ impl Queue {
         }
     }
 
-    /// Begins the queue anew with a layout: its position is 0, and it isn't stopped.
+    /// Resets the queue with a layout: its position is 0, and it isn't stopped.
     pub fn reset(&mut self, layout: QueueLayout)
         ensures { self.new ≡ fresh layout.size layout.desc layout.avail layout.used }
     {
         *self = Queue::new(layout);
     }
 
-    /// Where the queue's parts are.
+    /// The queue's size and the guest addresses of its parts.
     pub fn layout(&self) -> QueueLayout
         ensures size { result.size ≡ self.now.size }
         ensures desc { result.desc ≡ self.now.desc }
@@ -108,7 +109,7 @@ impl Queue {
         self.layout
     }
 
-    /// How many chains were taken, modulo 2^16.
+    /// The number of chains that were returned, modulo 2^16.
     pub fn position(&self) -> u16
         ensures { result ≡ self.now.position }
     {
@@ -122,8 +123,8 @@ impl Queue {
         self.stopped
     }
 
-    /// The walk through what waits at the queue's position, by loads that another makes: it asks for the
-    /// available index. A stopped queue refuses it: `Stopped`.
+    /// The walk at the queue's position, by loads that the caller makes: it asks for the available index
+    /// first. A stopped queue refuses: `Stopped`.
     pub fn begin_walk(&self) -> Walk
         ensures { BeginsWalk self.now result }
     {
@@ -134,7 +135,7 @@ impl Queue {
         }
     }
 
-    /// Keeps what a walk refused: all refusals but `Stopped` and `OutOfMemory` stop the queue.
+    /// Stops the queue because of a walk's refusal, unless that is `Stopped` or `OutOfMemory`.
     pub fn refuse(&mut self, error: QueueError)
         ensures { self.new ≡ after_refusal self.old error }
     {
@@ -143,7 +144,7 @@ impl Queue {
         }
     }
 
-    /// The return of the chain at the queue's position, with this head, whose reply has `len` bytes.
+    /// The return of the chain with this head at the queue's position; the reply has `len` bytes.
     pub fn begin_return(&self, head: u16, len: u32) -> Return
         ensures stores { stores_of result ≡ stores_after_reply self.now head len }
         ensures flags { result.flags ≡ self.now.avail }
@@ -151,15 +152,15 @@ impl Queue {
         Return::new(self.layout, self.position, head, len)
     }
 
-    /// Goes on by the chain whose return was stored: the position is one more, modulo 2^16.
+    /// Ends a return whose stores were made: adds 1 to the position, modulo 2^16.
     pub fn advance(&mut self)
         ensures { self.new ≡ advanced self.old }
     {
         self.position = self.position.wrapping_add(1);
     }
 
-    /// Whether a queue that isn't stopped has nothing at its position: no chain waits, and nothing is
-    /// refused. It changes nothing, and want of memory hides nothing of it.
+    /// Whether no chain is available, the queue isn't stopped, and no refusal applies. It changes
+    /// nothing, and a failed allocation hides nothing.
     pub fn is_idle<M: GuestMemory, H: HostBlocks>(&self, alloc: Global, host: &H, mem: &M) -> bool
         requires { M.IsHeld mem.now (H.host host.now) }
         ensures { (limit : ℕ) → result ≡ is_idle (offer (M.memory mem.now (H.host host.now)) limit self.now) }
@@ -173,14 +174,14 @@ impl Queue {
         )
     }
 
-    /// Takes the chain that waits at the queue's position, with its windows, into a place whatever that had,
-    /// or answers false, if none waits (VIRTIO 1.2, 2.7.13 from the device's side); unless a chain was taken,
-    /// the place is empty then: it has no windows, and its head says nothing. The position stays until the
-    /// chain is given back. A request or a room of more than `limit` bytes makes a chain faulty. Refused, in
-    /// this order: `Stopped`, `AvailIndexUnreachable`, then, if something waits, `AvailTooFar`,
-    /// `RingEntryUnreachable`, `HeadOutOfTable`, `UsedUnreachable`, `AvailFlagsUnreachable`,
-    /// `DescriptorUnreachable`. Want of memory is `OutOfMemory`. All of them but `Stopped` and `OutOfMemory`
-    /// stop the queue.
+    /// Pops the chain at the queue's position into `taken`, with its windows (VIRTIO 1.2, 2.7.13 from
+    /// the device's side). False if no chain is available. Unless a chain was popped, `taken` is empty:
+    /// it has no windows, and its head has no meaning. The position doesn't change until `give_back`. A
+    /// chain whose request or room has more than `limit` bytes is faulty. Errors, in this order:
+    /// - `Stopped`, `AvailIndexUnreachable`,
+    /// - if the index shows a chain: `AvailTooFar`, `RingEntryUnreachable`, `HeadOutOfTable`,
+    ///   `UsedUnreachable`, `AvailFlagsUnreachable`, `DescriptorUnreachable`,
+    /// - `OutOfMemory` if an allocation failed. Each but `Stopped` and `OutOfMemory` stops the queue.
     #[inline(always)]
     pub fn take<M: GuestMemory, H: HostBlocks>(
         &mut self,
@@ -215,12 +216,12 @@ impl Queue {
         }
     }
 
-    /// Writes the reply over the room, then the used element (le32 head, le32 length of the reply in bytes),
-    /// then the le16 used index (VIRTIO 1.2, 2.7.8), and says whether the driver wants to be told: bit 0 of
-    /// the available flags, read last, is clear (2.7.7). The chain was taken at this position, and the reply
-    /// is no longer than its room, which is empty for a fault. The place is emptied: what lay in it can't be
-    /// read, written or given back again. Whatever was taken, and whatever changed since, bytes change at the
-    /// places that the place holds alone.
+    /// Returns a chain (VIRTIO 1.2, 2.7.8). It writes the reply into the room, then the used element
+    /// (le32 head, le32 length of the reply in bytes), then the le16 used index. True if the driver asks
+    /// for a used buffer notification: bit 0 of the available flags, read last, is clear (2.7.7). The
+    /// caller popped the chain at this position. The reply is no longer than its room, which is empty
+    /// for a fault. After the call `taken` is empty, so nothing can be read, written or returned by it.
+    /// Bytes change only at the places of its windows, for any chain and after any change since the pop.
     #[inline(always)]
     pub fn give_back<H: HostBlocks>(
         &mut self,
@@ -251,9 +252,9 @@ impl Queue {
         self.give_back_front(host, taken, reply, reply.len())
     }
 
-    /// The same for a reply of `len` bytes that stands in the room already but for its first bytes, which are
-    /// written over the room's first places: with them the host is what a store of the whole reply makes of
-    /// the host that the chain was taken from.
+    /// The same for a reply of `len` bytes that is in the room already but for `front`, its first bytes.
+    /// These are written at the room's first places. The host is then the one from which the chain was
+    /// popped, with the whole reply stored.
     #[inline(always)]
     pub fn give_back_front<H: HostBlocks>(
         &mut self,

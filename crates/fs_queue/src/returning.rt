@@ -1,4 +1,5 @@
-//! What a return stores after the reply, and whether the driver is told (VIRTIO 1.2, 2.7.8 and 2.7.7).
+//! The stores of a return after the reply, and notifications of the driver (VIRTIO 1.2, 2.7.8 and
+//! 2.7.7).
 
 ghost use Rattle.std.specs.Prelude.{◌≡◌, ◌++◌};
 ghost use Rattle.std.specs.Int.{w16, w32, to_le_bytes};
@@ -7,39 +8,39 @@ use crate::access::le16_number;
 use crate::layout::QueueLayout;
 use crate::used::UsedUpdate;
 
-// The available flag by which the driver wants no notice (VIRTIO 1.2, 2.7.7).
+// VIRTQ_AVAIL_F_NO_INTERRUPT: the driver asks for no used buffer notification (VIRTIO 1.2, 2.7.7).
 const NO_INTERRUPT: u16 = 1;
 
-/// A store of half a used element: a number as le32.
+/// A store of a le32 half of a used element.
 #[derive(Clone, Copy, Debug, PartialEq, Eq)]
 pub struct ElementStore {
     /// The guest address of its four bytes.
     pub address: u64,
-    /// What is stored.
+    /// The number to store as le32.
     pub value: u32,
 }
 
-/// A store of a used index: a number as le16.
+/// A store of a le16 used index.
 #[derive(Clone, Copy, Debug, PartialEq, Eq)]
 pub struct IndexStore {
     /// The guest address of its two bytes.
     pub address: u64,
-    /// What is stored.
+    /// The number to store as le16.
     pub value: u16,
 }
 
-/// What a return stores once the reply stands in the room, one store after another, and what is loaded then.
-/// It touches no memory: whoever drives it makes the stores in this order (VIRTIO 1.2, 2.7.8).
+/// The stores of a return once the reply is in the room, and the load after them. It touches no memory:
+/// the caller makes the stores in this order, one after another (VIRTIO 1.2, 2.7.8).
 #[derive(Clone, Copy, Debug, PartialEq, Eq)]
 pub struct Return {
     /// The used element's first half: the chain's head.
     pub head: ElementStore,
-    /// The used element's second half: how many bytes the reply has.
+    /// The used element's second half: the length of the reply in bytes.
     pub len: ElementStore,
-    /// The used index, by a store that releases.
+    /// The used index, with a release store.
     pub index: IndexStore,
-    /// The guest address of the available flags, le16. They are loaded after all stores, with a full barrier
-    /// between.
+    /// The guest address of the le16 available flags. The caller loads them after all stores, with a
+    /// full barrier between.
     pub flags: u64,
 }
 
@@ -48,7 +49,7 @@ impl Return {
     ghost use Rattle.fs_queue.specs.ReturningView.{stores_of};
     ghost use Rattle.fs_queue.specs.WalkingView.{at_position};
 
-    /// The return at a position of a queue of the chain with this head, whose reply has `len` bytes.
+    /// The return of the chain with this head at a position of a queue; the reply has `len` bytes.
     pub fn new(layout: QueueLayout, position: u16, head: u16, len: u32) -> Return
         ensures stores { stores_of result ≡ stores_after_reply (at_position layout position) head len }
         ensures flags { result.flags ≡ layout.avail }
@@ -72,7 +73,7 @@ impl Return {
         }
     }
 
-    /// The bytes of its stores, one after another.
+    /// The bytes of the three stores, one after another.
     pub(crate) fn used_bytes(&self) -> [u8; 10]
         ensures { result ≡ to_le_bytes w32 self.now.head.value ++ to_le_bytes w32 self.now.len.value
             ++ to_le_bytes w16 self.now.index.value }
@@ -85,8 +86,8 @@ impl Return {
         update.to_bytes()
     }
 
-    /// Whether the driver wants to be told, by the two bytes of the available flags: bit 0 is clear (VIRTIO
-    /// 1.2, 2.7.7).
+    /// Whether the driver asks for a used buffer notification, by the two bytes of the available flags:
+    /// bit 0 is clear (VIRTIO 1.2, 2.7.7).
     pub fn tells(flags: [u8; 2]) -> bool
         ensures { result ≡ tells flags }
     {

@@ -1,5 +1,5 @@
-//! What is taken of a chain: windows with its request and its room, and those of its return (VIRTIO 1.2,
-//! 2.7.5 to 2.7.8).
+//! The windows of a chain that is popped: of its request, its room and its return (VIRTIO 1.2, 2.7.5 to
+//! 2.7.8).
 
 ghost use Rattle.std.specs.Prelude.{ℕ, ◌≡◌, ◌+◌, ◌<◌, ◌≤◌, ◌^◌, ◌++◌, ◌&&◌, List, []};
 ghost use Rattle.std.specs.Prelude.{false, true, not, is_some, None, Some, Ok, if◌then◌else◌};
@@ -34,9 +34,9 @@ use std::alloc::{AllocError, Global};
 use vm_memory::GuestMemory;
 use vm_memory_core::{HostBlocks, Permissions, Windows};
 
-// Adds to an empty list the windows that a return at this position writes besides the room: of the used
-// element, 8 bytes, then of the used index, 2 bytes. Or answers false if one of their addresses can't be
-// reached.
+// Adds to an empty list the windows that a return at this position writes besides the room. They are of
+// the used element, 8 bytes, then of the used index, 2 bytes. False if one of their addresses isn't
+// mapped.
 #[inline(always)]
 fn add_used<M: GuestMemory, H: HostBlocks>(
     alloc: Global,
@@ -62,8 +62,8 @@ fn add_used<M: GuestMemory, H: HostBlocks>(
     add_windows(alloc, host, mem, index, 2, Permissions::Write, windows)
 }
 
-// Adds to empty lists the windows of a return, or answers which of them has an address that can't be reached;
-// then the lists may have windows of what came before it.
+// Adds to empty lists the windows of a return, or returns the refusal if one of their addresses isn't
+// mapped. The lists may keep the windows before it then.
 #[inline(always)]
 fn add_used_and_flags<M: GuestMemory, H: HostBlocks>(
     alloc: Global,
@@ -100,8 +100,7 @@ fn add_used_and_flags<M: GuestMemory, H: HostBlocks>(
     Ok(None)
 }
 
-// Which part of a return at this position has an address that can't be reached, if one has: looked at by
-// itself, without a list.
+// The refusal if a return at this position has an address that isn't mapped. It makes no list.
 #[tactic(auto, using(crate::proofs::OfferLemmas::missing_reached))]
 fn missing_in_return<M: GuestMemory, H: HostBlocks>(
     alloc: Global,
@@ -117,10 +116,10 @@ fn missing_in_return<M: GuestMemory, H: HostBlocks>(
     return_fault(&HostAddressMap { alloc, host, mem }, layout, position)
 }
 
-/// Adds to empty lists the windows that a return at this position writes and reads besides the room, or
-/// answers which of them has an address that can't be reached: `UsedUnreachable` or `AvailFlagsUnreachable`.
-/// An error is a failed allocation, if all can be reached. At either the lists stay empty. `Queue::take` does
-/// so once a head is known, before the chain is walked.
+/// Adds to empty lists the windows of a return at this position besides the room. Some if one of their
+/// addresses isn't mapped: `UsedUnreachable`, then `AvailFlagsUnreachable`. AllocError if all are
+/// mapped, but an allocation fails. The lists stay empty with both. `Queue::take` calls it between the
+/// loads of the ring and the chain's walk.
 #[inline(always)]
 pub fn add_return_windows<M: GuestMemory, H: HostBlocks>(
     alloc: Global,
@@ -159,16 +158,16 @@ pub fn add_return_windows<M: GuestMemory, H: HostBlocks>(
     }
 }
 
-// Addresses that follow one another.
+// The `len` addresses from `start` on.
 #[derive(Clone, Copy, Debug)]
 struct AddressRange {
     start: u64,
     len: usize,
 }
 
-// Has a range grow by a descriptor's addresses, if they follow it. Else the range's windows are added to a
-// list, and the descriptor's addresses are the range; or the answer is false, if one of the former range's
-// addresses can't be reached.
+// Adds a descriptor's addresses to a range that they continue. Else adds the range's windows to the
+// list, and the range becomes the descriptor's addresses. False if one of the former range's addresses
+// isn't mapped.
 #[inline(always)]
 fn extend_range<M: GuestMemory, H: HostBlocks>(
     alloc: Global,
@@ -203,9 +202,9 @@ fn extend_range<M: GuestMemory, H: HostBlocks>(
     Ok(found)
 }
 
-// Adds to an empty list the windows of the descriptors of one direction, in their order, or answers false if
-// one of their addresses can't be reached. Those whose addresses follow one another are looked up at once,
-// and have one window if one has them all.
+// Adds to an empty list the windows of the descriptors of one direction, in their order. False if one of
+// their addresses isn't mapped. Descriptors with consecutive addresses are looked up together, so they
+// share a window if one has them all.
 #[inline(always)]
 fn add_direction<M: GuestMemory, H: HostBlocks>(
     alloc: Global,
@@ -237,8 +236,8 @@ fn add_direction<M: GuestMemory, H: HostBlocks>(
     add_windows(alloc, host, mem, range.start, range.len, access, windows)
 }
 
-// Adds to two empty lists the windows of a request and of its room, or answers false if one of their
-// addresses can't be reached. An error is a failed allocation.
+// Adds to two empty lists the windows of a request and of its room. False if one of their addresses
+// isn't mapped. AllocError if an allocation fails.
 #[inline(always)]
 fn add_chain<M: GuestMemory, H: HostBlocks>(
     alloc: Global,
@@ -278,9 +277,9 @@ fn add_chain<M: GuestMemory, H: HostBlocks>(
     Ok(true)
 }
 
-// Fills a chain without windows, or answers false if it has a fault: more bytes than a limit, or an address
-// that can't be reached. An error is a failed allocation, of a chain that keeps the limit. At both the chain
-// still has no windows.
+// Fills a chain that has no windows. False if it has a fault: more bytes than the limit, or an address
+// that isn't mapped. AllocError if it keeps the limit, but an allocation fails. With both it still has
+// no windows.
 #[inline(always)]
 fn fill_chain<M: GuestMemory, H: HostBlocks>(
     alloc: Global,
@@ -336,10 +335,10 @@ fn fill_chain<M: GuestMemory, H: HostBlocks>(
     }
 }
 
-/// Puts the request and the room of a chain that was walked in a place, or answers its fault: `OverLimit` if
-/// one of them has more than `limit` bytes, then `RequestUnreachable`, then `RoomUnreachable`. An error is a
-/// failed allocation, if neither has more. At a fault and at an error the place has no windows, whatever it
-/// had. `Queue::take` does so with the descriptors that joined its walk.
+/// Makes the windows of the request and the room of walked descriptors. Some if the chain has a fault:
+/// `OverLimit` if one of them has more than `limit` bytes, then `RequestUnreachable`, then
+/// `RoomUnreachable`. AllocError if neither has more, but an allocation fails. With a fault or an error
+/// the chain has no windows. `Queue::take` calls it with the descriptors that joined its walk.
 #[inline(always)]
 pub fn hold_chain<M: GuestMemory, H: HostBlocks>(
     alloc: Global,
@@ -371,9 +370,8 @@ pub fn hold_chain<M: GuestMemory, H: HostBlocks>(
     Ok(chain_fault(&HostAddressMap { alloc, host, mem }, limit, descriptors))
 }
 
-// Walks the chain of a head, and puts its request and its room in a place, or answers its fault.
-// `DescriptorUnreachable` and `OutOfMemory` are refused. A fault that the walk itself finds is never refused
-// for memory.
+// Walks the chain at a head, and makes the windows of its request and its room, or returns its fault.
+// Errors: `DescriptorUnreachable`, `OutOfMemory`. A failed allocation hides no fault of the walk itself.
 #[inline(always)]
 fn walk_and_hold<M: GuestMemory, H: HostBlocks>(
     alloc: Global,
@@ -413,8 +411,8 @@ fn walk_and_hold<M: GuestMemory, H: HostBlocks>(
     }
 }
 
-// Why a chain isn't taken if there is no memory for the windows of its return: `DescriptorUnreachable` if its
-// walk stops the queue, else `OutOfMemory`.
+// The refusal if the windows of a return can't be allocated: `DescriptorUnreachable` if the chain's walk
+// stops the queue, else `OutOfMemory`.
 fn refusal_without_return<M: GuestMemory, H: HostBlocks>(
     alloc: Global,
     layout: QueueLayout,
@@ -435,8 +433,8 @@ fn refusal_without_return<M: GuestMemory, H: HostBlocks>(
     }
 }
 
-/// Takes the chain that waits at a position of a queue that isn't stopped into an empty place; false if none
-/// waits. The errors are those of `Queue::take` but `Stopped`, in the same order.
+/// Pops the chain at a position of a queue that isn't stopped into an empty `Taken`. False if no chain
+/// is available. The errors are those of `Queue::take` but `Stopped`, in the same order.
 #[inline(always)]
 pub(crate) fn take_into<M: GuestMemory, H: HostBlocks>(
     alloc: Global,

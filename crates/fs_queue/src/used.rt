@@ -1,4 +1,4 @@
-//! What a return writes into the used ring (VIRTIO 1.2, 2.7.8).
+//! The bytes that a return writes into the used ring (VIRTIO 1.2, 2.7.8).
 
 ghost use Rattle.std.specs.Prelude.{◌≡◌, ◌++◌, refl};
 ghost use Rattle.std.specs.Int.{w16, w32, to_le_bytes};
@@ -7,8 +7,8 @@ ghost use Rattle.fs_queue.specs.Records.{used_update};
 
 use vm_values::{ByteValued, get_fields, put_fields};
 
-/// An entry of the used ring, le32 head of the chain and le32 length of its reply, and after it the le16 used
-/// index that goes with it, 10 bytes in all (VIRTIO 1.2, 2.7.8).
+/// `struct virtq_used_elem`, le32 head of the chain and le32 length of its reply, and then the le16 used
+/// index: 10 bytes (VIRTIO 1.2, 2.7.8).
 #[derive(Clone, Copy, Debug, Default, PartialEq, Eq)]
 pub(crate) struct UsedUpdate {
     pub(crate) id: u32,
@@ -35,7 +35,7 @@ impl ByteValued for UsedUpdate {
 }
 
 impl UsedUpdate {
-    // Its bytes.
+    // The 10 bytes.
     #[tactic(auto, unfolding(vm_values::specs::Fields::field_bytes))]
     pub(crate) fn to_bytes(self) -> [u8; 10]
         ensures { result ≡ to_le_bytes w32 self.id ++ to_le_bytes w32 self.len ++ to_le_bytes w16 self.index }

@@ -1,5 +1,5 @@
-//! A walk through what waits in a queue, by loads that another makes: it touches no memory (VIRTIO 1.2, 2.7.5
-//! and 2.7.6).
+//! A walk from a queue's position through its next chain, by loads that the caller makes. It touches no
+//! memory (VIRTIO 1.2, 2.7.5 and 2.7.6).
 
 ghost use Rattle.std.specs.Prelude.{◌≡◌, ℕ, ◌+◌, ◌*◌, ◌<◌, ◌≤◌, IsTrue, ◌^◌, List, length, Some, true};
 
@@ -8,20 +8,19 @@ use crate::chain_walk::{ChainWalk, Progress};
 use crate::fault::QueueError;
 use crate::layout::QueueLayout;
 
-/// A walk through what waits at a position of a queue: the load that it asks for next, or what it came to.
-/// Whoever drives it makes that load once, by a copy, and gives it the bytes, or says that one of their
-/// addresses can't be reached.
+/// A walk at a position of a queue: the load that it asks for next, or its result. The caller makes that
+/// load once, by a copy. It passes the bytes, or None if one of their addresses isn't mapped.
 #[derive(Debug, Drop)]
 pub enum Walk {
     /// It asks for the available index.
     Index(IndexWalk),
-    /// Something waits, so it asks for the available ring's entry at its position.
+    /// A chain is available, so it asks for the available ring's entry at its position.
     RingEntry(RingEntryWalk),
-    /// A chain waits, with this head: it is walked.
+    /// A chain with this head is available: the walk continues through it.
     Chain(u16, Progress),
-    /// Nothing waits.
+    /// No chain is available.
     Idle,
-    /// The queue refuses what waits.
+    /// The queue refuses its next chain.
     Refused(QueueError),
 }
 
@@ -32,7 +31,7 @@ pub struct IndexWalk {
     position: u16,
 }
 
-/// A walk that asks for the available ring's entry at its position, once.
+/// A walk that asks for the available ring's entry at its position. `give` consumes it.
 #[derive(Debug, Drop)]
 pub struct RingEntryWalk {
     layout: QueueLayout,
@@ -47,7 +46,7 @@ ghost use Rattle.fs_queue.specs.RingingView.{BeginsChain, IfRingEntry, IfRefuses
 ghost use Rattle.fs_queue.specs.WalkingView.{at_position};
 
 impl Walk {
-    /// The walk at a position of a queue that isn't stopped.
+    /// The walk at a position of a queue that isn't stopped: it asks for the available index.
     pub fn begin(layout: QueueLayout, position: u16) -> Walk
         ensures { BeginsAt layout position result }
     {
@@ -64,7 +63,7 @@ impl IndexWalk {
         IndexWalk { layout, position }
     }
 
-    /// The guest address of the two bytes that it asks for, which end below 2^64.
+    /// The guest address of the two bytes that it asks for. They end below 2^64.
     pub fn address(&self) -> u64
         ensures at { result ≡ avail_index_at (at_position self.now.layout self.now.position) }
         ensures fits { result + 2 < 2 ^ 64 }
@@ -72,8 +71,8 @@ impl IndexWalk {
         self.layout.avail() + 2
     }
 
-    /// Takes the index's bytes, or none if one of their addresses can't be reached (VIRTIO 1.2, 2.7.6 and
-    /// 2.7.13). Refused: `AvailIndexUnreachable`, then `AvailTooFar`.
+    /// Takes the index's bytes, le16, or None if one of their addresses isn't mapped (VIRTIO 1.2, 2.7.6
+    /// and 2.7.13). Refused: `AvailIndexUnreachable`, then `AvailTooFar`.
     #[inline(always)]
     pub fn give(self, came: Option<[u8; 2]>) -> Walk
         ensures stage { stage_of result ≡ stage_at (by_index (at_position self.layout self.position) came) }
@@ -98,7 +97,7 @@ impl IndexWalk {
     }
 }
 
-/// Where the available ring has the two bytes of its entry at a position.
+/// The offset of the position's entry in the available ring, in bytes.
 #[inline(always)]
 pub(crate) fn entry_offset(layout: QueueLayout, position: u16) -> u32
     ensures at { layout.avail + result ≡ ring_entry_at (at_position layout position) }
@@ -108,7 +107,7 @@ pub(crate) fn entry_offset(layout: QueueLayout, position: u16) -> u32
 }
 
 impl RingEntryWalk {
-    /// The guest address of the two bytes that it asks for, which end below 2^64.
+    /// The guest address of the two bytes that it asks for. They end below 2^64.
     pub fn address(&self) -> u64
         ensures at { result ≡ ring_entry_at (at_position self.now.layout self.now.position) }
         ensures fits { result + 2 < 2 ^ 64 }
@@ -116,7 +115,7 @@ impl RingEntryWalk {
         self.layout.avail() + u64::from(entry_offset(self.layout, self.position))
     }
 
-    /// Takes the entry's bytes, or none if one of their addresses can't be reached. Refused:
+    /// Takes the entry's bytes, le16, or None if one of their addresses isn't mapped. Refused:
     /// `RingEntryUnreachable`, then `HeadOutOfTable`.
     #[inline(always)]
     pub fn give(self, came: Option<[u8; 2]>) -> Walk

@@ -7,17 +7,17 @@ use crate::fault::ChainFault;
 use crate::layout::QueueLayout;
 use std::marker::Model;
 
-// How many bytes an entry of a table has.
+// The length of a table's entry in bytes.
 pub(crate) const ENTRY: u32 = 16;
 
-/// A table of descriptors: the queue's own, or one that a descriptor names.
+/// A table of descriptors: the queue's own, or an indirect one (VIRTIO 1.2, 2.7.5.3).
 #[derive(Clone, Copy, Debug, PartialEq, Eq)]
 pub struct DescriptorTable {
     /// The guest address of its first entry.
     pub address: u64,
-    /// How many entries of 16 bytes it has.
+    /// The number of its entries, of 16 bytes each.
     pub entries: u32,
-    /// Whether a descriptor names it.
+    /// Whether it is an indirect table, to which a descriptor refers.
     pub indirect: bool,
 }
 
@@ -31,8 +31,8 @@ impl Model for DescriptorTable {
     ghost inverse = { λ t. record { address = t.address; entries = t.entries; indirect = t.indirect } };
 }
 
-/// What a step comes to: an ordinary descriptor, which joins the chain, a table to be read on from, a faulty
-/// chain, or a stop of the queue.
+/// The result of a step: an ordinary descriptor, which joins the chain; an indirect table, to walk next;
+/// a fault of the chain; or a stop of the queue.
 #[derive(Clone, Copy, Debug, PartialEq, Eq)]
 pub(crate) enum WalkStep {
     Ordinary(Descriptor),
@@ -45,7 +45,7 @@ ghost use Rattle.fs_queue.specs.Chain.{indirect_step, ordinary_step, own_table};
 ghost use Rattle.fs_queue.specs.WalkingView.{at_position, in_table, walk_step_of, IfOrdinary, IfTable};
 ghost use Rattle.fs_queue.specs.WalkingView.{EndsIn64Bits};
 
-// What a step comes to at a descriptor that names a table, found in this one after `earlier` ordinary ones.
+// The step at a descriptor of `table` that refers to an indirect table, after `earlier` ordinary ones.
 pub(crate) fn indirect_step(
     table: DescriptorTable,
     index: u16,
@@ -73,7 +73,7 @@ pub(crate) fn indirect_step(
     }
 }
 
-// What a step comes to at an ordinary descriptor, after `earlier` others in the chain of a queue of this
+// The step at an ordinary descriptor of `table`, after `earlier` others, in a chain of a queue of this
 // size.
 pub(crate) fn ordinary_step(
     size: u16,

@@ -1,4 +1,4 @@
-//! Where a return writes.
+//! The windows of a return.
 
 ghost use Rattle.std.specs.Prelude.{◌≡◌};
 
@@ -6,8 +6,8 @@ use crate::chain::Taken;
 use vm_memory_core::VolatileSlice;
 
 impl Taken {
-    /// The windows that a return writes besides the chain's room: those of the used element, 8 bytes, and
-    /// after it of the used index, 2 bytes (VIRTIO 1.2, 2.7.8).
+    /// The windows that a return writes besides the chain's room: of the used element, 8 bytes, and then
+    /// of the used index, 2 bytes (VIRTIO 1.2, 2.7.8).
     pub fn used_windows(&self) -> &[VolatileSlice]
         ensures { result.now ≡ self.now.return_windows.used.items }
     {

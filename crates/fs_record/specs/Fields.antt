@@ -1,4 +1,4 @@
--- The parts of a record as the fields that spell them, little-endian.
+-- The fields of a record's parts, little-endian.
 use Rattle.std.specs.Prelude.{ℕ, List, [], ◌∷◌}
 use Rattle.vm_values.specs.Fields.{Field}
 use Rattle.vm_values.specs.Fields as fields
@@ -10,12 +10,12 @@ abbrev pub head_fields : RecordHead → List Field
 head_fields r =
     fields.d r.magic ∷ fields.d r.version ∷ fields.d r.count ∷ fields.d r.page_size ∷ fields.q r.options ∷ []
 
--- a queue: its size, its position, whether it stopped, and where its three parts are
+-- a queue: its size, its position, whether it is stopped, and the addresses of its three parts
 abbrev pub queue_fields : SavedQueue → List Field
 queue_fields r =
     fields.w r.size ∷ fields.w r.position ∷ fields.d r.stopped ∷ fields.q r.desc ∷ fields.q r.avail
     ∷ fields.q r.used ∷ []
 
--- behind the queues, in version 2: the limit
+-- the end of a record after its queues, in version 2: the limit
 abbrev pub limit_fields : ℕ → List Field
 limit_fields limit = fields.q limit ∷ []

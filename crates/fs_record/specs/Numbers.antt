@@ -1,11 +1,11 @@
--- The numbers that tell refusals apart.
+-- The numbers of errors.
 use Rattle.std.specs.Prelude.{ℕ}
 use Rattle.fs_record.specs.declared.error.RestoreError.{RestoreError}
 use Rattle.fs_record.specs.declared.error.RestoreError.TheVariants.{Truncated, BadMagic, BadVersion, BadCount}
 use Rattle.fs_record.specs.declared.error.RestoreError.TheVariants.{BadReserved, BadQueue, BadOptions}
 use Rattle.fs_record.specs.declared.error.RestoreError.TheVariants.{ReadFault, OutOfMemory, Mismatch}
 
--- why nothing is restored, 1 to 10
+-- the number of the error for which nothing is restored, 1 to 10
 abbrev pub restore_error_number : RestoreError → ℕ
 restore_error_number Truncated = 1
 restore_error_number BadMagic = 2

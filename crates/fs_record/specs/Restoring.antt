@@ -1,4 +1,4 @@
--- What stands in an input from which a record is restored.
+-- The bytes of a source from which a record is restored.
 use Rattle.std.specs.Prelude.{◌≡◌, ◌≢◌, ℕ, ◌<◌, ◌≤◌, ◌^◌, ◌⊎◌, Bool, true, false, List, [], ◌++◌, length, All}
 use Rattle.std.specs.Prelude.{Option, Some}
 use Rattle.std.specs.Io.KnownBytes.{IsAtEnd}
@@ -17,7 +17,7 @@ use Rattle.fs_record.specs.declared.error.RestoreError.TheVariants.{Truncated, B
 use Rattle.fs_record.specs.declared.error.RestoreError.TheVariants.{BadReserved, BadQueue, BadOptions}
 use Rattle.fs_record.specs.declared.error.RestoreError.TheVariants.{ReadFault, OutOfMemory, Mismatch}
 
--- the head of a record of so many queues, and the first of them
+-- the bytes are the head of a record of `count` queues, and the first of these queues
 abbrev pub IsRecordFront : List ℕ → Version → (options count : ℕ) → List Queue → Type 0
 IsRecordFront bytes v options count queues =
     (bytes ≡ record_front v options count queues)
@@ -27,7 +27,7 @@ IsRecordFront bytes v options count queues =
     × (length queues ≤ count)
     × All IsSavedQueue queues
 
--- it ends within a queue behind a front of a version that goes with this page size and this limit
+-- the bytes end within a queue, after the front of a record that fits this page size and this limit
 abbrev pub EndsWithinQueue : List ℕ → (page_size limit : ℕ) → Type 0
 EndsWithinQueue bytes page_size limit =
     (v : Version) × (options count : ℕ) × (queues : List Queue) × (front part : List ℕ)
@@ -37,7 +37,7 @@ EndsWithinQueue bytes page_size limit =
     × (bytes ≡ front ++ part)
     × (length part < 32)
 
--- it ends within the limit behind all queues of a record of version 2 with this page size
+-- the bytes end within the limit, after all queues of a record of version 2 with this page size
 abbrev pub EndsWithinLimit : List ℕ → (page_size limit : ℕ) → Type 0
 EndsWithinLimit bytes page_size limit = (options count : ℕ) × (queues : List Queue) × (front part : List ℕ)
     × IsRecordFront front (Second page_size limit) options count queues
@@ -45,12 +45,12 @@ EndsWithinLimit bytes page_size limit = (options count : ℕ) × (queues : List 
     × (bytes ≡ front ++ part)
     × (length part < 8)
 
--- it ends within the head, a queue or the limit
+-- the bytes end within the head, a queue or the limit
 abbrev pub EndsWithin : List ℕ → (page_size limit : ℕ) → Type 0
 EndsWithin bytes page_size limit =
     (length bytes < 24) ⊎ EndsWithinQueue bytes page_size limit ⊎ EndsWithinLimit bytes page_size limit
 
--- a head in which this is the first thing that is wrong
+-- the bytes are a head whose first error is this one
 abbrev pub IsBadHead : List ℕ → (page_size : ℕ) → RestoreError → Type 0
 IsBadHead bytes page_size error =
     (head : RecordHead)
@@ -58,7 +58,7 @@ IsBadHead bytes page_size error =
     × AllFit (head_fields head)
     × (head_error page_size head ≡ Some error)
 
--- a front with so many of its queues, and then the numbers of no queue
+-- the bytes are a front with i queues, and then the fields of no queue
 abbrev pub HasBadQueue : List ℕ → (page_size limit : ℕ) → ℕ → Type 0
 HasBadQueue bytes page_size limit i =
     (v : Version) × (options count : ℕ) × (queues : List Queue) × (front : List ℕ) × (bad : SavedQueue)
@@ -70,14 +70,14 @@ HasBadQueue bytes page_size limit i =
     × AllFit (queue_fields bad)
     × (is_queue bad ≡ false)
 
--- all queues of a record of version 2 with this page size, and then another limit
+-- the bytes are all queues of a record of version 2 with this page size, and then another limit
 abbrev pub HasOtherLimit : List ℕ → (page_size limit : ℕ) → Type 0
 HasOtherLimit bytes page_size limit =
     (options count : ℕ) × (queues : List Queue) × (front : List ℕ) × (other : ℕ)
     × IsRecordFront front (Second page_size limit) options count queues × (length queues ≡ count)
     × (bytes ≡ front ++ spelled (limit_fields other)) × (other < 2 ^ 64) × (other ≢ limit)
 
--- what was read if nothing is restored, by the page size and the limit that a record has to go with
+-- the bytes that were read explain the error, for this page size and this limit
 abbrev pub RefusesRecord : List ℕ → (page_size limit : ℕ) → RestoreError → Type 0
 RefusesRecord bytes page_size limit Truncated = EndsWithin bytes page_size limit
 RefusesRecord bytes page_size limit BadMagic = IsBadHead bytes page_size BadMagic
@@ -95,7 +95,7 @@ RefusesRecord bytes page_size limit OutOfMemory =
 RefusesRecord bytes page_size limit Mismatch =
     IsBadHead bytes page_size Mismatch ⊎ HasOtherLimit bytes page_size limit
 
--- what a refusal says of the source: it is at its end, it failed, or it failed no more than before
+-- the source after an error: at its end, failed, or failed exactly if it had failed before
 abbrev pub LeavesSource : RestoreError → (has : Option (List ℕ)) → (failed fails : Bool) → Type 0
 LeavesSource Truncated has failed fails = IsAtEnd has × (fails ≡ failed)
 LeavesSource BadMagic has failed fails = fails ≡ failed
@@ -108,7 +108,7 @@ LeavesSource ReadFault has failed fails = fails ≡ true
 LeavesSource OutOfMemory has failed fails = fails ≡ failed
 LeavesSource Mismatch has failed fails = fails ≡ failed
 
--- whether a read ended before it had all its bytes
+-- whether an error ends a read before it has all of its bytes
 abbrev pub ends_early : RestoreError → Bool
 ends_early Truncated = true
 ends_early BadMagic = false
@@ -121,7 +121,7 @@ ends_early ReadFault = true
 ends_early OutOfMemory = false
 ends_early Mismatch = false
 
--- what was read where a queue isn't restored: too little, or the numbers of none
+-- the bytes that were read for a queue explain the error: too few, or the fields of no queue
 abbrev pub RefusesQueue : List ℕ → (index : ℕ) → RestoreError → Type 0
 RefusesQueue bytes index Truncated = length bytes < 32
 RefusesQueue bytes index BadMagic = ⊥
@@ -139,8 +139,8 @@ RefusesQueue bytes index ReadFault = length bytes < 32
 RefusesQueue bytes index OutOfMemory = ⊥
 RefusesQueue bytes index Mismatch = ⊥
 
--- what was read where what stands behind the queues isn't as wanted: too little of version 2's limit, or
--- another one
+-- the bytes that were read after the queues explain the error: too few for the limit of version 2, or
+-- another limit
 abbrev pub RefusesEnd : List ℕ → RecordVersion → (limit : ℕ) → RestoreError → Type 0
 RefusesEnd bytes version limit Truncated = (version ≡ versions.Second) × (length bytes < 8)
 RefusesEnd bytes version limit BadMagic = ⊥
@@ -158,7 +158,7 @@ RefusesEnd bytes version limit Mismatch =
     × (other < 2 ^ 64)
     × (other ≢ limit)
 
--- a version, with the page size and the limit that version 2 tells
+-- a version with the page size and the limit that version 2 has
 abbrev pub told_by : RecordVersion → (page_size limit : ℕ) → Version
 told_by versions.First page_size limit = First
 told_by versions.Second page_size limit = Second page_size limit

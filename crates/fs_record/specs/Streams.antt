@@ -1,14 +1,14 @@
--- What goes into a sink.
+-- The bytes that a sink takes.
 use Rattle.std.specs.Prelude.{◌≡◌, ℕ, ◌<◌, Bool, true, ◌==◌, List, ◌++◌, length, Option, Result, Ok, Err}
 use Rattle.std.specs.Prelude.{MatchResult}
 use Rattle.std.specs.Io.KnownBytes.{Appends}
 
--- whether a put was an error or took nothing
+-- whether a put returned an error or took no byte
 abbrev pub took_nothing : {E : Type 0} → Result ℕ E → Bool
 took_nothing (Ok n) = n == 0
 took_nothing (Err e) = true
 
--- all of some bytes went out, or a part of them, and then the sink failed
+-- the sink took all of the bytes, or it took a part of them and then failed
 abbrev pub GoesOut : {E : Type 0} → (bytes : List ℕ) → (had : Option (List ℕ)) → (failed : Bool) →
     Result Unit E → (has : Option (List ℕ)) → (fails : Bool) → Type 0
 GoesOut bytes had failed result has fails = MatchResult result

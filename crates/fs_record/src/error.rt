@@ -1,15 +1,15 @@
-//! Why a record isn't saved or restored.
+//! Errors of saving and of restoring a record.
 
 ghost use Rattle.std.specs.Prelude.{◌≡◌};
 
 use thiserror::Error;
 
-/// The sink answered an error, or took nothing: a part of the record went out.
+/// The sink returned an error or took no byte. A part of the record was written, and not all of it.
 #[derive(Clone, Copy, Debug, PartialEq, Eq, Error)]
 #[error("the record can't be written")]
 pub struct WriteFault;
 
-/// Why nothing is restored; `restore_record` says in which order it finds them.
+/// Why nothing is restored. `restore_record` lists them in the order in which it checks them.
 #[derive(Clone, Copy, Debug, PartialEq, Eq, Error)]
 pub enum RestoreError {
     #[error("the record ends early")]
@@ -22,7 +22,7 @@ pub enum RestoreError {
     BadCount,
     #[error("the record's reserved number isn't 0")]
     BadReserved,
-    /// Of the queue with this number, the layout is refused, or whether it stopped is neither 0 nor 1.
+    /// The queue of this index, from 0, has a bad layout, or its `stopped` is neither 0 nor 1.
     #[error("queue {0} of the record is no queue")]
     BadQueue(usize),
     #[error("the record has options that aren't known")]
@@ -31,7 +31,7 @@ pub enum RestoreError {
     ReadFault,
     #[error("out of memory")]
     OutOfMemory,
-    /// In version 2, the record's page size or limit isn't the one that was handed in.
+    /// In version 2, the record's page size or limit isn't the one that the caller passed.
     #[error("the record's page size or limit is another one")]
     Mismatch,
 }
@@ -39,7 +39,7 @@ pub enum RestoreError {
 impl RestoreError {
     ghost use Rattle.fs_record.specs.Numbers.{restore_error_number};
 
-    /// The number that tells the refusal apart.
+    /// The error's number, 1 to 10.
     pub fn number(&self) -> u8
         ensures { result ≡ restore_error_number self.now }
     {

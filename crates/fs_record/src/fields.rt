@@ -1,4 +1,4 @@
-//! The parts of a record, each a table of its fields in order, by which it is written and read.
+//! The parts of a record, each as a table of its fields in order, for writing and reading.
 
 ghost use Rattle.std.specs.Prelude.{refl};
 ghost use Rattle.std.proofs.Common.{rules};
@@ -6,15 +6,14 @@ ghost use Rattle.fs_record.specs.Fields.{head_fields, queue_fields};
 
 use vm_values::{ByteValued, get_fields, put_fields};
 
-/// The versions of a record: the second has page size and limit too.
+/// The versions of a record. The second also has the page size and the limit.
 #[derive(Clone, Copy, Debug, PartialEq, Eq)]
 pub(crate) enum RecordVersion {
     First,
     Second,
 }
 
-/// What a record begins with: 24 bytes, each field with its lowest byte first. The page size is 0 in version
-/// 1.
+/// The head of a record: 24 bytes, each field little-endian. The page size is 0 in version 1.
 #[derive(Clone, Copy, Debug, PartialEq, Eq)]
 pub(crate) struct RecordHead {
     pub(crate) magic: u32,
@@ -42,7 +41,7 @@ impl ByteValued for RecordHead {
     ghost lawful = { (λ x y. refl, λ x y h. Prim.search rules, Prim.search rules) };
 }
 
-/// A queue as a record has it: 32 bytes.
+/// A queue in a record: 32 bytes, each field little-endian.
 #[derive(Clone, Copy, Debug, PartialEq, Eq)]
 pub(crate) struct SavedQueue {
     pub(crate) size: u16,

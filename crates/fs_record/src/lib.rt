@@ -1,5 +1,5 @@
-//! The saved record of a device: how it is put into a sink in version 2, and read back from a source in
-//! version 1 or 2.
+//! The saved record of a device: it is written to a sink in version 2, and read from a source in version
+//! 1 or 2.
 #![tactic(auto)]
 
 mod error;

@@ -21,10 +21,10 @@ use memory_requests::list_with_room;
 use std::alloc::Global;
 use vm_values::ByteValued;
 
-// How many queues a device has at most.
+// The greatest number of queues that a device has.
 const MAX_QUEUES: u32 = 64;
 
-// Fills a buffer with the next bytes; Truncated if there are too few, ReadFault if the source fails.
+// Fills a buffer with the next bytes. Truncated if the source ends before, ReadFault if it fails.
 fn fill<S: RecordSource>(source: &mut S, buf: &mut [u8]) -> Result<(), RestoreError>
     ensures ok { OnOk result (Consumes (S.left source.old) (S.left source.new) buf.new
         × (S.failed source.new ≡ S.failed source.old)) }
@@ -45,7 +45,7 @@ fn fill<S: RecordSource>(source: &mut S, buf: &mut [u8]) -> Result<(), RestoreEr
     Ok(())
 }
 
-// The value that the next bytes spell; Truncated if there are too few, ReadFault if the source fails.
+// Reads a value. Truncated if the source ends before its last byte, ReadFault if the source fails.
 fn next_value<S: RecordSource, T: ByteValued>(source: &mut S) -> Result<T, RestoreError>
     ensures ok { IfOk result (λ x. Consumes (S.left source.old) (S.left source.new) (spelled (T.fields x))
         × AllFit (T.fields x)
@@ -61,7 +61,7 @@ fn next_value<S: RecordSource, T: ByteValued>(source: &mut S) -> Result<T, Resto
     Ok(T::get_bytes(&buffer[..T::SIZE]))
 }
 
-// The options of a known flag set, or None if another bit is set.
+// The options of these bits, or None if a bit without a name is set.
 fn known(bits: u64) -> Option<FsOptions>
     ensures some { IfSome result (λ o. (o.0 ≡ bits) × HasKnownBits bits) }
     ensures none { IfNone result (¬ HasKnownBits bits) }
@@ -69,7 +69,7 @@ fn known(bits: u64) -> Option<FsOptions>
     FsOptions::from_bits(bits)
 }
 
-// What a head says of the record: its version, its options, and how many queues it has.
+// The head's version, options and number of queues, after its checks.
 #[derive(Clone, Copy)]
 struct CheckedHead {
     version: RecordVersion,
@@ -78,7 +78,7 @@ struct CheckedHead {
 }
 
 impl RecordHead {
-    // The record's version, or None if it is no known one.
+    // The record's version, or None if it is neither 1 nor 2.
     fn record_version(&self) -> Option<RecordVersion>
         ensures some { IfSome result (λ v. self.now.version ≡ version_number (told_by v 0 0)) }
         ensures none { IfNone result ((self.now.version == 1 || self.now.version == 2) ≡ false) }
@@ -90,7 +90,7 @@ impl RecordHead {
         }
     }
 
-    // What the head says where the guest's pages have this size, or the first thing that is wrong.
+    // The checked head for guest pages of this size, or the first error that applies.
     fn checked(&self, page_size: u32) -> Result<CheckedHead, RestoreError>
         ensures ok { IfOk result (λ h. (head_error page_size self.now ≡ None)
             × (self.now ≡ head_of (told_by h.version page_size 0) h.options.0 h.count)
@@ -127,7 +127,7 @@ impl RecordHead {
 }
 
 impl SavedQueue {
-    // The queue, or None if these are the numbers of none.
+    // The queue, or None if the layout is bad or `stopped` is neither 0 nor 1.
     fn queue(&self) -> Option<Queue>
         ensures some { IfSome result (λ q. (self.now ≡ saved q) × IsSavedQueue q) }
         ensures none { IfNone result (is_queue self.now ≡ false) }
@@ -144,7 +144,7 @@ impl SavedQueue {
     }
 }
 
-// What the next 24 bytes say, or why these aren't the head of a record that goes with this page size.
+// Reads the head's 24 bytes, and checks it against the page size.
 fn read_head<S: RecordSource>(source: &mut S, page_size: u32) -> Result<CheckedHead, RestoreError>
     ensures ok { IfOk result (λ h. (taken : List ℕ)
         × Consumes (S.left source.old) (S.left source.new) taken
@@ -160,7 +160,7 @@ fn read_head<S: RecordSource>(source: &mut S, page_size: u32) -> Result<CheckedH
     head.checked(page_size)
 }
 
-// The queue that the next 32 bytes have, or why they are none: BadQueue of this number where they are there.
+// Reads a queue's 32 bytes. BadQueue of this index if they are no queue; Truncated or ReadFault.
 fn read_queue<S: RecordSource>(source: &mut S, index: usize) -> Result<Queue, RestoreError>
     ensures ok { IfOk result (λ q. Consumes (S.left source.old) (S.left source.new) (queue_bytes q)
         × IsSavedQueue q
@@ -174,7 +174,7 @@ fn read_queue<S: RecordSource>(source: &mut S, index: usize) -> Result<Queue, Re
     saved.queue().ok_or(RestoreError::BadQueue(index))
 }
 
-// Reads what stands behind the queues: in version 2 the limit, which is this one; Mismatch if it is another.
+// Reads the bytes after the queues: in version 2 the limit. Mismatch if it isn't this one.
 fn read_end<S: RecordSource>(
     source: &mut S,
     version: RecordVersion,
@@ -201,13 +201,15 @@ fn read_end<S: RecordSource>(
     }
 }
 
-/// The options and the queues of the record that stands next in a source; no byte behind the record is taken.
-/// Version 1 tells no page size and no limit; version 2 tells both, and they have to be these: the bytes of a
-/// guest's page, and the greatest length of a request and of a room, in bytes. A refusal says what stands
-/// there instead: Truncated or ReadFault if the head's 24 bytes can't be had, then BadMagic, BadVersion,
-/// BadCount, BadReserved (version 1) or Mismatch (version 2), BadOptions and OutOfMemory; then for each queue
-/// Truncated or ReadFault if its 32 bytes can't be had, and BadQueue; and last, in version 2, Truncated or
-/// ReadFault if the limit's 8 bytes can't be had, and Mismatch.
+/// Restores the options and the queues of the next record in a source, and reads no byte after the
+/// record. Version 2 has a page size, the bytes of a guest's page, and a limit, the greatest length of a
+/// request and of a room in bytes. Both have to be the caller's. Version 1 has neither. Errors, in this
+/// order:
+/// - Truncated or ReadFault in the head's 24 bytes,
+/// - BadMagic, BadVersion, BadCount, BadReserved (version 1) or Mismatch (version 2), BadOptions,
+/// - OutOfMemory,
+/// - for each queue: Truncated or ReadFault in its 32 bytes, BadQueue,
+/// - in version 2: Truncated or ReadFault in the limit's 8 bytes, Mismatch.
 pub fn restore_record<S: RecordSource>(
     alloc: Global,
     source: &mut S,

@@ -1,4 +1,4 @@
-//! Putting a record into a sink.
+//! Writing a record to a sink.
 
 ghost use Rattle.std.specs.Prelude.{◌≡◌, ◌<◌, ◌≤◌, length, OnOk};
 ghost use Rattle.vm_values.specs.Fields.{spelled};
@@ -13,13 +13,13 @@ use fs_queue::Queue;
 use fuse_wire::FsOptions;
 use vm_values::ByteValued;
 
-/// "VFSD", its bytes read as a number.
+/// "VFSD" as a le32 number.
 pub(crate) const MAGIC: u32 = 0x4453_4656;
 
-// The version that is saved.
+// The version of each saved record.
 const VERSION: u32 = 2;
 
-// Puts all of a slice.
+// Writes all bytes of a slice.
 fn put_slice<S: RecordSink>(sink: &mut S, bytes: &[u8]) -> Result<(), WriteFault>
     ensures { GoesOut bytes.now (S.sent sink.old) (S.failed sink.old) result (S.sent sink.new)
         (S.failed sink.new) }
@@ -34,7 +34,7 @@ fn put_slice<S: RecordSink>(sink: &mut S, bytes: &[u8]) -> Result<(), WriteFault
     Ok(())
 }
 
-// Puts the bytes that spell a value.
+// Writes the bytes of a value.
 fn put_value<S: RecordSink, T: ByteValued>(sink: &mut S, value: &T) -> Result<(), WriteFault>
     ensures { GoesOut (spelled (T.fields value.now)) (S.sent sink.old) (S.failed sink.old) result
         (S.sent sink.new) (S.failed sink.new) }
@@ -44,7 +44,7 @@ fn put_value<S: RecordSink, T: ByteValued>(sink: &mut S, value: &T) -> Result<()
     put_slice(sink, &buffer[..T::SIZE])
 }
 
-// A queue as a record has it.
+// A queue as the record's fields.
 fn saved(queue: &Queue) -> SavedQueue
     ensures value { result ≡ saved queue.now }
     ensures queue { IsSavedQueue queue.now }
@@ -60,9 +60,10 @@ fn saved(queue: &Queue) -> SavedQueue
     }
 }
 
-/// Puts the record, of version 2, of some options and of 1 to 64 queues, with the bytes of a guest's page and
-/// the limit of requests and of rooms in bytes: a head of 24 bytes, 32 for each queue, and 8. WriteFault if
-/// the sink answers an error or takes nothing: a part of the record went out, and not all of it.
+/// Writes the record of options and of 1 to 64 queues, in version 2. Its page size is the bytes of a
+/// guest's page. Its limit is the greatest length of a request and of a room in bytes. A record has 24
+/// bytes, 32 for each queue, and 8. WriteFault if the sink fails or takes no byte: a part of the record
+/// was written, and not all of it.
 pub fn save_record<S: RecordSink>(
     sink: &mut S,
     options: FsOptions,

@@ -1,4 +1,4 @@
-//! Where a record goes.
+//! The sink of a record.
 
 ghost use Rattle.std.specs.Prelude.{◌≡◌, ◌<◌, ℕ, Bool, ◌||◌, List, Option, length};
 ghost use Rattle.std.specs.Io.{WritesAtMost};
@@ -7,16 +7,16 @@ ghost use Rattle.fs_record.specs.Streams.{took_nothing};
 
 use std::io;
 
-/// Takes the bytes of a record.
+/// A sink that takes the bytes of a record.
 pub trait RecordSink {
-    // The bytes that were put so far, where they are known.
+    // The bytes that the sink took so far, if they are known.
     ghost sent: { Self → Option (List ℕ) };
 
-    // Whether a put was an error or took nothing.
+    // Whether any `put` returned an error or took no byte.
     ghost failed: { Self → Bool };
 
-    /// Takes bytes from the front of a slice that isn't empty, and answers how many, as `Write::write` does;
-    /// or an `io::Error` of the sink's own.
+    /// Takes bytes from the front of a slice that isn't empty, and returns their number, as
+    /// `Write::write` does. An error is an `io::Error` of the sink.
     fn put(&mut self, bytes: &[u8]) -> io::Result<usize>
         requires { 0 < length bytes.now }
         ensures bound { WritesAtMost result bytes.now }

@@ -7,14 +7,14 @@ use crate::sink::RecordSink;
 use crate::source::RecordSource;
 use std::io::{self, Read, Write};
 
-/// A writer or a reader, and whether a call of it failed.
+/// A writer or a reader, and whether one of its calls failed.
 #[derive(Drop)]
 pub struct Stream<S> {
     inner: S,
     failed: bool,
 }
 
-// Whether a write was an error or took nothing.
+// Whether a write returned an error or took no byte.
 fn took_nothing(written: &io::Result<usize>) -> bool
     ensures { result ≡ took_nothing written.now }
 {
@@ -22,7 +22,7 @@ fn took_nothing(written: &io::Result<usize>) -> bool
 }
 
 impl<S> Stream<S> {
-    /// A stream of which no call failed.
+    /// A stream none of whose calls failed yet.
     pub fn new(inner: S) -> Stream<S>
         ensures inner { result.inner ≡ inner }
         ensures failed { result.failed ≡ false }
@@ -33,7 +33,7 @@ impl<S> Stream<S> {
         }
     }
 
-    /// What the stream was made of.
+    /// The writer or the reader.
     pub fn into_inner(self) -> S
         ensures { result ≡ self.inner }
     {

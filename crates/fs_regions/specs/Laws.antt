@@ -1,4 +1,4 @@
--- Theorems: a pop over regions, as it is in each memory that has its loads.
+-- Theorems: a pop over regions is a pop in each memory that has its loads.
 use Rattle.std.specs.Prelude.{◌≡◌, ℕ, ◌<◌, false, List, length, Some}
 use Rattle.vm_memory_core.specs.Host.{Host}
 use Rattle.vm_memory.specs.Memory.{Memory}
@@ -11,7 +11,7 @@ use Rattle.fs_queue.specs.Taking.{Offer, offer}
 use Rattle.fs_regions.specs.Places.{Mapped, memory_over, places_in}
 use Rattle.fs_regions.specs.Walks.{Loaded, OffersBy, ReadOutOf}
 
--- the loads are the memory's bytes: of the ring, of the tables, and of a request
+-- the loads and the request are the memory's bytes
 pub record HasLoaded (m : Memory) (q : Queue) (loaded : Loaded) (request : List ℕ) : Type 0 where
   pub index_is : (bs : List ℕ) → loaded.index ≡ Some bs → IsLoadOf m 2 (index_load q loaded.index)
   pub entry_is : (bs : List ℕ) → loaded.entry ≡ Some bs → IsLoadOf m 2 (entry_load q loaded.entry)
@@ -19,7 +19,8 @@ pub record HasLoaded (m : Memory) (q : Queue) (loaded : Loaded) (request : List 
   pub request_is :
       (head : ℕ) → next_avail m q ≡ Head head → 0 < length request → request ≡ request_in m (chain m q head)
 
--- an offer by loads in some regions is the queue's offer in each memory of these regions that has the loads
+-- theorem: an offer by loads in some regions is the queue's offer in each memory of these regions that
+-- has the loads
 abbrev pub OffersAreTheMemorys : Type 0
 OffersAreTheMemorys =
     (h : Host) (regions : Mapped) (limit : ℕ) (q : Queue) (loaded : Loaded) (request : List ℕ) (o : Offer) →
@@ -28,7 +29,7 @@ OffersAreTheMemorys =
     HasLoaded (memory_over h regions) q loaded request →
     o ≡ offer (memory_over h regions) limit q
 
--- a memory that has the bytes of a stretch has each entry that a walk reads out of them
+-- theorem: a memory that has the bytes of a stretch has each entry that a walk reads out of them
 abbrev pub ReadOutIsTheMemorys : Type 0
 ReadOutIsTheMemorys =
     (m : Memory) (from : ℕ) (bs : List ℕ) (ls : List Load) →

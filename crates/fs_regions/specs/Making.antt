@@ -7,8 +7,8 @@ use Rattle.fs_regions.specs.declared.regions.RegionsError.{RegionsError}
 use Rattle.fs_regions.specs.declared.regions.RegionsError.TheVariants.{NoRegion, Unsorted, Overlap}
 use Rattle.fs_regions.specs.declared.regions.RegionsError.TheVariants.{OutOfMemory}
 
--- some regions are a memory, or the first fault among them is the error; if there is none, the allocation may
--- fail
+-- some regions are a memory if no fault is among them; else the error is their first fault. If no fault
+-- is among them, the allocation may still fail
 abbrev pub Makes : List Region → Result (List Region) RegionsError → Type 0
 Makes regions (Ok memory) = (fault_of regions ≡ None) × (memory ≡ regions)
 Makes regions (Err NoRegion) = fault_of regions ≡ Some collection.NoMemoryRegion

@@ -1,5 +1,5 @@
--- A guest's memory by its regions, and by the IOMMU's table, if there is one. It has the mapped addresses but
--- no byte (VIRTIO 1.2, 2.7).
+-- The mapped addresses of a guest's memory, without its bytes: its regions, and the IOMMU's table, if
+-- there is one (VIRTIO 1.2, 2.7).
 use Rattle.std.specs.Prelude.{◌≡◌, ℕ, ◌+◌, ◌%◌, ◌^◌, ◌==◌, ◌||◌, not, nat_lt, [], ◌∷◌, List, Option, Some}
 use Rattle.std.specs.Prelude.{None, if◌then◌else◌, is_some, unwrap_or}
 use Rattle.vm_iotlb.specs.declared.range.IotlbRange.{IotlbRange}
@@ -12,7 +12,7 @@ use Rattle.vm_memory.specs.Translated.{left_behind}
 abbrev pub HasWholePages : Region → Type 0
 HasWholePages r = IsLawful r × (r.start % 4096 ≡ 0) × (r.size % 4096 ≡ 0)
 
--- no region, if the numbers aren't a region's; else this one
+-- this region, or None if the numbers aren't those of a region
 abbrev pub is_no_region : (start size : ℕ) → Option Region → Option Region
 is_no_region start size r =
     if size == 0 || not (start % 4096 == 0) || not (size % 4096 == 0)
@@ -41,7 +41,7 @@ memory_over h g =
 abbrev pub places_in : Mapped → Memory
 places_in g = memory_over (record { blocks = []; tables = []; io_marks = [] }) g
 
--- the most addresses from one on that a window has: it ends with its region, and with the piece that is
--- mapped as one
+-- the greatest length of a window from an address on: it ends with its region and with the piece that
+-- is mapped as one
 abbrev pub left_in : Memory → ℕ → ℕ
 left_in m a = left_behind m.translates m.host m.layout m.table a

@@ -10,8 +10,8 @@ use Rattle.fs_regions.specs.declared.step.CourseStep as comes
 use Rattle.fs_regions.specs.declared.step.CourseStep.TheVariants as step
 use Rattle.fs_regions.specs.Walks.{asked_by, is_in, Brings, ReadOutOf}
 
--- a walk goes through a stretch: it reads some entries out of it, and has these descriptors then. It needs
--- another entry only if that isn't in the stretch, or as many were read as the stretch has
+-- a walk reads some entries from a stretch, and these descriptors join the chain. It needs another
+-- entry afterwards only if that entry isn't in the stretch, or it read as many as the stretch has
 pub record ReadsStretch (walk : ChainWalk) (bs : List ℕ) (old new : List Descriptor) (after : code.Progress) :
     Type 0 where
   pub reads : List Load
@@ -24,7 +24,7 @@ pub record ReadsStretch (walk : ChainWalk) (bs : List ℕ) (old new : List Descr
       (λ w. (is_in (entry_address (visit_of walk)) (length bs) (entry_address (visit_of w)) ≡ false)
       ⊎ (16 * length reads ≡ length bs))
 
--- a walk asks for a load only if it needs an entry, and from that entry on
+-- a walk asks for a load only if it needs an entry, and the load begins at that entry
 abbrev pub AsksFor : code.Progress → comes.CourseStep → Type 0
 AsksFor (says.Wants w) (step.Load next) = asked_by next ≡ entry_address (visit_of w)
 AsksFor (says.Ends walked) (step.Load next) = ⊥

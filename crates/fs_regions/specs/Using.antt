@@ -8,7 +8,7 @@ use Rattle.fs_queue.specs.Chain.{Descriptor}
 abbrev pub Touches : (iova n : ℕ) → Descriptor → Type 0
 Touches iova n d = (k : ℕ) × (k < d.len) × (iova ≤ d.addr + k) × (d.addr + k < iova + n)
 
--- it has none of them
+-- a descriptor's buffer has none of n addresses from `iova` on
 abbrev pub IsUntouched : (iova n : ℕ) → Descriptor → Type 0
 IsUntouched iova n d = Touches iova n d → ⊥
 
@@ -16,8 +16,8 @@ IsUntouched iova n d = Touches iova n d → ⊥
 abbrev pub StaysFor : (old new : Table) → Descriptor → Type 0
 StaysFor old new d = (k : ℕ) → k < d.len → new (d.addr + k) ≡ old (d.addr + k)
 
--- removing or changing the mappings of some addresses doesn't change those of descriptors that have none of
--- them
+-- theorem: changing or removing the mappings of some addresses doesn't change those of descriptors that
+-- have none of them
 abbrev pub OthersStay : Type 0
 OthersStay =
     (iova n target : ℕ) (perm : Permissions) (table : Table) (ds : List Descriptor) →

@@ -38,20 +38,20 @@ pub record Loaded : Type 0 where
 abbrev pub nothing : Loaded
 nothing = record { index = None; entry = None; entries = [] }
 
--- descriptors before those of a chain
+-- a result of a walk with these descriptors in front of its chain's
 abbrev pub standing_before : List Descriptor → Found → Found
 standing_before [] f = f
 standing_before (d ∷ ds) f = with_front d (standing_before ds f)
 
--- by some loads a walk goes from one entry to another, and these descriptors join the chain; this holds for
--- all loads that follow
+-- these loads lead a walk from one state to another, and these descriptors join the chain; this holds
+-- for any loads that follow
 abbrev pub Brings : (size : ℕ) → List Load → (from : Ahead) → List Descriptor → (to : Ahead) → Type 0
 Brings size ls from ds to =
     (more : List Load) →
     found_exactly size (ls ++ more) from ≡ option_map (standing_before ds) (found_exactly size more to)
 
--- the loads of the ring: the index, unless it isn't mapped, and the entry, if the index calls for it and it
--- is mapped
+-- the ring's loads were asked for: the index is missing only if it isn't mapped, and the entry only if
+-- the index doesn't need it or it isn't mapped
 abbrev pub RingIsAsked : Memory → Queue → Loaded → Type 0
 RingIsAsked m q loaded =
     (loaded.index ≡ None → reach m Read (avail_index_at q) 2 ≡ false)
@@ -64,7 +64,7 @@ abbrev pub BeginsAtHead : Queue → (head : ℕ) → Progress → Type 0
 BeginsAtHead q head progress =
     (ahead_of progress ≡ ahead_at q.size (first_visit q head)) × IfWants progress (λ w. w.size ≡ q.size)
 
--- the same of a walk where a chain is available
+-- the walk begins at the head, if a chain is available
 abbrev pub BeginsIfChain : Queue → code.Walk → Type 0
 BeginsIfChain q (waits.Chain head progress) = BeginsAtHead q head progress
 BeginsIfChain q _ = Unit {0}
@@ -95,7 +95,7 @@ pub record HeadWaits (m : Memory) (q : Queue) (loaded : Loaded) (head : ℕ) (pr
   pub asked : RingIsAsked m q loaded
   pub begins : BeginsAtHead q head progress
 
--- it is available, and the stores of its push are mapped
+-- the chain of this head is available, and the stores of its push are mapped
 pub record Waits (m : Memory) (q : Queue) (loaded : Loaded) (head : ℕ) : Type 0 where
   pub by_loads : waits_by q loaded.index loaded.entry ≡ Some (Head head)
   pub asked : RingIsAsked m q loaded
@@ -109,21 +109,23 @@ queue_of c = at_position c.layout c.position
 abbrev pub IsCourseOf : Queue → (limit : ℕ) → Course → Type 0
 IsCourseOf q limit c = (queue_of c ≡ record q { stopped = false }) × (c.limit ≡ limit)
 
--- the load that a walk asks for: its address, its entries of a table, and its bytes
+-- the address of the load that a walk asks for
 abbrev pub asked_by : QueueWalk → ℕ
 asked_by (at.Index w) = avail_index_at (at_position w.layout w.position)
 asked_by (at.RingEntry w) = ring_entry_at (at_position w.layout w.position)
 asked_by (at.Entries w) = entry_address (visit_of w.walk)
 
+-- the number of table entries that a walk asks for
 abbrev pub asked_entries : QueueWalk → ℕ
 asked_entries (at.Entries w) = w.entries
 asked_entries _ = 0
 
+-- the number of bytes that a walk asks for
 abbrev pub asked_len : QueueWalk → ℕ
 asked_len (at.Entries w) = 16 * w.entries
 asked_len _ = 2
 
--- a walk is where these loads bring it, with these descriptors
+-- these loads lead to this walk, with these descriptors
 abbrev pub IsWalkAt : Memory → Queue → Loaded → List Descriptor → QueueWalk → Type 0
 IsWalkAt m q loaded ds (at.Index w) = (at_position w.layout w.position ≡ q) × (loaded ≡ nothing) × (ds ≡ [])
 IsWalkAt m q loaded ds (at.RingEntry w) =
@@ -194,7 +196,7 @@ pub record AddsEntries (from : ℕ) (bs : List ℕ) (came : comes.CourseStep) (o
   pub uses_up : UsesUp from bs reads came
   pub added : new ≡ record old { entries = old.entries ++ reads }
 
--- the same of each load: the walk asked for it, and these are its bytes
+-- a load's bytes are added to the loads; those of a stretch are added as its entries
 abbrev pub AddsBytes : QueueWalk → List ℕ → comes.CourseStep → (old new : Loaded) → Type 0
 AddsBytes (at.Index w) bs came old new = new ≡ record old { index = Some bs }
 AddsBytes (at.RingEntry w) bs came old new = new ≡ record old { entry = Some bs }

@@ -7,7 +7,7 @@ use Rattle.fs_queue.specs.Chain.{Descriptor}
 use Rattle.fs_queue.specs.Taking.{total_len, access_of, of_direction, addresses_of}
 use Rattle.fs_regions.specs.Places.{Mapped, left_in, places_in}
 
--- the descriptor that has byte `from` of some, and how many of its bytes lie before that one
+-- byte `from` of some descriptors is byte `skip` of this descriptor
 abbrev pub StandsIn : List Descriptor → (from : ℕ) → (d : Descriptor) → (skip : ℕ) → Type 0
 StandsIn ds from d skip =
     (before behind : List Descriptor)
@@ -15,8 +15,8 @@ StandsIn ds from d skip =
     × (from ≡ total_len before + skip)
     × (skip < d.len)
 
--- a window, not empty, of the bytes of one direction from one on. It ends with their descriptor, their
--- region, or the piece that is mapped as one
+-- a window, not empty, of the bytes of one direction from byte `from` on. It ends with their
+-- descriptor, their region, or the piece that is mapped as one
 abbrev pub IsWindowFrom : Mapped → (write_only : Bool) → List Descriptor → (from : ℕ) → Window → Type 0
 IsWindowFrom regions write_only ds from w =
     (0 < w.len)
@@ -27,8 +27,8 @@ IsWindowFrom regions write_only ds from w =
     × StandsIn (of_direction write_only ds) from d skip
     × (w.len ≡ min (d.len - skip) (left_in (places_in regions) (d.addr + skip)))
 
--- the addresses of the bytes of one direction from one on, at least one, as far as their descriptor goes;
--- `guest` is the first one modulo 2^64
+-- the addresses of the bytes of one direction from byte `from` on, at least one, up to the end of their
+-- descriptor; `guest` is the first one modulo 2^64
 abbrev pub IsRangeFrom : (write_only : Bool) → List Descriptor → (from guest len : ℕ) → Type 0
 IsRangeFrom write_only ds from guest len =
     (0 < len)

@@ -9,7 +9,7 @@ use crate::map::GuestMap;
 use fs_queue::Descriptor;
 use vm_memory_core::{Permissions, VolatileSlice};
 
-// The access that a device needs to the bytes of one direction.
+// The access that a device needs for the bytes of one direction.
 fn access_of(write_only: bool) -> Permissions
     ensures { result ≡ access_of write_only }
 {
@@ -20,8 +20,8 @@ fn access_of(write_only: bool) -> Permissions
     }
 }
 
-/// The longest window of the bytes of one direction of a chain from one on: in one descriptor and one region,
-/// and mapped in one piece. None past their end, or where the first of them isn't mapped.
+/// The longest window of the bytes of one direction of a chain from byte `from` on: in one descriptor
+/// and one region, and mapped in one piece. None past their end, or if the first of them isn't mapped.
 pub fn window_from(
     regions: &GuestMap,
     descriptors: &[Descriptor],
@@ -54,8 +54,8 @@ pub fn window_from(
     None
 }
 
-/// The guest addresses of the bytes of one direction of a chain from one on, as far as their descriptor goes:
-/// the first one, modulo 2^64, and how many. None past their end.
+/// The guest addresses of the bytes of one direction of a chain from byte `from` on, up to the end of
+/// their descriptor: the first address, modulo 2^64, and their number. None past their end.
 pub fn range_from(descriptors: &[Descriptor], write_only: bool, from: u64) -> Option<(u64, u64)>
     ensures some { IfSome result (λ r. IsRangeFrom write_only descriptors.now from r.0 r.1) }
     ensures none { result ≡ None → total_len (of_direction write_only descriptors.now) ≤ from }

@@ -1,4 +1,4 @@
-//! How a pop goes over the regions of a guest's memory.
+//! A pop over the regions of a guest's memory: its steps from load to load.
 
 ghost use Rattle.std.specs.Prelude.{◌≡◌, ℕ, ◌*◌, ◌-◌, [], List, Option, Some, length, true};
 ghost use Rattle.smallvec.specs.SmallVec.{HasRoomFor};
@@ -87,8 +87,8 @@ impl Course {
     }
 
     /// Takes the bytes of the load that a walk asked for, and returns the next step. The list has the
-    /// descriptors of the chain so far, and space for as many more as the entries that the walk asked for.
-    /// The walk goes through those entries before it asks for another load.
+    /// descriptors of the chain so far, and space for one more for each entry that the walk asked for.
+    /// The walk uses all of those entries before it asks for another load.
     #[inline(always)]
     pub fn give(
         &self,
@@ -227,7 +227,8 @@ impl Course {
         usize::from(self.layout.size()).saturating_sub(descriptors.len())
     }
 
-    // A walk that needs an entry of a table asks for a stretch from it on, unless the entry isn't mapped.
+    // A walk that needs an entry of a table asks for a stretch from it on. It ends if the entry isn't
+    // mapped.
     #[inline(always)]
     fn at_entry(
         &self,

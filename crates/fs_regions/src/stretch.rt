@@ -30,8 +30,8 @@ fn most_of(table: DescriptorTable) -> u16
     }
 }
 
-// The most entries that a walk asks for: up to the end of its table, no more than a load of it has, and no
-// more than descriptors may still join the chain. It is at least 1.
+// The most entries that a walk asks for: at least 1, none past the end of its table, no more than a
+// load of that table may have, and no more than descriptors may still join the chain.
 fn most_entries(walk: &ChainWalk, may_join: usize) -> u16
     ensures some { 0 < result }
     ensures few { result ≤ most_of walk.now.table }
@@ -50,8 +50,8 @@ fn most_entries(walk: &ChainWalk, may_join: usize) -> u16
     most.max(1) as u16
 }
 
-// How many of some consecutive entries of a table are in the region of the first one and mapped in one piece
-// with it; 1 if the first goes over its end.
+// How many of `most` consecutive entries of a table are in the region of the first one and mapped in
+// one piece with it; 1 if the first crosses its end.
 fn entries_in_region(regions: &GuestMap, walk: &ChainWalk, most: u16) -> u16
     requires some { 0 < most }
     requires inside { walk.now.index + most ≤ walk.now.table.entries }
@@ -131,8 +131,8 @@ fn offset_in(walk: &ChainWalk, from: u64, len: usize, left: u16) -> Option<usize
     Some((address - from) as usize)
 }
 
-// Reads the entry that a walk needs out of a stretch. If a descriptor joins the chain by it, the list has it
-// then.
+// Reads the entry that a walk needs from a stretch. If a descriptor of it joins the chain, the list has
+// it then.
 #[inline(always)]
 fn read_entry(
     walk: ChainWalk,
@@ -157,8 +157,8 @@ fn read_entry(
     given.then
 }
 
-/// Takes a walk through the bytes of a stretch, entry by entry, as long as the next entry is in the stretch.
-/// It reads no more entries than the stretch has.
+/// Walks through the bytes of a stretch, entry by entry, while the next entry is in the stretch. It
+/// reads no more entries than the stretch has.
 #[inline(always)]
 pub(crate) fn read_stretch(
     walk: ChainWalk,

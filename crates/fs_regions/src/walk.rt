@@ -30,8 +30,8 @@ impl QueueWalk {
         }
     }
 
-    /// How many entries of a table it asks for, whose descriptors may join the chain; 0 if it asks for part
-    /// of the available ring.
+    /// The number of table entries that it asks for, whose descriptors may join the chain; 0 if it asks
+    /// for part of the available ring.
     pub fn entries(&self) -> usize
         ensures entries { result ≡ asked_entries self.now }
         ensures few { result ≤ 256 }

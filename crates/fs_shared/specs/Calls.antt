@@ -1,4 +1,4 @@
--- What the calls on the state under the lock do, by cases on the answer.
+-- The calls on the state under the lock, by cases on the result.
 use Rattle.std.specs.Prelude.{◌≡◌, ℕ, Bool, true, false, [], ◌∷◌, ◌++◌, length, Result, Ok, Err, Vec}
 use Rattle.std.specs.Global.{Global}
 use Rattle.fs_queue.specs.declared.fault.QueueError.TheVariants as stop
@@ -16,7 +16,7 @@ use Rattle.fs_shared.specs.declared.entry.Receipt.{Receipt}
 use Rattle.fs_shared.specs.Replay.{Plays}
 use Rattle.fs_shared.specs.Held.{HasWaiting, Held, WouldDo, came_of}
 
--- one entry more, which is what the call did, and the receipt of it
+-- the call had its effect, added one entry for it to the journal, and returned the entry's receipt
 pub record Journals {F : Type 0} (may : May F) (before : Held F) (command : Command) (r : Receipt)
     (after : Held F) : Type 0 where
   pub plays : Plays may before.machine command (came_of r.outcome) r.pages.items after.machine
@@ -31,13 +31,13 @@ pub record Journals {F : Type 0} (may : May F) (before : Held F) (command : Comm
   pub number : r.number ≡ length before.journal
   pub receipt : command_of r.command ≡ command
 
--- a step of queue i that changes nothing, and ends so
+-- the call is a step of queue i with this end that changes nothing
 abbrev pub CallChangesNothing : {F : Type 0} → May F → Held F → ℕ → step.StepEnd → Held F → Type 0
 CallChangesNothing may before i outcome after =
     Step may before.machine i [] outcome before.machine × (after ≡ before)
 
--- a kick for one chain: nothing waits, the queue is stopped or it is missing only if the step says so;
--- a failed allocation changes nothing, and comes only if something waits
+-- a kick serves one chain; it is idle or refused only if the step ends so; `OutOfMemory` changes nothing, and
+-- is returned only if the queue offers a chain or a refusal
 abbrev pub KicksBy : {F : Type 0} → May F → Held F → ℕ → Result (kicked.Kicked) DeviceError → Held F → Type 0
 KicksBy may before i (Ok (kicked.TheVariants.Done r)) after = Journals may before (Kick i 1) r after
 KicksBy may before i (Ok kicked.TheVariants.Idle) after = CallChangesNothing may before i step.Idle after
@@ -49,8 +49,8 @@ KicksBy may before i (Err (device.Queue stop.OutOfMemory)) after =
     HasWaiting before.machine i × (after ≡ before)
 KicksBy may before i (Err (device.Queue _)) after = ⊥
 
--- a guest's write or another layout: refused only if the machine refuses it so; a failed allocation changes
--- nothing, and comes only where the machine would make the change
+-- a guest's write or a new layout is refused only if the machine refuses it so; `OutOfMemory` changes
+-- nothing, and is returned only if the machine would make the change
 abbrev pub JournalsOrRefuses :
     {F : Type 0} → May F → Held F → Command → Result Receipt Refusal → Held F → Type 0
 JournalsOrRefuses may before command (Ok r) after = Journals may before command r after
@@ -59,7 +59,7 @@ JournalsOrRefuses may before command (Err why.OutOfMemory) after =
 JournalsOrRefuses may before command (Err e) after =
     Affects before.machine command (IsRefused e) before.machine × (after ≡ before)
 
--- a guest's read: what the machine answers to it, and nothing changes
+-- a guest's read has the machine's answer, and changes nothing
 abbrev pub ReadsBy : {F : Type 0} → May F → Held F → (addr len : ℕ) → Result (Vec ℕ Global) Refusal → Type 0
 ReadsBy may held addr len (Ok bytes) =
     Performs may held.machine (GuestRead addr len) [] (Bytes bytes.items) held.machine
@@ -71,7 +71,7 @@ abbrev pub did_kick : Result (kicked.Kicked) DeviceError → Bool
 did_kick (Ok (kicked.TheVariants.Done r)) = true
 did_kick _ = false
 
--- whether another call was
+-- whether a guest's write or a new layout was journaled
 abbrev pub did : Result Receipt Refusal → Bool
 did (Ok r) = true
 did (Err e) = false

@@ -1,4 +1,4 @@
--- What lies under the lock, and what its journal says.
+-- The state under the lock, and its journal as a value of the definitions.
 use Rattle.std.specs.Prelude.{◌≡◌, ℕ, Bool, false, List, map, IsSomeAnd, slice_get}
 use Rattle.fs_queue.specs.Taking.{is_idle, offer}
 use Rattle.plain_machine.specs.Step.{State}
@@ -15,23 +15,22 @@ use Rattle.fs_shared.specs.Replay.{Outcome, Done, Served, Stopped, ReplayEntry}
 abbrev pub HasOpenQueue : {F : Type 0} → State F → ℕ → Type 0
 HasOpenQueue s i = IsSomeAnd (slice_get s.queues i) (λ q. q.stopped ≡ false)
 
--- there is a queue of this number that isn't stopped, and something waits at its position: a chain, or what
--- stops it
+-- there is a queue of this number that isn't stopped, and it offers a chain or a refusal at its position
 abbrev pub HasWaiting : {F : Type 0} → State F → ℕ → Type 0
 HasWaiting s i =
     IsSomeAnd (slice_get s.queues i) (λ q. (q.stopped ≡ false) × (is_idle (offer s.memory s.limit q) ≡ false))
 
--- the machine makes this change if it is asked for
+-- the machine would carry out this command, and not refuse it
 abbrev pub WouldDo : {F : Type 0} → State F → Command → Type 0
 WouldDo {F} s command = (next : State F) × Affects s command run.Done next
 
--- what came of a call
+-- the outcome of a call, as a value of the definitions
 abbrev pub came_of : told.Outcome → Outcome
 came_of told.TheVariants.Done = Done
 came_of (told.TheVariants.Served x notice) = Served (exchange_of x) notice
 came_of (told.TheVariants.Stopped e) = Stopped e
 
--- an entry of the journal
+-- an entry of the journal, as a value of the definitions
 abbrev pub entry_of : JournalEntry → ReplayEntry
 entry_of e =
     record {
@@ -41,12 +40,12 @@ entry_of e =
       pages = e.pages.items;
     }
 
--- the journal
+-- the journal, as a value of the definitions
 abbrev pub journal_of : List JournalEntry → List ReplayEntry
 journal_of entries = map entry_of entries
 
--- what no call on a shared device changes: the numbers of the table and of the set of I/O pages, whether the
--- table is used, the limit and the page size
+-- the parts of a state that no call on a shared device changes: the numbers of the IOMMU's table and of the
+-- set of I/O pages, whether the IOMMU is on, the limit and the page size
 pub record Fixed : Type 0 where
   pub table : ℕ
   pub io_pages : ℕ
@@ -54,7 +53,7 @@ pub record Fixed : Type 0 where
   pub limit : ℕ
   pub page_size : ℕ
 
--- those of a state
+-- these parts of a state
 abbrev pub fixed_of : {F : Type 0} → State F → Fixed
 fixed_of s =
     record {

@@ -1,4 +1,4 @@
--- Which pages of blocks a journal tells: those where the machine differs from the start lie among them.
+-- The pages of a journal's entries: each page in which the machine differs from the start is among them.
 use Rattle.std.specs.Prelude.{◌≡◌, ◌≢◌, ℕ, List, drop, flat_map, take}
 use Rattle.std.specs.List.{Contains}
 use Rattle.vm_memory_core.specs.Host.{Host, Place, byte_at, lengths}
@@ -10,19 +10,18 @@ use Rattle.fs_shared.specs.Replay.{ReplayEntry, Replays}
 abbrev pub joined_pages : List ReplayEntry → List ℕ
 joined_pages entries = flat_map (λ e. e.pages) entries
 
--- the blocks of two hosts have the same lengths, and the page of each place where a byte differs is among
--- these
+-- the blocks of two hosts have the same lengths, and the page of each byte that differs is in this list
 pub record DiffersWithin (pages : List ℕ) (before after : Host) : Type 0 where
   pub block_lengths : lengths after ≡ lengths before
   pub bytes : (p : Place) → byte_at after p ≢ byte_at before p → Contains pages (page_of (lengths before) p)
 
--- so it is of what a journal replays to
+-- a journal's pages include the page of each byte that differs between its start and the state it replays to
 abbrev pub JournalsTellPages : Type 0
 JournalsTellPages =
     (start after : State (Unit {0})) (journal : List ReplayEntry) → Replays start journal after →
     DiffersWithin (joined_pages journal) start.memory.host after.memory.host
 
--- the first entries lead to a state from which the others lead on
+-- the first entries of a journal replay to a state, and the others replay from it
 abbrev pub JournalsSplit : Type 0
 JournalsSplit =
     (start after : State (Unit {0})) (first : ℕ) (journal : List ReplayEntry) →

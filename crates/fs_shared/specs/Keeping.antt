@@ -1,4 +1,4 @@
--- What a machine did, as it is kept for a journal and for a receipt.
+-- The event of a machine, as the code makes it for the journal and for the receipt.
 use Rattle.std.specs.Prelude.{◌≡◌, ◌≤◌, ◌+◌, ℕ, List, [], length, Option, Some, None, Result, Ok, Err}
 use Rattle.std.specs.Prelude.{vec_capacity}
 use Rattle.fs_queue.specs.declared.fault.QueueError.TheVariants as stop
@@ -16,7 +16,7 @@ use Rattle.fs_shared.specs.Held.{HasWaiting, came_of}
 use Rattle.fs_shared.specs.Replay.{Plays}
 use Rattle.fs_shared.specs.ReturnRuns.{AreReturnRuns}
 
--- an event of a machine, and the same for the receipt
+-- the machine carried out a command, and entry and receipt both hold its event
 pub record KeepsEvent {F : Type 0} (may : May F) (before : State F) (command : Command) (kept : Kept)
     (after : State F) : Type 0 where
   pub plays : Plays may before command (came_of kept.entry.outcome) kept.entry.pages.items after
@@ -25,11 +25,11 @@ pub record KeepsEvent {F : Type 0} (may : May F) (before : State F) (command : C
   pub outcome : came_of kept.receipt.outcome ≡ came_of kept.entry.outcome
   pub pages : kept.receipt.pages.items ≡ kept.entry.pages.items
 
--- a step of queue i that changes nothing, and ends so
+-- the machine made a step of queue i with this end that changes nothing
 abbrev pub StepChangesNothing : {F : Type 0} → May F → State F → ℕ → step.StepEnd → State F → Type 0
 StepChangesNothing may before i outcome after = Step may before i [] outcome before × (after ≡ before)
 
--- a kick of a machine for one chain, by cases on the answer, as on a shared device
+-- a kick of a machine for one chain, by cases on the result as in `KicksBy`
 abbrev pub KickKeeps :
     {F : Type 0} → May F → State F → ℕ → Result (Option Kept) DeviceError → State F → Type 0
 KickKeeps may before i (Ok (Some kept)) after = KeepsEvent may before (Kick i 1) kept after
@@ -41,8 +41,8 @@ KickKeeps may before i (Err (device.Queue stop.Stopped)) after =
 KickKeeps may before i (Err (device.Queue stop.OutOfMemory)) after = HasWaiting before i × (after ≡ before)
 KickKeeps may before i (Err (device.Queue _)) after = ⊥
 
--- room for a copy of what is exchanged and for the pages of its return, where a chain with this request was
--- taken from blocks of these lengths
+-- memory for a copy of the exchange of a taken chain with this request, and for two lists of the pages that
+-- its return writes; the blocks have these lengths
 pub record IsRoomFor (block_lengths : List ℕ) (t : Taken) (bytes : List ℕ) (room : ReplyRoom) : Type 0 where
   pub request : room.request.items ≡ bytes
   pub reply : room.reply.items ≡ []

@@ -1,5 +1,5 @@
--- What a file system may do is forgotten, each call keeps a journal that replays, what a share marked stays
--- marked, and passes are joined to the whole.
+-- Theorems: the file system can be forgotten, calls keep a journal that replays, marks stay, and shares and
+-- harvest together have every part of the passes.
 use Rattle.std.specs.Prelude.{◌≡◌, ◌≢◌, ℕ, ◌*◌, ◌^◌, ◌<◌, ◌++◌, ◌∷◌, [], List, Result, length}
 use Rattle.vm_atomic_bitmaps.specs.declared.counts.PageCounts.{PageCounts}
 use Rattle.vm_atomic_bitmaps.specs.declared.counts.Tally.{Tally}
@@ -19,25 +19,26 @@ use Rattle.fs_shared.specs.Marks.{HasMarked, HasMarkedSince}
 use Rattle.fs_shared.specs.Replay.{Anything, forget, Plays, Replays}
 use Rattle.fs_shared.specs.Replay as replay
 
--- a step is one of what is left, with the same calls and outcome, if a file system may do anything
+-- a step is also one of the state without its file system, with the same calls and outcome, if any answer is
+-- allowed
 abbrev pub StepsForget : {F : Type 0} → May F → Type 0
 StepsForget {F} may =
     (s after : State F) (i : ℕ) (calls : Calls) (outcome : StepEnd) →
     Step may s i calls outcome after →
     Step Anything (forget s) i calls outcome (forget after)
 
--- so is an event, with the same pages
+-- an event is also one of the state without its file system, with the same outcome and pages
 abbrev pub EventsForget : {F : Type 0} → May F → Type 0
 EventsForget {F} may =
     (s after : State F) (command : Command) (outcome : replay.Outcome) (pages : List ℕ) →
     Plays may s command outcome pages after →
     Plays Anything (forget s) command outcome pages (forget after)
 
--- from its start the journal replays to what the machine holds
+-- the journal replays from its start to the machine's state
 abbrev pub HoldsReplay : {F : Type 0} → Held F → Type 0
 HoldsReplay h = Replays h.start h.journal (forget h.machine)
 
--- it does after a kick that is told so, if it did before
+-- a kick keeps `HoldsReplay`
 abbrev pub KicksReplay : {F : Type 0} → May F → Type 0
 KicksReplay {F} may =
     (before after : Held F) (i : ℕ) (result : Result Kicked DeviceError) →
@@ -45,7 +46,7 @@ KicksReplay {F} may =
     KicksBy may before i result after →
     HoldsReplay after
 
--- and after a write or another layout
+-- a guest's write or a new layout keeps `HoldsReplay`
 abbrev pub ActsReplay : {F : Type 0} → May F → Type 0
 ActsReplay {F} may =
     (before after : Held F) (command : Command) (result : Result Receipt Refusal) →
@@ -53,11 +54,11 @@ ActsReplay {F} may =
     JournalsOrRefuses may before command result after →
     HoldsReplay after
 
--- a call has marked what its receipt tells
+-- a call has marked the pages of its receipt
 abbrev pub CallsMark : Type 0
 CallsMark = (r : Receipt) (old new : List Tally) → MarksPages r.pages.items old new → HasMarked new (r ∷ [])
 
--- a call keeps what was marked
+-- a call keeps the marks of earlier receipts
 abbrev pub CallsKeepMarks : Type 0
 CallsKeepMarks =
     (receipts : List Receipt) (pages : List ℕ) (old new : List Tally) →
@@ -65,7 +66,7 @@ CallsKeepMarks =
     HasMarked old receipts →
     HasMarked new receipts
 
--- two shares in one have marked what either has
+-- two joined shares have marked the pages of the receipts of both
 abbrev pub JoinsKeepMarks : Type 0
 JoinsKeepMarks =
     (receipts others : List Receipt) (ts us : List Tally) →
@@ -74,14 +75,14 @@ JoinsKeepMarks =
     HasMarked us others →
     HasMarked (joined_with us ts) (receipts ++ others)
 
--- a share that takes over what was seen keeps what it marked
+-- a share keeps its marks when it meets another pass
 abbrev pub MeetsKeepMarks : Type 0
 MeetsKeepMarks =
     (receipts : List Receipt) (ts us : List Tally) →
     HasMarked ts receipts →
     HasMarked (met_with us ts) receipts
 
--- what a call marks of a word, once its share has seen what a harvest took of it, is marked since
+-- once a share has seen a harvest's clears of a word, the word's pages in its later receipts are marked since
 abbrev pub CallsMarkSince : Type 0
 CallsMarkSince =
     (word first : ℕ) (taken : List Tally) (r : Receipt) (old new : List Tally) →
@@ -89,7 +90,7 @@ CallsMarkSince =
     MarksPages r.pages.items old new →
     HasMarkedSince word first taken new (r ∷ [])
 
--- a call keeps what its share has seen, and what was marked since
+-- a call keeps the clears that its share has seen, and the pages that were marked since
 abbrev pub CallsKeepSince : Type 0
 CallsKeepSince =
     (word first : ℕ) (taken : List Tally) (receipts : List Receipt) (pages : List ℕ) (old new : List Tally) →
@@ -97,14 +98,14 @@ CallsKeepSince =
     (HasSeen word taken old → HasSeen word taken new)
     × (HasMarkedSince word first taken old receipts → HasMarkedSince word first taken new receipts)
 
--- a receipt of an earlier entry asks nothing
+-- a receipt of an entry before `first` needs no mark
 abbrev pub EarlierAsksNothing : Type 0
 EarlierAsksNothing =
     (word first : ℕ) (taken pages : List Tally) (r : Receipt) →
     r.number < first →
     HasMarkedSince word first taken pages (r ∷ [])
 
--- two shares in one have marked since what either has
+-- joining two shares keeps `HasMarkedSince`, for the receipts of both
 abbrev pub JoinsKeepSince : Type 0
 JoinsKeepSince =
     (word first : ℕ) (taken : List Tally) (receipts others : List Receipt) (ts us : List Tally) →
@@ -113,13 +114,13 @@ JoinsKeepSince =
     HasMarkedSince word first taken us others →
     HasMarkedSince word first taken (joined_with us ts) (receipts ++ others)
 
--- a share that takes over what was seen keeps what it marked since
+-- meeting another pass keeps `HasMarkedSince`
 abbrev pub MeetsKeepSince : Type 0
 MeetsKeepSince =
     (word first : ℕ) (taken : List Tally) (receipts : List Receipt) (ts us : List Tally) →
     HasMarkedSince word first taken ts receipts → HasMarkedSince word first taken (met_with us ts) receipts
 
--- a gather of another word leaves what was marked of this one since
+-- a gather of another word keeps `HasMarkedSince` of this word
 abbrev pub GathersKeepSince : Type 0
 GathersKeepSince =
     (word other found first : ℕ) (taken pages : List Tally) (receipts : List Receipt) →
@@ -127,11 +128,11 @@ GathersKeepSince =
     HasMarkedSince word first taken pages receipts →
     HasMarkedSince word first (cleared_by (in_word other) found taken) pages receipts
 
--- two passes have the same part of all
+-- two passes have the same part of all passes
 abbrev pub HaveSamePart : PageCounts → PageCounts → Type 0
 HaveSamePart v w = w.parts * 2 ^ v.depth ≡ v.parts * 2 ^ w.depth
 
--- the halves of a share's pass, whatever they have counted since, have its part once they are one again
+-- the two halves of a pass have the whole part again once they are joined, for any counts since
 abbrev pub JoinsGiveBack : Type 0
 JoinsGiveBack =
     (v a b : PageCounts) →
@@ -139,7 +140,7 @@ JoinsGiveBack =
     HaveSamePart (new_half v) b →
     HaveSamePart v (both_passes a b)
 
--- a harvest and a share with the parts that a new device's have are the whole
+-- a harvest and a share with the parts of a new device's harvest and share together have every part
 abbrev pub HalvesAreWhole : Type 0
 HalvesAreWhole =
     (len : ℕ) (h v : PageCounts) →

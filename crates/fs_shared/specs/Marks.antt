@@ -1,4 +1,4 @@
--- What the calls on a shared device mark in its bitmap of pages, and what a harvest takes of it.
+-- The marks of a shared device's calls in its bitmap of pages, and those that a harvest takes.
 use Rattle.std.specs.Prelude.{◌≡◌, ◌≢◌, ◌⊎◌, ℕ, ◌/◌, ◌<◌, ◌≤◌, true, List, [], drop, length, All, Result, Ok}
 use Rattle.std.specs.Prelude.{Err}
 use Rattle.std.specs.List.{Contains}
@@ -19,7 +19,7 @@ use Rattle.fs_shared.specs.Audit.{AreAllReceipts}
 use Rattle.fs_shared.specs.Held.{journal_of}
 use Rattle.fs_shared.specs.Replay.{Replays}
 
--- a harvest: its device's bitmap, and the pass by which it gathers
+-- a harvest: its device's bitmap, and the pass with which it gathers
 pub record Harvest : Type 0 where
   pub bitmap : SharedPages
   pub pass : Pass
@@ -28,7 +28,7 @@ pub record Harvest : Type 0 where
 abbrev pub IsHarvestOf : SharedPages → Harvest → Type 0
 IsHarvestOf bitmap h = h.bitmap ≡ bitmap
 
--- a bitmap has one page for each of a host's, which have 4096 bytes and are numbered block by block
+-- a bitmap has one page for each page of a host; pages have 4096 bytes and are numbered block by block
 pub record HasPagesOf (host : Host) (bitmap : SharedPages) : Type 0 where
   pub page_size : bitmap.page_size ≡ 4096
   pub len : bitmap.len ≡ first_page (lengths host) (length (lengths host))
@@ -37,17 +37,17 @@ pub record HasPagesOf (host : Host) (bitmap : SharedPages) : Type 0 where
 abbrev pub first_of : SharedPages → Pass
 first_of bitmap = record { name = bitmap.name; counts = first_pass bitmap.len }
 
--- the pages that a kick tells
+-- the pages of a kick's receipt, none without receipt
 abbrev pub kicked_pages : Result (kicked.Kicked) DeviceError → List ℕ
 kicked_pages (Ok (kicked.TheVariants.Done r)) = r.pages.items
 kicked_pages _ = []
 
--- the pages that another call tells
+-- the pages of the receipt of a guest's write or a new layout, none if it was refused
 abbrev pub told_pages : Result Receipt Refusal → List ℕ
 told_pages (Ok r) = r.pages.items
 told_pages (Err e) = []
 
--- the pass has marked each page of the receipts that its bitmap has
+-- the pass has marked each page of the receipts that lies in its bitmap
 abbrev pub HasMarked : List Tally → List Receipt → Type 0
 HasMarked pages receipts =
     All (λ r. (page : ℕ) →
@@ -55,13 +55,13 @@ HasMarked pages receipts =
     Contains r.pages.items page →
     (tally_of pages page).marked ≡ true) receipts
 
--- the page is set in the words, or the harvest took it before
+-- the page is set in the words, or the harvest has taken it
 abbrev pub IsSetOrTaken : (words : List ℕ) → Harvest → (page : ℕ) → Type 0
 IsSetOrTaken words h page = (page_bit words page ≡ 1) ⊎ (0 < (tally_of h.pass.counts.pages page).off)
 
--- where the share marked what all receipts of the journal tell, and share and harvest have every part of the
--- passes, each page of the bitmap in which the hosts differ is set in the words, or the harvest took it
--- before
+-- each page of the bitmap in which the hosts differ is set in the words, or the harvest has taken it; this
+-- supposes that share and harvest have every part of the passes, and that the share has marked the pages of
+-- receipts that match the journal
 abbrev pub AccountsFor :
     Pass → Harvest → List JournalEntry → (before after : Host) → (words : List ℕ) → Type 0
 AccountsFor share h journal before after words =
@@ -74,8 +74,8 @@ AccountsFor share h journal before after words =
     page_of (lengths before) p < h.bitmap.len →
     IsSetOrTaken words h (page_of (lengths before) p)
 
--- each page of a word, that the bitmap has, of the receipts with numbers from `first` on was marked since
--- another pass took it last
+-- the pages of a word, of the receipts with numbers from `first` on, are all marked since another pass's last
+-- clear of them; pages past the bitmap are left out
 abbrev pub HasMarkedSince : (word first : ℕ) → (taken pages : List Tally) → List Receipt → Type 0
 HasMarkedSince word first taken pages receipts =
     All (λ r. first ≤ r.number →
@@ -85,8 +85,8 @@ HasMarkedSince word first taken pages receipts =
     Contains r.pages.items page →
     IsMarkedSince taken pages page) receipts
 
--- where share and harvest have every part of the passes, each page of the bitmap that the share marked since
--- the harvest took it is set in the words
+-- each page of the bitmap that the share marked since the harvest took it is set in the words, if share and
+-- harvest have every part of the passes
 abbrev pub LeavesMarked : Pass → Harvest → (words : List ℕ) → Type 0
 LeavesMarked share h words =
     IsWhole (both_passes h.pass.counts share.counts) →
@@ -95,9 +95,9 @@ LeavesMarked share h words =
     IsMarkedSince h.pass.counts.pages share.counts.pages page →
     page_bit words page ≡ 1
 
--- there, where the share marked since the harvest took a word last what all receipts of the journal from
--- `first` on tell of it, each page of that word is set in which the machine differs from the state from which
--- the entries from `first` on replay
+-- each page of a word in which the machine differs from the state before entry `first` is set in the words;
+-- this supposes that share and harvest have every part of the passes, and that since the word's last gather
+-- the share has marked its pages in the receipts from `first` on, of receipts that match the journal
 abbrev pub AccountsSince : Pass → Harvest → List JournalEntry → State (Unit {0}) → (words : List ℕ) → Type 0
 AccountsSince share h journal after words =
     IsWhole (both_passes h.pass.counts share.counts) →

@@ -1,35 +1,35 @@
--- What a share says.
+-- A share of a device, as a value of the definitions.
 use Rattle.std.specs.Prelude.{◌≡◌, ℕ, ◌+◌, ◌/◌, ◌<◌, ◌≤◌, Bool, true, if◌then◌else◌, List, length}
 use Rattle.std.specs.List.{Contains}
 use Rattle.vm_atomic_bitmaps.specs.declared.counts.Tally.{Tally}
 use Rattle.vm_atomic_bitmaps.specs.Counts.{tally_of, kept_half, new_half, both_passes}
 use Rattle.vm_atomic_bitmaps.specs.Passes.{Pass, SharedPages, IsPassOf}
 
--- how many of a device's parts it has, how many calls were journaled by it, and what it marked in the
--- device's bitmap
+-- a share: the number of its parts of a device, the number of calls that were journaled with it, and its pass
+-- of the device's bitmap
 pub record Portion : Type 0 where
   pub parts : ℕ
   pub count : ℕ
   pub pass : Pass
 
--- a call that was journaled counts by one, and no other does
+-- the share after a call: a journaled call adds 1 to the count, and any other adds nothing
 abbrev pub counted : Portion → (journaled : Bool) → Portion
 counted p journaled = if journaled then record p { count = p.count + 1 } else p
 
--- the share's pass is of this bitmap, and cleared no page of it
+-- the share's pass is one of this bitmap, and has cleared no page of it
 pub record IsShareOf (bitmap : SharedPages) (s : Portion) : Type 0 where
   pub pass : IsPassOf bitmap s.pass
   pub none_cleared : (p : ℕ) → (tally_of s.pass.counts.pages p).off ≡ 0
 
--- the pass that keeps half of its part
+-- a pass after a split: it keeps its counts and half of its part
 abbrev pub kept_pass : Pass → Pass
 kept_pass p = record { name = p.name; counts = kept_half p.counts }
 
--- a pass that has counted nothing, with the other half
+-- the pass that a split makes: it has counted nothing, and has the other half of the part
 abbrev pub new_pass : Pass → Pass
 new_pass p = record { name = p.name; counts = new_half p.counts }
 
--- two shares in one
+-- two shares joined: the sums of parts and counts, and both passes in one
 abbrev pub joined : Portion → Portion → Portion
 joined s t =
     record {
@@ -38,12 +38,12 @@ joined s t =
       pass = record { name = s.pass.name; counts = both_passes s.pass.counts t.pass.counts };
     }
 
--- the page is marked, and more marks than clears of it are known of
+-- the pass has marked the page, and knows of more marks of it than clears
 abbrev pub IsMarked : Tally → Type 0
 IsMarked t = (t.marked ≡ true) × (t.seen < t.held)
 
--- pages were marked, each by a step of its own, and none was cleared; the tallies of others, and of all past
--- the last page, are as they were
+-- these pages were marked, each by at least one step, and no page was cleared; the tallies of all other
+-- pages, and of pages past the last, are unchanged
 pub record MarksPages (pages : List ℕ) (old new : List Tally) : Type 0 where
   pub count : length new ≡ length old
   pub marked : (p : ℕ) → p < length old → Contains pages p → IsMarked (tally_of new p)
@@ -56,16 +56,16 @@ pub record MarksPages (pages : List ℕ) (old new : List Tally) : Type 0 where
       (p : ℕ) → p < length old → Contains pages p → (tally_of old p).mark_steps < (tally_of new p).mark_steps
   pub steps_kept : (p : ℕ) → (tally_of old p).mark_steps ≤ (tally_of new p).mark_steps
 
--- a pass has seen each clear that it made
+-- a pass has seen each of its own clears
 abbrev pub HasSeenItsOwn : List Tally → Type 0
 HasSeenItsOwn taken = (page : ℕ) → (tally_of taken page).off ≤ (tally_of taken page).seen
 
--- a pass has seen, of the pages of a word, each clear that another made: what it marks from now on is marked
--- since
+-- a pass has seen each clear that another made of a word's pages; the marks that it makes from now on come
+-- after those clears
 abbrev pub HasSeen : (word : ℕ) → (taken seen : List Tally) → Type 0
 HasSeen word taken seen =
     (page : ℕ) → page / 64 ≡ word → (tally_of taken page).off ≤ (tally_of seen page).seen
 
--- a pass knows of more marks of the page than another made clears, so a mark was not taken by that one
+-- a pass knows of more marks of the page than the clears that another made, so that one left a mark
 abbrev pub IsMarkedSince : (taken marks : List Tally) → (page : ℕ) → Type 0
 IsMarkedSince taken marks page = (tally_of taken page).off < (tally_of marks page).held

@@ -1,4 +1,4 @@
--- What a journal of single events gives from its start, for some answers of the file system.
+-- The replay of a journal of single events from its start, for some answers of the file system.
 use Rattle.std.specs.Prelude.{◌≡◌, ℕ, Bool, false, IsTrue, List, [], ◌∷◌, length}
 use Rattle.std.specs.List.{filter_map}
 use Rattle.vm_iotlb.specs.declared.permissions.Permissions.TheVariants.{Write}
@@ -16,21 +16,21 @@ use Rattle.plain_machine.specs.MarkedPages.{returned_addresses}
 use Rattle.plain_machine.specs.UsedLength.{IsOffered}
 use Rattle.fs_shared.specs.Pages.{ArePagesOf}
 
--- what came of an event: it was done, a chain was exchanged, with whether the driver was told, or a refusal
--- stopped the queue
+-- the outcome of an event: a change was made, a chain was served (with whether to notify the driver), or a
+-- refusal stopped the queue
 pub data Outcome : Type 0 where
   Done : Outcome
   Served : Exchange → (notice : Bool) → Outcome
   Stopped : DeviceError → Outcome
 
--- an event, what came of it, the options after it, and the pages of blocks that it wrote, ascending
+-- an event, its outcome, the options after it, and the pages of blocks that it wrote, ascending
 pub record ReplayEntry : Type 0 where
   pub command : Command
   pub outcome : Outcome
   pub options : ℕ
   pub pages : List ℕ
 
--- any answer of a file system
+-- the file system that may give any answer
 abbrev pub Anything : May (Unit {0})
 Anything = λ before call answer after. Unit {0}
 
@@ -46,26 +46,26 @@ forget s =
       page_size = s.page_size;
     }
 
--- the places that are written where each of some addresses is written
+-- the places that a write to these addresses reaches
 abbrev pub written_places : Memory → List ℕ → List Place
 written_places m written = filter_map (location m Write) written
 
--- the pages of blocks that are written where each of some addresses is written
+-- the pages are those of the places that a write to these addresses reaches
 abbrev pub WritesPages : Memory → List ℕ → List ℕ → Type 0
 WritesPages m written pages = ArePagesOf (lengths m.host) (written_places m written) pages
 
--- an exchange writes its reply over the room, the used element and the used index
+-- the pages are those that an exchange writes: its reply in the reply buffer, the used element and used index
 abbrev pub ExchangesPages : {F : Type 0} → State F → ℕ → Exchange → List ℕ → Type 0
 ExchangesPages s i x pages =
     (o : IsOffered s i x)
     × WritesPages s.memory (returned_addresses o.queue x.head (room_of o.fetched) x.reply) pages
 
--- the refusals that are journaled are those that stop a queue: the others change nothing
+-- whether a refusal is journaled: only if it stops the queue, for the others change nothing
 abbrev pub is_journaled : DeviceError → Bool
 is_journaled device.NoSuchQueue = false
 is_journaled (device.Queue e) = stops_queue e
 
--- one step on a queue, with this outcome and these pages
+-- a kick is one step of a queue with this outcome and these pages
 abbrev pub ReplaysKick : {F : Type 0} → May F → State F → ℕ → Outcome → List ℕ → State F → Type 0
 ReplaysKick may s i Done pages after = ⊥
 ReplaysKick may s i (Served x notice) pages after =
@@ -73,7 +73,7 @@ ReplaysKick may s i (Served x notice) pages after =
 ReplaysKick may s i (Stopped e) pages after =
     IsTrue (is_journaled e) × Step may s i [] (step.Refused e) after × (pages ≡ [])
 
--- one event: a guest's write, another layout, or a kick for one chain
+-- an event is a guest's write, a new layout, or a kick for one chain, with its outcome and pages
 abbrev pub Plays : {F : Type 0} → May F → State F → Command → Outcome → List ℕ → State F → Type 0
 Plays may s (GuestWrite a bytes) outcome pages after =
     (outcome ≡ Done)

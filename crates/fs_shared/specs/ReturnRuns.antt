@@ -1,4 +1,4 @@
--- Runs of the bytes that a return of a chain may write.
+-- Runs of the bytes that the return of a chain may write.
 use Rattle.std.specs.Prelude.{◌≡◌, ℕ, List, length, map}
 use Rattle.vm_memory_core.specs.Host.{lengths}
 use Rattle.vm_memory_core.specs.Window.{places}
@@ -13,13 +13,13 @@ use Rattle.plain_machine.specs.MarkedPages.{returned_addresses}
 use Rattle.fs_shared.specs.Replay.{WritesPages}
 use Rattle.fs_shared.specs.declared.return_pages.ReturnRuns.{ReturnRuns}
 
--- those of the places of its room, and those of the places of the used element and the used index
+-- the runs are those of a taken chain's reply buffer, and those of its used element and used index
 pub record AreReturnRuns (block_lengths : List ℕ) (t : Taken) (runs : ReturnRuns) : Type 0 where
   pub room : AreRuns (map (page_of block_lengths) (chain_places t.chain)) runs.room.items
   pub used : AreRuns (map (page_of block_lengths) (places t.return_windows.used.items)) runs.used.items
 
--- the pages that a return writes, with a reply of this length, where a chain was taken whose runs these are;
--- used element and index have 10 bytes
+-- the pages are those that the return of any chain with these runs writes, with a reply of this length; used
+-- element and used index have 10 bytes together
 abbrev pub AreReturnPages : ReturnRuns → (reply_len : ℕ) → (pages : List ℕ) → Type 0
 AreReturnPages runs reply_len pages =
     (m : Memory) (q : Queue) (fetched : RequestAndRoom) (t : Taken) (head : ℕ) (reply : List ℕ) →

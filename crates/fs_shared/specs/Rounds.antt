@@ -1,4 +1,4 @@
--- What a round of a device leaves of the pages that it wrote.
+-- The pages that a round of a device wrote: gathered between its two servings, or left at its end.
 use Rattle.std.specs.Prelude.{◌≡◌, ◌≢◌, ◌⊎◌, ℕ, ◌+◌, ◌<◌, ◌≤◌, List, [], ◌∷◌, ◌++◌, All, length, Option, Some}
 use Rattle.std.specs.Prelude.{None, drop}
 use Rattle.vm_bitmaps.specs.Words.{page_bit}
@@ -13,20 +13,19 @@ use Rattle.fs_shared.specs.Held.{journal_of}
 use Rattle.fs_shared.specs.Marks.{HasMarkedSince}
 use Rattle.fs_shared.specs.Replay.{Replays}
 
--- each page, of the first len ones, in which the hosts differ is set in the words that were gathered or in
--- those that were left
+-- each of the first `len` pages in which the hosts differ is set in the gathered words or in the words left
 abbrev pub TellsPages : (len : ℕ) → (gathered left : List ℕ) → (before after : Host) → Type 0
 TellsPages len gathered left before after =
     (p : Place) → byte_at after p ≢ byte_at before p → page_of (lengths before) p < len →
     (page_bit gathered (page_of (lengths before) p) ≡ 1) ⊎ (page_bit left (page_of (lengths before) p) ≡ 1)
 
--- the number of the entry that follows the last one of some
+-- the number of the next entry after `last`, and 0 without one
 abbrev pub following : Option ℕ → ℕ
 following None = 0
 following (Some last) = last + 1
 
--- each page, of the first len ones, in which the machine differs from the state after the entries up to
--- `last` is set in the words that were left
+-- each of the first `len` pages in which the machine differs from the state after entry `last` is set in the
+-- words left; without `last` the state is the start
 abbrev pub LeavesSince :
     (len : ℕ) → (last : Option ℕ) → List JournalEntry → (left : List ℕ) → State (Unit {0}) → Type 0
 LeavesSince len last journal left after =
@@ -37,7 +36,8 @@ LeavesSince len last journal left after =
     page_of (lengths since.memory.host) p < len →
     page_bit left (page_of (lengths since.memory.host) p) ≡ 1
 
--- calls of a share that has seen what another pass took keep that, and what they tell is marked since
+-- a share that has seen another pass's clears of a word keeps that by its calls, and marks the pages of their
+-- receipts since
 abbrev pub KeepsSince : (old new : List Tally) → (before after : List Receipt) → Type 0
 KeepsSince old new before after =
     (word first : ℕ) (taken : List Tally) →
@@ -45,25 +45,25 @@ KeepsSince old new before after =
     HasMarkedSince word first taken old before →
     HasSeen word taken new × HasMarkedSince word first taken new after
 
--- ---- where the gather stands among the receipts
+-- ---- the receipts before the gather
 
--- the same receipts, and some more behind them
+-- the receipts after are those before, followed by further ones
 abbrev pub GoesOnWith : (before after : List Receipt) → Type 0
 GoesOnWith before after = (more : List Receipt) × (after ≡ before ++ more)
 
--- the number of one of some receipts
+-- one of the receipts has this number
 abbrev pub IsNumberOf : ℕ → List Receipt → Type 0
 IsNumberOf n receipts =
     (front : List Receipt) × (r : Receipt) × (back : List Receipt)
     × (receipts ≡ front ++ r ∷ back)
     × (r.number ≡ n)
 
--- the greatest number of some receipts, if there is one
+-- the greatest number of the receipts, None if there are none
 abbrev pub IsGreatest : Option ℕ → List Receipt → Type 0
 IsGreatest None receipts = receipts ≡ []
 IsGreatest (Some n) receipts = IsNumberOf n receipts × All (λ r. r.number ≤ n) receipts
 
--- the greatest number of the first receipts, at most so many
+-- the greatest number of some first receipts, of which there are at most `most`
 abbrev pub IsGreatestOfFirst : (most : ℕ) → Option ℕ → List Receipt → Type 0
 IsGreatestOfFirst most last receipts =
     (first : List Receipt) × (length first ≤ most) × IsGreatest last first × GoesOnWith first receipts

@@ -1,4 +1,4 @@
--- What a call on a shared device says of what lay under its lock: some state, since threads take turns.
+-- The calls on a shared device, by some state under its lock: threads take turns, so contracts can't name it.
 use Rattle.std.specs.Prelude.{ℕ, Result, Vec}
 use Rattle.std.specs.Global.{Global}
 use Rattle.virtiofsd_fuse.specs.Serving.{May}
@@ -11,23 +11,23 @@ use Rattle.fs_shared.specs.Held.{Held}
 use Rattle.fs_shared.specs.Laws.{HoldsReplay}
 use Rattle.fs_shared.specs.Calls.{JournalsOrRefuses, KicksBy, ReadsBy}
 
--- a kick was answered so between two states, the latter of which has a journal that replays
+-- a kick has this result from some state to another, whose journal replays
 abbrev pub KicksSome : {F : Type 0} → May F → ℕ → Result (kicked.Kicked) DeviceError → Type 0
 KicksSome {F} may i result =
     (before : Held F) × (after : Held F) × KicksBy may before i result after × HoldsReplay after
 
--- so was a write or another layout
+-- a guest's write or a new layout has this result from some state to another, whose journal replays
 abbrev pub ActsSome : {F : Type 0} → May F → Command → Result Receipt Refusal → Type 0
 ActsSome {F} may command result =
     (before : Held F) × (after : Held F)
     × JournalsOrRefuses may before command result after
     × HoldsReplay after
 
--- a read was answered so by a state that has a journal that replays
+-- a guest's read has this result in some state whose journal replays
 abbrev pub ReadsGuest : {F : Type 0} → May F → (addr len : ℕ) → Result (Vec ℕ Global) Refusal → Type 0
 ReadsGuest {F} may addr len result = (held : Held F) × ReadsBy may held addr len result × HoldsReplay held
 
--- what holds of the receipt of a kick that was journaled
+-- the property holds of the receipt, if the kick was journaled
 abbrev pub IfDone : (Receipt → Type 0) → kicked.Kicked → Type 0
 IfDone P (kicked.TheVariants.Done r) = P r
 IfDone P kicked.TheVariants.Idle = Unit {0}

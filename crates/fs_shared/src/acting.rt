@@ -1,5 +1,5 @@
-//! A guest's write and another layout, of which what is told is kept twice. It has room before anything
-//! changes.
+//! A guest's write and a change of the layout. Each event is made twice: for the journal and for the receipt.
+//! All memory for both is allocated before anything changes.
 
 ghost use Rattle.std.specs.Prelude.{◌≡◌, [], true, IfOk, OnErr, length};
 ghost use Rattle.vm_iotlb.specs.declared.permissions.Permissions.TheVariants.{Write};
@@ -20,7 +20,7 @@ use std::alloc::{AllocError, Global};
 use vm_memory::{GuestMemory, GuestMemoryMmap, Iommu};
 use vm_memory_core::{GuestAddress, HostBlocks, Permissions, Windows};
 
-// The pages of bytes that a guest writes, from a physical address on; it reaches them.
+// The pages of the `len` bytes from a physical address on. The range is wholly in guest memory.
 fn write_pages<H: HostBlocks>(
     alloc: Global,
     host: &H,
@@ -47,7 +47,7 @@ fn write_pages<H: HostBlocks>(
     Ok(pages)
 }
 
-// A guest's write that was done, and its pages.
+// The event of a guest's write, with the pages that it wrote.
 fn write_event(
     alloc: Global,
     addr: u64,
@@ -68,7 +68,7 @@ fn write_event(
     })
 }
 
-// What is told of a guest's write of these pages.
+// The event of a guest's write, for its entry and for its receipt.
 fn kept_write(alloc: Global, addr: u64, bytes: &[u8], pages: Vec<usize>) -> Result<Kept, AllocError>
     ensures entry { IfOk result (λ kept. (command_of kept.entry.command ≡ GuestWrite addr bytes.now)
         × (came_of kept.entry.outcome ≡ Done)
@@ -84,8 +84,8 @@ fn kept_write(alloc: Global, addr: u64, bytes: &[u8], pages: Vec<usize>) -> Resu
     })
 }
 
-/// The guest writes bytes that it reaches, from a physical address on, and what is told of it is kept;
-/// AllocError if an allocation fails, and then nothing changes.
+/// The guest writes bytes from a physical address on, in guest memory; the result is the event for entry and
+/// receipt. AllocError if an allocation fails, and then nothing changes.
 pub(crate) fn write_kept<F: FileSystem, I: Iommu + Drop>(
     alloc: Global,
     machine: &mut Machine<F, I>,
@@ -100,12 +100,12 @@ pub(crate) fn write_kept<F: FileSystem, I: Iommu + Drop>(
     let layout = machine.mem.get_backend();
     let pages = write_pages(alloc, &machine.host, layout, addr, bytes.len())?;
     let kept = kept_write(alloc, addr, bytes, pages)?;
-    // It reaches, so it isn't refused.
+    // The range is in guest memory, so the machine doesn't refuse the write.
     let _ = machine.guest_write(addr, bytes);
     Ok(kept)
 }
 
-// Another layout that was set; no page is written.
+// The event of a new layout: it writes no page.
 fn layout_event(alloc: Global, layout: GuestMemoryMmap) -> Event
     ensures command { command_of result.command ≡ SetLayout layout }
     ensures outcome { came_of result.outcome ≡ Done }
@@ -118,8 +118,8 @@ fn layout_event(alloc: Global, layout: GuestMemoryMmap) -> Event
     }
 }
 
-/// Other regions, whose blocks the host has, take the place of all that are there, and what is told of it is
-/// kept; AllocError if an allocation fails, and then nothing changes.
+/// Replaces all regions by those of a layout whose blocks the host has; the result is the event for entry and
+/// receipt. AllocError if an allocation fails, and then nothing changes.
 pub(crate) fn layout_kept<F: FileSystem, I: Iommu + Drop>(
     alloc: Global,
     machine: &mut Machine<F, I>,
@@ -132,7 +132,7 @@ pub(crate) fn layout_kept<F: FileSystem, I: Iommu + Drop>(
 {
     let first = layout.try_clone()?;
     let second = layout.try_clone()?;
-    // The host has its blocks, so it isn't refused.
+    // The host has the layout's blocks, so the machine doesn't refuse it.
     let _ = machine.set_layout(layout);
     Ok(Kept {
         entry: layout_event(alloc, first),

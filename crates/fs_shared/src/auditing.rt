@@ -1,4 +1,4 @@
-//! Whether receipts say all that a journal says.
+//! Whether receipts match a journal: one receipt for each entry, with the entry's content.
 
 ghost use Rattle.std.specs.Prelude.{◌≡◌, ◌↔◌, ◌<◌, ℕ, IsTrue, All, length};
 ghost use Rattle.fs_shared.specs.Audit.{AreAllReceipts, MatchesJournal, IsReceiptOf, times};
@@ -7,7 +7,7 @@ use crate::entry::{JournalEntry, Receipt};
 use crate::same_command::same_command;
 use crate::same_outcome::same_outcome;
 
-// Whether a receipt says what an entry says.
+// Whether a receipt has an entry's command, outcome and pages.
 fn tells(entry: &JournalEntry, receipt: &Receipt) -> bool
     ensures { IsTrue result ↔ IsReceiptOf entry.now receipt.now }
 {
@@ -16,7 +16,7 @@ fn tells(entry: &JournalEntry, receipt: &Receipt) -> bool
         && receipt.pages.as_slice() == entry.pages.as_slice()
 }
 
-// Whether a receipt has the number of an entry, and says what that says.
+// Whether a receipt matches the entry of its number.
 fn is_told(journal: &[JournalEntry], receipt: &Receipt) -> bool
     ensures { IsTrue result ↔ MatchesJournal journal.now receipt.now }
 {
@@ -26,7 +26,7 @@ fn is_told(journal: &[JournalEntry], receipt: &Receipt) -> bool
     }
 }
 
-// How many receipts have a number.
+// How many receipts have this number.
 fn times(receipts: &[Receipt], number: usize) -> usize
     ensures { result ≡ times number receipts.now }
 {
@@ -39,7 +39,7 @@ fn times(receipts: &[Receipt], number: usize) -> usize
     count
 }
 
-// Whether each receipt says what the entry of its number says.
+// Whether each receipt matches the entry of its number.
 fn all_told(journal: &[JournalEntry], receipts: &[Receipt]) -> bool
     ensures { IsTrue result ↔ All (MatchesJournal journal.now) receipts.now }
 {
@@ -51,7 +51,7 @@ fn all_told(journal: &[JournalEntry], receipts: &[Receipt]) -> bool
     true
 }
 
-// Whether the numbers of some receipts are 0, 1 and so on, in this order.
+// Whether the receipts have the numbers 0, 1 and so on, in this order.
 fn ascend(receipts: &[Receipt]) -> bool
     ensures { IsTrue result → (number : ℕ) → number < length receipts.now → times number receipts.now ≡ 1 }
 {
@@ -65,8 +65,8 @@ fn ascend(receipts: &[Receipt]) -> bool
     true
 }
 
-// Whether each number below a count is that of one receipt. It passes receipts that ascend once, and others
-// once for each number.
+// Whether each number below `count` is the number of exactly one receipt. Passes the list once if the numbers
+// ascend from 0, and otherwise once for each number.
 fn each_once(count: usize, receipts: &[Receipt]) -> bool
     ensures { IsTrue result ↔ ((number : ℕ) → number < count → times number receipts.now ≡ 1) }
 {
@@ -81,15 +81,15 @@ fn each_once(count: usize, receipts: &[Receipt]) -> bool
     true
 }
 
-/// Whether some receipts say all that a journal says: their numbers are 0 up to the journal's length, each
-/// once, and each has the command, the outcome and the pages of the entry of its number. Layouts are compared
-/// by the base, the length and the block of each region. It takes no memory. It passes receipts that stand in
-/// the order of their numbers once, and others once for each entry.
+/// Whether the receipts match the journal: each entry's number belongs to exactly one receipt, which has the
+/// entry's command, outcome and pages. Two layouts are compared by the base, length and block of each region.
+/// Allocates no memory. Passes receipts that are in the order of their numbers once, and others once for each
+/// entry.
 ///
-/// The clauses of a `SharedDevice` can't name what lay under its lock: this finds, at run time, a receipt
-/// without an entry, an entry without a receipt, and a receipt that tells what another call did. It doesn't
-/// find a kick that is idle though a chain waits, nor bytes of a read that were made up: neither is journaled
-/// (`SharedState` promises both of what it holds).
+/// A contract of `SharedDevice` can't name the state under the lock. So this function finds at run time a
+/// receipt without an entry, an entry without a receipt, and a receipt of another call. It doesn't find a
+/// kick that returned `Idle` while a chain was available, nor a guest read with invented bytes. The journal
+/// has no entry for either; the contracts of `SharedState` exclude both.
 pub fn audit(journal: &[JournalEntry], receipts: &[Receipt]) -> bool
     ensures { IsTrue result ↔ AreAllReceipts journal.now receipts.now }
 {

@@ -1,5 +1,5 @@
-//! The calls on what lies under the lock. Each is one event, and is journaled with its receipt or changes
-//! nothing.
+//! The calls on the state under the lock. Each is one event: it is journaled and returns a receipt, or it
+//! changes nothing.
 
 ghost use Rattle.std.specs.Prelude.{◌≡◌, IfErr, List, OnOk, Err, false, vec_len};
 ghost use Rattle.fs_shared.specs.Portion.{counted};
@@ -26,7 +26,7 @@ use std::sync::ledger::{Book, Ledger};
 use vm_memory::{GuestMemoryMmap, Iommu};
 use vm_memory_core::Permissions;
 
-// Whether a queue takes chains: else what its kick is refused for, since it is missing or stopped.
+// Whether a queue can be served. NoSuchQueue if the device has no such queue, Stopped if it is stopped.
 fn takes_chains<F: FileSystem, I: Iommu + Drop>(
     machine: &Machine<F, I>,
     queue: usize,
@@ -46,7 +46,7 @@ fn takes_chains<F: FileSystem, I: Iommu + Drop>(
     }
 }
 
-// What a kick of a queue that takes chains answers if its entry has no room: `Idle` if nothing waits, else
+// The result of a kick whose journal entry couldn't be allocated: `Idle` if the queue offers nothing, else
 // `OutOfMemory`.
 fn kick_without_room<F: FileSystem, I: Iommu + Drop>(
     alloc: Global,
@@ -61,7 +61,7 @@ fn kick_without_room<F: FileSystem, I: Iommu + Drop>(
     ensures none { did_kick result ≡ false }
 {
     let Some(there) = machine.device.queue(queue) else {
-        // It takes chains.
+        // The device has the queue, by the precondition.
         unreachable!()
     };
     if there.is_idle(alloc, &machine.host, &machine.mem) {
@@ -70,8 +70,8 @@ fn kick_without_room<F: FileSystem, I: Iommu + Drop>(
     Err(DeviceError::Queue(QueueError::OutOfMemory))
 }
 
-// Serves the next chain of a queue of a machine, and journals what came of it. The entry has room before a
-// chain is taken.
+// Serves the next chain of a machine's queue, and journals the outcome. The entry's memory is reserved before
+// a chain is taken.
 fn kick_into<L: Ledger, F: FileSystem, I: Iommu + Drop>(
     alloc: Global,
     machine: &mut Machine<F, I>,
@@ -105,7 +105,7 @@ fn kick_into<L: Ledger, F: FileSystem, I: Iommu + Drop>(
     }
 }
 
-// Writes a guest's bytes, and journals that. The entry has room before anything is written.
+// Writes a guest's bytes, and journals the write. The entry's memory is reserved before anything is written.
 #[tactic(auto, using(crate::proofs::ActLemmas::write_refused))]
 fn write_into<L: Ledger, F: FileSystem, I: Iommu + Drop>(
     alloc: Global,
@@ -139,7 +139,7 @@ fn write_into<L: Ledger, F: FileSystem, I: Iommu + Drop>(
     }
 }
 
-// Takes another layout, and journals that. The entry has room before anything is changed.
+// Replaces the layout, and journals the change. The entry's memory is reserved before anything changes.
 #[tactic(auto, using(crate::proofs::ActLemmas::layout_refused))]
 fn layout_into<L: Ledger, F: FileSystem, I: Iommu + Drop>(
     alloc: Global,
@@ -173,9 +173,9 @@ fn layout_into<L: Ledger, F: FileSystem, I: Iommu + Drop>(
 }
 
 impl<L: Ledger, F: FileSystem, I: Iommu + Drop> SharedState<L, F, I> {
-    /// Serves the next chain of a queue, by its number from 0 (VIRTIO 1.2, 2.7.13 and 2.7.8). What is done is
-    /// journaled, and nothing is done before its entry and its receipt have room. A refusal that stops the
-    /// queue is journaled too; `Idle`, `NoSuchQueue`, `Stopped` and `OutOfMemory` change nothing.
+    /// Serves the next chain of a queue, by its number from 0 (VIRTIO 1.2, 2.7.13 and 2.7.8). The memory for
+    /// entry and receipt is allocated before the file system is called. A refusal that stops the queue is
+    /// journaled too. `Idle`, `NoSuchQueue`, `Stopped` and `OutOfMemory` change nothing.
     pub fn kick(
         &mut self,
         alloc: Global,
@@ -197,8 +197,8 @@ impl<L: Ledger, F: FileSystem, I: Iommu + Drop> SharedState<L, F, I> {
         )
     }
 
-    /// The guest writes bytes from a physical address on, and that is journaled; refused `NoPlace` if it
-    /// doesn't reach all of them, or `OutOfMemory`, and then nothing changes.
+    /// The guest writes bytes from a physical address on, and the write is journaled. NoPlace if the range
+    /// isn't wholly in guest memory, then OutOfMemory. An error changes nothing.
     pub fn guest_write(
         &mut self,
         alloc: Global,
@@ -221,9 +221,8 @@ impl<L: Ledger, F: FileSystem, I: Iommu + Drop> SharedState<L, F, I> {
         )
     }
 
-    /// Other regions take the place of all that are there, and that is journaled; refused `UnknownBlock` if
-    /// one of them lies over a block that the host doesn't have so, or `OutOfMemory`, and then nothing
-    /// changes.
+    /// Replaces all regions, and journals the change. UnknownBlock if the host doesn't have a region's block
+    /// with that length, then OutOfMemory. An error changes nothing.
     pub fn set_layout(
         &mut self,
         alloc: Global,
@@ -244,8 +243,8 @@ impl<L: Ledger, F: FileSystem, I: Iommu + Drop> SharedState<L, F, I> {
         )
     }
 
-    /// The guest reads `len` bytes from a physical address on; refused `NoPlace` if it doesn't reach all of
-    /// them, or `OutOfMemory`. Nothing changes, and nothing is journaled.
+    /// The guest reads `len` bytes from a physical address on. NoPlace if the range isn't wholly in guest
+    /// memory, or OutOfMemory. Nothing changes, and nothing is journaled.
     pub fn guest_read(&mut self, alloc: Global, addr: u64, len: usize) -> Result<Vec<u8>, Refusal>
         ensures same { self.new ≡ self.old }
         ensures read { ReadsBy F.may self.old addr len result }

@@ -1,4 +1,4 @@
-//! The machine behind one lock, for threads that share it.
+//! A machine behind one lock, which threads share.
 
 ghost use Rattle.std.specs.Prelude.{◌≡◌, ℕ, ◌+◌, ◌/◌, ◌<◌, ◌≤◌, IfErr, IfNone, IfOk, IfSome, IsOk, OnErr};
 ghost use Rattle.std.specs.Prelude.{length, true};
@@ -33,10 +33,10 @@ use std::sync::{Arc, Mutex, Wait};
 use vm_atomic_bitmaps::AtomicBitmap;
 use vm_memory::{GuestMemoryMmap, Iommu};
 
-/// A machine that threads share, by shares of a ledger `L` (`std::sync::ledger`). Each call is one event, and
-/// is done whole under one lock: threads that call at once take turns, in no promised order. A call waits
-/// until it has the lock. What it wrote is marked, without the lock and before it returns, in a bitmap of the
-/// host's pages, which contracts see.
+/// A machine that threads share, each with a share of a ledger `L` (`std::sync::ledger`). Each call is one
+/// event, done whole under one lock, which the call waits for. Threads that call at once take turns, in no
+/// promised order. After it releases the lock and before it returns, the call marks the pages that it wrote,
+/// in a bitmap of the host's pages. Contracts name this bitmap.
 #[derive(Drop)]
 pub struct SharedDevice<L: Ledger, F, I: Iommu + Drop> {
     state: Mutex<SharedState<L, F, I>>,
@@ -58,9 +58,9 @@ ghost use Rattle.fs_shared.specs.declared.share_error.ShareError.TheVariants.{Ou
 
 impl<L: Ledger, F: FileSystem, I: Iommu + Drop> SharedDevice<L, F, I> {
     /// A device over a machine, with an empty journal, a share with every part of a new ledger, and a harvest
-    /// that begins clear; `parts` says how many the ledger has, at least one. The host is copied, and the
-    /// journal grows without bound: whoever goes on for long takes the device apart and makes it anew.
-    /// Refused only `OutOfMemory`, if an allocation fails, and then blank and machine come back.
+    /// that has gathered nothing. `parts` is the number of the ledger's parts, at least 1. Copies the host.
+    /// The journal grows without bound: a long-running caller takes the device apart now and then, and makes
+    /// a new one. The only error is OutOfMemory, which returns blank and machine.
     pub fn new(
         alloc: Global,
         blank: Blank,
@@ -93,8 +93,8 @@ impl<L: Ledger, F: FileSystem, I: Iommu + Drop> SharedDevice<L, F, I> {
         Ok((SharedDevice { state, bitmap }, share, harvest))
     }
 
-    /// Half of a share's parts, rounded down, with count 0 and half of its pass; None, changing nothing, if
-    /// it has one part.
+    /// Splits off half of a share's parts, rounded down, with count 0 and half of its pass. None if the share
+    /// has one part, and then nothing changes.
     pub fn split_share(&self, share: &mut Share<L>) -> Option<Share<L>>
         requires { IsShareOf self.now share.old }
         ensures half { IfSome result
@@ -110,7 +110,7 @@ impl<L: Ledger, F: FileSystem, I: Iommu + Drop> SharedDevice<L, F, I> {
         share.split(&self.bitmap)
     }
 
-    /// Takes another share's parts, count and pass.
+    /// Adds another share's parts, count and pass to a share.
     pub fn join_share(&self, share: &mut Share<L>, other: Share<L>)
         requires own { IsShareOf self.now share.old }
         requires other { IsShareOf self.now other }
@@ -120,8 +120,9 @@ impl<L: Ledger, F: FileSystem, I: Iommu + Drop> SharedDevice<L, F, I> {
         share.join(&self.bitmap, other);
     }
 
-    /// A share takes over what a harvest has seen (`AtomicBitmap::meet_pass`), and so all that it took. It
-    /// always can, and waits for nobody. What the share's calls tell from then on is left by that gather
+    /// A share takes over a harvest's knowledge: every mark and clear that the harvest has seen, so also its
+    /// own gathers (`AtomicBitmap::meet_pass`). It always succeeds, returns true, and waits for no lock. The
+    /// pages in receipts of the share's later calls are then marked after those gathers
     /// (`laws::law_marks_since`).
     pub fn meet(&self, share: &mut Share<L>, harvest: &mut PageHarvest) -> bool
         requires share { IsShareOf self.now share.old }
@@ -137,8 +138,8 @@ impl<L: Ledger, F: FileSystem, I: Iommu + Drop> SharedDevice<L, F, I> {
         share.meet(&self.bitmap, &mut harvest.pass)
     }
 
-    /// Serves the next chain of a queue, by its number from 0 (`SharedState::kick`). What is done is
-    /// journaled, counted by the share, and its pages are marked by the share's pass.
+    /// Serves the next chain of a queue, by its number from 0 (`SharedState::kick`, also for the errors). A
+    /// call that is journaled is counted by the share, and the share's pass marks its pages.
     pub fn kick<R: Wait>(
         &self,
         rt: &R,
@@ -163,8 +164,8 @@ impl<L: Ledger, F: FileSystem, I: Iommu + Drop> SharedDevice<L, F, I> {
         kicked
     }
 
-    /// The guest writes bytes from a physical address on (`SharedState::guest_write`). What is done is
-    /// journaled, counted by the share, and its pages are marked by the share's pass.
+    /// The guest writes bytes from a physical address on (`SharedState::guest_write`, also for the errors).
+    /// A call that is journaled is counted by the share, and the share's pass marks its pages.
     pub fn guest_write<R: Wait>(
         &self,
         rt: &R,
@@ -190,8 +191,8 @@ impl<L: Ledger, F: FileSystem, I: Iommu + Drop> SharedDevice<L, F, I> {
         written
     }
 
-    /// Other regions take the place of all that are there (`SharedState::set_layout`). What is done is
-    /// journaled, counted by the share, and its pages, none, are marked by the share's pass.
+    /// Replaces all regions (`SharedState::set_layout`, also for the errors). A call that is journaled is
+    /// counted by the share. It writes no pages, so the share's pass marks none.
     pub fn set_layout<R: Wait>(
         &self,
         rt: &R,
@@ -216,8 +217,8 @@ impl<L: Ledger, F: FileSystem, I: Iommu + Drop> SharedDevice<L, F, I> {
         laid
     }
 
-    /// The guest reads `len` bytes from a physical address on (`SharedState::guest_read`). Nothing is
-    /// journaled.
+    /// The guest reads `len` bytes from a physical address on (`SharedState::guest_read`, also for the
+    /// errors). Nothing is journaled.
     pub fn guest_read<R: Wait>(
         &self,
         rt: &R,
@@ -230,10 +231,10 @@ impl<L: Ledger, F: FileSystem, I: Iommu + Drop> SharedDevice<L, F, I> {
         self.state.lock(rt).guest_read(alloc, addr, len)
     }
 
-    /// The machine, its start and its journal, where a share's count is the journal's length: so it is where
-    /// the share has every part. From the start the journal replays to the machine, and the page of each byte
-    /// that differs between the two hosts is among the entries' pages. Else device and share come back;
-    /// `SharedState::is_counted` tells the two cases apart.
+    /// The machine, its start and its journal, if the share's count is the journal's length
+    /// (`SharedState::is_counted`). A share with every part always has this count. Otherwise the error
+    /// returns device and share. The journal replays from the start to the machine. The page of each byte
+    /// that differs between the two hosts is among the entries' pages.
     pub fn into_parts(
         self,
         share: Share<L>,
@@ -259,13 +260,13 @@ impl<L: Ledger, F: FileSystem, I: Iommu + Drop> SharedDevice<L, F, I> {
         }
     }
 
-    /// The same, and all pages that are still marked, in words of 64 pages each: page p is bit p mod 64 of
-    /// word p / 64. What follows holds once each share that was split off is joined back. A page is set in
-    /// the words exactly if it was marked more often than gathered. If `audit` takes the receipts of all
-    /// calls, whose pages the share has marked, each page of the bitmap in which the hosts differ is set, or
-    /// the harvest gathered it; and each page that was written after the last gather of its word is set, if
-    /// the share met the harvest in between (`laws::law_marks_since`). If the device doesn't come apart, then
-    /// device, share and harvest come back, and the words are as they were.
+    /// As `into_parts`, and writes all pages that are still marked to `words`: page p is bit p mod 64 of word
+    /// p / 64. The rest holds once each share that was split off is joined back. A page is set in the words
+    /// exactly if it was marked more often than gathered. Suppose that `audit` accepts the receipts of all
+    /// calls, and the share has marked their pages. Then each page of the bitmap in which the hosts differ is
+    /// set, or the harvest gathered it. A page that was written after the last gather of its word is set if
+    /// the share met the harvest in between (`laws::law_marks_since`). An error returns device, share and
+    /// harvest, and leaves the words unchanged.
     pub fn into_parts_and_pages(
         self,
         share: Share<L>,

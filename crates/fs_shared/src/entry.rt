@@ -1,4 +1,4 @@
-//! What a journal and a receipt say.
+//! The entries of a journal, and the receipts of calls.
 
 use fs_device::{Command, DeviceError, Exchange, Machine};
 use fs_queue::Queue;
@@ -6,8 +6,8 @@ use fuse_wire::FsOptions;
 use vm_memory::{GuestMemoryMmap, Iommu};
 use vm_memory_core::{HostMemory, PageBitmap};
 
-/// What came of a call: it was done, a chain was exchanged, with whether the driver is to be told (VIRTIO
-/// 1.2, 2.7.7), or a refusal stopped the queue.
+/// The outcome of a journaled call: a change was made, a chain was served, or a refusal stopped the queue.
+/// The flag of `Served` is whether to notify the driver (VIRTIO 1.2, 2.7.7).
 #[derive(Debug, Drop)]
 pub enum Outcome {
     Done,
@@ -15,8 +15,8 @@ pub enum Outcome {
     Stopped(DeviceError),
 }
 
-/// One event: the call's command, of a kick with `most` 1, what came of it, the options after it, and the
-/// pages of blocks that it wrote, ascending. Pages have 4096 bytes and are numbered block by block.
+/// One event: the call's command, its outcome, the options after it, and the pages of blocks that it wrote,
+/// ascending. A kick's command has `most` 1. Pages have 4096 bytes and are numbered block by block.
 #[derive(Drop)]
 pub struct JournalEntry {
     pub command: Command,
@@ -25,7 +25,8 @@ pub struct JournalEntry {
     pub pages: Vec<usize>,
 }
 
-/// What a call that was journaled answers: the number of its entry, from 0, and what the entry says.
+/// The result of a journaled call: the number of its entry, from 0, with the entry's command, outcome and
+/// pages.
 #[derive(Drop)]
 pub struct Receipt {
     pub number: usize,
@@ -34,15 +35,15 @@ pub struct Receipt {
     pub pages: Vec<usize>,
 }
 
-/// What a kick answers.
+/// The result of a kick that isn't refused, or whose refusal was journaled.
 #[derive(Drop)]
 pub enum Kicked {
-    /// Nothing waits.
+    /// No chain is available.
     Idle,
     Done(Receipt),
 }
 
-/// What the machine held as the journal began: a copy of the host with its marks, the layout, the queues and
+/// The machine's state when the journal began: a copy of the host with its marks, the layout, the queues and
 /// the options.
 #[derive(Drop)]
 pub struct Start {

@@ -1,4 +1,4 @@
-//! Who gathers the pages that were marked in a device's bitmap, without its lock.
+//! Gathers the pages that are marked in a device's bitmap, without the device's lock.
 
 ghost use Rattle.std.specs.Prelude.{◌≡◌, ℕ, ◌+◌, ◌<◌, ◌≤◌, IfOk, length};
 ghost use Rattle.std.specs.Arc.{arc_value};
@@ -19,8 +19,8 @@ use vm_atomic_bitmaps::{AtomicBitmap, BitmapPass};
 use vm_bitmaps::PAGE_SIZE;
 use vm_memory_core::{HostMemory, PageBitmap};
 
-/// Gathers the pages that the calls on a shared device wrote, of 4096 bytes and numbered block by block. It
-/// has a pass of the device's bitmap, and never waits for the device's lock.
+/// Gathers the pages that the calls on a shared device wrote. Pages have 4096 bytes and are numbered block by
+/// block. A harvest has a pass of the device's bitmap, and never waits for the device's lock.
 #[derive(Drop)]
 pub struct PageHarvest {
     bitmap: Arc<AtomicBitmap, Global>,
@@ -58,8 +58,8 @@ fn host_pages(
     AtomicBitmap::new(alloc, byte_size, NonZeroUsize::new(PAGE_SIZE).unwrap())
 }
 
-/// A clear bitmap of a host's pages, the pass of the first share, and the harvest, each with half of all
-/// passes.
+/// A clear bitmap of a host's pages, the pass of the first share, and the harvest. Pass and harvest each have
+/// half of the bitmap's first pass. AllocError if an allocation fails.
 pub(crate) fn clear_pages(
     alloc: Global,
     host: &HostMemory<PageBitmap>,
@@ -81,15 +81,15 @@ pub(crate) fn clear_pages(
 }
 
 impl PageHarvest {
-    /// How many words the pages take, with 64 pages each.
+    /// The number of words that the pages take, with 64 pages each.
     pub fn words(&self) -> usize
         ensures { result ≡ div_ceil self.now.bitmap.len 64 }
     {
         self.bitmap.words()
     }
 
-    /// Takes the marks of a word, in one step, while others mark (`AtomicBitmap::gather`): the word is 0
-    /// afterwards. Bit b is page 64 * word + b.
+    /// Takes the marks of a word by one atomic swap with 0, while other threads mark
+    /// (`AtomicBitmap::gather`). Bit b of the result is page 64 * word + b.
     pub fn gather(&mut self, word: usize) -> u64
         requires { word < div_ceil self.old.bitmap.len 64 }
         ensures harvest { self.new ≡ record self.old {
@@ -102,7 +102,7 @@ impl PageHarvest {
         self.bitmap.gather(&mut self.pass, word)
     }
 
-    // Takes in the pass of a share.
+    // Adds a share's pass to the harvest's.
     pub(crate) fn take_in(&mut self, pass: BitmapPass)
         requires own { IsPassOf self.old.bitmap pass }
         requires none { (p : ℕ) → (tally_of pass.counts.pages p).off ≡ 0 }
@@ -114,7 +114,7 @@ impl PageHarvest {
         self.bitmap.join_pass(&mut self.pass, pass);
     }
 
-    // Takes all marks, a word after another.
+    // Takes all marks, word by word.
     pub(crate) fn gather_all(&mut self, words: &mut [u64])
         requires { length words.old ≡ div_ceil self.old.bitmap.len 64 }
         ensures count { length words.new ≡ length words.old }

@@ -1,4 +1,4 @@
-//! What a call did, kept for its entry in the journal and for its receipt.
+//! An event twice: for its entry in the journal and for its receipt.
 
 ghost use Rattle.std.specs.Prelude.{◌≡◌, ◌<◌, ◌+◌, ◌++◌, ◌∷◌, [], true, length, vec_len, vec_capacity};
 ghost use Rattle.fs_shared.specs.Portion.{counted};
@@ -12,7 +12,7 @@ use fs_device::Command;
 use fuse_wire::FsOptions;
 use std::sync::ledger::{Book, Ledger};
 
-/// A call's command, what came of it, and the pages that it wrote.
+/// A call's command, its outcome, and the pages that it wrote.
 #[derive(Drop)]
 pub(crate) struct Event {
     pub command: Command,
@@ -20,14 +20,15 @@ pub(crate) struct Event {
     pub pages: Vec<usize>,
 }
 
-/// What a call did, for its entry in the journal and, once more, for its receipt.
+/// The event of a call, for its entry in the journal and again for its receipt.
 #[derive(Drop)]
 pub(crate) struct Kept {
     pub entry: Event,
     pub receipt: Event,
 }
 
-/// Journals what a call did, with the options after it, and answers the receipt.
+/// Adds a call's entry to the journal, with the options after the call, and returns the receipt. The journal
+/// has spare capacity.
 pub(crate) fn journal_kept<L: Ledger>(
     journal: &mut Vec<JournalEntry>,
     calls: &mut Book<L>,

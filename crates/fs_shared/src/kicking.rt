@@ -1,5 +1,5 @@
-//! A kick for one chain, of which what is told is kept twice. All of it has room before the file system is
-//! asked.
+//! A kick for one chain, with its event twice: for the journal and for the receipt. All memory for both is
+//! allocated before the file system is called.
 
 ghost use Rattle.std.specs.Prelude.{◌≡◌, ◌≤◌, ◌<◌, ◌+◌, [], false, IsTrue, IfOk, IfErr, OnErr, length};
 ghost use Rattle.std.specs.Prelude.{vec_len, vec_capacity};
@@ -24,7 +24,7 @@ use std::alloc::{AllocError, Global};
 use vm_memory::Iommu;
 use vm_memory_core::HostBlocks;
 
-/// Room for a copy of what is exchanged for a chain that was taken, and for the pages of its return, twice.
+/// Memory for a copy of a chain's exchange, and for two lists of the pages that its return writes.
 #[derive(Drop)]
 pub(crate) struct ReplyRoom {
     pub request: Vec<u8>,
@@ -36,7 +36,7 @@ pub(crate) struct ReplyRoom {
 
 ghost use Rattle.fs_shared.specs.Keeping.{IsRoomFor, KeepsEvent, KickKeeps};
 
-// An empty list with room for the longest reply to a chain; a faulty one has none.
+// An empty list with capacity for the longest reply to a chain, none for a faulty one.
 fn reply_buffer(alloc: Global, taken: &Taken) -> Result<Vec<u8>, AllocError>
     ensures empty { IfOk result (λ reply. reply.items ≡ []) }
     ensures fits { IfOk result (λ reply. room_places taken.now.chain ≤ vec_capacity reply) }
@@ -47,7 +47,7 @@ fn reply_buffer(alloc: Global, taken: &Taken) -> Result<Vec<u8>, AllocError>
     }
 }
 
-// Room for what is told of the exchange of a chain that was taken, with a copy of its request.
+// Memory for the exchange's copy and its pages, for a chain that was taken; the request is copied already.
 #[inline(always)]
 fn reply_room<H: HostBlocks>(
     alloc: Global,
@@ -69,7 +69,7 @@ fn reply_room<H: HostBlocks>(
     })
 }
 
-// An exchange of a queue with whether it is told, and the pages of its return, kept twice: they have room.
+// The event of an exchange, with its notice and its pages, for entry and receipt. Allocates nothing.
 #[inline(always)]
 fn kept_exchange(queue: usize, exchange: Exchange, notice: bool, room: ReplyRoom) -> Kept
     requires reply { room.reply.items ≡ [] }
@@ -117,8 +117,8 @@ fn kept_exchange(queue: usize, exchange: Exchange, notice: bool, room: ReplyRoom
     }
 }
 
-// Answers a chain that was taken from a queue, gives it back, and keeps what is told of it. AllocError, which
-// changes nothing, comes before the file system is asked.
+// Answers a chain that was taken from a queue, and returns it to the driver; the result is the event for
+// entry and receipt. AllocError changes nothing: all memory is allocated before the file system is called.
 #[inline(always)]
 fn exchange_kept<F: FileSystem, I: Iommu + Drop>(
     alloc: Global,
@@ -142,7 +142,7 @@ fn exchange_kept<F: FileSystem, I: Iommu + Drop>(
     Ok(kept_exchange(queue, exchange, notice, room))
 }
 
-// Whether a kick that is refused so is journaled: where the refusal stops the queue.
+// Whether a kick with this refusal is journaled: only if the refusal stops the queue.
 fn is_journaled(error: DeviceError) -> bool
     ensures { result ≡ is_journaled error }
 {
@@ -154,7 +154,7 @@ fn is_journaled(error: DeviceError) -> bool
     }
 }
 
-// A refusal that stopped a queue: no page was written.
+// The event of a refusal that stopped a queue: it wrote no page.
 fn stopped(alloc: Global, queue: usize, error: DeviceError) -> Event
     ensures command { command_of result.command ≡ Kick queue 1 }
     ensures outcome { came_of result.outcome ≡ Stopped error }
@@ -167,7 +167,7 @@ fn stopped(alloc: Global, queue: usize, error: DeviceError) -> Event
     }
 }
 
-// A refusal, if it is to be journaled; else it is answered.
+// The event of a refusal that is journaled, for entry and receipt. Any other refusal is the error.
 fn kept_refusal(alloc: Global, queue: usize, error: DeviceError) -> Result<Kept, DeviceError>
     ensures stops { IfOk result (λ kept. IsTrue (is_journaled error)) }
     ensures entry { IfOk result (λ kept. (command_of kept.entry.command ≡ Kick queue 1)
@@ -188,9 +188,9 @@ fn kept_refusal(alloc: Global, queue: usize, error: DeviceError) -> Result<Kept,
     }
 }
 
-/// Serves the next chain of a queue, by a place that is kept from kick to kick, and keeps what is told of it.
-/// None where nothing waits. A refusal that stops the queue is kept too, the others are answered; want of
-/// memory changes nothing.
+/// Serves the next chain of a queue; the result is the event for entry and receipt. None if the queue offers
+/// nothing. A refusal that stops the queue is an event too; any other is the error, and changes nothing.
+/// `taken` is scratch memory that is kept from kick to kick.
 #[inline(always)]
 pub(crate) fn kick_kept<F: FileSystem, I: Iommu + Drop>(
     alloc: Global,

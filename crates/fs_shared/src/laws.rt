@@ -1,4 +1,4 @@
-//! Laws of the definitions, each the contract of a function that does nothing.
+//! Theorems about the definitions, each the contract of a function that does nothing.
 
 ghost use Rattle.fs_shared.specs.JournalPages.{JournalsSplit, JournalsTellPages};
 ghost use Rattle.fs_shared.specs.Laws.{ActsReplay, CallsKeepMarks, CallsKeepSince, CallsMark, CallsMarkSince};
@@ -9,31 +9,30 @@ ghost use Rattle.fs_shared.specs.Laws.{MeetsKeepMarks, MeetsKeepSince, StepsForg
 
 use fuse_fs::FileSystem;
 
-/// What a journal replays to doesn't need the file system: each step of a device, and each event, is one of
-/// the state without the file system, with the same file calls, answers, outcome and pages, where any answer
-/// that suits its call may come.
+/// A journal replays without the file system. Each step of a device, and each event, is also one of the state
+/// without the file system, with the same file calls, answers, outcome and pages. There a call may get any
+/// answer that suits it.
 pub fn law_forgets<F: FileSystem>()
     ensures steps { StepsForget F.may }
     ensures events { EventsForget F.may }
 {}
 
-/// A journal that replays from its start to what the machine holds does so after each call that is told as
-/// the calls of a shared device are: one that was journaled, with its one entry more, and one that was not,
-/// which changes nothing.
+/// Every call that meets a shared device's contracts keeps the invariant of the journal: it replays from its
+/// start to the machine's state. A journaled call adds one entry. Any other call changes nothing.
 pub fn law_replays<F: FileSystem>()
     ensures kicks { KicksReplay F.may }
     ensures acts { ActsReplay F.may }
 {}
 
-/// Where a journal replays, the page of each byte that differs between the two hosts is among the entries'
-/// pages, with the IOMMU on or off. The first entries lead to a state from which the others lead on.
+/// If a journal replays, the page of each byte that differs between the two hosts is among the entries'
+/// pages, with the IOMMU on or off. Any first entries of it replay to a state from which the others replay.
 pub fn law_journal_pages()
     ensures pages { JournalsTellPages }
     ensures split { JournalsSplit }
 {}
 
-/// What the calls of a shared device tell is marked by their share, and stays so: in later calls, where the
-/// share takes in another, and where it takes over what a harvest has seen.
+/// The share of a call has marked the pages of the call's receipt. They stay marked in later calls, when the
+/// share is joined with another, and when it meets a harvest.
 pub fn law_marks_stay()
     ensures calls { CallsMark }
     ensures later { CallsKeepMarks }
@@ -41,11 +40,11 @@ pub fn law_marks_stay()
     ensures meets { MeetsKeepMarks }
 {}
 
-/// After a gather a share meets the harvest, and has then seen what that took (`SharedDevice::meet`). What
-/// its calls tell from then on is marked since, and stays so: in later calls, where the share takes in
-/// another or meets the harvest again, and where another word is gathered. A receipt of an earlier entry asks
-/// nothing. What was marked since the last gather of its word is set in the words that are left
-/// (`SharedDevice::into_parts_and_pages`).
+/// A share that meets the harvest after a gather has seen the gather's clears (`SharedDevice::meet`). The
+/// pages of its later receipts are then marked since that gather. They stay so in later calls, when the share
+/// is joined with another or meets the harvest again, and when another word is gathered. A receipt of an
+/// earlier entry needs no mark. A page that was marked since the last gather of its word is set in the words
+/// that are left (`SharedDevice::into_parts_and_pages`).
 pub fn law_marks_since()
     ensures calls { CallsMarkSince }
     ensures later { CallsKeepSince }
@@ -55,9 +54,9 @@ pub fn law_marks_since()
     ensures gathers { GathersKeepSince }
 {}
 
-/// Whatever the calls counted meanwhile, which leaves parts alone: where each share that was split off is
-/// joined again, share and harvest have every part of the passes, as `SharedDevice::into_parts_and_pages`
-/// wants it.
+/// Once each share that was split off is joined back, share and harvest have every part of the passes. The
+/// contract of `SharedDevice::into_parts_and_pages` supposes this. Calls in between change counts, and no
+/// parts.
 pub fn law_passes_are_whole()
     ensures joins { JoinsGiveBack }
     ensures whole { HalvesAreWhole }

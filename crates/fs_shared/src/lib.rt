@@ -1,5 +1,5 @@
-//! A virtio-fs device that threads share: what its journal gives, what lies under its lock, and which pages
-//! its calls wrote.
+//! A virtio-fs device that threads share: the state under its lock, its journal, the receipts of its calls,
+//! and the pages that its calls wrote.
 #![tactic(auto)]
 
 mod acting;

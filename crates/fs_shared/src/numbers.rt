@@ -1,4 +1,4 @@
-//! Pages are numbered block by block.
+//! The numbers of pages: the pages of a host are numbered block by block.
 
 ghost use Rattle.std.specs.Prelude.{◌≡◌, IfOk};
 ghost use Rattle.vm_memory_core.specs.Host.{lengths, page_count};
@@ -8,15 +8,15 @@ use std::alloc::AllocError;
 use vm_bitmaps::PAGE_SIZE;
 use vm_memory_core::HostBlocks;
 
-// How many pages some bytes take.
+// The number of pages of `len` bytes, of which the last may be partial.
 fn page_count(len: usize) -> usize
     ensures { result ≡ page_count len }
 {
     len / PAGE_SIZE + usize::from(len % PAGE_SIZE != 0)
 }
 
-/// The number of a block's first page, and of the block past the last the number of all pages. AllocError if
-/// it doesn't fit 64 bits, since no memory has so many bytes, or if the host has fewer blocks.
+/// The number of a block's first page. For the block past the last one it is the number of all pages.
+/// AllocError if the host has fewer blocks, or if the number doesn't fit 64 bits: no memory is that large.
 pub fn first_page<H: HostBlocks>(host: &H, block: usize) -> Result<usize, AllocError>
     ensures { IfOk result (λ first. first ≡ first_page (lengths (H.host host.now)) block) }
 {

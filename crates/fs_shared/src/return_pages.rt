@@ -11,11 +11,11 @@ use fs_queue::Taken;
 use std::alloc::{AllocError, Global};
 use vm_memory_core::HostBlocks;
 
-// How many bytes a return writes besides the reply: a used element and the used index.
+// The bytes that a return writes besides the reply: a used element of 8, and the used index of 2.
 const USED_LEN: usize = 10;
 
-/// Runs of the bytes that a return of a chain may write, each in one page: those of the room for the reply,
-/// and those of the used element and the used index.
+/// Runs of the bytes that a return of a chain may write, each run in one page: those of the reply buffer, and
+/// those of the used element and the used index.
 #[derive(Debug, Drop)]
 pub(crate) struct ReturnRuns {
     pub room: PageRuns,
@@ -23,8 +23,8 @@ pub(crate) struct ReturnRuns {
 }
 
 impl ReturnRuns {
-    /// The most pages that a return may write: as many as there are runs. AllocError if their number doesn't
-    /// fit 64 bits, since no memory has so many.
+    /// The most pages that a return may write: the number of runs. AllocError if it doesn't fit 64 bits: no
+    /// memory has that many pages.
     pub(crate) fn most_pages(&self) -> Result<usize, AllocError>
         ensures { IfOk result (λ most. most ≡ length self.now.room.items + length self.now.used.items) }
     {
@@ -37,7 +37,7 @@ impl ReturnRuns {
 
 ghost use Rattle.fs_shared.specs.ReturnRuns.{AreReturnPages, AreReturnRuns};
 
-// The runs of the room of a chain; a faulty one has none.
+// The runs of a chain's reply buffer, none for a faulty chain.
 fn room_runs<H: HostBlocks>(alloc: Global, host: &H, taken: &Taken) -> Result<PageRuns, AllocError>
     ensures { IfOk result (λ runs.
         AreRuns (map (page_of (lengths (H.host host.now))) (chain_places taken.now.chain)) runs.items) }
@@ -48,7 +48,7 @@ fn room_runs<H: HostBlocks>(alloc: Global, host: &H, taken: &Taken) -> Result<Pa
     }
 }
 
-/// The runs of what the return of a chain that was taken may write.
+/// The runs of the bytes that the return of this chain may write. AllocError if an allocation fails.
 pub(crate) fn return_runs<H: HostBlocks>(
     alloc: Global,
     host: &H,
@@ -63,8 +63,8 @@ pub(crate) fn return_runs<H: HostBlocks>(
     })
 }
 
-/// The pages that a return with a reply of so many bytes writes, in a list that is empty and has room for all
-/// runs. There are no more pages than runs.
+/// Fills an empty list with the pages that a return with a reply of `reply_len` bytes writes. The list has
+/// capacity for all runs, and there are no more pages than runs.
 pub(crate) fn return_pages(pages: &mut Vec<usize>, runs: &ReturnRuns, reply_len: usize)
     requires empty { pages.old.items ≡ [] }
     requires fits { length runs.now.room.items + length runs.now.used.items ≤ vec_capacity pages.old }

@@ -1,5 +1,5 @@
 //! A round of a device: it is made over a machine, serves a queue before and after a gather, and is taken
-//! apart again.
+//! apart.
 
 ghost use Rattle.std.specs.Prelude.{◌≡◌, ◌⊎◌, ◌+◌, ◌<◌, ◌≤◌, ◌*◌, ◌↔◌, [], Some, IfErr, IfNone, IfOk, IfSome};
 ghost use Rattle.std.specs.Prelude.{IsTrue, length, vec_capacity, vec_len};
@@ -32,24 +32,23 @@ use std::sync::ledger::{Blank, Ledger};
 use vm_memory::Iommu;
 use vm_memory_core::{HostMemory, PageBitmap};
 
-/// What a round leaves: the machine with its start and its journal, the receipts of its kicks, and the pages
-/// that these marked.
+/// The result of a round: the machine with its start and its journal, the receipts of the kicks, and the
+/// pages that the kicks marked.
 #[derive(Drop)]
 pub struct Round<F, I: Iommu + Drop> {
     pub parts: Parts<F, I>,
     pub receipts: Vec<Receipt>,
-    /// Whether the receipts say all that the journal says (`audit`).
+    /// Whether the receipts match the journal (`audit`).
     pub is_audited: bool,
-    /// The greatest number of the receipts that were there as the harvest gathered: that of the last entry
-    /// before.
+    /// The number of the last receipt before the harvest gathered. None if there was no receipt yet.
     pub last_before: Option<usize>,
-    /// The pages that the harvest gathered between the kicks: page p is bit p mod 64 of word p / 64.
+    /// The pages that the harvest gathered between the two servings: page p is bit p mod 64 of word p / 64.
     pub gathered: Vec<u64>,
     /// The pages that were still marked at the end, in the same form.
     pub left: Vec<u64>,
 }
 
-// Room for what a round leaves.
+// Memory for the lists of a `Round`.
 #[derive(Drop)]
 struct RoundRoom {
     receipts: Vec<Receipt>,
@@ -57,7 +56,7 @@ struct RoundRoom {
     left: Vec<u64>,
 }
 
-// Room for twice so many receipts, and words for the pages of a host.
+// Memory for 2 * `most` receipts, and twice the words for the pages of a host.
 fn round_room(
     alloc: Global,
     host: &HostMemory<PageBitmap>,
@@ -79,7 +78,7 @@ fn round_room(
     })
 }
 
-// Serves the next chain of a queue, and keeps its receipt, which has room. Whether there is one.
+// Kicks a queue for its next chain, and adds its receipt to a list with spare capacity. False without one.
 fn kick_once<L: Ledger, F: FileSystem, I: Iommu + Drop, R: Wait>(
     rt: &R,
     alloc: Global,
@@ -111,7 +110,7 @@ fn kick_once<L: Ledger, F: FileSystem, I: Iommu + Drop, R: Wait>(
     }
 }
 
-// Serves up to so many chains of a queue, and keeps their receipts, which have room.
+// Kicks a queue up to `most` times, while there are receipts; the list has capacity for them.
 fn kick_often<L: Ledger, F: FileSystem, I: Iommu + Drop, R: Wait>(
     rt: &R,
     alloc: Global,
@@ -141,7 +140,7 @@ fn kick_often<L: Ledger, F: FileSystem, I: Iommu + Drop, R: Wait>(
     }
 }
 
-// The greater of two numbers, of which the first may be none.
+// The greater of two numbers, or the second if the first is None.
 fn greater(one: Option<usize>, other: usize) -> Option<usize>
     ensures first { IfNone one (result ≡ Some other) }
     ensures more { IfSome one (λ number. ((other ≤ number) × (result ≡ one))
@@ -153,7 +152,7 @@ fn greater(one: Option<usize>, other: usize) -> Option<usize>
     }
 }
 
-// The greatest number of some receipts.
+// The greatest number of the receipts, None if there are none.
 fn greatest_number(receipts: &[Receipt]) -> Option<usize>
     ensures { IsGreatest result receipts.now }
 {
@@ -164,8 +163,8 @@ fn greatest_number(receipts: &[Receipt]) -> Option<usize>
     greatest
 }
 
-// Serves a queue of a new device before and after a gather, which the share is told of, and takes the device
-// apart.
+// Serves a queue of a new device before and after a gather, and takes the device apart. The share meets the
+// harvest after the gather.
 fn go_round<L: Ledger, F: FileSystem + Drop, I: Iommu + Drop, R: Wait>(
     rt: &R,
     alloc: Global,
@@ -220,13 +219,14 @@ fn go_round<L: Ledger, F: FileSystem + Drop, I: Iommu + Drop, R: Wait>(
     }
 }
 
-/// A round of a machine by one thread: a device is made over it (`SharedDevice::new`), a queue is kicked
-/// until nothing waits, a kick is refused or `most` chains were served, the harvest gathers, the share meets
-/// it, the queue is kicked so once more, and the device is taken apart. If the receipts pass the audit, each
-/// page, below the number of pages of the host, in which the machine's host differs from the start's was
-/// gathered or is left; and each in which it differs from what it was after the entry `last_before` is left.
-/// Refused only `OutOfMemory`, if an allocation fails before anything was served, and then blank and machine
-/// come back.
+/// A round of a machine by one thread. It makes a device over the machine (`SharedDevice::new`). It kicks a
+/// queue until a kick is idle or refused, or `most` kicks have receipts. The harvest gathers, and the share
+/// meets it. Then it kicks the queue in the same way again, and takes the device apart.
+///
+/// Suppose that the receipts pass the audit. Then each page of the host in which the machine's host differs
+/// from the start's is in `gathered` or in `left`. Each page in which it differs from the host after entry
+/// `last_before` is in `left`. The only error is OutOfMemory, if an allocation fails before the first kick.
+/// It returns blank and machine.
 pub fn serve_round<L: Ledger, F: FileSystem + Drop, I: Iommu + Drop, R: Wait>(
     rt: &R,
     alloc: Global,

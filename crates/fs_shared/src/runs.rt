@@ -1,4 +1,4 @@
-//! Runs of bytes that lie in one page.
+//! Runs of consecutive bytes, each within one page.
 
 ghost use Rattle.std.specs.Prelude.{◌≡◌, ◌↔◌, ◌≤◌, ◌<◌, ◌+◌, ◌^◌, ◌++◌, [], ℕ, IfOk, List, OnOk};
 ghost use Rattle.std.specs.Prelude.{length, map, take, vec_capacity, vec_len};
@@ -14,21 +14,21 @@ use std::alloc::{AllocError, Global};
 use vm_bitmaps::PAGE_SIZE;
 use vm_memory_core::{HostBlocks, VolatileSlice};
 
-/// Bytes in a row that lie in one page of a block.
+/// Consecutive bytes of some windows that lie in one page of a block.
 #[derive(Clone, Copy, Debug, Default, PartialEq, Eq)]
 pub struct PageRun {
-    /// The page's number.
+    /// The page's number: pages of 4096 bytes are numbered block by block.
     pub page: usize,
-    /// How many bytes come before them.
+    /// The number of bytes of the windows before the run.
     pub from: usize,
 }
 
-/// Runs in order, of which the first two take no memory.
+/// Runs in order; the first two take no allocation.
 pub type PageRuns = SmallVec<PageRun, 2>;
 
 ghost use Rattle.fs_shared.specs.Runs.{AreRuns, begun};
 
-// Adds the runs of a window, before which so many bytes come.
+// Adds the runs of a window that has `from` bytes before it.
 fn push_runs<H: HostBlocks>(
     host: &H,
     runs: &mut PageRuns,
@@ -57,7 +57,7 @@ fn push_runs<H: HostBlocks>(
     Ok(())
 }
 
-/// The runs of the bytes of some windows, in their order. AllocError if an allocation fails.
+/// The runs of the bytes of some windows, in order. AllocError if an allocation fails.
 pub fn page_runs<H: HostBlocks>(
     alloc: Global,
     host: &H,
@@ -76,7 +76,7 @@ pub fn page_runs<H: HostBlocks>(
     Ok(runs)
 }
 
-// Adds the pages of the runs that begin before so many bytes; there is room for all of them.
+// Adds the pages of the runs that begin within the first `count` bytes. The list has capacity for all runs.
 fn push_begun(pages: &mut Vec<usize>, runs: &[PageRun], count: usize)
     requires { vec_len pages.old + length runs.now ≤ vec_capacity pages.old }
     ensures items { pages.new.items ≡ pages.old.items ++ begun count runs.now }
@@ -90,7 +90,7 @@ fn push_begun(pages: &mut Vec<usize>, runs: &[PageRun], count: usize)
     }
 }
 
-// Puts page numbers in ascending order, each once.
+// Sorts page numbers in ascending order, and removes duplicates.
 fn sort_pages(pages: &mut Vec<usize>)
     ensures ascending { IsStrictlyIncreasing pages.new.items }
     ensures all { (page : ℕ) → Contains pages.new.items page ↔ Contains pages.old.items page }
@@ -100,8 +100,8 @@ fn sort_pages(pages: &mut Vec<usize>)
     pages.dedup();
 }
 
-/// The pages of the first bytes of two lists of runs, in a list that is empty and has room for all runs.
-/// There are no more pages than runs.
+/// Fills an empty list with the pages of the first `first_count` bytes of one list of runs and the first
+/// `last_count` bytes of another, ascending, each once. The list has capacity for all runs.
 pub fn written_pages(
     pages: &mut Vec<usize>,
     first: &[PageRun],

@@ -1,4 +1,4 @@
-//! Whether two commands are the same.
+//! Equality of commands.
 
 ghost use Rattle.std.specs.Prelude.{◌≡◌, ◌↔◌, IsTrue};
 ghost use Rattle.fs_device.specs.CommandView.{command_of};
@@ -12,7 +12,7 @@ use fs_queue::QueueLayout;
 use vm_iotlb::Permissions;
 use vm_memory::GuestMemoryMmap;
 
-// Whether a command is a read of so many bytes at an address.
+// Whether a command is a read of `len` bytes at an address.
 fn is_read(command: &Command, addr: u64, len: usize) -> bool
     ensures { IsTrue result ↔ (command_of command.now ≡ GuestRead addr len) }
 {
@@ -74,7 +74,7 @@ fn is_remove(command: &Command, base: u64, size: u64) -> bool
     }
 }
 
-// Whether a command is the change to a layout.
+// Whether a command sets this layout.
 fn is_layout(command: &Command, layout: &GuestMemoryMmap) -> bool
     ensures { IsTrue result ↔ (command_of command.now ≡ SetLayout layout.now) }
 {
@@ -84,7 +84,7 @@ fn is_layout(command: &Command, layout: &GuestMemoryMmap) -> bool
     }
 }
 
-// Whether a command is a mapping.
+// Whether a command is this mapping of I/O addresses.
 fn is_map(command: &Command, iova: u64, target: u64, len: usize, perm: Permissions) -> bool
     ensures { IsTrue result ↔ (command_of command.now ≡ Map iova target len perm) }
 {
@@ -102,7 +102,7 @@ fn is_map(command: &Command, iova: u64, target: u64, len: usize, perm: Permissio
     }
 }
 
-// Whether a command is an unmapping.
+// Whether a command unmaps this range of I/O addresses.
 fn is_unmap(command: &Command, iova: u64, len: usize) -> bool
     ensures { IsTrue result ↔ (command_of command.now ≡ Unmap iova len) }
 {
@@ -115,14 +115,14 @@ fn is_unmap(command: &Command, iova: u64, len: usize) -> bool
     }
 }
 
-// Whether a command is the unmapping of all.
+// Whether a command unmaps all I/O addresses.
 fn is_unmap_all(command: &Command) -> bool
     ensures { IsTrue result ↔ (command_of command.now ≡ UnmapAll) }
 {
     matches!(command, Command::UnmapAll)
 }
 
-// Whether a command is the switch of the IOMMU to on or off.
+// Whether a command switches the IOMMU on, or off.
 fn is_switch(command: &Command, on: bool) -> bool
     ensures { IsTrue result ↔ (command_of command.now ≡ SetIommu on) }
 {
@@ -132,7 +132,7 @@ fn is_switch(command: &Command, on: bool) -> bool
     }
 }
 
-// Whether a command is a kick of a queue for so many chains.
+// Whether a command is a kick of a queue for at most `most` chains.
 fn is_kick(command: &Command, queue: usize, most: u16) -> bool
     ensures { IsTrue result ↔ (command_of command.now ≡ Kick queue most) }
 {
@@ -172,21 +172,21 @@ fn is_reset(command: &Command, queue: usize, layout: QueueLayout) -> bool
     }
 }
 
-// Whether a command is an image.
+// Whether a command takes an image.
 fn is_image(command: &Command) -> bool
     ensures { IsTrue result ↔ (command_of command.now ≡ Image) }
 {
     matches!(command, Command::Image)
 }
 
-// Whether a command is a harvest.
+// Whether a command harvests the marked pages.
 fn is_harvest(command: &Command) -> bool
     ensures { IsTrue result ↔ (command_of command.now ≡ Harvest) }
 {
     matches!(command, Command::Harvest)
 }
 
-/// Whether two commands are the same.
+/// Whether two commands are equal, layouts by the base, length and block of each region.
 pub(crate) fn same_command(one: &Command, other: &Command) -> bool
     ensures { IsTrue result ↔ (command_of other.now ≡ command_of one.now) }
 {

@@ -1,4 +1,4 @@
-//! Whether two layouts are the same.
+//! Equality of layouts.
 
 ghost use Rattle.std.specs.Prelude.{◌≡◌, ◌↔◌, IsTrue};
 
@@ -19,7 +19,7 @@ fn same_region(one: &GuestRegionMmap, other: &GuestRegionMmap) -> bool
     }
 }
 
-/// Whether two layouts have regions of the same bases, lengths and blocks.
+/// Whether two layouts have the same regions: base, length and block of each.
 pub(crate) fn same_layout(one: &GuestMemoryMmap, other: &GuestMemoryMmap) -> bool
     ensures { IsTrue result ↔ (other.now ≡ one.now) }
 {

@@ -1,4 +1,4 @@
-//! Whether two outcomes are the same.
+//! Equality of outcomes.
 
 ghost use Rattle.std.specs.Prelude.{◌≡◌, ◌↔◌, IsTrue};
 ghost use Rattle.fs_device.specs.DeviceView.{exchange_of};
@@ -18,14 +18,14 @@ fn same_exchange(one: &Exchange, other: &Exchange) -> bool
         && other.fault == one.fault
 }
 
-// Whether something was done.
+// Whether the outcome is `Done`.
 fn is_done(outcome: &Outcome) -> bool
     ensures { IsTrue result ↔ (came_of outcome.now ≡ Done) }
 {
     matches!(outcome, Outcome::Done)
 }
 
-// Whether this exchange came, with this notice.
+// Whether the outcome is this exchange, with this notice.
 fn is_served(outcome: &Outcome, exchange: &Exchange, notice: bool) -> bool
     ensures { IsTrue result ↔ (came_of outcome.now ≡ Served (exchange_of exchange.now) notice) }
 {
@@ -35,7 +35,7 @@ fn is_served(outcome: &Outcome, exchange: &Exchange, notice: bool) -> bool
     }
 }
 
-// Whether this refusal stopped the queue.
+// Whether the outcome is that this refusal stopped the queue.
 fn is_stopped(outcome: &Outcome, error: DeviceError) -> bool
     ensures { IsTrue result ↔ (came_of outcome.now ≡ Stopped error) }
 {
@@ -45,7 +45,7 @@ fn is_stopped(outcome: &Outcome, error: DeviceError) -> bool
     }
 }
 
-/// Whether the same came of two calls.
+/// Whether two outcomes are equal.
 pub(crate) fn same_outcome(one: &Outcome, other: &Outcome) -> bool
     ensures { IsTrue result ↔ (came_of other.now ≡ came_of one.now) }
 {

@@ -9,12 +9,12 @@ use std::sync::ledger;
 use std::sync::ledger::{Book, Ledger};
 use vm_atomic_bitmaps::{AtomicBitmap, BitmapPass};
 
-/// Some of the parts of a device, at least one, how many calls were journaled by them (`std::sync::ledger`),
-/// and a pass of the device's bitmap, by which the pages that those calls wrote were marked.
+/// At least one of a device's parts (`std::sync::ledger`), the number of calls that were journaled with them,
+/// and a pass of the device's bitmap. With this pass the pages that those calls wrote were marked.
 #[derive(Drop)]
 pub struct Share<L: Ledger> {
     parts: u64,
-    // Modulo 2^64: without the book nothing bounds a sum of two counts.
+    // Modulo 2^64: without the book nothing bounds the sum of two counts.
     count: u64,
     token: ledger::Share<L>,
     pass: BitmapPass,
@@ -38,8 +38,8 @@ ghost use Rattle.fs_shared.specs.Portion.{HasSeen, HasSeenItsOwn, IsShareOf, Mar
 ghost use Rattle.fs_shared.specs.Portion.{joined, kept_pass, new_pass};
 
 impl<L: Ledger> Share<L> {
-    /// A share of so many parts of a ledger, by which nothing was counted, with a pass of the device's
-    /// bitmap.
+    /// A share of `parts` parts of a ledger with a pass of the device's bitmap. Its token has counted nothing
+    /// yet.
     pub fn new(parts: u64, token: ledger::Share<L>, pass: BitmapPass) -> Share<L>
         requires parts { token.parts ≡ parts }
         requires none { token.amount ≡ 0 }
@@ -55,7 +55,7 @@ impl<L: Ledger> Share<L> {
         }
     }
 
-    /// Counts one call that was journaled.
+    /// Counts a journaled call, in the share and in the book.
     pub fn add(&mut self, book: &mut Book<L>)
         ensures total { book.new.total ≡ book.old.total + 1 }
         ensures count { self.new ≡ counted self.old true }
@@ -64,7 +64,7 @@ impl<L: Ledger> Share<L> {
         self.count = self.count.wrapping_add(1);
     }
 
-    /// Whether its count is the book's total. So it is where the share has every part.
+    /// Whether the share's count is the book's total. It is if the share has every part.
     pub fn is_of(&mut self, book: &mut Book<L>, total: u64) -> bool
         requires { book.old.total ≡ total }
         ensures same { self.new ≡ self.old }
@@ -76,8 +76,8 @@ impl<L: Ledger> Share<L> {
         self.count == total
     }
 
-    /// Half of its parts, rounded down, with count 0 and half of its pass; None, changing nothing, if it has
-    /// one part.
+    /// Splits off half of the parts, rounded down, with count 0 and half of the pass. None if the share has
+    /// one part, and then nothing changes.
     pub fn split(&mut self, bitmap: &AtomicBitmap) -> Option<Share<L>>
         requires { IsShareOf bitmap.now self.old }
         ensures half { IfSome result
@@ -100,7 +100,7 @@ impl<L: Ledger> Share<L> {
         Some(Share::new(half, token, pass))
     }
 
-    /// Takes another share's parts, count and pass.
+    /// Adds another share's parts, count and pass.
     pub fn join(&mut self, bitmap: &AtomicBitmap, other: Share<L>)
         requires own { IsShareOf bitmap.now self.old }
         requires other { IsShareOf bitmap.now other }
@@ -119,8 +119,8 @@ impl<L: Ledger> Share<L> {
         bitmap.join_pass(&mut self.pass, pass);
     }
 
-    /// Marks pages in the device's bitmap, one after another, each in one step (`AtomicBitmap::set_bit`).
-    /// Those past the end are ignored.
+    /// Marks pages in the device's bitmap, one after another, each by one atomic step
+    /// (`AtomicBitmap::set_bit`). Pages past the bitmap's end are ignored.
     pub fn mark(&mut self, bitmap: &AtomicBitmap, pages: &[usize])
         requires { IsShareOf bitmap.now self.old }
         ensures share { self.new
@@ -133,8 +133,8 @@ impl<L: Ledger> Share<L> {
         }
     }
 
-    /// Takes over what another pass of the device's bitmap has seen (`AtomicBitmap::meet_pass`). It always
-    /// can. What is marked from then on is marked since the other took the page.
+    /// Takes over the knowledge of another pass of the device's bitmap (`AtomicBitmap::meet_pass`). It always
+    /// succeeds, and returns true. A later mark of a page comes after all of the other pass's clears of it.
     pub fn meet(&mut self, bitmap: &AtomicBitmap, other: &mut BitmapPass) -> bool
         requires own { IsShareOf bitmap.now self.old }
         requires other { IsPassOf bitmap.now other.old }
@@ -151,7 +151,7 @@ impl<L: Ledger> Share<L> {
         bitmap.meet_pass(&mut self.pass, other)
     }
 
-    /// Its pass alone, where neither its parts nor its count are needed any more.
+    /// The pass alone; drops the parts and the count.
     pub fn into_pass(self) -> BitmapPass
         ensures { result ≡ self.pass }
     {

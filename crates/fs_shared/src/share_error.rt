@@ -1,15 +1,15 @@
-//! Why a machine isn't shared.
+//! The errors of `SharedDevice::new`.
 
 ghost use Rattle.std.specs.Prelude.{◌≡◌};
 
 use thiserror::Error;
 
-/// Why `SharedDevice::new` makes no device.
+/// Why `SharedDevice::new` makes no device: only OutOfMemory occurs.
 #[derive(Clone, Copy, Debug, PartialEq, Eq, Error)]
 pub enum ShareError {
     #[error("out of memory")]
     OutOfMemory,
-    /// Kept for its name: a bitmap always gives a second pass (`AtomicBitmap::split_pass`).
+    /// Never occurs: a bitmap always has a second pass (`AtomicBitmap::split_pass`). Kept for its name.
     #[error("there is no second pass")]
     NoPass,
 }
@@ -17,7 +17,7 @@ pub enum ShareError {
 impl ShareError {
     ghost use Rattle.fs_shared.specs.Refusing.{share_error_number};
 
-    /// The number that tells the refusal apart: 1 for `OutOfMemory`, 2 for `NoPass`.
+    /// The error's number: 1 for `OutOfMemory`, 2 for `NoPass`.
     pub fn number(&self) -> u8
         ensures { result ≡ share_error_number self.now }
     {

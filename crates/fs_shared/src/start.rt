@@ -1,4 +1,4 @@
-//! Where a journal starts.
+//! The state in which a journal starts.
 
 ghost use Rattle.std.specs.Prelude.{◌≡◌, IfOk};
 ghost use Rattle.fs_device.specs.MachineView.{machine_of};
@@ -12,7 +12,7 @@ use fuse_fs::FileSystem;
 use std::alloc::{AllocError, Global};
 use vm_memory::Iommu;
 
-// The queues of a device once more.
+// A copy of a device's queues.
 fn same_queues<F: FileSystem>(alloc: Global, device: &Device<F>) -> Result<Vec<Queue>, AllocError>
     ensures { IfOk result (λ copies. copies.items ≡ device.now.queues) }
 {
@@ -26,7 +26,7 @@ fn same_queues<F: FileSystem>(alloc: Global, device: &Device<F>) -> Result<Vec<Q
     Err(AllocError)
 }
 
-/// What a machine holds, but its file system. AllocError if an allocation fails.
+/// A copy of a machine's state without its file system. AllocError if an allocation fails.
 pub(crate) fn started<F: FileSystem, I: Iommu + Drop>(
     alloc: Global,
     machine: &Machine<F, I>,

@@ -1,4 +1,4 @@
-//! What lies under the lock: the machine, where it started, and the journal of all that was done.
+//! The state under the lock: the machine, the state in which it started, and the journal of all events.
 
 ghost use Rattle.std.specs.Prelude.{◌≡◌, ◌<◌, ◌+◌, ◌++◌, ◌∷◌, ◌==◌, [], true, length, vec_len, vec_capacity};
 ghost use Rattle.fs_device.specs.MachineView.{machine_of};
@@ -17,15 +17,15 @@ use std::marker::Model;
 use std::sync::ledger::{Book, Ledger};
 use vm_memory::Iommu;
 
-/// The machine, where it started, and the journal. From the start the journal replays to what the machine
-/// holds, and the shares count its entries.
+/// The machine, its start, and the journal. The journal replays from the start to the machine's state, and
+/// the shares' counts add up to its length.
 #[derive(Drop)]
 pub struct SharedState<L: Ledger, F, I: Iommu + Drop> {
     pub(crate) machine: Machine<F, I>,
     pub(crate) start: Start,
     pub(crate) journal: Vec<JournalEntry>,
     pub(crate) calls: Book<L>,
-    // The place into which chains are taken, from kick to kick.
+    // Scratch memory for the chain of a kick, kept from kick to kick.
     pub(crate) taken: Taken,
 }
 
@@ -48,7 +48,7 @@ impl<L: Ledger, F, I: Iommu + Drop> Model for SharedState<L, F, I> {
         × (s.calls.total ≡ vec_len s.journal) };
 }
 
-// Puts an entry, which has room, at the journal's end, counts it, and answers its number.
+// Appends an entry to a journal with spare capacity, counts it, and returns its number.
 pub(crate) fn append<L: Ledger>(
     journal: &mut Vec<JournalEntry>,
     calls: &mut Book<L>,
@@ -69,7 +69,7 @@ pub(crate) fn append<L: Ledger>(
 }
 
 impl<L: Ledger, F: FileSystem, I: Iommu + Drop> SharedState<L, F, I> {
-    // A journal that begins: it is empty.
+    // The state with an empty journal.
     pub(crate) fn begin(
         alloc: Global,
         machine: Machine<F, I>,
@@ -90,8 +90,8 @@ impl<L: Ledger, F: FileSystem, I: Iommu + Drop> SharedState<L, F, I> {
         }
     }
 
-    /// Whether a share's count is the journal's length: exactly then the device comes apart
-    /// (`SharedDevice::into_parts`). So it is where the share has every part.
+    /// Whether a share's count is the journal's length. `SharedDevice::into_parts` succeeds exactly then. It
+    /// is so if the share has every part.
     pub fn is_counted(&mut self, share: &mut Share<L>) -> bool
         ensures state { self.new ≡ self.old }
         ensures share { share.new ≡ share.old }
@@ -103,7 +103,7 @@ impl<L: Ledger, F: FileSystem, I: Iommu + Drop> SharedState<L, F, I> {
         share.is_of(&mut self.calls, entries as u64)
     }
 
-    // What it is made of. The journal replays from the start to the machine.
+    // The machine, its start and its journal. The journal replays from the start to the machine.
     pub(crate) fn open(self) -> Parts<F, I>
         ensures replays { Replays (start_of result.start (fixed_of (machine_of result.machine)))
             (journal_of result.journal.items)

@@ -39,7 +39,7 @@ abbrev pub setupmapping_flags : List Row
 setupmapping_flags =
     (codes "WRITE", 2 ^ 0) ∷ (codes "READ", 2 ^ 1) ∷ []
 
--- what the two sides can agree on
+-- the flags of FsOptions, which are the options of INIT
 abbrev pub fs_options : List Row
 fs_options =
     (codes "ASYNC_READ", 2 ^ 0) ∷ (codes "POSIX_LOCKS", 2 ^ 1) ∷ (codes "FILE_OPS", 2 ^ 2) ∷

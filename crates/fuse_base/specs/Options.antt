@@ -1,4 +1,4 @@
--- The options that client and server agree on, as contracts see them.
+-- The type of the options that guest and server agree on.
 use Rattle.std.specs.Prelude.{ℕ}
 use Rattle.fuse_base.specs.declared.flags.FlagSet.{FlagSet}
 use Rattle.fuse_base.specs.declared.flags.FsOptionsNames.{FsOptionsNames}

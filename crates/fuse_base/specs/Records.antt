@@ -1,4 +1,4 @@
--- The records as the fields that spell them (linux/fuse.h).
+-- The fields of the records that requests and replies share, in order (linux/fuse.h).
 use Rattle.std.specs.Prelude.{List, [], ◌∷◌}
 use Rattle.vm_values.specs.Fields.{Field, d, ds, q}
 use Rattle.fuse_base.specs.declared.records.Attr.{Attr}

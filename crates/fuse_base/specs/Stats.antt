@@ -1,5 +1,5 @@
--- What the host tells, as the guest is told: signed numbers by their two's complement bits, wider ones by
--- their low 32 bits.
+-- Records of linux/fuse.h made from the host's `stat(2)` and `statvfs(3)`. A signed number becomes
+-- its two's complement bits. A number that is too wide becomes its low 32 bits.
 use Rattle.std.specs.Prelude.{ℕ, ℤ, ◌%◌, ◌^◌, Result, Ok, Err, ◌⊎◌, replicate}
 use Rattle.std.specs.Int.{w64, cast_unsigned}
 use Rattle.fuse_base.specs.declared.ids.GuestUid.{GuestUid}
@@ -11,19 +11,19 @@ use Rattle.fuse_base.specs.declared.records.Kstatfs.{Kstatfs}
 use Rattle.fuse_base.specs.declared.stats.Stat.{Stat}
 use Rattle.fuse_base.specs.declared.stats.StatVfs.{StatVfs}
 
--- the bits of a signed number
+-- the two's complement bits of a signed 64-bit number, as an unsigned one
 abbrev pub pattern : ℤ → ℕ
 pattern z = cast_unsigned w64 z
 
--- the file's user and group on the host
+-- the user ID of a file on the host
 abbrev pub host_uid : Stat → HostUid
 host_uid st = record { 0 = st.st_uid }
 
--- the group of a file, as the host numbers it
+-- the group ID of a file on the host
 abbrev pub host_gid : Stat → HostGid
 host_gid st = record { 0 = st.st_gid }
 
--- the attributes of a file with these flags, under these numbers of the guest
+-- the attributes of a file, with flags, and with its user and group in the guest
 abbrev pub attr_from : Stat → ℕ → GuestUid → GuestGid → Attr
 attr_from st flags uid gid = record {
   ino = st.st_ino;
@@ -44,7 +44,7 @@ attr_from st flags uid gid = record {
   flags = flags;
 }
 
--- the numbers of a file system; the last three by their low 32 bits
+-- the counts of a file system; bsize, namelen and frsize are the low 32 bits
 abbrev pub kstatfs_from : StatVfs → Kstatfs
 kstatfs_from v = record {
   blocks = v.f_blocks;
@@ -59,11 +59,11 @@ kstatfs_from v = record {
   spare = replicate 6 0;
 }
 
--- both maps answered a number, and these fit the fact
+-- both maps returned a number, and P holds of the two
 abbrev pub BothMapped : (GuestUid → Type 0) → (GuestGid → Type 0) → (GuestUid → GuestGid → Type 0) → Type 0
 BothMapped U G P = (u : GuestUid) × (g : GuestGid) × U u × G g × P u g
 
--- an error of the user map, or, after its answer, one of the group map
+-- e is an error of the user map, or an error of the group map after the user map returned a number
 abbrev pub FirstError :
     {E : Type 0} → (Result GuestUid E → Type 0) → (Result GuestGid E → Type 0) → E → Type 0
 FirstError U G e = U (Err e) ⊎ ((u : GuestUid) × U (Ok u) × G (Err e))

@@ -1,4 +1,4 @@
-//! Sets of flags.
+//! Sets of flags of linux/fuse.h, as the bits of a number.
 
 ghost use Rattle.std.specs.Prelude.{⊤, ◌≡◌, List, map};
 ghost use Rattle.std.specs.Int.RustNames.{bit_and, bit_or};
@@ -10,19 +10,19 @@ use bitflags::{Bits, Flag, Flags};
 use std::marker::PhantomData;
 use std::ops::{BitAnd, BitOr};
 
-// Flags under their names.
+// The flags of a set, each with its name.
 macro_rules! named {
     ($set:ident; $($name:ident)*) => {
         &[$(Flag { name: stringify!($name), value: $set::$name },)*]
     };
 }
 
-/// Which flags a set is of.
+/// The flags of a set: their names and bits.
 pub trait FlagNames<B: Bits>: Sized {
-    // Their names and bits.
+    // The flags' names and bits, in order.
     ghost table: { List Row };
 
-    /// Each flag under its name.
+    /// The flags, each with its name, in the order of the table.
     fn flags<'a>() -> &'a [Flag<FlagSet<B, Self>>]
         ensures { map (λ f. (f.name.now, B.pattern f.value.0)) result.now ≡ table };
 }
@@ -76,29 +76,29 @@ impl<B: Bits, N> BitAnd for FlagSet<B, N> {
 /// The flags of `SetattrValid`.
 pub struct SetattrValidNames;
 
-/// Which fields of a `SetattrIn` are meant (`FATTR_` in linux/fuse.h).
+/// The fields of a `SetattrIn` to set (`FATTR_` in linux/fuse.h).
 pub type SetattrValid = FlagSet<u32, SetattrValidNames>;
 
 impl SetattrValid {
     /// The mode.
     pub const MODE: Self = FlagSet(1 << 0, PhantomData);
-    /// The user.
+    /// The owner's user ID.
     pub const UID: Self = FlagSet(1 << 1, PhantomData);
-    /// The group.
+    /// The owner's group ID.
     pub const GID: Self = FlagSet(1 << 2, PhantomData);
     /// The size.
     pub const SIZE: Self = FlagSet(1 << 3, PhantomData);
-    /// The time of access.
+    /// The access time.
     pub const ATIME: Self = FlagSet(1 << 4, PhantomData);
-    /// The time of change.
+    /// The modification time.
     pub const MTIME: Self = FlagSet(1 << 5, PhantomData);
-    /// The time of access is now.
+    /// The access time, to the current time.
     pub const ATIME_NOW: Self = FlagSet(1 << 7, PhantomData);
-    /// The time of change is now.
+    /// The modification time, to the current time.
     pub const MTIME_NOW: Self = FlagSet(1 << 8, PhantomData);
-    /// The time of the last change of the node.
+    /// The time of the last status change.
     pub const CTIME: Self = FlagSet(1 << 10, PhantomData);
-    /// Drop the set-id bits.
+    /// Clear the set-user-ID and set-group-ID bits.
     pub const KILL_SUIDGID: Self = FlagSet(1 << 11, PhantomData);
 }
 
@@ -115,23 +115,23 @@ impl FlagNames<u32> for SetattrValidNames {
 /// The flags of `OpenOptions`.
 pub struct OpenOptionsNames;
 
-/// How an open file is treated (`FOPEN_` in linux/fuse.h).
+/// How the guest treats an open file (`FOPEN_` in linux/fuse.h).
 pub type OpenOptions = FlagSet<u32, OpenOptionsNames>;
 
 impl OpenOptions {
-    /// Past the page cache.
+    /// Reads and writes bypass the page cache.
     pub const DIRECT_IO: Self = FlagSet(1 << 0, PhantomData);
-    /// What is cached stays.
+    /// The open keeps the file's cached data.
     pub const KEEP_CACHE: Self = FlagSet(1 << 1, PhantomData);
-    /// It has no position.
+    /// The file isn't seekable.
     pub const NONSEEKABLE: Self = FlagSet(1 << 2, PhantomData);
-    /// A directory may be cached.
+    /// The directory may be cached.
     pub const CACHE_DIR: Self = FlagSet(1 << 3, PhantomData);
-    /// A stream, with no position at all.
+    /// The file is a stream: it has no position at all.
     pub const STREAM: Self = FlagSet(1 << 4, PhantomData);
-    /// No flush at a close.
+    /// A close doesn't flush the data cache.
     pub const NOFLUSH: Self = FlagSet(1 << 5, PhantomData);
-    /// Direct writes side by side.
+    /// Direct writes of one file may run in parallel.
     pub const PARALLEL_DIRECT_WRITES: Self = FlagSet(1 << 6, PhantomData);
 }
 
@@ -148,23 +148,23 @@ impl FlagNames<u32> for OpenOptionsNames {
 /// The flags of `IoctlFlags`.
 pub struct IoctlFlagsNames;
 
-/// How an ioctl is sent and answered (`FUSE_IOCTL_` in linux/fuse.h).
+/// Flags of an ioctl's request and reply (`FUSE_IOCTL_` in linux/fuse.h).
 pub type IoctlFlags = FlagSet<u32, IoctlFlagsNames>;
 
 impl IoctlFlags {
-    /// A call of 32 bits on a machine of 64.
+    /// A 32-bit call on a 64-bit machine.
     pub const IOCTL_COMPAT: Self = FlagSet(1 << 0, PhantomData);
-    /// Any argument, with retries.
+    /// The ioctl's argument may have any form; retries are allowed.
     pub const IOCTL_UNRESTRICTED: Self = FlagSet(1 << 1, PhantomData);
-    /// Try again with these windows.
+    /// Retry with these buffers (`struct fuse_ioctl_iovec`).
     pub const IOCTL_RETRY: Self = FlagSet(1 << 2, PhantomData);
-    /// A call of 32 bits.
+    /// A 32-bit call.
     pub const IOCTL_32BIT: Self = FlagSet(1 << 3, PhantomData);
-    /// It is a directory.
+    /// The file is a directory.
     pub const IOCTL_DIR: Self = FlagSet(1 << 4, PhantomData);
-    /// A call of x32 on a machine of 64.
+    /// An x32 call on a 64-bit machine.
     pub const IOCTL_COMPAT_X32: Self = FlagSet(1 << 5, PhantomData);
-    /// The bit of the greatest number of windows.
+    /// 256, the greatest number of buffers of an ioctl, as a flag.
     pub const IOCTL_MAX_IOV: Self = FlagSet(1 << 8, PhantomData);
 }
 
@@ -182,11 +182,11 @@ impl FlagNames<u32> for IoctlFlagsNames {
 /// The flags of `SetxattrFlags`.
 pub struct SetxattrFlagsNames;
 
-/// What a setxattr does beside its work (`FUSE_SETXATTR_` in linux/fuse.h).
+/// Extra flags of a SETXATTR (`FUSE_SETXATTR_` in linux/fuse.h).
 pub type SetxattrFlags = FlagSet<u32, SetxattrFlagsNames>;
 
 impl SetxattrFlags {
-    /// Drop the set-group-id bit where an ACL is set.
+    /// Clear the set-group-ID bit when an ACL is set.
     pub const SETXATTR_ACL_KILL_SGID: Self = FlagSet(1 << 0, PhantomData);
 }
 
@@ -201,11 +201,11 @@ impl FlagNames<u32> for SetxattrFlagsNames {
 /// The flags of `NotifyInvalEntryOutFlags`.
 pub struct NotifyInvalEntryOutFlagsNames;
 
-/// How an entry is made invalid (`FUSE_EXPIRE_ONLY` in linux/fuse.h).
+/// Flags of `fuse_notify_inval_entry_out` (`FUSE_EXPIRE_ONLY` in linux/fuse.h).
 pub type NotifyInvalEntryOutFlags = FlagSet<u32, NotifyInvalEntryOutFlagsNames>;
 
 impl NotifyInvalEntryOutFlags {
-    /// It expires and is not dropped.
+    /// The entry expires. The guest doesn't drop it.
     pub const EXPIRE_ONLY: Self = FlagSet(1 << 0, PhantomData);
 }
 
@@ -220,13 +220,13 @@ impl FlagNames<u32> for NotifyInvalEntryOutFlagsNames {
 /// The flags of `SetupmappingFlags`.
 pub struct SetupmappingFlagsNames;
 
-/// What a mapping allows (`FUSE_SETUPMAPPING_FLAG_` in linux/fuse.h).
+/// The accesses that a mapping allows (`FUSE_SETUPMAPPING_FLAG_` in linux/fuse.h).
 pub type SetupmappingFlags = FlagSet<u64, SetupmappingFlagsNames>;
 
 impl SetupmappingFlags {
-    /// It may be written.
+    /// The mapping may be written.
     pub const WRITE: Self = FlagSet(1 << 0, PhantomData);
-    /// It may be read.
+    /// The mapping may be read.
     pub const READ: Self = FlagSet(1 << 1, PhantomData);
 }
 
@@ -241,83 +241,83 @@ impl FlagNames<u64> for SetupmappingFlagsNames {
 /// The flags of `FsOptions`.
 pub struct FsOptionsNames;
 
-/// What the two sides can agree on (the flags of `struct fuse_init_in`, the low half and the high half).
+/// The options of INIT: `flags` of `struct fuse_init_in` in the low half, `flags2` in the high half.
 pub type FsOptions = FlagSet<u64, FsOptionsNames>;
 
 impl FsOptions {
-    /// Reads side by side.
+    /// The guest may send reads in parallel.
     pub const ASYNC_READ: Self = FlagSet(1 << 0, PhantomData);
-    /// Locks of records are served.
+    /// The server handles POSIX record locks.
     pub const POSIX_LOCKS: Self = FlagSet(1 << 1, PhantomData);
-    /// GETATTR and SETATTR come with a handle.
+    /// GETATTR and SETATTR have a file handle.
     pub const FILE_OPS: Self = FlagSet(1 << 2, PhantomData);
-    /// An open truncates.
+    /// OPEN handles O_TRUNC.
     pub const ATOMIC_O_TRUNC: Self = FlagSet(1 << 3, PhantomData);
-    /// `.` and `..` are looked up.
+    /// LOOKUP handles `.` and `..`.
     pub const EXPORT_SUPPORT: Self = FlagSet(1 << 4, PhantomData);
-    /// Writes above 4 KiB.
+    /// A WRITE may have more than 4 KiB.
     pub const BIG_WRITES: Self = FlagSet(1 << 5, PhantomData);
-    /// The umask is left to the server.
+    /// The server applies the umask, not the guest.
     pub const DONT_MASK: Self = FlagSet(1 << 6, PhantomData);
-    /// Splices into the device.
+    /// The guest's FUSE device supports splicing into it.
     pub const SPLICE_WRITE: Self = FlagSet(1 << 7, PhantomData);
-    /// Splices that move pages.
+    /// The guest's FUSE device supports splices that move pages.
     pub const SPLICE_MOVE: Self = FlagSet(1 << 8, PhantomData);
-    /// Splices out of the device.
+    /// The guest's FUSE device supports splicing out of it.
     pub const SPLICE_READ: Self = FlagSet(1 << 9, PhantomData);
-    /// Locks of whole files are served.
+    /// The server handles `flock(2)` locks.
     pub const FLOCK_LOCKS: Self = FlagSet(1 << 10, PhantomData);
-    /// An ioctl on a directory.
+    /// The guest supports an ioctl on a directory.
     pub const HAS_IOCTL_DIR: Self = FlagSet(1 << 11, PhantomData);
-    /// Cached pages go as a time changes.
+    /// The guest drops a file's cached pages when its modification time changes.
     pub const AUTO_INVAL_DATA: Self = FlagSet(1 << 12, PhantomData);
-    /// READDIRPLUS is served.
+    /// The server handles READDIRPLUS.
     pub const DO_READDIRPLUS: Self = FlagSet(1 << 13, PhantomData);
-    /// READDIRPLUS if it pays.
+    /// The guest chooses between READDIR and READDIRPLUS.
     pub const READDIRPLUS_AUTO: Self = FlagSet(1 << 14, PhantomData);
-    /// Direct calls side by side.
+    /// Direct reads and writes may run in parallel.
     pub const ASYNC_DIO: Self = FlagSet(1 << 15, PhantomData);
-    /// Writes gather in the cache.
+    /// The guest caches writes (writeback cache).
     pub const WRITEBACK_CACHE: Self = FlagSet(1 << 16, PhantomData);
-    /// OPEN may be left out.
+    /// The guest may leave OPEN out.
     pub const ZERO_MESSAGE_OPEN: Self = FlagSet(1 << 17, PhantomData);
-    /// Lookups and lists side by side.
+    /// Look-ups and listings of one directory may run in parallel.
     pub const PARALLEL_DIROPS: Self = FlagSet(1 << 18, PhantomData);
-    /// The server drops set-id bits.
+    /// The server clears the set-user-ID and set-group-ID bits on writes, truncations and changes of owner.
     pub const HANDLE_KILLPRIV: Self = FlagSet(1 << 19, PhantomData);
-    /// ACLs are served.
+    /// The server handles POSIX ACLs.
     pub const POSIX_ACL: Self = FlagSet(1 << 20, PhantomData);
-    /// An abort is told from an end.
+    /// A read of the guest's FUSE device after an abort fails with ECONNABORTED.
     pub const ABORT_ERROR: Self = FlagSet(1 << 21, PhantomData);
-    /// `max_pages` is meant.
+    /// `InitOut::max_pages` is valid.
     pub const MAX_PAGES: Self = FlagSet(1 << 22, PhantomData);
-    /// Links are cached.
+    /// The guest caches the targets of symbolic links.
     pub const CACHE_SYMLINKS: Self = FlagSet(1 << 23, PhantomData);
-    /// OPENDIR may be left out.
+    /// The guest may leave OPENDIR out.
     pub const ZERO_MESSAGE_OPENDIR: Self = FlagSet(1 << 24, PhantomData);
-    /// Cached pages go at a notice alone.
+    /// The guest drops cached pages only on a notification.
     pub const EXPLICIT_INVAL_DATA: Self = FlagSet(1 << 25, PhantomData);
-    /// Other mounts are marked.
+    /// The guest mounts directories with ATTR_SUBMOUNT as submounts.
     pub const SUBMOUNTS: Self = FlagSet(1 << 27, PhantomData);
-    /// The server drops set-id bits when told.
+    /// The server clears the set-user-ID and set-group-ID bits if a request asks for it.
     pub const HANDLE_KILLPRIV_V2: Self = FlagSet(1 << 28, PhantomData);
-    /// SETXATTR has its longer record.
+    /// SETXATTR has the longer `struct fuse_setxattr_in`.
     pub const SETXATTR_EXT: Self = FlagSet(1 << 29, PhantomData);
-    /// INIT has its longer record.
+    /// INIT has the longer `struct fuse_init_in`.
     pub const INIT_EXT: Self = FlagSet(1 << 30, PhantomData);
-    /// Kept free.
+    /// Reserved.
     pub const INIT_RESERVED: Self = FlagSet(1 << 31, PhantomData);
-    /// A new node comes with a security context.
+    /// A request that makes a node has a security context.
     pub const SECURITY_CTX: Self = FlagSet(1 << 32, PhantomData);
-    /// Files choose their own mapping.
+    /// DAX is chosen for each file (ATTR_DAX).
     pub const HAS_INODE_DAX: Self = FlagSet(1 << 33, PhantomData);
-    /// A request that makes a node comes with a group of the caller.
+    /// A request that makes a node has a supplementary group of the caller.
     pub const CREATE_SUPP_GROUP: Self = FlagSet(1 << 34, PhantomData);
-    /// Direct files may be mapped.
+    /// A file with DIRECT_IO may be mapped as shared.
     pub const DIRECT_IO_ALLOW_MMAP: Self = FlagSet(1 << 36, PhantomData);
-    /// Mounts with mapped users.
+    /// The guest may make ID-mapped mounts.
     pub const ALLOW_IDMAP: Self = FlagSet(1 << 40, PhantomData);
-    /// The options that are agreed wherever the guest offers them.
+    /// The options that the server accepts whenever the guest offers them.
     pub const DEFAULT: Self = FlagSet(
         Self::ASYNC_READ.0
             | Self::ATOMIC_O_TRUNC.0

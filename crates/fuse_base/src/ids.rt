@@ -1,4 +1,4 @@
-//! Numbers of users and groups, and of errors.
+//! User IDs, group IDs and error numbers.
 
 ghost use Rattle.std.specs.Prelude.{◌≡◌, [], ◌∷◌, refl, ℕ, ◌↔◌, ◌≤◌, IsSome, IfSome};
 ghost use Rattle.std.proofs.Common.{rules};
@@ -8,7 +8,7 @@ use std::marker::Model;
 use thiserror::Error;
 use vm_values::ByteValued;
 
-/// A user number as the guest has it: 4 bytes, the lowest first.
+/// A user ID in the guest: 4 bytes, little-endian.
 #[derive(Clone, Copy, Debug, Default, PartialEq, Eq)]
 pub struct GuestUid(pub u32);
 
@@ -39,7 +39,7 @@ impl ByteValued for GuestUid {
     ghost lawful = { (λ x y. refl, λ x y h. Prim.search rules, Prim.search rules) };
 }
 
-/// A group number as the guest has it: 4 bytes, the lowest first.
+/// A group ID in the guest: 4 bytes, little-endian.
 #[derive(Clone, Copy, Debug, Default, PartialEq, Eq)]
 pub struct GuestGid(pub u32);
 
@@ -70,7 +70,7 @@ impl ByteValued for GuestGid {
     ghost lawful = { (λ x y. refl, λ x y h. Prim.search rules, Prim.search rules) };
 }
 
-/// A user number as the host has it.
+/// A user ID on the host.
 #[derive(Clone, Copy, Debug, Default, PartialEq, Eq)]
 pub struct HostUid(pub u32);
 
@@ -82,7 +82,7 @@ impl From<u32> for HostUid {
     }
 }
 
-/// A group number as the host has it.
+/// A group ID on the host.
 #[derive(Clone, Copy, Debug, Default, PartialEq, Eq)]
 pub struct HostGid(pub u32);
 
@@ -94,8 +94,8 @@ impl From<u32> for HostGid {
     }
 }
 
-/// An error number (errno(3); Linux include/uapi/asm-generic/errno.h), from 1 to 4095. Those that file
-/// systems answer have names.
+/// An error number (errno(3); Linux include/uapi/asm-generic/errno.h), from 1 to 4095. Constants
+/// name the errors that file systems answer.
 #[derive(Clone, Copy, Debug, PartialEq, Eq, Error)]
 #[error("error number {number}")]
 pub struct Errno {
@@ -121,7 +121,7 @@ impl Errno {
     pub const EINTR: Errno = Errno { number: 4 };
     /// An input or output error.
     pub const EIO: Errno = Errno { number: 5 };
-    /// No such device or address, or no data behind an offset.
+    /// No such device or address; of `lseek(2)`, no data from an offset on.
     pub const ENXIO: Errno = Errno { number: 6 };
     /// A bad file handle.
     pub const EBADF: Errno = Errno { number: 9 };
@@ -173,7 +173,7 @@ impl Errno {
     pub const ENAMETOOLONG: Errno = Errno { number: 36 };
     /// No locks available.
     pub const ENOLCK: Errno = Errno { number: 37 };
-    /// No such call.
+    /// The call isn't implemented.
     pub const ENOSYS: Errno = Errno { number: 38 };
     /// A directory that isn't empty.
     pub const ENOTEMPTY: Errno = Errno { number: 39 };
@@ -194,7 +194,7 @@ impl Errno {
     /// Disk quota exceeded.
     pub const EDQUOT: Errno = Errno { number: 122 };
 
-    /// The error of this number, which is from 1 to 4095.
+    /// The error with this number. None unless the number is from 1 to 4095.
     pub fn new(number: u32) -> Option<Errno>
         ensures some { IsSome result ↔ ((1 ≤ number) × (number ≤ 4095)) }
         ensures value { IfSome result (λ e. e ≡ number) }
@@ -206,7 +206,7 @@ impl Errno {
         }
     }
 
-    /// Its number.
+    /// The error's number, from 1 to 4095.
     pub fn raw(self) -> u32
         ensures number { result ≡ self }
         ensures range { (1 ≤ result) × (result ≤ 4095) }
@@ -215,7 +215,7 @@ impl Errno {
     }
 }
 
-// The numbers of the named errors (errno.h).
+// The named errors have the numbers of errno.h.
 const _: () = prove!(Errno::EPERM.number == 1);
 
 const _: () = prove!(Errno::ENOENT.number == 2);

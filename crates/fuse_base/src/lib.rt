@@ -1,5 +1,5 @@
-//! What both directions of the FUSE protocol use: numbers of users, groups and errors, flags and shared
-//! records.
+//! The parts of the FUSE protocol that requests and replies share: user, group and error numbers,
+//! flags and records.
 #![tactic(auto)]
 
 pub mod constants;

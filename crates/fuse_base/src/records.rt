@@ -1,4 +1,4 @@
-//! Records that both directions use (linux/fuse.h); their numbers have the lowest byte first.
+//! Records that requests and replies share (linux/fuse.h). Their numbers are little-endian.
 
 ghost use Rattle.std.specs.Prelude.{refl};
 ghost use Rattle.std.proofs.Common.{rules};
@@ -7,8 +7,8 @@ ghost use Rattle.fuse_base.specs.Records.{attr, kstatfs, file_lock};
 use crate::ids::{GuestGid, GuestUid};
 use vm_values::{ByteValued, get_fields, put_fields};
 
-/// `struct fuse_attr`: 88 bytes. `size` counts bytes, and `blocks` units of 512 bytes; a time is seconds
-/// since 1970 and nanoseconds.
+/// `struct fuse_attr`: 88 bytes. `size` counts bytes, and `blocks` units of 512 bytes. A time is
+/// seconds since 1970 and nanoseconds.
 #[derive(Clone, Copy, Debug, Default, PartialEq)]
 pub struct Attr {
     pub ino: u64,
@@ -88,7 +88,8 @@ impl ByteValued for Kstatfs {
     ghost lawful = { (λ x y. refl, λ x y h. Prim.search rules, Prim.search rules) };
 }
 
-/// `struct fuse_file_lock`: 24 bytes. `start` and `end` are the first byte and the last, `type_` is fcntl's.
+/// `struct fuse_file_lock`: 24 bytes. `start` and `end` are the first and the last byte. `type_` is
+/// `l_type` of `fcntl(2)`.
 #[derive(Clone, Copy, Debug, Default, PartialEq)]
 pub struct FileLock {
     pub start: u64,

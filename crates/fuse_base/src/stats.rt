@@ -1,4 +1,4 @@
-//! What the host tells of a file and of a file system, and its way into the records.
+//! The host's `stat(2)` and `statvfs(3)`, and the records of linux/fuse.h made from them.
 
 ghost use Rattle.std.specs.Prelude.{◌≡◌, ◌%◌, ◌^◌, Ok, IfOk, IfErr};
 ghost use Rattle.fuse_base.specs.Stats.{pattern, attr_from, kstatfs_from, host_uid, host_gid, FirstError};
@@ -7,8 +7,8 @@ ghost use Rattle.fuse_base.specs.Stats.{BothMapped};
 use crate::ids::{Errno, GuestGid, GuestUid, HostGid, HostUid};
 use crate::records::{Attr, Kstatfs};
 
-/// What the host tells of a file (`struct stat` of sys/stat.h): `st_size` counts bytes, and `st_blocks` units
-/// of 512 bytes; a time is seconds since 1970 and nanoseconds.
+/// The attributes of a file on the host (`struct stat` of sys/stat.h). `st_size` counts bytes, and
+/// `st_blocks` units of 512 bytes. A time is seconds since 1970 and nanoseconds.
 #[derive(Clone, Copy, Debug, Default, PartialEq)]
 pub struct Stat {
     pub st_ino: u64,
@@ -28,8 +28,8 @@ pub struct Stat {
     pub st_gid: u32,
 }
 
-/// What the host tells of a file system (`struct statvfs` of sys/statvfs.h): blocks count units of `f_frsize`
-/// bytes.
+/// The counts of a file system on the host (`struct statvfs` of sys/statvfs.h). Blocks are counted
+/// in units of `f_frsize` bytes.
 #[derive(Clone, Copy, Debug, Default, PartialEq)]
 pub struct StatVfs {
     pub f_blocks: u64,
@@ -42,21 +42,21 @@ pub struct StatVfs {
     pub f_frsize: u64,
 }
 
-// The bits of a signed number.
+// The two's complement bits of a signed number, as an unsigned one.
 fn bits_of(n: &i64) -> u64
     ensures { result ≡ pattern n.now }
 {
     n.cast_unsigned()
 }
 
-// The low 32 bits.
+// The low 32 bits of a number.
 fn low(n: u64) -> u32
     ensures { result ≡ n % 2 ^ 32 }
 {
     (n % 0x1_0000_0000) as u32
 }
 
-// The attributes of a file under these numbers of the guest.
+// The attributes of a file, with the user and group in the guest.
 fn attr_of(st: Stat, flags: u32, uid: GuestUid, gid: GuestGid) -> Attr
     ensures { result ≡ attr_from st flags uid gid }
 {
@@ -81,8 +81,8 @@ fn attr_of(st: Stat, flags: u32, uid: GuestUid, gid: GuestGid) -> Attr
 }
 
 impl Attr {
-    /// The attributes of a file (`struct fuse_attr`, of what `stat(2)` tells), with no flags. An errno of
-    /// `uid_map`, and then of `gid_map`, ends the call.
+    /// The attributes of a file (`struct fuse_attr`) from the host's `stat(2)`, without flags.
+    /// Errors, in this order: the errno of `uid_map`, the errno of `gid_map`.
     pub fn try_from_stat<U, G>(st: Stat, uid_map: U, gid_map: G) -> Result<Attr, Errno>
     where
         U: FnOnce(HostUid) -> Result<GuestUid, Errno>,
@@ -98,8 +98,9 @@ impl Attr {
         Attr::try_with_flags(st, 0, uid_map, gid_map)
     }
 
-    /// The attributes of a file (`struct fuse_attr`, of what `stat(2)` tells), with these flags (`FUSE_ATTR_`
-    /// in linux/fuse.h). An errno of `uid_map`, and then of `gid_map`, ends the call.
+    /// The attributes of a file (`struct fuse_attr`) from the host's `stat(2)`, with flags
+    /// (`FUSE_ATTR_` in linux/fuse.h).
+    /// Errors, in this order: the errno of `uid_map`, the errno of `gid_map`.
     pub fn try_with_flags<U, G>(st: Stat, flags: u32, uid_map: U, gid_map: G) -> Result<Attr, Errno>
     where
         U: FnOnce(HostUid) -> Result<GuestUid, Errno>,

@@ -1,12 +1,11 @@
--- A proof: what holds of files of few calls, whatever they answer. It stands here since `adapter.rt` cites
--- it.
+-- A proof: facts about files of few calls with any relation. It is in specs/ since `adapter.rt` cites it.
 use Rattle.std.proofs.Common.{◌≡◌, ℕ, List, [], ◌∷◌, Bool, true, false, ◌∙◌, ap, refl, sym, subst}
 use Rattle.fuse_fs.specs.declared.answers.Context.{Context}
 use Rattle.fuse_fs.specs.Answers.{ForgetsEach}
 use Rattle.fuse_fs.specs.Calls.{FileCall, FileAnswer, Done, BatchForget}
 use Rattle.fuse_files.specs.Files.{ByOwn, MayAnswer, MayOwn, default_answer, is_own}
 
--- a call that isn't its own may have its default
+-- a call that files don't serve themselves may have its default answer
 pub by_default : {T : Type 0} (writes : Bool) (may : T → FileCall → FileAnswer → T →
     Type 0) (s : T) (c : FileCall) → is_own writes c ≡ false → MayAnswer writes may s c (default_answer c) s
 by_default writes may s c other =
@@ -14,7 +13,7 @@ by_default writes may s c other =
     ((default_answer c ≡ default_answer c)
     × (s ≡ s))) (sym other) (refl, refl)
 
--- nodes that are forgotten one after another, of files within a state
+-- FORGETs of pairs in a state are FORGETs in its files
 each_forgotten : {S T : Type 0} (may : T → FileCall → FileAnswer → T → Type 0) (part : S →
     T) (before : S) (who : Context) (counts : List (ℕ × ℕ)) (after : S) →
     ForgetsEach (λ b call answer a. MayAnswer true may (part b) call answer (part a)) before who counts
@@ -23,7 +22,7 @@ each_forgotten may part before who [] after same = ap part same
 each_forgotten may part before who (node ∷ counts) after (between, made, rest) =
     (part between, made, each_forgotten may part between who counts after rest)
 
--- nodes that are forgotten change nothing of files that are only read
+-- FORGETs of pairs change nothing in read-only files
 none_forgotten : {S T : Type 0} (may : T → FileCall → FileAnswer → T → Type 0) (part : S →
     T) (before : S) (who : Context) (counts : List (ℕ × ℕ)) (after : S) →
     ForgetsEach (λ b call answer a. MayAnswer false may (part b) call answer (part a)) before who counts
@@ -32,7 +31,7 @@ none_forgotten may part before who [] after same = ap part same
 none_forgotten may part before who (node ∷ counts) after (between, made, rest) =
     none_forgotten may part between who counts after rest ∙ made.1
 
--- a list of nodes may be forgotten node by node
+-- BATCH_FORGET may forget its nodes one after another
 pub forgets_each : {S T : Type 0} (writes : Bool) (may : T → FileCall → FileAnswer → T → Type 0) (part : S →
     T) (before : S) (who : Context) (counts : List (ℕ × ℕ)) (after : S) →
     ForgetsEach (λ b call answer a. MayAnswer writes may (part b) call answer (part a)) before who

@@ -1,4 +1,4 @@
-//! The kinds of files: those that are only read, and those that are written too.
+//! The kinds of files: read-only and writable.
 
 ghost use Rattle.std.specs.Prelude.{◌≡◌, true, false, option_map};
 ghost use Rattle.fuse_fs.specs.Answers.{attr_answer};
@@ -14,7 +14,7 @@ use fuse_fs::{
 };
 use fuse_in::SetattrIn;
 
-/// Files that are only read: no call changes them, and what a guest forgets isn't told.
+/// Files that are only read. No call changes them, and FUSE_FORGET does nothing.
 #[derive(Clone, Copy)]
 pub struct ReadOnly;
 
@@ -49,7 +49,7 @@ impl<T: ReadableFileSystem> ChangesNothing for Files<T, ReadOnly> {
         (ap (is_own_group false) changing) };
 }
 
-/// Files that are written, and told what a guest forgets.
+/// Files that are read and written. FUSE_FORGET calls their `forget`.
 #[derive(Clone, Copy)]
 pub struct Writable;
 

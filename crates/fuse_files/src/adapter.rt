@@ -1,4 +1,4 @@
-//! Files of few calls, as a file system of all calls.
+//! A file system of few calls, as one of all calls.
 
 ghost use Rattle.std.specs.Prelude.{◌≡◌, Bool, option_map};
 ghost use Rattle.fuse_fs.specs.Answers.{attr_answer, written_answer};
@@ -11,21 +11,21 @@ use fuse_fs::{
     Context, Entry, FewCalls, FileSystemBase, OpenCalls, Timeout, ZeroCopyReader, ZeroCopyWriter,
 };
 
-/// The file system of all calls that these files are, by their kind: `ReadOnly` or `Writable`. The calls that
-/// the kind has go to the files, and each other call has the answer of `defaults` and changes nothing.
+/// A file system of all calls, from files of few calls and their kind, `ReadOnly` or `Writable`. The files
+/// serve the calls of the kind. Each other call has the answer of `defaults` and changes nothing.
 #[derive(Drop)]
 pub struct Files<T, K>(pub T, pub K);
 
-/// What files of some kind do at the calls by which kinds differ.
+/// The calls in which the kinds of files differ.
 pub trait Kind<T: ReadableFileSystem> {
-    // whether the files are written, and told what a guest forgets
+    // whether the files are written, and FUSE_FORGET reaches them
     ghost writes: { Bool };
 
-    /// FUSE_FORGET.
+    /// FUSE_FORGET: calls the files' `forget` if they are writable.
     fn forget(files: &mut T, ctx: Context, inode: u64, count: u64)
         ensures may { MayAnswer writes T.may files.old (call.Forget ctx inode count) call.Done files.new };
 
-    /// FUSE_WRITE.
+    /// FUSE_WRITE: calls the files' `write` if they are writable. ENOSYS otherwise.
     fn write<R: ZeroCopyReader>(
         files: &mut T,
         ctx: Context,

@@ -15,26 +15,25 @@ use fuse_fs::{
 };
 use fuse_wire::{Attr, Errno, FsOptions, GuestGid, GuestUid, OpenOptions};
 
-// The node of the root.
+// The root's node number.
 const ROOT: u64 = 1;
 
-// The node of the first file.
+// The first file's node number.
 const FIRST: u64 = 2;
 
-// The bits of an open file's flags that say whether it is read or written, and those of reading only
-// (fcntl.h).
+// The access mode in an open's flags, and its value for reading only (fcntl.h).
 const O_ACCMODE: u32 = 3;
 
 const O_RDONLY: u32 = 0;
 
-// The error of writing where nothing may be written (EROFS).
+// The error of an open for writing (EROFS).
 fn read_only() -> Errno
     ensures { result ≡ EROFS }
 {
     Errno::new(30).unwrap()
 }
 
-// How long answers stay good.
+// How long the guest may cache an answer: one second.
 fn second() -> Timeout
     ensures { result ≡ record { seconds = 1; nanos = 0 } }
 {
@@ -65,7 +64,7 @@ fn attr(node: u64, size: u64, mode: u32) -> Attr
     }
 }
 
-// The file that a node is.
+// The file of a node, if there is one.
 fn file_at(files: &[OwnedFile], node: u64) -> Option<&OwnedFile>
     ensures { option_map (λ f. f.now) result ≡ file_at files.now node }
 {
@@ -76,7 +75,7 @@ fn file_at(files: &[OwnedFile], node: u64) -> Option<&OwnedFile>
     }
 }
 
-// What a look-up that found a file answers.
+// The entry that a look-up of a file returns.
 fn entry(node: u64, file: &OwnedFile) -> Entry<u64>
     ensures { result ≡ file_entry node file.now }
 {
@@ -89,7 +88,7 @@ fn entry(node: u64, file: &OwnedFile) -> Entry<u64>
     }
 }
 
-// Looks a name up, among files of which the first is node 2.
+// Looks up a name among files, the first of which is node 2. ENOENT if none has it.
 fn entry_named(files: &[OwnedFile], name: &[u8]) -> Result<Entry<u64>, Errno>
     requires { length files.now < 2 ^ 32 }
     ensures { entry_answer (λ n. n) result ≡ found_from files.now name.now 2 }
@@ -102,13 +101,13 @@ fn entry_named(files: &[OwnedFile], name: &[u8]) -> Result<Entry<u64>, Errno>
     Err(Errno::ENOENT)
 }
 
-// The contents of a file, as they are read at a place.
+// The contents of a file, for reads at an offset.
 #[derive(Drop)]
 struct ContentsReader<'a> {
     bytes: &'a [u8],
 }
 
-// The bytes from a place on.
+// The bytes from an offset on.
 fn rest(bytes: &[u8], off: u64) -> &[u8]
     ensures { result.now ≡ drop off bytes.now }
 {
@@ -148,8 +147,8 @@ impl<'a> PositionedFile for ContentsReader<'a> {
     }
 }
 
-// Puts so many bytes of contents from an offset on into a writer, or fails if there is no room for all of
-// them.
+// Puts at most `size` bytes of contents from an offset on into a writer. EIO if they don't all fit;
+// nothing is put in.
 fn put_bytes<W: ZeroCopyWriter>(
     w: &mut W,
     contents: &[u8],
@@ -170,7 +169,7 @@ fn put_bytes<W: ZeroCopyWriter>(
     w.read_from_file_at(&mut ContentsReader { bytes: contents }, wanted, offset)
 }
 
-// The entry of a file, by its place in the table.
+// The entry of a file, by its index in the table.
 fn entry_at(files: &[OwnedFile], at: u64) -> DirEntry<'_>
     requires { at < length files.now }
     ensures { Some (listed result) ≡ slice_get (listing_from (at + 2) (drop at files.now)) 0 }

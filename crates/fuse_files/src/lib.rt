@@ -1,6 +1,6 @@
-//! A file system in the methods that it has: one that is read implements eight calls, one that is written
-//! nine more, and each has the defaults for the rest. One of them: a read-only directory that owns the names
-//! and contents of its files.
+//! File systems that implement only some calls: eight if they are only read, nine more if they are
+//! written. All other calls have their defaults. One of them is a read-only directory that owns the
+//! names and contents of its files.
 #![tactic(auto)]
 
 mod access_kinds;

@@ -1,4 +1,4 @@
-//! The table of files that the directory is, and its entries.
+//! The table of the directory's files, and its entries.
 
 ghost use Rattle.std.specs.Prelude.{◌≡◌, ◌+◌, ◌<◌, ◌^◌, length, drop, IfOk, OnErr};
 ghost use Rattle.std.specs.Option.{ForSome};
@@ -7,9 +7,9 @@ ghost use Rattle.std.specs.Arc.{arc_value};
 use std::alloc::{AllocError, Global};
 use std::sync::Arc;
 
-/// A file of the directory. Its name is to be one that a directory can have: not empty, without `/` and zero
-/// bytes, of at most 255 bytes, and no other file's. Nothing looks at that: a listing gives each name as it
-/// is.
+/// A file of the directory. Its name has to be one that a directory can have: not empty, at most
+/// 255 bytes, without `/` and zero bytes, and no other file's. Nothing checks this: a listing
+/// returns each name as it is.
 #[derive(Drop)]
 pub struct OwnedFile {
     pub name: Vec<u8>,
@@ -28,18 +28,18 @@ impl OwnedFile {
     }
 }
 
-/// The files of a directory that never changes. The root is node 1, and the files are the nodes from 2 on, in
-/// the order of the table. A listing shares them.
+/// The files of a directory that never changes. The root is node 1. The files are the nodes from 2
+/// on, in the table's order. A listing shares the table.
 #[derive(Drop)]
 pub struct OwnedTable {
     files: Arc<Vec<OwnedFile>>,
     pub ghost few: { length (arc_value files).items < 2 ^ 32 },
 }
 
-/// The entries of the directory, from one on.
+/// An iterator over the directory's entries, from one on.
 #[derive(Drop)]
 pub struct TableEntries {
-    // None if no entry is left.
+    // If this is None, no entry is left.
     files: Option<Arc<Vec<OwnedFile>>>,
     pub(crate) at: u64,
     pub ghost few: { ForSome files (λ shared. length (arc_value shared).items < 2 ^ 32) },
@@ -48,8 +48,8 @@ pub struct TableEntries {
 impl OwnedTable {
     ghost use Rattle.fuse_files.specs.OwnedTable.{files_of, listed_files};
 
-    /// The table of these files. Of two with one name only the first is found. AllocError if an allocation
-    /// fails.
+    /// The table of these files, fewer than 2^32. A look-up finds the first of two files with one
+    /// name. AllocError if an allocation fails.
     pub fn new(alloc: Global, files: Vec<OwnedFile>) -> Result<OwnedTable, AllocError>
         requires { length files.items < 2 ^ 32 }
         ensures { IfOk result (λ t. files_of t ≡ files.items) }
@@ -60,7 +60,7 @@ impl OwnedTable {
         }
     }
 
-    /// Its files, in order.
+    /// The files, in order.
     pub fn files(&self) -> &[OwnedFile]
         ensures files { result.now ≡ files_of self.now }
         ensures few { length result.now < 2 ^ 32 }
@@ -68,7 +68,8 @@ impl OwnedTable {
         &self.files
     }
 
-    // Its entries from one on. AllocError if there is one, and the table has as many sharers as can be.
+    // The entries from an index on. AllocError if there is such an entry and the table's reference
+    // count is at its greatest.
     pub(crate) fn entries(&self, at: u64) -> Result<TableEntries, AllocError>
         ensures at { IfOk result (λ e. e.at ≡ at) }
         ensures files { IfOk result (λ e. drop at (listed_files e) ≡ drop at (files_of self.now)) }
@@ -85,7 +86,7 @@ impl OwnedTable {
 impl TableEntries {
     ghost use Rattle.fuse_files.specs.OwnedTable.{listed_files};
 
-    // The files that it shares.
+    // The files that the listing shares with the table.
     pub(crate) fn files(&self) -> &[OwnedFile]
         ensures { result.now ≡ listed_files self.now }
     {

@@ -1,4 +1,4 @@
-//! The trait of file systems that are written.
+//! The trait of file systems that can be written.
 
 ghost use Rattle.fuse_fs.specs.Answers.{attr_answer, created_answer, done_answer, entry_answer, extra_of};
 ghost use Rattle.fuse_fs.specs.Answers.{stats_answer, written_answer};
@@ -9,17 +9,17 @@ use fuse_base::{Attr, Errno, OpenOptions, SetattrValid, StatVfs};
 use fuse_fs::{Context, Entry, Extensions, Timeout, ZeroCopyReader};
 use fuse_in::SetattrIn;
 
-/// A file system in which a guest makes, writes, moves and removes files and directories: the nine calls that
-/// change it, besides the eight by which it is read. `Files`, of the kind `Writable`, makes a `FileSystem` of
-/// it, in which all other calls have the answers of `defaults`. A node that `lookup` answers is held by the
-/// guest once more. READDIRPLUS is `readdir` and a `lookup` of each name.
+/// A file system in which a guest makes, writes, renames and removes files and directories. It has
+/// nine calls besides the eight by which it is read. `Files`, with the kind `Writable`, makes a
+/// `FileSystem` of it, in which all other calls have the answers of `defaults`. The lookup count of
+/// a node that `lookup` returns rises by 1. READDIRPLUS is `readdir` and a `lookup` of each name.
 pub trait WritableFileSystem: ReadableFileSystem {
-    /// The guest holds a node this many times less (FUSE_FORGET, each node of FUSE_BATCH_FORGET), or an entry
-    /// is given back whose reply has no room; it can't fail. Node 0 may come too.
+    /// Lowers a node's lookup count by `count` (FUSE_FORGET, each node of FUSE_BATCH_FORGET). It can't fail.
+    /// The server also calls it to undo an entry whose reply doesn't fit. The node may be 0.
     fn forget(&mut self, ctx: Context, inode: u64, count: u64)
         ensures may { Self.may self.old (call.Forget ctx inode count) call.Done self.new };
 
-    /// Sets those attributes of a node that `valid` names, and answers all (FUSE_SETATTR).
+    /// Sets those attributes of a node that `valid` names, and returns all of them (FUSE_SETATTR).
     fn setattr(
         &mut self,
         ctx: Context,
@@ -44,15 +44,15 @@ pub trait WritableFileSystem: ReadableFileSystem {
         ensures may { Self.may self.old (call.Mkdir ctx parent name.now mode umask (extra_of extensions))
             (entry_answer (λ n. n) result) self.new };
 
-    /// Takes away a name that is no directory's (FUSE_UNLINK).
+    /// Removes a name that isn't a directory's (FUSE_UNLINK).
     fn unlink(&mut self, ctx: Context, parent: u64, name: &[u8]) -> Result<(), Errno>
         ensures may { Self.may self.old (call.Unlink ctx parent name.now) (done_answer result) self.new };
 
-    /// Takes away an empty directory (FUSE_RMDIR).
+    /// Removes an empty directory (FUSE_RMDIR).
     fn rmdir(&mut self, ctx: Context, parent: u64, name: &[u8]) -> Result<(), Errno>
         ensures may { Self.may self.old (call.Rmdir ctx parent name.now) (done_answer result) self.new };
 
-    /// Moves a name (FUSE_RENAME and FUSE_RENAME2; `renameat2(2)` has the flags).
+    /// Renames a file or directory (FUSE_RENAME and FUSE_RENAME2; `renameat2(2)` defines the flags).
     fn rename(
         &mut self,
         ctx: Context,
@@ -65,9 +65,9 @@ pub trait WritableFileSystem: ReadableFileSystem {
         ensures may { Self.may self.old (call.Rename ctx olddir oldname.now newdir newname.now flags)
             (done_answer result) self.new };
 
-    /// Makes a file if there is none, and opens it (FUSE_CREATE). If the reply has no room the entry is given
-    /// back by `forget`, but the handle isn't released: who hands out handles bounds how many a guest may
-    /// leave open.
+    /// Makes a file if there is none, and opens it (FUSE_CREATE). If the reply doesn't fit, the
+    /// server undoes the entry with `forget`, but doesn't release the handle. So a file system with
+    /// handles has to limit how many a guest may leave open.
     fn create(
         &mut self,
         ctx: Context,
@@ -82,8 +82,8 @@ pub trait WritableFileSystem: ReadableFileSystem {
         ensures may { Self.may self.old (call.Create ctx parent name.now mode kill_priv flags umask
             (extra_of extensions)) (created_answer (λ n. n) (λ n. n) result) self.new };
 
-    /// Takes bytes of a file out of a reader, and answers how many are written (FUSE_WRITE). A delayed write
-    /// comes from the guest's cache.
+    /// Writes a reader's bytes to a file, and returns how many it wrote (FUSE_WRITE). A delayed
+    /// write comes from the guest's page cache.
     fn write<R: ZeroCopyReader>(
         &mut self,
         ctx: Context,
@@ -100,7 +100,7 @@ pub trait WritableFileSystem: ReadableFileSystem {
         ensures may { Self.may self.old (call.Write ctx inode handle (R.left r.old) size offset
             lock_owner delayed_write kill_priv flags) (written_answer result) self.new };
 
-    /// What the file system holds and has room for (FUSE_STATFS, `statvfs(3)`).
+    /// The counts of the file system: blocks and files, in all and free (FUSE_STATFS, `statvfs(3)`).
     fn statfs(&mut self, ctx: Context, inode: u64) -> Result<StatVfs, Errno>
         ensures may { Self.may self.old (call.Statfs ctx inode) (stats_answer result) self.new };
 }

@@ -1,4 +1,4 @@
--- What a server asks of a file system, and what it may be answered.
+-- The calls of a file system, and the answers that each may have.
 use Rattle.std.specs.Prelude.{◌≡◌, ℕ, Bool, true, false, not, ◌&&◌, IsTrue, nat_lt, nat_le, ◌^◌, List, []}
 use Rattle.std.specs.Prelude.{◌∷◌, length, Option, Some, None}
 use Rattle.fuse_base.specs.declared.records.Attr.{Attr}
@@ -8,30 +8,30 @@ use Rattle.fuse_fs.specs.declared.answers.Context.{Context}
 use Rattle.fuse_fs.specs.declared.answers.Entry.{Entry}
 use Rattle.fuse_fs.specs.Times.{Duration}
 
--- a security label, by the name of its kind
+-- a security label with its name
 pub record SecurityContext : Type 0 where
   pub name : List ℕ
   pub label : List ℕ
 
--- what comes with a request that makes a node
+-- the extensions of a request that makes a node
 pub record Extra : Type 0 where
   pub security : Option SecurityContext
   pub group : Option ℕ
 
--- a symbolic link that is made: its name, and what it leads to
+-- a new symbolic link: its name, its target, and its extensions
 pub record NewLink : Type 0 where
   pub name : List ℕ
   pub link : List ℕ
   pub extra : Extra
 
--- an entry of a directory
+-- an entry of a directory, as a listing has it
 pub record Listed : Type 0 where
   pub ino : ℕ
   pub offset : ℕ
   pub kind : ℕ
   pub name : List ℕ
 
--- a call of a file system; room is how many bytes a read may put in
+-- a call of a file system; room: the number of bytes that fit into a READ's reply
 pub data FileCall : Type 0 where
   Init : (capable : ℕ) →
       FileCall
@@ -155,7 +155,7 @@ pub data FileCall : Type 0 where
       FileCall
   TmpFile : FileCall
 
--- an answer of a file system: an error number, or what the call asked for
+-- an answer of a file system: an error number, or the call's result
 pub data FileAnswer : Type 0 where
   Failed : (errno : ℕ) → FileAnswer
   Done : FileAnswer
@@ -171,7 +171,7 @@ pub data FileAnswer : Type 0 where
   Entries : List Listed → FileAnswer
   Wants : (options : ℕ) → FileAnswer
 
--- the kinds of good answer
+-- the kinds of successful answers
 pub data AnswerForm : Type 0 where
   IsDone : AnswerForm
   IsNeverGood : AnswerForm
@@ -187,7 +187,7 @@ pub data AnswerForm : Type 0 where
   IsEntries : AnswerForm
   IsWish : AnswerForm
 
--- what a good answer to a call is
+-- the kind of a call's successful answer
 abbrev pub kind_of : FileCall → AnswerForm
 kind_of (Lookup c n name) = IsEntry
 kind_of (Symlink c l n name x) = IsEntry
@@ -212,20 +212,20 @@ kind_of (Init c) = IsWish
 kind_of TmpFile = IsNeverGood
 kind_of _ = IsDone
 
--- the calls that can't fail
+-- whether a call can't fail
 abbrev pub never_fails : FileCall → Bool
 never_fails (Forget c n k) = true
 never_fails (BatchForget c counts) = true
 never_fails Destroy = true
 never_fails _ = false
 
--- an open file's number, if there is one, has 64 bits
+-- whether an open file's number, if there is one, is below 2^64
 abbrev pub is_handle : Option ℕ → Bool
 is_handle None = true
 is_handle (Some handle) = nat_lt handle (2 ^ 64)
 
--- whether a good answer is of a kind; numbers of nodes, open files, places and options have 64 bits, counts
--- 32
+-- whether an answer is a successful one of a kind, with numbers of nodes, open files, offsets and
+-- options below 2^64, and counts below 2^32
 abbrev pub is_of : AnswerForm → FileAnswer → Bool
 is_of IsDone Done = true
 is_of IsEntry (HasEntry e) = nat_lt e.inode (2 ^ 64)
@@ -242,13 +242,13 @@ is_of IsEntries (Entries ds) = true
 is_of IsWish (Wants o) = nat_lt o (2 ^ 64)
 is_of _ _ = false
 
--- whether an answer is one that the call can have
+-- whether a call can have this answer
 abbrev pub suits : FileCall → FileAnswer → Bool
 suits call (Failed errno) = not (never_fails call) && nat_lt 0 errno && nat_lt errno 4096
 suits (Read c n h room size o w f) (Bytes b) = nat_le (length b) room
 suits call answer = is_of (kind_of call) answer
 
--- calls with their answers, along which the file system's state moves as its implementer's relation lets it
+-- calls with their answers, one after another: each answer suits its call, and the relation allows it
 abbrev pub FileRun :
     {F : Type 0} → (F → FileCall → FileAnswer → F → Type 0) → F → List (FileCall × FileAnswer) → F → Type 0
 FileRun {F} may before [] after = after ≡ before

@@ -1,12 +1,12 @@
--- The calls that a file system in fewer calls may lack, by groups, and what each is answered by default.
+-- The calls that a file system of fewer calls may lack, in groups, and the default answer of each.
 use Rattle.std.specs.Prelude.{None}
 use Rattle.fuse_fs.specs.Answers.{default_stats}
 use Rattle.fuse_fs.specs.Calls.{FileCall, FileAnswer, Failed, Done, Opened, Stats}
 use Rattle.fuse_fs.specs.Calls.{Destroy, Init, Lookup, Getattr, Read, Readdir, Forget, BatchForget, Write}
 use Rattle.fuse_fs.specs.Calls.{Open, Release, Opendir, Setattr, Mkdir, Unlink, Rmdir, Rename, Create, Statfs}
 
--- what each reads by, what lets nodes go, what writes, what opens files and lets them go, what changes names
--- and attributes or counts room, and the rest
+-- the groups of calls: those of a read-only file system, those that forget nodes, WRITE, those that
+-- open and release files, those that change names and attributes with STATFS, and all others
 pub data Group : Type 0 where
   Reading : Group
   Forgetting : Group
@@ -15,6 +15,7 @@ pub data Group : Type 0 where
   Changing : Group
   Rare : Group
 
+-- the group of a call
 abbrev pub group_of : FileCall → Group
 group_of (Init a) = Reading
 group_of (Lookup a b c) = Reading
@@ -36,8 +37,8 @@ group_of (Create a b c d e f g h) = Changing
 group_of (Statfs a b) = Changing
 group_of _ = Rare
 
--- nothing is opened or counted, what can't fail is done, and all else is no call that it has (ENOSYS in
--- errno.h)
+-- the default answer of a call: done if it can't fail, opened without a handle, counts of 0, or
+-- else ENOSYS (38 in errno.h)
 abbrev pub default_answer : FileCall → FileAnswer
 default_answer Destroy = Done
 default_answer (Forget who node count) = Done

@@ -1,7 +1,7 @@
--- How long an answer stays good.
+-- How long the guest may cache an answer.
 use Rattle.std.specs.Prelude.{ℕ}
 
--- whole seconds and, below 10^9, nanoseconds
+-- a duration: whole seconds, and nanoseconds below 10^9
 pub record Duration : Type 0 where
   pub seconds : ℕ
   pub nanos : ℕ

@@ -1,4 +1,4 @@
-//! Values that a file system is given, and answers.
+//! The arguments and results of a file system's calls.
 
 ghost use Rattle.std.specs.Prelude.{◌≡◌, ◌<◌, ◌^◌, SomeIff};
 
@@ -7,7 +7,8 @@ use fuse_in::InHeader;
 use fuse_wire::EntryOut;
 use std::marker::Model;
 
-/// How long an answer stays good: whole seconds, and nanoseconds below 10^9 (in place of std's `Duration`).
+/// How long the guest may cache an answer: whole seconds, and nanoseconds below 10^9 (in place of
+/// std's `Duration`).
 #[derive(Clone, Copy, Debug, PartialEq, Eq)]
 pub struct Timeout {
     secs: u64,
@@ -28,7 +29,7 @@ impl Model for Timeout {
 }
 
 impl Timeout {
-    /// A timeout; None if the nanoseconds are a second or more.
+    /// A timeout. None if `nanos` is 10^9 or more.
     pub fn new(secs: u64, nanos: u32) -> Option<Timeout>
         ensures { SomeIff result (nanos < 10 ^ 9) (record { seconds = secs; nanos = nanos }) }
     {
@@ -39,14 +40,14 @@ impl Timeout {
         }
     }
 
-    /// Its whole seconds.
+    /// The whole seconds.
     pub fn secs(self) -> u64
         ensures { result ≡ self.seconds }
     {
         self.secs
     }
 
-    /// Its nanoseconds, below 10^9.
+    /// The nanoseconds, below 10^9.
     pub fn nanos(self) -> u32
         ensures value { result ≡ self.nanos }
         ensures range { result < 10 ^ 9 }
@@ -55,18 +56,19 @@ impl Timeout {
     }
 }
 
-/// What a name stands for (virtiofsd's `Entry`). Node 0 is a name that is known not to be there.
+/// The node of a name (virtiofsd's `Entry`). Node 0 is a negative entry: the name doesn't exist.
 #[derive(Drop)]
 pub struct Entry<I> {
     /// The node's number (`nodeid` of `struct fuse_entry_out`).
     pub inode: I,
-    /// Which node of this number it is (`generation`).
+    /// The generation: it differs for two nodes that have this number one after the other (`generation`).
     pub generation: u64,
     /// The node's attributes (`struct fuse_attr`).
     pub attr: Attr,
-    /// How long the attributes stay good (`attr_valid` and `attr_valid_nsec` of `struct fuse_entry_out`).
+    /// How long the guest may cache the attributes
+    /// (`attr_valid` and `attr_valid_nsec` of `struct fuse_entry_out`).
     pub attr_timeout: Timeout,
-    /// How long the name stays good (`entry_valid` and `entry_valid_nsec`).
+    /// How long the guest may cache the name (`entry_valid` and `entry_valid_nsec`).
     pub entry_timeout: Timeout,
 }
 
@@ -75,27 +77,27 @@ pub struct Entry<I> {
 pub enum GetxattrReply {
     /// The value's bytes.
     Value(Vec<u8>),
-    /// How many bytes the value has, where it was asked for with a size of 0.
+    /// The value's length in bytes, if the call's size is 0.
     Count(u32),
 }
 
 /// The names of a node's extended attributes (virtiofsd's `ListxattrReply`).
 #[derive(Debug, Drop)]
 pub enum ListxattrReply {
-    /// Each name with a zero byte behind it.
+    /// The names, each followed by a zero byte.
     Names(Vec<u8>),
-    /// How many bytes the names have, where they were asked for with a size of 0.
+    /// The names' length in bytes, if the call's size is 0.
     Count(u32),
 }
 
-/// Who asks (virtiofsd's `Context`): the guest's process, and in whose name it runs.
+/// The process in the guest that makes the call (virtiofsd's `Context`).
 #[derive(Clone, Copy, Debug)]
 pub struct Context {
-    /// The user's number in the guest (`uid` of `struct fuse_in_header`).
+    /// Its user ID in the guest (`uid` of `struct fuse_in_header`).
     pub uid: GuestUid,
-    /// The group's number in the guest (`gid`).
+    /// Its group ID in the guest (`gid`).
     pub gid: GuestGid,
-    /// The process's number in the guest (`pid`).
+    /// Its process ID in the guest (`pid`).
     pub pid: i32,
 }
 

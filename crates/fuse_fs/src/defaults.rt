@@ -1,6 +1,6 @@
-//! What a call of `FileSystem` or `SerializableFileSystem` does where a file system has nothing of its own to
-//! do, for a method to call. What a default doesn't take stays as it is: file system, writer, stream. ENOSYS
-//! is errno 38 (errno.h).
+//! Defaults of the calls of `FileSystem` and `SerializableFileSystem`, for a file system's methods
+//! to call. A default changes nothing that it isn't passed: neither file system, nor writer, nor
+//! stream. ENOSYS is errno 38 (errno.h).
 
 ghost use Rattle.std.specs.Prelude.{◌≡◌, ℕ, ◌+◌, ◌≤◌, List, length, take, drop, Result, Ok, Err, IfOk, OnErr};
 ghost use Rattle.std.specs.Prelude.{None, Some, option_map};
@@ -17,25 +17,25 @@ use bitflags::Flags;
 use fuse_base::{Attr, Errno, FsOptions, OpenOptions, StatVfs};
 use std::io::{self, ErrorKind};
 
-/// Default of virtiofsd's `FileSystem::init`: of what both sides have, nothing is asked for. It never fails.
+/// Default of virtiofsd's `FileSystem::init`: it asks for no options. It never fails.
 pub fn init() -> Result<FsOptions, Errno>
     ensures { result ≡ Ok no_flags }
 {
     Ok(FsOptions::from_bits_retain(0))
 }
 
-/// Default of virtiofsd's `FileSystem::destroy`: nothing is done.
+/// Default of virtiofsd's `FileSystem::destroy`: it does nothing.
 pub fn destroy<F: FileSystemBase>(_fs: &mut F)
     ensures { _fs.new ≡ _fs.old }
 {}
 
-/// Default of virtiofsd's `FileSystem::forget`: nothing is done.
+/// Default of virtiofsd's `FileSystem::forget`: it does nothing.
 pub fn forget<F: FileSystemBase>(_fs: &mut F)
     ensures { _fs.new ≡ _fs.old }
 {}
 
-/// Default of virtiofsd's `FileSystem::batch_forget`: each node is forgotten in order, by the file system's
-/// own `forget`.
+/// Default of virtiofsd's `FileSystem::batch_forget`: it calls the file system's `forget` for each
+/// node, in order.
 pub fn batch_forget<F: FileSystemBase>(fs: &mut F, ctx: Context, requests: Vec<(F::Inode, u64)>)
     ensures { ForgetsEach F.may fs.old ctx (pair_numbers F.Inode.number requests.items) fs.new }
 {
@@ -121,7 +121,7 @@ pub fn link<I>() -> Result<Entry<I>, Errno>
     Err(Errno::ENOSYS)
 }
 
-/// Default of virtiofsd's `FileSystem::open`: opened without a handle, in no special way. It never fails.
+/// Default of virtiofsd's `FileSystem::open`: no handle and no options. It never fails.
 pub fn open<H>() -> Result<(Option<H>, OpenOptions), Errno>
     ensures { result ≡ Ok (None, no_flags) }
 {
@@ -142,9 +142,8 @@ pub fn read() -> Result<usize, Errno>
     Err(Errno::ENOSYS)
 }
 
-/// What a `FileSystem::read` may call that is to put nothing in if it fails (`FileSystem::reads_whole`),
-/// whatever its file does: an errno that comes after some bytes is no more than a short read, and their count
-/// is the answer.
+/// A read for a `FileSystem::read` with `reads_whole`. It puts nothing in if it fails, with any file. If the
+/// file fails after some bytes, the read is short: it returns their number instead of the errno.
 pub fn read_whole<F: PositionedFile, W: ZeroCopyWriter>(
     file: &mut F,
     w: &mut W,
@@ -178,8 +177,9 @@ pub fn write() -> Result<u32, Errno>
     Err(Errno::ENOSYS)
 }
 
-/// What a `FileSystem::write` may call whose answer is to be a short count, whatever its file does, if an
-/// errno comes after some bytes: theirs. The file is lent one window of the guest's after another.
+/// A write for a `FileSystem::write` that returns a short count, with any file. If the file fails
+/// after some bytes, it returns their number instead of the errno. Each write of the file is of one
+/// window of the guest's memory.
 pub fn write_whole<F: PositionedFile, R: ZeroCopyReader>(
     file: &mut F,
     r: &mut R,
@@ -237,8 +237,8 @@ pub fn release() -> Result<(), Errno>
     Err(Errno::ENOSYS)
 }
 
-/// Default of virtiofsd's `FileSystem::statfs`: nothing is counted; a name has at most 255 bytes, and a block
-/// has 512 (`statvfs(3)`). It never fails.
+/// Default of virtiofsd's `FileSystem::statfs`: all counts are 0, a name has at most 255 bytes, and
+/// a block has 512 (`statvfs(3)`). It never fails.
 pub fn statfs() -> Result<StatVfs, Errno>
     ensures { result ≡ Ok default_stats }
 {
@@ -277,7 +277,7 @@ pub fn removexattr() -> Result<(), Errno>
     Err(Errno::ENOSYS)
 }
 
-/// Default of virtiofsd's `FileSystem::opendir`: opened without a handle, in no special way. It never fails.
+/// Default of virtiofsd's `FileSystem::opendir`: no handle and no options. It never fails.
 pub fn opendir<H>() -> Result<(Option<H>, OpenOptions), Errno>
     ensures { result ≡ Ok (None, no_flags) }
 {
@@ -389,7 +389,7 @@ pub fn tmpfile() -> Errno
     Errno::ENOSYS
 }
 
-/// Default of virtiofsd's `SerializableFileSystem::prepare_serialization`: nothing is made ready.
+/// Default of virtiofsd's `SerializableFileSystem::prepare_serialization`: it prepares nothing.
 pub fn prepare_serialization<F>(_fs: &mut F)
     ensures { _fs.new ≡ _fs.old }
 {}

@@ -1,4 +1,4 @@
-//! What comes with a request that makes a node.
+//! The extensions of a request that makes a node.
 
 ghost use Rattle.std.specs.Prelude.{◌≡◌, [], IfOk};
 ghost use Rattle.fuse_fs.specs.Answers.{extra_of, security_of};
@@ -9,14 +9,14 @@ use std::alloc::{AllocError, Global};
 /// The security label of a new node (`struct fuse_secctx`).
 #[derive(Debug, Drop)]
 pub struct SecContext {
-    /// The kind of label, as `security.selinux`, without a zero byte.
+    /// The label's name, for example `security.selinux`, without a zero byte.
     pub name: Vec<u8>,
-    /// The label itself.
+    /// The label's bytes.
     pub secctx: Vec<u8>,
 }
 
 impl SecContext {
-    /// No name and no label. It takes no memory.
+    /// An empty name and label. It takes no memory.
     pub fn empty(alloc: Global) -> SecContext
         ensures name { result.name.items ≡ [] }
         ensures secctx { result.secctx.items ≡ [] }
@@ -27,7 +27,7 @@ impl SecContext {
         }
     }
 
-    /// An equal value, in memory of its own; AllocError if an allocation fails.
+    /// A copy in memory of its own. AllocError if an allocation fails.
     pub fn try_clone(&self, alloc: Global) -> Result<SecContext, AllocError>
         ensures { IfOk result (λ copy. security_of copy ≡ security_of self.now) }
     {
@@ -38,18 +38,18 @@ impl SecContext {
     }
 }
 
-/// What a client tells beside a request that makes a node, where both sides agreed on it (virtiofsd's
+/// The extensions of a request that makes a node, if guest and server agreed on them (virtiofsd's
 /// `Extensions`).
 #[derive(Debug, Default, Drop)]
 pub struct Extensions {
-    /// The new node's label, if one is told (FUSE_SECURITY_CTX).
+    /// The new node's label, if the request has one (FUSE_SECURITY_CTX).
     pub secctx: Option<SecContext>,
-    /// A group of the caller's besides its own (FUSE_CREATE_SUPP_GROUP).
+    /// A supplementary group of the caller, if the request has one (FUSE_CREATE_SUPP_GROUP).
     pub sup_gid: Option<GuestGid>,
 }
 
 impl Extensions {
-    /// An equal value, in memory of its own; AllocError if an allocation fails.
+    /// A copy in memory of its own. AllocError if an allocation fails.
     pub fn try_clone(&self, alloc: Global) -> Result<Extensions, AllocError>
         ensures { IfOk result (λ copy. extra_of copy ≡ extra_of self.now) }
     {
@@ -64,7 +64,7 @@ impl Extensions {
     }
 }
 
-// The same bytes in memory of their own.
+// A copy of bytes in memory of its own. AllocError if the allocation fails.
 fn copied(alloc: Global, bytes: &[u8]) -> Result<Vec<u8>, AllocError>
     ensures { IfOk result (λ copy. copy.items ≡ bytes.now) }
 {

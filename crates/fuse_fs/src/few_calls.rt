@@ -1,4 +1,4 @@
-//! File systems in fewer calls, to which `FileSystem` adds the defaults of the rest.
+//! File systems that implement fewer calls. `FileSystem` adds the defaults of the others.
 
 ghost use Rattle.std.specs.Prelude.{◌≡◌, ℕ, ◌+◌, List, length, IfOk, OnErr, IsTrue, Bool, option_map};
 ghost use Rattle.fuse_fs.specs.Answers.{options_answer, entry_answer, data_answer, done_answer, attr_answer};
@@ -19,26 +19,25 @@ use crate::zero_copy::{ZeroCopyReader, ZeroCopyWriter};
 use fuse_base::{Attr, Errno, FsOptions, OpenOptions, SetattrValid, StatVfs};
 use fuse_in::SetattrIn;
 
-/// The calls that a file system in fewer calls has itself, each as in `FileSystem`. With `OpenCalls` and
-/// `ChangeCalls`, or what says that they are lacking, it is a `FileSystem`, whose other calls have the
-/// answers of `defaults`.
+/// The calls that each file system of fewer calls implements, as in `FileSystem`. It is a
+/// `FileSystem` if it also implements `OpenCalls` or `OpensNothing`, and `ChangeCalls` or
+/// `ChangesNothing`. All other calls have the answers of `defaults`.
 pub trait FewCalls: FileSystemBase {
     type DirIter: DirectoryIterator;
 
-    // whether reads that fail put nothing in
+    // whether a read that fails puts no byte into its writer
     ghost reads_whole: { Self → Bool };
 
-    /// Whether reads that fail put nothing in, whatever the writer and the file.
+    /// Whether a read that fails puts no byte into its writer, with any writer and any file.
     fn reads_whole(&self) -> bool
         ensures { result ≡ reads_whole self.now };
 
-    /// The start of a conversation (FUSE_INIT): of the options that both sides have, those that the file
-    /// system asks for.
+    /// Starts a session (FUSE_INIT). Returns the options that the file system asks for, of those
+    /// that guest and server support.
     fn init(&mut self, capable: FsOptions) -> Result<FsOptions, Errno>
         ensures may { Self.may self.old (call.Init capable.0) (options_answer result) self.new };
 
-    /// What a name of a directory stands for (FUSE_LOOKUP). A node that is answered is held by the guest once
-    /// more.
+    /// Looks up a name in a directory (FUSE_LOOKUP). The lookup count of a node that it returns rises by 1.
     fn lookup(
         &mut self,
         ctx: Context,
@@ -48,7 +47,7 @@ pub trait FewCalls: FileSystemBase {
         ensures may { Self.may self.old (call.Lookup ctx (Self.Inode.number parent) name.now)
             (entry_answer Self.Inode.number result) self.new };
 
-    /// A node's attributes, and how long they stay good (FUSE_GETATTR).
+    /// A node's attributes, and how long the guest may cache them (FUSE_GETATTR).
     fn getattr(
         &mut self,
         ctx: Context,
@@ -58,9 +57,8 @@ pub trait FewCalls: FileSystemBase {
         ensures may { Self.may self.old (call.Getattr ctx (Self.Inode.number inode)
             (option_map Self.Handle.number handle)) (attr_answer result) self.new };
 
-    /// Puts bytes of a file into a writer, and answers how many (FUSE_READ): an `Ok(n)` put in exactly n.
-    /// Where a read that fails puts nothing in, the writer may be the guest's memory itself
-    /// (`defaults::read_whole`).
+    /// Puts bytes of a file into a writer, and returns their number (FUSE_READ): `Ok(n)` put in exactly n.
+    /// With `reads_whole` the writer may be the guest's memory itself (see `defaults::read_whole`).
     fn read<W: ZeroCopyWriter>(
         &mut self,
         ctx: Context,
@@ -81,8 +79,9 @@ pub trait FewCalls: FileSystemBase {
             (data_answer result bytes) self.new
             × (IsTrue (reads_whole self.old) → OnErr result (length bytes ≡ 0)) };
 
-    /// The entries of a directory behind the one with this offset (0: all), for a reply of at most `size`
-    /// bytes (FUSE_READDIR and FUSE_READDIRPLUS). This offset is an entry's own, and counts no bytes.
+    /// The entries of a directory after the one with this offset, or all for 0 (FUSE_READDIR and
+    /// FUSE_READDIRPLUS). The reply has at most `size` bytes. The file system chooses the offsets
+    /// of entries; they count no bytes.
     fn readdir(
         &mut self,
         ctx: Context,
@@ -95,8 +94,8 @@ pub trait FewCalls: FileSystemBase {
             (call.Readdir ctx (Self.Inode.number inode) (Self.Handle.number handle) size offset)
             (listed_answer Self.DirIter.rest result) self.new };
 
-    /// Takes bytes of a file out of a reader, and answers how many are written (FUSE_WRITE). A delayed write
-    /// comes from the guest's cache.
+    /// Writes a reader's bytes to a file, and returns how many it wrote (FUSE_WRITE). A delayed
+    /// write comes from the guest's page cache.
     fn write<R: ZeroCopyReader>(
         &mut self,
         ctx: Context,
@@ -114,21 +113,21 @@ pub trait FewCalls: FileSystemBase {
             (call.Write ctx (Self.Inode.number inode) (Self.Handle.number handle) (R.left r.old) size offset
             lock_owner delayed_write kill_priv flags) (written_answer result) self.new };
 
-    // Each call that belongs to no trait of these may have its default, which changes nothing.
+    // Each call of the group Rare may have its default answer, which changes nothing.
     ghost lacks_rare: { (s : Self) (c : FileCall)
         → group_of c ≡ group.Rare
         → Self.may s c (default_answer c) s };
 
-    // A list of nodes may be forgotten node by node.
+    // BATCH_FORGET may forget its nodes one after another.
     ghost forgets_each: { (s t : Self) (who : Context) (counts : List (ℕ × ℕ))
         → ForgetsEach Self.may s who counts t
         →
         Self.may s (call.BatchForget who counts) call.Done t };
 }
 
-/// The calls by which files are opened and let go, each as in `FileSystem`.
+/// The calls that open and release files, as in `FileSystem`.
 pub trait OpenCalls: FileSystemBase {
-    /// Opens a directory (FUSE_OPENDIR). Without a handle its calls get 0.
+    /// Opens a directory (FUSE_OPENDIR). If it returns no handle, later calls get handle 0.
     fn opendir(
         &mut self,
         ctx: Context,
@@ -138,7 +137,7 @@ pub trait OpenCalls: FileSystemBase {
         ensures may { Self.may self.old (call.Opendir ctx (Self.Inode.number inode) flags)
             (opened_answer Self.Handle.number result) self.new };
 
-    /// The last descriptor of an open file was closed (FUSE_RELEASE).
+    /// The guest closed the last descriptor of an open file (FUSE_RELEASE).
     fn release(
         &mut self,
         ctx: Context,
@@ -153,7 +152,8 @@ pub trait OpenCalls: FileSystemBase {
             (Self.Handle.number handle) flush flock_release lock_owner)
             (done_answer result) self.new };
 
-    /// Opens a file (FUSE_OPEN; `open(2)` has the flags). Without a handle its calls get 0.
+    /// Opens a file (FUSE_OPEN; `open(2)` defines the flags). If it returns no handle, later calls
+    /// get handle 0.
     fn open(
         &mut self,
         ctx: Context,
@@ -165,24 +165,23 @@ pub trait OpenCalls: FileSystemBase {
             (opened_answer Self.Handle.number result) self.new };
 }
 
-/// A file system that lacks `OpenCalls`, so that they have the answers of `defaults`.
+/// A file system without `OpenCalls`: these calls have the answers of `defaults`.
 pub trait OpensNothing: FileSystemBase {
     ghost lacks_opening: { (s : Self) (c : FileCall)
         → group_of c ≡ group.Opening
         → Self.may s c (default_answer c) s };
 }
 
-/// The calls that change names and attributes, and the count of what there is room for, each as in
-/// `FileSystem`.
+/// The calls that change names and attributes, and STATFS, as in `FileSystem`.
 pub trait ChangeCalls: FileSystemBase {
-    /// What the file system holds and has room for (FUSE_STATFS, `statvfs(3)`).
+    /// The counts of the file system: blocks and files, in all and free (FUSE_STATFS, `statvfs(3)`).
     fn statfs(&mut self, ctx: Context, inode: Self::Inode) -> Result<StatVfs, Errno>
         ensures may { Self.may self.old (call.Statfs ctx (Self.Inode.number inode))
             (stats_answer result) self.new };
 
-    /// Makes a file if there is none, and opens it (FUSE_CREATE). If the reply has no room the entry is given
-    /// back by `forget`, but the handle isn't released: who hands out handles bounds how many a guest may
-    /// leave open.
+    /// Makes a file if there is none, and opens it (FUSE_CREATE). If the reply doesn't fit, the
+    /// server undoes the entry with `forget`, but doesn't release the handle. So a file system with
+    /// handles has to limit how many a guest may leave open.
     fn create(
         &mut self,
         ctx: Context,
@@ -198,7 +197,7 @@ pub trait ChangeCalls: FileSystemBase {
             flags umask (extra_of extensions))
             (created_answer Self.Inode.number Self.Handle.number result) self.new };
 
-    /// Moves a name (FUSE_RENAME and FUSE_RENAME2; `renameat2(2)` has the flags).
+    /// Renames a file or directory (FUSE_RENAME and FUSE_RENAME2; `renameat2(2)` defines the flags).
     fn rename(
         &mut self,
         ctx: Context,
@@ -212,12 +211,12 @@ pub trait ChangeCalls: FileSystemBase {
             (Self.Inode.number newdir) newname.now flags)
             (done_answer result) self.new };
 
-    /// Takes away an empty directory (FUSE_RMDIR).
+    /// Removes an empty directory (FUSE_RMDIR).
     fn rmdir(&mut self, ctx: Context, parent: Self::Inode, name: &[u8]) -> Result<(), Errno>
         ensures may { Self.may self.old (call.Rmdir ctx (Self.Inode.number parent) name.now)
             (done_answer result) self.new };
 
-    /// Takes away a name that is no directory's (FUSE_UNLINK).
+    /// Removes a name that isn't a directory's (FUSE_UNLINK).
     fn unlink(&mut self, ctx: Context, parent: Self::Inode, name: &[u8]) -> Result<(), Errno>
         ensures may { Self.may self.old (call.Unlink ctx (Self.Inode.number parent) name.now)
             (done_answer result) self.new };
@@ -236,7 +235,7 @@ pub trait ChangeCalls: FileSystemBase {
             (call.Mkdir ctx (Self.Inode.number parent) name.now mode umask (extra_of extensions))
             (entry_answer Self.Inode.number result) self.new };
 
-    /// Sets those attributes of a node that `valid` names, and answers all (FUSE_SETATTR).
+    /// Sets those attributes of a node that `valid` names, and returns all of them (FUSE_SETATTR).
     fn setattr(
         &mut self,
         ctx: Context,
@@ -250,7 +249,7 @@ pub trait ChangeCalls: FileSystemBase {
             (attr_answer result) self.new };
 }
 
-/// A file system that lacks `ChangeCalls`, so that they have the answers of `defaults`.
+/// A file system without `ChangeCalls`: these calls have the answers of `defaults`.
 pub trait ChangesNothing: FileSystemBase {
     ghost lacks_changing: { (s : Self) (c : FileCall)
         → group_of c ≡ group.Changing

@@ -17,32 +17,32 @@ use crate::zero_copy::{ZeroCopyReader, ZeroCopyWriter};
 use fuse_base::{Attr, Errno, FsOptions, OpenOptions, SetattrValid, SetxattrFlags, StatVfs};
 use fuse_in::SetattrIn;
 
-/// The number of a node or of an open file, as a type of the file system's own.
+/// A type of the file system for the numbers of nodes or of open files.
 pub trait FileNumber: From<u64> + Into<u64> + Copy {
-    // The number that a value stands for.
+    // The number of a value.
     ghost number: { Self → ℕ };
 
-    /// The value of a number.
+    /// The value with this number.
     final fn numbered(n: u64) -> Self
         ensures { number result ≡ n }
     {
         Self::from(n)
     }
 
-    /// The number of a value.
+    /// The number of this value.
     final fn as_number(self) -> u64
         ensures { result ≡ number self }
     {
         self.into()
     }
 
-    // A number that is made into a value is the value's number.
+    // `from` makes a value with the given number.
     ghost of_number: { (n : ℕ) (x : Self) → n < 2 ^ 64 → Self.from_gives n x → number x ≡ n };
 
-    // A value is made into its number.
+    // `into` returns the value's number.
     ghost to_number: { (x : Self) (n : ℕ) → Self.converts x n → n ≡ number x };
 
-    // No two values have one number.
+    // Values with the same number are equal.
     ghost one_number: { (x y : Self) → number x ≡ number y → x ≡ y };
 }
 
@@ -56,52 +56,50 @@ impl FileNumber for u64 {
     ghost one_number = { λ x y e. e };
 }
 
-/// What every file system has, and all that a default of its calls uses: its numbers, its relation, and
-/// `forget` (virtiofsd's `FileSystem::forget`).
+/// The part of a file system that the defaults of its calls use: its number types, its relation
+/// `may`, and `forget` (virtiofsd's `FileSystem::forget`).
 pub trait FileSystemBase {
     type Inode: FileNumber;
 
     type Handle: FileNumber;
 
-    // From a state, a call may have this answer and leave that state.
+    // The allowed answers of a call: state before, call, answer, state after.
     ghost may: { Self → FileCall → FileAnswer → Self → Type 0 };
 
-    /// The guest holds a node this many times less (FUSE_FORGET), or an entry is given back whose reply has
-    /// no room; it can't fail. Node 0 comes too, where that was answered: READDIRPLUS takes back an entry
-    /// without a node, `.` and `..` among them, as it does one with a node, and so does a reply that has no
-    /// room.
+    /// Lowers a node's lookup count by `count` (FUSE_FORGET). It can't fail. The server also calls
+    /// it to undo an entry whose reply doesn't fit. The node of such an entry may be 0, also that
+    /// of `.` and `..` in a READDIRPLUS.
     fn forget(&mut self, ctx: Context, inode: Self::Inode, count: u64)
         ensures may { may self.old (call.Forget ctx (Self.Inode.number inode) count) call.Done self.new };
 }
 
-/// A file system, by what it may answer (virtiofsd's `FileSystem`). Each call's answer stands in the relation
-/// `may`, which the implementer names; what a call does where a file system has nothing of its own to do
-/// stands in `defaults`. If a call fails, it answers an errno (errno.h, 1 to 4095) of the implementer's
-/// choice, which `may` has to allow: ENOSYS says that there is no such call. Beside each call stands its
-/// request in linux/fuse.h. Offsets, sizes and lengths count bytes, offsets from a file's start. The names of
-/// requests that the server hands in have no zero byte; those that READDIRPLUS looks up are the file system's
-/// own, as its listing gave them.
+/// A file system (virtiofsd's `FileSystem`). Each call's answer and the state after it satisfy the
+/// relation `may`, which the implementer defines. `defaults` implements each call for a file system
+/// that does nothing of its own in it. A call that fails returns an errno (errno.h, 1 to 4095) of
+/// the implementer's choice that `may` allows. ENOSYS means that the call isn't implemented. The
+/// comment of each call names its request in linux/fuse.h. Offsets, sizes and lengths count bytes;
+/// offsets count from a file's start. Names from requests have no zero byte. The names that
+/// READDIRPLUS looks up are those of the file system's own listing, unchanged.
 pub trait FileSystem: FileSystemBase {
     type DirIter: DirectoryIterator;
 
-    // whether reads that fail put nothing in
+    // whether a read that fails puts no byte into its writer
     ghost reads_whole: { Self → Bool };
 
-    /// Whether reads that fail put nothing in, whatever the writer and the file.
+    /// Whether a read that fails puts no byte into its writer, with any writer and any file.
     fn reads_whole(&self) -> bool
         ensures { result ≡ reads_whole self.now };
 
-    /// The start of a conversation (FUSE_INIT): of the options that both sides have, those that the file
-    /// system asks for.
+    /// Starts a session (FUSE_INIT). Returns the options that the file system asks for, of those
+    /// that guest and server support.
     fn init(&mut self, capable: FsOptions) -> Result<FsOptions, Errno>
         ensures may { Self.may self.old (call.Init capable.0) (options_answer result) self.new };
 
-    /// The end of a conversation (FUSE_DESTROY); it can't fail.
+    /// Ends a session (FUSE_DESTROY). It can't fail.
     fn destroy(&mut self)
         ensures may { Self.may self.old call.Destroy call.Done self.new };
 
-    /// What a name of a directory stands for (FUSE_LOOKUP). A node that is answered is held by the guest once
-    /// more.
+    /// Looks up a name in a directory (FUSE_LOOKUP). The lookup count of a node that it returns rises by 1.
     fn lookup(
         &mut self,
         ctx: Context,
@@ -111,12 +109,12 @@ pub trait FileSystem: FileSystemBase {
         ensures may { Self.may self.old (call.Lookup ctx (Self.Inode.number parent) name.now)
             (entry_answer Self.Inode.number result) self.new };
 
-    /// The guest holds each of these nodes this many times less (FUSE_BATCH_FORGET); it can't fail.
+    /// Lowers the lookup count of each node by the number beside it (FUSE_BATCH_FORGET). It can't fail.
     fn batch_forget(&mut self, ctx: Context, requests: Vec<(Self::Inode, u64)>)
         ensures may { Self.may self.old (call.BatchForget ctx (pair_numbers Self.Inode.number requests.items))
             call.Done self.new };
 
-    /// A node's attributes, and how long they stay good (FUSE_GETATTR).
+    /// A node's attributes, and how long the guest may cache them (FUSE_GETATTR).
     fn getattr(
         &mut self,
         ctx: Context,
@@ -126,7 +124,7 @@ pub trait FileSystem: FileSystemBase {
         ensures may { Self.may self.old (call.Getattr ctx (Self.Inode.number inode)
             (option_map Self.Handle.number handle)) (attr_answer result) self.new };
 
-    /// Sets those attributes of a node that `valid` names, and answers all (FUSE_SETATTR).
+    /// Sets those attributes of a node that `valid` names, and returns all of them (FUSE_SETATTR).
     fn setattr(
         &mut self,
         ctx: Context,
@@ -139,13 +137,13 @@ pub trait FileSystem: FileSystemBase {
             (call.Setattr ctx (Self.Inode.number inode) attr (option_map Self.Handle.number handle) valid.0)
             (attr_answer result) self.new };
 
-    /// What a symbolic link leads to (FUSE_READLINK).
+    /// The target of a symbolic link (FUSE_READLINK).
     fn readlink(&mut self, ctx: Context, inode: Self::Inode) -> Result<Vec<u8>, Errno>
         ensures may { Self.may self.old (call.Readlink ctx (Self.Inode.number inode))
             (target_answer result) self.new };
 
-    /// Makes a symbolic link that leads to `linkname` (FUSE_SYMLINK). A node that is answered is held once
-    /// more, here and in what follows.
+    /// Makes a symbolic link to `linkname` (FUSE_SYMLINK). The lookup count of a node that this
+    /// call returns rises by 1, as with each call below that returns an entry.
     fn symlink(
         &mut self,
         ctx: Context,
@@ -158,7 +156,7 @@ pub trait FileSystem: FileSystemBase {
             (call.Symlink ctx linkname.now (Self.Inode.number parent) name.now (extra_of extensions))
             (entry_answer Self.Inode.number result) self.new };
 
-    /// Makes a file of a kind (FUSE_MKNOD, `mknod(2)`).
+    /// Makes a node of the kind in `mode` (FUSE_MKNOD, `mknod(2)`).
     fn mknod(
         &mut self,
         ctx: Context,
@@ -187,17 +185,17 @@ pub trait FileSystem: FileSystemBase {
             (call.Mkdir ctx (Self.Inode.number parent) name.now mode umask (extra_of extensions))
             (entry_answer Self.Inode.number result) self.new };
 
-    /// Takes away a name that is no directory's (FUSE_UNLINK).
+    /// Removes a name that isn't a directory's (FUSE_UNLINK).
     fn unlink(&mut self, ctx: Context, parent: Self::Inode, name: &[u8]) -> Result<(), Errno>
         ensures may { Self.may self.old (call.Unlink ctx (Self.Inode.number parent) name.now)
             (done_answer result) self.new };
 
-    /// Takes away an empty directory (FUSE_RMDIR).
+    /// Removes an empty directory (FUSE_RMDIR).
     fn rmdir(&mut self, ctx: Context, parent: Self::Inode, name: &[u8]) -> Result<(), Errno>
         ensures may { Self.may self.old (call.Rmdir ctx (Self.Inode.number parent) name.now)
             (done_answer result) self.new };
 
-    /// Moves a name (FUSE_RENAME and FUSE_RENAME2; `renameat2(2)` has the flags).
+    /// Renames a file or directory (FUSE_RENAME and FUSE_RENAME2; `renameat2(2)` defines the flags).
     fn rename(
         &mut self,
         ctx: Context,
@@ -223,7 +221,8 @@ pub trait FileSystem: FileSystemBase {
             (call.Link ctx (Self.Inode.number inode) (Self.Inode.number newparent) newname.now)
             (entry_answer Self.Inode.number result) self.new };
 
-    /// Opens a file (FUSE_OPEN; `open(2)` has the flags). Without a handle its calls get 0.
+    /// Opens a file (FUSE_OPEN; `open(2)` defines the flags). If it returns no handle, later calls
+    /// get handle 0.
     fn open(
         &mut self,
         ctx: Context,
@@ -234,9 +233,9 @@ pub trait FileSystem: FileSystemBase {
         ensures may { Self.may self.old (call.Open ctx (Self.Inode.number inode) kill_priv flags)
             (opened_answer Self.Handle.number result) self.new };
 
-    /// Makes a file if there is none, and opens it (FUSE_CREATE). If the reply has no room the entry is given
-    /// back by `forget`, but the handle isn't released: who hands out handles bounds how many a guest may
-    /// leave open.
+    /// Makes a file if there is none, and opens it (FUSE_CREATE). If the reply doesn't fit, the
+    /// server undoes the entry with `forget`, but doesn't release the handle. So a file system with
+    /// handles has to limit how many a guest may leave open.
     fn create(
         &mut self,
         ctx: Context,
@@ -252,9 +251,8 @@ pub trait FileSystem: FileSystemBase {
             flags umask (extra_of extensions))
             (created_answer Self.Inode.number Self.Handle.number result) self.new };
 
-    /// Puts bytes of a file into a writer, and answers how many (FUSE_READ): an `Ok(n)` put in exactly n.
-    /// Where a read that fails puts nothing in, the writer may be the guest's memory itself
-    /// (`defaults::read_whole`).
+    /// Puts bytes of a file into a writer, and returns their number (FUSE_READ): `Ok(n)` put in exactly n.
+    /// With `reads_whole` the writer may be the guest's memory itself (see `defaults::read_whole`).
     fn read<W: ZeroCopyWriter>(
         &mut self,
         ctx: Context,
@@ -275,8 +273,8 @@ pub trait FileSystem: FileSystemBase {
             (data_answer result bytes) self.new
             × (IsTrue (reads_whole self.old) → OnErr result (length bytes ≡ 0)) };
 
-    /// Takes bytes of a file out of a reader, and answers how many are written (FUSE_WRITE). A delayed write
-    /// comes from the guest's cache.
+    /// Writes a reader's bytes to a file, and returns how many it wrote (FUSE_WRITE). A delayed
+    /// write comes from the guest's page cache.
     fn write<R: ZeroCopyReader>(
         &mut self,
         ctx: Context,
@@ -294,7 +292,7 @@ pub trait FileSystem: FileSystemBase {
             (call.Write ctx (Self.Inode.number inode) (Self.Handle.number handle) (R.left r.old) size offset
             lock_owner delayed_write kill_priv flags) (written_answer result) self.new };
 
-    /// A descriptor of an open file was closed; there may be more (FUSE_FLUSH).
+    /// The guest closed a descriptor of an open file. Others may still be open (FUSE_FLUSH).
     fn flush(
         &mut self,
         ctx: Context,
@@ -305,7 +303,7 @@ pub trait FileSystem: FileSystemBase {
         ensures may { Self.may self.old (call.Flush ctx (Self.Inode.number inode) (Self.Handle.number handle)
             lock_owner) (done_answer result) self.new };
 
-    /// Has what was written to a file stand on its medium; with `datasync` the data alone (FUSE_FSYNC).
+    /// Flushes the writes of a file to storage; with `datasync` only the data (FUSE_FSYNC).
     fn fsync(
         &mut self,
         ctx: Context,
@@ -316,7 +314,7 @@ pub trait FileSystem: FileSystemBase {
         ensures may { Self.may self.old (call.Fsync ctx (Self.Inode.number inode) datasync
             (Self.Handle.number handle)) (done_answer result) self.new };
 
-    /// Sets room of a file aside or frees it (FUSE_FALLOCATE; `fallocate(2)` has the mode).
+    /// Allocates or frees space of a file (FUSE_FALLOCATE; `fallocate(2)` defines the mode).
     fn fallocate(
         &mut self,
         ctx: Context,
@@ -330,7 +328,7 @@ pub trait FileSystem: FileSystemBase {
             (call.Fallocate ctx (Self.Inode.number inode) (Self.Handle.number handle) mode offset length)
             (done_answer result) self.new };
 
-    /// The last descriptor of an open file was closed (FUSE_RELEASE).
+    /// The guest closed the last descriptor of an open file (FUSE_RELEASE).
     fn release(
         &mut self,
         ctx: Context,
@@ -345,12 +343,12 @@ pub trait FileSystem: FileSystemBase {
             (Self.Handle.number handle) flush flock_release lock_owner)
             (done_answer result) self.new };
 
-    /// What the file system holds and has room for (FUSE_STATFS, `statvfs(3)`).
+    /// The counts of the file system: blocks and files, in all and free (FUSE_STATFS, `statvfs(3)`).
     fn statfs(&mut self, ctx: Context, inode: Self::Inode) -> Result<StatVfs, Errno>
         ensures may { Self.may self.old (call.Statfs ctx (Self.Inode.number inode))
             (stats_answer result) self.new };
 
-    /// Sets an extended attribute (FUSE_SETXATTR; `setxattr(2)` has the flags).
+    /// Sets an extended attribute (FUSE_SETXATTR; `setxattr(2)` defines the flags).
     fn setxattr(
         &mut self,
         ctx: Context,
@@ -363,8 +361,8 @@ pub trait FileSystem: FileSystemBase {
         ensures may { Self.may self.old (call.Setxattr ctx (Self.Inode.number inode) name.now value.now flags
             extra_flags.0) (done_answer result) self.new };
 
-    /// The value of an extended attribute, in at most `size` bytes; where that is 0, how many it has
-    /// (FUSE_GETXATTR).
+    /// The value of an extended attribute, of at most `size` bytes (FUSE_GETXATTR). If `size` is 0,
+    /// the value's length in bytes.
     fn getxattr(
         &mut self,
         ctx: Context,
@@ -375,8 +373,8 @@ pub trait FileSystem: FileSystemBase {
         ensures may { Self.may self.old (call.Getxattr ctx (Self.Inode.number inode) name.now size)
             (value_answer result) self.new };
 
-    /// The names of the extended attributes, in at most `size` bytes; where that is 0, how many they have
-    /// (FUSE_LISTXATTR).
+    /// The names of the extended attributes, in at most `size` bytes (FUSE_LISTXATTR). If `size` is
+    /// 0, their length in bytes.
     fn listxattr(
         &mut self,
         ctx: Context,
@@ -386,12 +384,12 @@ pub trait FileSystem: FileSystemBase {
         ensures may { Self.may self.old (call.Listxattr ctx (Self.Inode.number inode) size)
             (names_answer result) self.new };
 
-    /// Takes an extended attribute away (FUSE_REMOVEXATTR).
+    /// Removes an extended attribute (FUSE_REMOVEXATTR).
     fn removexattr(&mut self, ctx: Context, inode: Self::Inode, name: &[u8]) -> Result<(), Errno>
         ensures may { Self.may self.old (call.Removexattr ctx (Self.Inode.number inode) name.now)
             (done_answer result) self.new };
 
-    /// Opens a directory (FUSE_OPENDIR). Without a handle its calls get 0.
+    /// Opens a directory (FUSE_OPENDIR). If it returns no handle, later calls get handle 0.
     fn opendir(
         &mut self,
         ctx: Context,
@@ -401,8 +399,9 @@ pub trait FileSystem: FileSystemBase {
         ensures may { Self.may self.old (call.Opendir ctx (Self.Inode.number inode) flags)
             (opened_answer Self.Handle.number result) self.new };
 
-    /// The entries of a directory behind the one with this offset (0: all), for a reply of at most `size`
-    /// bytes (FUSE_READDIR and FUSE_READDIRPLUS). This offset is an entry's own, and counts no bytes.
+    /// The entries of a directory after the one with this offset, or all for 0 (FUSE_READDIR and
+    /// FUSE_READDIRPLUS). The reply has at most `size` bytes. The file system chooses the offsets
+    /// of entries; they count no bytes.
     fn readdir(
         &mut self,
         ctx: Context,
@@ -415,7 +414,7 @@ pub trait FileSystem: FileSystemBase {
             (call.Readdir ctx (Self.Inode.number inode) (Self.Handle.number handle) size offset)
             (listed_answer Self.DirIter.rest result) self.new };
 
-    /// Has what was done to a directory stand on its medium; with `datasync` the data alone (FUSE_FSYNCDIR).
+    /// Flushes the changes of a directory to storage; with `datasync` only the data (FUSE_FSYNCDIR).
     fn fsyncdir(
         &mut self,
         ctx: Context,
@@ -426,7 +425,7 @@ pub trait FileSystem: FileSystemBase {
         ensures may { Self.may self.old (call.Fsyncdir ctx (Self.Inode.number inode) datasync
             (Self.Handle.number handle)) (done_answer result) self.new };
 
-    /// The last descriptor of an open directory was closed (FUSE_RELEASEDIR).
+    /// The guest closed the last descriptor of an open directory (FUSE_RELEASEDIR).
     fn releasedir(
         &mut self,
         ctx: Context,
@@ -437,14 +436,13 @@ pub trait FileSystem: FileSystemBase {
         ensures may { Self.may self.old (call.Releasedir ctx (Self.Inode.number inode) flags
             (Self.Handle.number handle)) (done_answer result) self.new };
 
-    /// Whether the caller may use a node in these ways (FUSE_ACCESS; `access(2)` has the mask). Ok says that
-    /// it may.
+    /// Ok if the caller may access a node in the ways of `mask` (FUSE_ACCESS; `access(2)` defines the mask).
     fn access(&mut self, ctx: Context, inode: Self::Inode, mask: u32) -> Result<(), Errno>
         ensures may { Self.may self.old (call.Access ctx (Self.Inode.number inode) mask)
             (done_answer result) self.new };
 
-    /// A place in an open file, in bytes from its start (FUSE_LSEEK); `whence` says what `offset` counts from
-    /// (`lseek(2)`).
+    /// Finds an offset in an open file, in bytes from its start (FUSE_LSEEK). `offset` counts from
+    /// the place that `whence` names (`lseek(2)`).
     fn lseek(
         &mut self,
         ctx: Context,
@@ -456,7 +454,7 @@ pub trait FileSystem: FileSystemBase {
         ensures may { Self.may self.old (call.Lseek ctx (Self.Inode.number inode) (Self.Handle.number handle)
             offset whence) (offset_answer result) self.new };
 
-    /// Copies bytes of one open file to another, and answers how many (FUSE_COPY_FILE_RANGE,
+    /// Copies bytes of one open file to another, and returns their number (FUSE_COPY_FILE_RANGE,
     /// `copy_file_range(2)`).
     fn copyfilerange(
         &mut self,
@@ -475,40 +473,41 @@ pub trait FileSystem: FileSystemBase {
             (Self.Inode.number inode_out) (Self.Handle.number handle_out) offset_out len flags)
             (written_answer result) self.new };
 
-    /// Has all that was written stand on its medium (FUSE_SYNCFS).
+    /// Flushes all writes to storage (FUSE_SYNCFS).
     fn syncfs(&mut self, ctx: Context, inode: Self::Inode) -> Result<(), Errno>
         ensures may { Self.may self.old (call.Syncfs ctx (Self.Inode.number inode))
             (done_answer result) self.new };
 
-    /// Asks for a lock's holder (FUSE_GETLK). It gets nothing of the request.
+    /// Gets the holder of a lock (FUSE_GETLK). The call gets none of the request's fields.
     fn getlk(&mut self) -> Result<(), Errno>
         ensures may { Self.may self.old call.Getlk (done_answer result) self.new };
 
-    /// Takes a lock or gives it up (FUSE_SETLK). It gets nothing of the request.
+    /// Takes or releases a lock (FUSE_SETLK). The call gets none of the request's fields.
     fn setlk(&mut self) -> Result<(), Errno>
         ensures may { Self.may self.old call.Setlk (done_answer result) self.new };
 
-    /// Waits for a lock (FUSE_SETLKW). It gets nothing of the request.
+    /// Waits for a lock (FUSE_SETLKW). The call gets none of the request's fields.
     fn setlkw(&mut self) -> Result<(), Errno>
         ensures may { Self.may self.old call.Setlkw (done_answer result) self.new };
 
-    /// A control of a device (FUSE_IOCTL, `ioctl(2)`). It gets nothing of the request.
+    /// Controls a device (FUSE_IOCTL, `ioctl(2)`). The call gets none of the request's fields.
     fn ioctl(&mut self) -> Result<(), Errno>
         ensures may { Self.may self.old call.Ioctl (done_answer result) self.new };
 
-    /// The place of a file's block on a device (FUSE_BMAP). It gets nothing of the request.
+    /// Finds a block of a file on its device (FUSE_BMAP). The call gets none of the request's fields.
     fn bmap(&mut self) -> Result<(), Errno>
         ensures may { Self.may self.old call.Bmap (done_answer result) self.new };
 
-    /// What an open file is ready for (FUSE_POLL). It gets nothing of the request.
+    /// Asks which events an open file is ready for (FUSE_POLL). The call gets none of the request's fields.
     fn poll(&mut self) -> Result<(), Errno>
         ensures may { Self.may self.old call.Poll (done_answer result) self.new };
 
-    /// The answer to a notice that asked for bytes (FUSE_NOTIFY_REPLY). It gets nothing of the request.
+    /// The guest's answer to a notification that asked for bytes (FUSE_NOTIFY_REPLY). The call gets
+    /// none of the request's fields.
     fn notify_reply(&mut self) -> Result<(), Errno>
         ensures may { Self.may self.old call.NotifyReply (done_answer result) self.new };
 
-    /// A file without a name (FUSE_TMPFILE); there is no good answer, so it answers an errno.
+    /// Makes a file without a name (FUSE_TMPFILE). There is no successful answer, so it returns an errno.
     fn tmpfile(&mut self) -> Errno
         ensures may { Self.may self.old call.TmpFile (call.Failed result) self.new };
 }

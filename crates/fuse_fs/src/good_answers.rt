@@ -1,4 +1,4 @@
-//! The kinds of good answers that calls have.
+//! The kinds of successful answers.
 
 ghost use Rattle.std.specs.Prelude.{◌≡◌, ℕ, Bool, true, false, refl, Result, Err};
 ghost use Rattle.fuse_fs.specs.Answers.{entry_answer, done_answer, attr_answer, opened_answer, stats_answer};
@@ -11,15 +11,15 @@ use crate::answers::{Entry, GetxattrReply, ListxattrReply, Timeout};
 use crate::file_system::FileNumber;
 use fuse_base::{Attr, OpenOptions, StatVfs};
 
-/// A good answer of a kind of call, by what it says.
+/// A kind of successful answer.
 pub trait GoodAnswer {
-    // What an answer of this kind says, good or not.
+    // The answer that a result of this kind means, successful or not.
     ghost said: { Result Self ℕ → FileAnswer };
 
-    // Whether the client isn't told of a good one.
+    // Whether the server sends no reply for a successful answer.
     ghost silent: { Bool };
 
-    // An error says its number.
+    // An error means a failure with its number.
     ghost fails: { (e : ℕ) → said (Err e) ≡ Failed e };
 }
 
@@ -31,7 +31,7 @@ impl<I: FileNumber> GoodAnswer for Entry<I> {
     ghost fails = { λ e. refl };
 }
 
-/// The good answer of a call that has no reply.
+/// The successful answer of a call that has no reply if it succeeds.
 #[derive(Drop)]
 pub struct Silence;
 

@@ -1,4 +1,4 @@
-//! What a file system in fewer calls answers to the rest: their defaults.
+//! A file system of fewer calls as a `FileSystem`: the calls that it lacks call their defaults.
 
 ghost use Rattle.std.specs.Prelude.{option_map};
 ghost use Rattle.fuse_fs.specs.Answers.{attr_answer, pair_numbers};

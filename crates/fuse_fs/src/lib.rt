@@ -1,4 +1,4 @@
-//! File systems behind a trait: what they are asked, and what they answer.
+//! The trait of file systems, with their calls and answers.
 #![tactic(auto)]
 
 mod answers;

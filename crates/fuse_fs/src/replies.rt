@@ -1,4 +1,4 @@
-//! Records of replies, of what a file system answers.
+//! Records of replies, made from a file system's answers.
 
 ghost use Rattle.std.specs.Prelude.{◌≡◌, ◌<◌, ◌^◌, length, option_map};
 ghost use Rattle.fuse_fs.specs.Answers.{listed};
@@ -12,7 +12,7 @@ use bitflags::Flags;
 use fuse_base::{Attr, OpenOptions};
 use fuse_wire::{AttrOut, Dirent, GetxattrOut, LseekOut, OpenOut, WriteOut};
 
-/// Attributes that stay good for so long: `struct fuse_attr_out`, 104 bytes.
+/// A node's attributes and their timeout, as `struct fuse_attr_out`: 104 bytes.
 pub fn attr_out(attr: Attr, timeout: Timeout) -> AttrOut
     ensures { result ≡ attr_out_of attr timeout }
 {
@@ -24,7 +24,7 @@ pub fn attr_out(attr: Attr, timeout: Timeout) -> AttrOut
     }
 }
 
-/// An open file, as `struct fuse_open_out`, 16 bytes; the handle 0 if it has none.
+/// An open file, as `struct fuse_open_out`: 16 bytes. `fh` is 0 without a handle.
 pub fn open_out<H: FileNumber>(handle: Option<H>, options: OpenOptions) -> OpenOut
     ensures { result ≡ open_out_of (option_map H.number handle) options.0 }
 {
@@ -39,7 +39,7 @@ pub fn open_out<H: FileNumber>(handle: Option<H>, options: OpenOptions) -> OpenO
     }
 }
 
-/// How many bytes were written: `struct fuse_write_out`, 8 bytes.
+/// The number of bytes written, as `struct fuse_write_out`: 8 bytes.
 pub fn write_out(count: u32) -> WriteOut
     ensures { result ≡ write_out_of count }
 {
@@ -49,14 +49,14 @@ pub fn write_out(count: u32) -> WriteOut
     }
 }
 
-/// A place in a file, in bytes from its start: `struct fuse_lseek_out`, 8 bytes.
+/// An offset in a file, in bytes from its start, as `struct fuse_lseek_out`: 8 bytes.
 pub fn lseek_out(offset: u64) -> LseekOut
     ensures { result ≡ lseek_out_of offset }
 {
     LseekOut { offset }
 }
 
-/// How many bytes a value or a list of names has: `struct fuse_getxattr_out`, 8 bytes.
+/// The length of a value or of a list of names in bytes, as `struct fuse_getxattr_out`: 8 bytes.
 pub fn getxattr_out(count: u32) -> GetxattrOut
     ensures { result ≡ getxattr_out_of count }
 {
@@ -66,8 +66,8 @@ pub fn getxattr_out(count: u32) -> GetxattrOut
     }
 }
 
-/// An entry of a directory, as `struct fuse_dirent` before its name, 24 bytes. The name's length in bytes has
-/// 32 bits.
+/// An entry of a directory without its name, as `struct fuse_dirent`: 24 bytes. `namelen` is the
+/// name's length in bytes, below 2^32.
 pub fn dirent(entry: &DirEntry<'_>) -> Dirent
     requires { length entry.now.name.now < 2 ^ 32 }
     ensures { result ≡ dirent_of (listed entry.now) }

@@ -1,4 +1,4 @@
-//! Files that are read and written at a place, and what they fill.
+//! Files that are read and written at an offset, and the writers and readers that serve them.
 
 ghost use Rattle.std.specs.Prelude.{◌≡◌, ℕ, ◌+◌, ◌≤◌, List, [], ◌++◌, length, take, drop, Result, Ok, Err};
 ghost use Rattle.std.specs.Prelude.{IfOk, IfErr};
@@ -8,36 +8,36 @@ ghost use Rattle.fuse_fs.specs.Transfers.{bytes_answer, moved, ReadsSegments, Sp
 
 use fuse_base::Errno;
 
-/// How bytes are written at a place: the flags of `pwritev2(2)` (`RWF_` in linux/fs.h).
+/// The flags of a write at an offset, as of `pwritev2(2)` (`RWF_` in linux/fs.h).
 #[derive(Clone, Copy, Debug, PartialEq, Eq)]
 pub struct WritevFlags(pub u32);
 
-/// A file that is read and written at a place, which counts bytes from its start. Which errors it has is the
-/// implementer's, by `read_gives` and `write_gives`.
+/// A file that is read and written at an offset, in bytes from its start. The implementer's
+/// relations `read_gives` and `write_gives` define its errors.
 pub trait PositionedFile {
-    // What one read may answer: before, most bytes, place, answer, after.
+    // What one read may answer: state before, the most bytes to read, offset, answer, state after.
     ghost read_gives: { Self → ℕ → ℕ → Result (List ℕ) ℕ → Self → Type 0 };
 
-    // What one write may answer: before, bytes, place, flags, answer, after.
+    // What one write may answer: state before, bytes, offset, flags, answer, state after.
     ghost write_gives: { Self → List ℕ → ℕ → Option ℕ → Result ℕ ℕ → Self → Type 0 };
 
-    /// Reads to the front of a buffer, and answers how many bytes, at most as many as it has; or an errno of
-    /// the file's own. The buffer may hold bytes of a guest, which are no input: what lies behind those that
-    /// came stays as it was, and all of the buffer with an errno.
+    /// Reads to the front of a buffer, and returns the number of bytes, or an errno of the file's
+    /// own. The buffer may hold bytes of a guest, which are no input. The bytes behind those read
+    /// stay as they were. With an errno all bytes do.
     fn read_at(&mut self, buf: &mut [u8], off: u64) -> Result<usize, Errno>
         ensures within { IfOk result (λ n. n ≤ length buf.old) }
         ensures rest { buf.new ≡ take (moved result) buf.new ++ drop (moved result) buf.old }
         ensures gives { read_gives self.old (length buf.old) off (bytes_answer result buf.new) self.new };
 
-    /// Writes a buffer's bytes from the first on, and answers how many, at most as many as it has; or an
-    /// errno of the file's own.
+    /// Writes a buffer's bytes from the first on, and returns how many it wrote, or an errno of the
+    /// file's own.
     fn write_at(&mut self, buf: &[u8], off: u64, flags: Option<WritevFlags>) -> Result<usize, Errno>
         ensures within { IfOk result (λ n. n ≤ length buf.now) }
         ensures gives { write_gives self.old buf.now off (option_map (λ f. f.0) flags) result self.new };
 
-    /// Reads at most this many bytes to the end of a buffer, which has room for them, and answers how many.
-    /// An errno is the file's own, and leaves the buffer's bytes as they were. A file whose bytes lie in
-    /// memory may give them by one copy; where it doesn't, the room is set to zero for `read_at` first.
+    /// Reads at most `most` bytes to the end of a buffer with capacity for them, and returns their number. An
+    /// errno is the file's own, and leaves the buffer's bytes as they were. A file whose bytes lie in memory
+    /// may copy them directly. The default sets the new bytes to zero, and then calls `read_at`.
     fn append_at(&mut self, out: &mut Vec<u8>, most: usize, off: u64) -> Result<usize, Errno>
         requires { vec_len out.old + most ≤ vec_capacity out.old }
         ensures ok { IfOk result (λ n. (part : List ℕ)
@@ -64,24 +64,24 @@ pub trait PositionedFile {
     }
 }
 
-/// Where a file system puts the bytes that it reads (virtiofsd's `ZeroCopyWriter`).
+/// The buffer that a file system reads a file into (virtiofsd's `ZeroCopyWriter`).
 pub trait ZeroCopyWriter {
-    // These bytes were put in, and nothing else changed: before, the bytes, after.
+    // These bytes were put in, and nothing else changed: state before, bytes, state after.
     ghost Puts: { Self → List ℕ → Self → Type 0 };
 
-    // How many bytes more there is room for.
+    // The number of bytes that still fit.
     ghost room: { Self → ℕ };
 
-    // The lengths of the segments in which that room is.
+    // The lengths of the segments that these bytes fit into.
     ghost rooms: { Self → List ℕ };
 
-    /// How many bytes more there is room for.
+    /// The number of bytes that still fit.
     fn available_bytes(&self) -> usize
         ensures { result ≡ room self.now };
 
-    /// Puts in what a file has at a place, in bytes from its start: it is asked for one segment after
-    /// another, until the count of bytes is done, the room is used up, or it answers 0 or an errno. Where
-    /// there is room left for a place past 2^64 - 1, that is EIO.
+    /// Reads a file at an offset, in bytes from its start, and returns the number of bytes. Each
+    /// read fills the rest of one segment. It ends when `count` bytes are read, no room is left, or
+    /// the file answers 0 or an errno. EIO if room is left for an offset past 2^64 - 1.
     fn read_from_file_at<F: PositionedFile>(
         &mut self,
         file: &mut F,
@@ -95,14 +95,14 @@ pub trait ZeroCopyWriter {
             × (sum (rooms self.old) ≡ room self.old)
             × ReadsSegments F.read_gives file.old (up_to count (rooms self.old)) off bytes result file.new };
 
-    // if nothing is done, nothing is put in
+    // putting no bytes in changes nothing
     ghost puts_none: { (w : Self) → Puts w [] w };
 
-    // what is put in after something
+    // bytes that are put in after others follow them
     ghost puts_more: { (a b c : Self) (xs ys : List ℕ) → Puts a xs b → Puts b ys c → Puts a (xs ++ ys) c };
 }
 
-/// What is behind a reference, which stays the same reference.
+/// The writer behind a reference. The reference stays the same.
 impl<Inner: ZeroCopyWriter> ZeroCopyWriter for &mut Inner {
     ghost use Rattle.std.specs.Prelude.{◌≡◌, refl};
     ghost use Rattle.std.proofs.Common.{◌∙◌};
@@ -132,24 +132,24 @@ impl<Inner: ZeroCopyWriter> ZeroCopyWriter for &mut Inner {
     }
 }
 
-/// Where a file system takes the bytes from that it writes (virtiofsd's `ZeroCopyReader`).
+/// The bytes that a file system writes to a file (virtiofsd's `ZeroCopyReader`).
 pub trait ZeroCopyReader {
-    // What is left.
+    // The bytes that are left.
     ghost left: { Self → List ℕ };
 
-    // The lengths of the segments in which it stands.
+    // The lengths of the segments that hold them.
     ghost segments: { Self → List ℕ };
 
-    // How many bytes were read.
+    // The number of bytes taken so far.
     ghost read: { Self → ℕ };
 
-    /// How many bytes are left.
+    /// The number of bytes that are left.
     fn available_bytes(&self) -> usize
         ensures { result ≡ length (left self.now) };
 
-    /// Has a file write what is left at a place, in bytes from its start: it is lent one segment after
-    /// another, until the count of bytes is done, nothing is left, or it answers 0 or an errno. Where a byte
-    /// is left for a place past 2^64 - 1, that is EIO.
+    /// Writes the bytes that are left to a file at an offset, in bytes from its start, and returns their
+    /// number. Each write is of the rest of one segment. It ends when `count` bytes are written, none is
+    /// left, or the file answers 0 or an errno. EIO if a byte is left for an offset past 2^64 - 1.
     fn write_to_file_at<F: PositionedFile>(
         &mut self,
         file: &mut F,

@@ -1,5 +1,5 @@
--- The records (linux/fuse.h): those that are read from requests by their shape, the others as the fields that
--- spell them.
+-- The records of requests (linux/fuse.h). A record that the server reads is given by its shape,
+-- another by its fields.
 use Rattle.std.specs.Prelude.{List, [], ◌++◌, ◌∷◌}
 use Rattle.vm_values.specs.Fields.{Field, d, q}
 use Rattle.fuse_base.specs.Records.{file_lock}
@@ -60,7 +60,7 @@ in_header = record {
       r.padding & end;
 }
 
--- struct fuse_init_in, its first 16 bytes
+-- struct fuse_init_in, the first 16 bytes
 abbrev pub init_in_compat : RecordShape InitInCompat
 init_in_compat = record {
   parts = u32 ∷ u32 ∷ u32 ∷ u32 ∷ [];
@@ -69,7 +69,7 @@ init_in_compat = record {
   says = λ r. r.major & r.minor & r.max_readahead & r.flags & end;
 }
 
--- struct fuse_init_in, the 48 bytes after them
+-- struct fuse_init_in, the last 48 bytes
 abbrev pub init_in_ext : RecordShape InitInExt
 init_in_ext = record {
   parts = u32 ∷ u32s 11 ∷ [];
@@ -196,7 +196,7 @@ setxattr_in = record {
   says = λ r. r.size & r.flags & r.setxattr_flags & r.padding & end;
 }
 
--- struct fuse_setxattr_in in its older form, 8 bytes
+-- struct fuse_setxattr_in without FUSE_SETXATTR_EXT, 8 bytes
 abbrev pub setxattr_in_compat : RecordShape SetxattrInCompat
 setxattr_in_compat = record {
   parts = u32 ∷ u32 ∷ [];
@@ -306,7 +306,7 @@ lseek_in = record {
   says = λ r. r.fh & r.offset & r.whence & r.padding & end;
 }
 
--- struct fuse_copyfilerange_in, 56 bytes
+-- struct fuse_copy_file_range_in, 56 bytes
 abbrev pub copyfilerange_in : RecordShape CopyfilerangeIn
 copyfilerange_in = record {
   parts = u64 ∷ u64 ∷ u64 ∷ u64 ∷ u64 ∷ u64 ∷ u64 ∷ [];

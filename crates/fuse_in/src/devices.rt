@@ -1,4 +1,4 @@
-//! Requests on devices, mappings and notifications.
+//! Records of requests on devices, mappings and notifications.
 
 ghost use Rattle.std.specs.Prelude.{refl};
 ghost use Rattle.std.proofs.Common.{rules};

@@ -1,4 +1,4 @@
-//! Requests on an open file.
+//! Records of requests on an open file.
 
 ghost use Rattle.std.specs.Prelude.{refl};
 ghost use Rattle.std.proofs.Common.{rules};

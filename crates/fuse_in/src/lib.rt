@@ -1,4 +1,4 @@
-//! The records of FUSE requests (linux/fuse.h); their numbers have the lowest byte first.
+//! The records of FUSE requests (linux/fuse.h). Their numbers are little-endian.
 #![tactic(auto)]
 
 mod devices;

@@ -1,4 +1,4 @@
-//! Requests on a node.
+//! Records of requests on a node.
 
 ghost use Rattle.std.specs.Prelude.{refl};
 ghost use Rattle.std.proofs.Common.{rules};
@@ -314,7 +314,7 @@ impl InRecord for SetxattrIn {
     ghost of_shape = { (λ x. refl, λ x. refl, refl) };
 }
 
-/// `struct fuse_setxattr_in` in its older form (FUSE_COMPAT_SETXATTR_IN_SIZE): 8 bytes.
+/// `struct fuse_setxattr_in` without FUSE_SETXATTR_EXT (FUSE_COMPAT_SETXATTR_IN_SIZE): 8 bytes.
 #[derive(Clone, Copy, Debug, Default, PartialEq)]
 pub struct SetxattrInCompat {
     pub size: u32,

@@ -1,4 +1,4 @@
-//! What opens, ends and frames a conversation.
+//! The header of every request, and the records of INIT, INTERRUPT, FORGET, BATCH_FORGET and SYNCFS.
 
 ghost use Rattle.std.specs.Prelude.{refl};
 ghost use Rattle.std.proofs.Common.{rules};
@@ -48,7 +48,7 @@ impl InRecord for InHeader {
     ghost of_shape = { (λ x. refl, λ x. refl, refl) };
 }
 
-/// `struct fuse_init_in`: its first 16 bytes.
+/// `struct fuse_init_in`: the first 16 bytes.
 #[derive(Clone, Copy, Debug, Default, PartialEq)]
 pub struct InitInCompat {
     pub major: u32,
@@ -81,7 +81,7 @@ impl InRecord for InitInCompat {
     ghost of_shape = { (λ x. refl, λ x. refl, refl) };
 }
 
-/// `struct fuse_init_in`: the 48 bytes after them, with FUSE_INIT_EXT.
+/// `struct fuse_init_in`: the last 48 bytes, which are there with FUSE_INIT_EXT.
 #[derive(Clone, Copy, Debug, Default, PartialEq)]
 pub struct InitInExt {
     pub flags2: u32,

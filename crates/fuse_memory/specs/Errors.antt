@@ -9,11 +9,11 @@ ENOENT = 2
 abbrev pub ENOMEM : ℕ
 ENOMEM = 12
 
--- there is such an entry
+-- the directory has an entry with this name
 abbrev pub EEXIST : ℕ
 EEXIST = 17
 
--- the node is no directory
+-- the node isn't a directory
 abbrev pub ENOTDIR : ℕ
 ENOTDIR = 20
 
@@ -29,7 +29,7 @@ EINVAL = 22
 abbrev pub EFBIG : ℕ
 EFBIG = 27
 
--- there is no room
+-- there is no memory, node number or entry offset left within the limits
 abbrev pub ENOSPC : ℕ
 ENOSPC = 28
 

@@ -1,4 +1,4 @@
--- The files as a guest sees them: what each node is, and which entries the directories have.
+-- The files as a guest sees them: the file of each node, and the entries of the directories.
 use Rattle.std.specs.Prelude.{◌≡◌, ◌≢◌, ℕ, Bool, ◌==◌, bit_and, List, [], length, map, Option, Some, None}
 use Rattle.std.specs.Prelude.{option_map, slice_get}
 use Rattle.fuse_base.specs.declared.records.Attr.{Attr}
@@ -6,8 +6,8 @@ use Rattle.fuse_memory.specs.declared.table.MemoryFiles.{MemoryFiles}
 use Rattle.fuse_memory.specs.declared.nodes.Name.{Name}
 use Rattle.fuse_memory.specs.declared.nodes.Node.{Node}
 
--- a file or a directory: its bytes (a directory has none), its mode, how many names it has, the directory
--- that its name is in (the root: 0), and how often the guest holds it
+-- a file or directory: its bytes (none for a directory), its mode, its number of names, the
+-- directory of its name (0 for the root), and its lookup count
 pub record File : Type 0 where
   pub contents : List ℕ
   pub mode : ℕ
@@ -15,34 +15,34 @@ pub record File : Type 0 where
   pub parent : ℕ
   pub held : ℕ
 
--- an entry of a directory: its name, the node that it names, and of what kind that is (d_type of dirent.h)
+-- an entry of a directory: the directory, its name, its node, and the node's kind (d_type of dirent.h)
 pub record DirectoryEntry : Type 0 where
   pub directory : ℕ
   pub name : List ℕ
   pub node : ℕ
   pub kind : ℕ
 
--- all files by the numbers of their nodes, all entries in the order of listings, how many entries were ever
--- made, and the greatest number that a node may have
+-- all files by node number, all entries in the order of listings, the number of entries ever made,
+-- and the greatest number that a node may have
 pub record FileTree : Type 0 where
   pub file : (node : ℕ) → Option File
   pub entries : List DirectoryEntry
   pub made : ℕ
   pub most : ℕ
 
--- whether a mode is that of a directory: of its bits S_IFMT (0o170000) says so S_IFDIR (0o40000, inode(7))
+-- whether a file is a directory: the bits S_IFMT (0o170000) of its mode are S_IFDIR (0o40000, inode(7))
 abbrev pub is_directory : File → Bool
 is_directory f = bit_and f.mode 0xf000 == 0x4000
 
--- attributes tell a file's size and mode, and how many names it has
+-- attributes have a file's size, mode and number of names
 pub record HasAttrOf (f : File) (attr : Attr) : Type 0 where
   pub size : attr.size ≡ length f.contents
   pub mode : attr.mode ≡ f.mode
   pub links : attr.nlink ≡ f.links
 
--- ---- of what the code keeps
+-- ---- from the values of the code
 
--- a node as a file
+-- the file of a node
 abbrev pub file_of : Node → File
 file_of node =
     record {
@@ -53,33 +53,33 @@ file_of node =
       held = node.lookups;
     }
 
--- the file in a slot of the table
+-- the file in a slot of the table, if there is one
 abbrev pub slot_file : Option Node → Option File
 slot_file slot = option_map file_of slot
 
--- the nodes, each at the place of its number
+-- the type of the table: each node at the index of its number
 abbrev pub Nodes : Type 0
 Nodes = List (Option Node)
 
--- the node at a place, if one is there
+-- the node in a slot, if the slot exists and holds one
 abbrev pub there : Option (Option Node) → Option Node
 there (Some slot) = slot
 there None = None
 
--- the node of a number
+-- the node with this number, if there is one
 abbrev pub node_at : Nodes → (number : ℕ) → Option Node
 node_at nodes number = there (slice_get nodes number)
 
--- the file of a number
+-- the file with this number, if there is one
 abbrev pub file_at : Nodes → (number : ℕ) → Option File
 file_at nodes number = slot_file (node_at nodes number)
 
--- a name as an entry
+-- the entry of a name
 abbrev pub entry_of : Name → DirectoryEntry
 entry_of entry =
     record { directory = entry.parent; name = entry.name.items; node = entry.node; kind = entry.kind }
 
--- all files and entries
+-- all files and entries of the file system
 abbrev pub files_of : MemoryFiles → FileTree
 files_of m =
     record {
@@ -89,7 +89,7 @@ files_of m =
       most = m.most_nodes;
     }
 
--- an empty root, which is node 1, and nothing else
+-- the files at the start: an empty root, which is node 1, and nothing else
 pub record StartsEmpty (most : ℕ) (files : FileTree) : Type 0 where
   pub root : files.file 1 ≡ Some (record { contents = []; mode = 0x41ed; links = 1; parent = 0; held = 0 })
   pub others : (other : ℕ) → other ≢ 1 → files.file other ≡ None

@@ -1,4 +1,4 @@
--- Which entry a name stands for, and why there is none.
+-- The entry of a name in a directory, and the errors of the search.
 use Rattle.std.specs.Prelude.{ℕ, zero, suc, Bool, true, false, not, ◌&&◌, ◌||◌, ◌==◌, nat_lt, List, length}
 use Rattle.std.specs.Prelude.{Option, Some, None, option_map, Result, Ok, Err, if◌then◌else◌}
 use Rattle.std.specs.List.{list_all, position}
@@ -7,17 +7,17 @@ use Rattle.std.specs.Str.{bytes_eq}
 use Rattle.fuse_memory.specs.Errors.{ENOENT, ENOTDIR, EISDIR, ENAMETOOLONG, ENOTEMPTY}
 use Rattle.fuse_memory.specs.Files.{DirectoryEntry, File, FileTree, is_directory}
 
--- whether an entry has a name in a directory
+-- whether an entry has this directory and this name
 abbrev pub is_named : (directory : ℕ) → (name : List ℕ) → DirectoryEntry → Bool
 is_named directory name e = e.directory == directory && bytes_eq e.name name
 
--- why entries can't be listed, if they can't: the node isn't there or is no directory
+-- the reason to refuse a listing, if there is one: the node doesn't exist or isn't a directory
 abbrev pub no_directory : Option File → Option ℕ
 no_directory None = Some ENOENT
 no_directory (Some f) = if is_directory f then None else Some ENOTDIR
 
--- the place of a name in a directory, if it has one; in a directory that lost its own name there are none,
--- and a name has at most 255 bytes (NAME_MAX of limits.h)
+-- the index of a directory's entry with this name, if there is one; a directory that was removed
+-- has none (ENOENT), and a name has at most 255 bytes (NAME_MAX of limits.h)
 abbrev pub find_in :
     Option File → List DirectoryEntry → (directory : ℕ) → (name : List ℕ) → Result (Option ℕ) ℕ
 find_in None entries directory name = Err ENOENT
@@ -27,11 +27,11 @@ find_in (Some f) entries directory name =
     else if nat_lt 255 (length name) then Err ENAMETOOLONG
     else Ok (position (is_named directory name) entries)
 
--- the same, by all files
+-- the same for the directory with this node number
 abbrev pub find : FileTree → (directory : ℕ) → (name : List ℕ) → Result (Option ℕ) ℕ
 find files directory name = find_in (files.file directory) files.entries directory name
 
--- an entry that has to be there
+-- the index of an entry that has to exist, or else ENOENT
 abbrev pub needed : Result (Option ℕ) ℕ → Result ℕ ℕ
 needed (Ok (Some place)) = Ok place
 needed (Ok None) = Err ENOENT
@@ -41,12 +41,12 @@ needed (Err e) = Err e
 abbrev pub is_empty : List DirectoryEntry → (directory : ℕ) → Bool
 is_empty entries directory = list_all (λ e. not (e.directory == directory)) entries
 
--- whether an entry is that of a directory (DT_DIR of dirent.h)
+-- whether an entry is a directory's (DT_DIR of dirent.h)
 abbrev pub names_directory : DirectoryEntry → Bool
 names_directory e = e.kind == 4
 
--- why an entry can't come in the place of another, if it can't (rename(2)): a directory only of an empty one,
--- a file only of a file
+-- the reason to refuse a rename over another entry, if there is one (rename(2)): a directory may
+-- replace only an empty directory, a file only a file
 abbrev pub cannot_replace : List DirectoryEntry → (moved replaced : DirectoryEntry) → Option ℕ
 cannot_replace entries moved replaced =
     if names_directory moved then
@@ -56,7 +56,7 @@ cannot_replace entries moved replaced =
     else if names_directory replaced then Some EISDIR
     else None
 
--- whether a node is another or lies in it, by a walk up of so many steps; a longer walk counts as if it does
+-- whether a node is another or lies in it, by a walk up of at most `steps` nodes; true if the walk is longer
 abbrev pub lies_in : FileTree → (steps at other : ℕ) → Bool
 lies_in files zero at other = true
 lies_in files (suc steps) at other =

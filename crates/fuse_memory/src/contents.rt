@@ -16,14 +16,14 @@ const LONGEST: u64 = i64::MAX as u64;
 #[derive(Drop)]
 pub(crate) struct Contents {
     bytes: Vec<u8>,
-    // Of the write that is at work: how many bytes of memory the contents may take, and how many it has
-    // written.
+    // Of the write in progress: the most bytes of memory that the contents may take, and the number
+    // of bytes written so far.
     most: u64,
     written: u64,
 }
 
 impl Contents {
-    // No bytes. They take no memory.
+    // Empty contents. They take no memory.
     pub fn new(alloc: Global) -> Contents
         ensures { result.bytes.items ≡ [] }
     {
@@ -40,14 +40,14 @@ impl Contents {
         self.bytes.len() as u64
     }
 
-    // How many bytes of memory they take.
+    // The number of bytes of memory that the contents take.
     pub fn held(&self) -> u64
         ensures { result ≡ vec_capacity self.now.bytes }
     {
         self.bytes.capacity() as u64
     }
 
-    // The bytes from a place on.
+    // The bytes from an offset on.
     fn rest(&self, off: u64) -> &[u8]
         ensures { result.now ≡ drop off self.now.bytes.items }
     {
@@ -58,9 +58,9 @@ impl Contents {
         }
     }
 
-    // Takes the memory for a length, if it is within so many bytes. A file that grows takes an eighth of what
-    // it holds more if that is within them too, since each growth copies the file. EFBIG, ENOSPC and ENOMEM
-    // take none.
+    // Allocates the memory for a length, at most `most` bytes. A file that grows gets an eighth
+    // more than its memory if that is within `most` too, since each growth copies the file. Errors,
+    // which allocate nothing, in this order: EFBIG, ENOSPC, ENOMEM.
     fn reserve(&mut self, len: u64, most: u64) -> Result<(), Errno>
         ensures ok { OnOk result (len ≤ vec_capacity self.new.bytes) }
         ensures bytes { self.new.bytes.items ≡ self.old.bytes.items }
@@ -83,8 +83,8 @@ impl Contents {
             .map_err(|_| Errno::ENOMEM)
     }
 
-    /// Cuts them to a length, and gives back the memory behind it; or fills them up with zeros, if they take
-    /// at most `room` bytes more for it. EFBIG, ENOSPC and ENOMEM change nothing.
+    /// Cuts the contents to a length, and frees the memory behind it. Or fills them up with zeros,
+    /// with at most `room` more bytes of memory. EFBIG, ENOSPC and ENOMEM change nothing.
     pub fn set_len(&mut self, len: u64, room: u64) -> Result<(), Errno>
         ensures ok { OnOk result (self.new.bytes.items ≡ sized len self.old.bytes.items) }
         ensures err { OnErr result (self.new.bytes.items ≡ self.old.bytes.items) }
@@ -101,8 +101,8 @@ impl Contents {
             .map_err(|_| Errno::ENOMEM)
     }
 
-    // Puts bytes at an offset, and zeros into a gap before them, within the memory of the write that is at
-    // work. EFBIG, ENOSPC and ENOMEM change nothing.
+    // Writes bytes at an offset, and zeros into a gap before them, within the memory of the write
+    // in progress. Errors, which change no byte, in this order: EFBIG, ENOSPC, ENOMEM.
     fn put(&mut self, bytes: &[u8], off: u64) -> Result<(), Errno>
         ensures ok { OnOk result (self.new.bytes.items ≡ put off bytes.now self.old.bytes.items) }
         ensures err { OnErr result (self.new.bytes.items ≡ self.old.bytes.items) }
@@ -121,8 +121,8 @@ impl Contents {
         Ok(())
     }
 
-    /// Puts at most `size` bytes from an offset on into a writer, as many as it has room for, and answers how
-    /// many. It never fails.
+    /// Puts at most `size` bytes from an offset on into a writer, as many as fit, and returns their
+    /// number. It never fails.
     pub fn read<W: ZeroCopyWriter>(
         &mut self,
         w: &mut W,
@@ -141,9 +141,10 @@ impl Contents {
         w.read_from_file_at(self, wanted as usize, offset)
     }
 
-    /// Writes what a reader has to an offset, if they take at most `room` bytes of memory more for it, and
-    /// answers how many bytes it wrote: fewer than there are if an error comes after some of them, and 0 only
-    /// if the size is 0. EFBIG, ENOSPC, ENOMEM, and EIO if the reader has none of the bytes, change nothing.
+    /// Writes a reader's bytes to an offset, with at most `room` more bytes of memory, and returns
+    /// their number. It writes fewer bytes than there are if an error follows some of them, and 0
+    /// only if `size` is 0.
+    /// Errors, which change nothing: EFBIG, ENOSPC, ENOMEM, and EIO if the reader has no bytes.
     pub fn write<R: ZeroCopyReader>(
         &mut self,
         r: &mut R,

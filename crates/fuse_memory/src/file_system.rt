@@ -10,13 +10,13 @@ use fuse_files::{Flags, ReadableFileSystem, WritableFileSystem};
 use fuse_fs::{Context, Entry, Extensions, Timeout, ZeroCopyReader, ZeroCopyWriter, defaults};
 use fuse_in::SetattrIn;
 
-// A rename that replaces nothing (linux/fs.h).
+// The flag of a rename that replaces nothing (linux/fs.h).
 const RENAME_NOREPLACE: u32 = 1;
 
-// What blocks are counted in, in bytes.
+// The size of a block in STATFS, in bytes.
 const BLOCK: u64 = 4096;
 
-// The permissions that a request's mode can set.
+// The permission bits that a request's mode can set.
 const PERMISSIONS: u32 = 0o7_777;
 
 impl ReadableFileSystem for MemoryFiles {

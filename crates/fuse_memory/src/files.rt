@@ -1,4 +1,4 @@
-//! What the calls do with the nodes and names.
+//! The operations on nodes and names that the calls use.
 
 ghost use Rattle.std.specs.Prelude.{◌≡◌, ◌≢◌, ℕ, ◌+◌, ◌<◌, ◌≤◌, ◌⊎◌, vec_len, slice_get, option_map, map};
 ghost use Rattle.std.specs.Prelude.{Some, None, IfNone, IfErr, IfOk, IfSome, OnOk};
@@ -17,17 +17,17 @@ use fuse_base::{Errno, GuestGid, GuestUid};
 use fuse_fs::{Context, Entry};
 use std::alloc::{AllocError, Global};
 
-/// The node of the root.
+/// The root's node number.
 pub(crate) const ROOT: u64 = 1;
 
-// The most bytes that a name has.
+// The greatest length of a name, in bytes.
 const LONGEST_NAME: usize = 255;
 
 impl MemoryFiles {
-    /// A file system of an empty root, which belongs to user and group 0. The contents of its files take at
-    /// most `limit` bytes of memory: a file that grew may take an eighth more than it has bytes. While a file
-    /// grows or is cut, it is copied, and its copy counts for nothing. There are at most `most_nodes` files
-    /// and directories. AllocError if an allocation fails.
+    /// A file system with an empty root, which belongs to user and group 0. The contents of its
+    /// files take at most `limit` bytes of memory. A file that grew may take an eighth more than it
+    /// has bytes. A file is copied while it grows or is cut, and the limit doesn't count the copy.
+    /// There are at most `most_nodes` files and directories. AllocError if an allocation fails.
     pub fn new(alloc: Global, limit: u64, most_nodes: u64) -> Result<MemoryFiles, AllocError>
         ensures { IfOk result (λ files. StartsEmpty most_nodes (files_of files)) }
     {
@@ -48,7 +48,7 @@ impl MemoryFiles {
         })
     }
 
-    // How many bytes of memory more the contents of files may take.
+    // How many more bytes of memory the contents of files may take.
     pub(crate) fn room(&self) -> u64 {
         let mut room = self.limit;
         for node in self.nodes.iter().flatten() {
@@ -57,7 +57,7 @@ impl MemoryFiles {
         room
     }
 
-    // The node of a number.
+    // The node with this number, if there is one.
     pub(crate) fn node(&self, number: u64) -> Option<&Node>
         ensures { option_map (λ n. n.now) result ≡ node_at self.now.nodes.items number }
     {
@@ -67,7 +67,7 @@ impl MemoryFiles {
         }
     }
 
-    // The place of a node in the table, if it isn't past the end.
+    // The index of a node in the table. None if it is past the end.
     pub(crate) fn place(&self, number: u64) -> Option<usize>
         ensures some { IfSome result (λ place. (place ≡ number) × (place < vec_len self.now.nodes)) }
         ensures none { IfNone result (node_at self.now.nodes.items number ≡ None) }
@@ -79,7 +79,7 @@ impl MemoryFiles {
         }
     }
 
-    // Whether a node is a directory. ENOENT if there is none, and ENOTDIR if it is a file.
+    // Ok if a node is a directory. ENOENT if there is no such node, and ENOTDIR if it is a file.
     pub(crate) fn test_directory(&self, number: u64) -> Result<(), Errno>
         ensures ok { OnOk result (no_directory (file_at self.now.nodes.items number) ≡ None) }
         ensures err { IfErr result (λ e. no_directory (file_at self.now.nodes.items number) ≡ Some e) }
@@ -91,8 +91,11 @@ impl MemoryFiles {
         }
     }
 
-    // The place of a name in a directory, if it has one. A directory that is removed has no names and gets
-    // none: ENOENT.
+    // The index of a directory's entry with this name, if there is one. Errors, in this order:
+    // ENOENT: there is no such directory.
+    // ENOTDIR: the node is a file.
+    // ENOENT: the directory was removed.
+    // ENAMETOOLONG: the name has more than 255 bytes.
     pub(crate) fn find(&self, parent: u64, name: &[u8]) -> Result<Option<usize>, Errno>
         ensures { result ≡ find (files_of self.now) parent name.now }
     {
@@ -111,7 +114,7 @@ impl MemoryFiles {
         Ok(place_of(&self.names, parent, name))
     }
 
-    // The place of a name that a directory has. ENOENT if it has none.
+    // The index of a directory's entry with this name. Errors: those of `find`, then ENOENT.
     pub(crate) fn find_there(&self, parent: u64, name: &[u8]) -> Result<usize, Errno>
         ensures value { result ≡ needed (find (files_of self.now) parent name.now) }
         ensures within { IfOk result (λ i. i < vec_len self.now.names) }
@@ -128,7 +131,7 @@ impl MemoryFiles {
         self.names.iter().all(|entry| entry.parent != directory)
     }
 
-    // The guest holds a node once more. ENOENT changes nothing.
+    // Raises a node's lookup count by 1, and returns its entry. ENOENT changes nothing.
     pub(crate) fn hold(&mut self, number: u64) -> Result<Entry<u64>, Errno>
         ensures may { HoldsNode (files_of self.old) number (entry_answer (λ n. n) result)
             (files_of self.new) }
@@ -145,7 +148,7 @@ impl MemoryFiles {
         }
     }
 
-    // The guest holds a node so many times less. It goes if it has no name either.
+    // Lowers a node's lookup count by `count`. Drops the node if the count is then 0 and it has no name.
     pub(crate) fn let_go(&mut self, number: u64, count: u64)
         ensures { Alters (files_of self.old) number (let_go count) (files_of self.new) }
     {
@@ -154,14 +157,15 @@ impl MemoryFiles {
         }
     }
 
-    // A conversation begins, in which the guest holds nothing.
+    // Starts a session: sets all lookup counts to 0, and drops the nodes without a name.
     pub(crate) fn let_all_go(&mut self) {
         for number in 0..self.nodes.len() {
             self.let_go(number as u64, u64::MAX);
         }
     }
 
-    // The least number that no node has, with a place in the table. ENOSPC if there may be no more nodes.
+    // The least number from 2 on that no node has, with a slot in the table. ENOSPC if it is more
+    // than `most_nodes`, and ENOMEM if an allocation fails.
     fn free_number(&mut self) -> Result<u64, Errno>
         ensures keeps { Keeps (files_of self.old) (files_of self.new) }
         ensures names { self.new.names ≡ self.old.names }
@@ -185,7 +189,7 @@ impl MemoryFiles {
         Ok(number as u64)
     }
 
-    // Makes a node of a mode under a name, which the guest holds once. An error changes no file.
+    // Makes a node of a mode under a name, with lookup count 1. An error changes no file.
     pub(crate) fn make(
         &mut self,
         ctx: Context,
@@ -221,7 +225,7 @@ impl MemoryFiles {
         Ok(entry)
     }
 
-    // Takes a name away, and its node if the guest doesn't hold it.
+    // Removes an entry, and drops its node if the lookup count is 0.
     pub(crate) fn remove(&mut self, place: usize)
         requires { place < vec_len self.old.names }
         ensures { (name : NameRecord)
@@ -234,8 +238,9 @@ impl MemoryFiles {
         }
     }
 
-    // Whether a directory is another or lies in it, in any depth. The walk goes up once, from parent to
-    // parent. Each directory on the way has a name, but the first two of a walk that ends may have none.
+    // Whether a directory is `other` or lies in it, at any depth. The walk goes up from parent to
+    // parent. From a directory that wasn't removed, all its directories but the root have a name;
+    // after the root it ends at 0.
     pub(crate) fn lies_in(&self, directory: u64, other: u64) -> bool
         ensures { result ≡ lies_in (files_of self.now) (vec_len self.now.names + 2) directory other }
     {
@@ -249,13 +254,12 @@ impl MemoryFiles {
                 None => return false,
             }
         }
-        // Each directory has one parent, up to the root, so a walk of more steps than there are names never
-        // comes.
+        // Not reached from a directory that wasn't removed: each has one parent, up to the root.
         true
     }
 
-    // Why a name can't come in the place of another, if it can't (rename(2)): a directory only of an empty
-    // one, and a file only of a file.
+    // The error of a rename over another entry, if there is one (rename(2)). A directory may
+    // replace only an empty directory, and a file only a file.
     pub(crate) fn cannot_replace(&self, moved: &Name, replaced: &Name) -> Option<Errno>
         ensures { result ≡ cannot_replace (map entry_of self.now.names.items) (entry_of moved.now)
             (entry_of replaced.now) }
@@ -295,7 +299,7 @@ impl MemoryFiles {
         Ok(())
     }
 
-    // The same, unless a directory would lie in itself: EINVAL.
+    // The same. EINVAL if a directory would lie in itself.
     pub(crate) fn move_to_new(
         &mut self,
         place: usize,
@@ -313,7 +317,8 @@ impl MemoryFiles {
         self.move_name(place, parent, name)
     }
 
-    // The same in the place of another entry, which goes.
+    // The same in place of another entry, which is removed. Errors, in this order: EINVAL if a
+    // directory would lie in itself, those of `cannot_replace`, ENOMEM.
     pub(crate) fn move_over(
         &mut self,
         moved: usize,
@@ -345,7 +350,7 @@ impl MemoryFiles {
     }
 }
 
-// The same bytes in memory of their own.
+// A copy of bytes in memory of its own. ENOMEM if the allocation fails.
 fn copied(alloc: Global, bytes: &[u8]) -> Result<Vec<u8>, Errno>
     ensures ok { IfOk result (λ v. v.items ≡ bytes.now) }
     ensures err { IfErr result (λ e. e ≡ ENOMEM) }

@@ -1,5 +1,5 @@
-//! A file system in memory, whose directories and files a guest makes, writes, moves and removes. It is meant
-//! to be copied: replace what it keeps, and keep its calls.
+//! A file system in memory, in which a guest makes, writes, renames and removes files and
+//! directories. It is meant to be copied: replace its storage, and keep its calls.
 #![tactic(auto)]
 
 mod contents;

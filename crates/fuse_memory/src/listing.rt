@@ -1,4 +1,4 @@
-//! The entries of a directory, as a listing has them.
+//! The entries of a directory, for a listing.
 
 ghost use Rattle.std.specs.Prelude.{◌≡◌, IfErr};
 ghost use Rattle.fuse_memory.specs.Errors.{ENOMEM};
@@ -9,26 +9,26 @@ use fuse_base::Errno;
 use fuse_fs::{DirEntry, DirectoryIterator};
 use std::alloc::Global;
 
-// The bytes of `struct fuse_dirent` before an entry's name.
+// The length of `struct fuse_dirent` before an entry's name, in bytes.
 const DIRENT_LEN: usize = 24;
 
-/// An entry with a name of its own.
+/// An entry that owns its name.
 #[derive(Drop)]
 pub struct OwnedEntry {
     /// The node's number.
     pub node: u64,
-    /// Where a listing goes on behind it.
+    /// The offset at which a listing continues after this entry.
     pub offset: u64,
-    /// The kind of node (`DT_` in dirent.h).
+    /// The node's kind (`DT_` in dirent.h).
     pub kind: u32,
     pub name: Vec<u8>,
 }
 
-/// Entries, which a listing gives one after another.
+/// An iterator over entries of a directory.
 #[derive(Drop)]
 pub struct MemoryEntries {
     entries: Vec<OwnedEntry>,
-    // The one that is next.
+    // The index of the next entry.
     at: usize,
 }
 
@@ -51,8 +51,8 @@ impl DirectoryIterator for MemoryEntries {
     }
 }
 
-// The entries of a directory behind an offset: those that go into a reply of so many bytes, and at most one
-// more. The names are in the order of their offsets.
+// The entries of a directory after an offset: those that fit into a reply of `size` bytes, and at
+// most one more. The names are in the order of their offsets. ENOMEM if an allocation fails.
 pub(crate) fn list(
     alloc: Global,
     names: &[Name],

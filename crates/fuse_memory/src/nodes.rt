@@ -1,4 +1,4 @@
-//! Files and directories, and the names that they have.
+//! Files and directories, and their names.
 
 ghost use Rattle.std.specs.Prelude.{◌≡◌, ℕ, ◌+◌, ◌<◌, ◌≤◌, [], List, length, take, min, map, position};
 ghost use Rattle.std.specs.Prelude.{option_map, option_and_then, IfOk, OnOk, OnErr};
@@ -16,7 +16,7 @@ use fuse_fs::{Context, Entry, Timeout, ZeroCopyReader, ZeroCopyWriter};
 use fuse_in::SetattrIn;
 use std::alloc::Global;
 
-// What a mode says of a node's kind, and two kinds (inode(7)).
+// The bits of a mode for the node's kind, and two kinds (inode(7)).
 const S_IFMT: u32 = 0o170_000;
 
 pub(crate) const S_IFDIR: u32 = 0o40_000;
@@ -26,23 +26,22 @@ pub(crate) const S_IFREG: u32 = 0o100_000;
 // The flag of an open that empties the file (fcntl.h).
 const O_TRUNC: u32 = 0o1000;
 
-// The bits of a mode that say who may do what.
+// The permission bits of a mode (inode(7)).
 const PERMISSIONS: u32 = 0o7_777;
 
-/// A directory, by the kind of an entry (DT_DIR of dirent.h).
+/// The kind of a directory's entry (DT_DIR of dirent.h).
 pub(crate) const DT_DIR: u32 = 4;
 
-/// A file or directory. A directory's contents are empty: its entries are the names that have it as their
-/// parent.
+/// A file or directory. A directory has no contents: its entries are the names whose parent it is.
 #[derive(Drop)]
 pub(crate) struct Node {
-    /// Its attributes, but for its size. The number of links is 0 if it has no name any more.
+    /// The attributes without the size. `nlink` is 0 if the node has no name any more.
     pub attr: Attr,
-    /// The directory that its name is in; the root has none, 0.
+    /// The directory of its name; 0 for the root.
     pub parent: u64,
-    /// Which node of this number it is.
+    /// The generation: it differs for two nodes that have this number one after the other.
     pub generation: u64,
-    /// How often the guest holds it.
+    /// The lookup count: how many references the guest holds.
     pub lookups: u64,
     pub contents: Contents,
 }
@@ -50,24 +49,24 @@ pub(crate) struct Node {
 /// An entry of a directory.
 #[derive(Drop)]
 pub(crate) struct Name {
-    /// The directory that it is in.
+    /// The directory that the entry is in.
     pub parent: u64,
     pub name: Vec<u8>,
     /// The node that it names.
     pub node: u64,
-    /// What kind of node that is (`DT_` in dirent.h).
+    /// The node's kind (`DT_` in dirent.h).
     pub kind: u32,
-    /// Where a listing goes on behind it.
+    /// The offset at which a listing continues after this entry.
     pub offset: u64,
 }
 
-// How long answers stay good. Nobody but the guest changes these files.
+// How long the guest may cache an answer: one second. Only the guest changes these files.
 pub(crate) fn second() -> Timeout {
     Timeout::new(1, 0).unwrap()
 }
 
 impl Node {
-    // An empty file or directory of a mode, with one name, that the guest doesn't hold. It takes no memory.
+    // An empty file or directory of a mode, with one name and lookup count 0. It takes no memory.
     pub fn new(
         alloc: Global,
         number: u64,
@@ -102,7 +101,7 @@ impl Node {
         self.attr.mode & S_IFMT == S_IFDIR
     }
 
-    // All of its attributes.
+    // All attributes, with the size.
     pub fn told(&self) -> Attr
         ensures { HasAttrOf (file_of self.now) result }
     {
@@ -114,7 +113,7 @@ impl Node {
         }
     }
 
-    // What a look-up answers, by the node's number.
+    // The entry that a look-up returns, with the node's number.
     pub fn entry(&self, number: u64) -> Entry<u64>
         ensures inode { result.inode ≡ number }
         ensures told { HasAttrOf (file_of self.now) result.attr }
@@ -128,8 +127,8 @@ impl Node {
         }
     }
 
-    // Sets what `valid` names, if the file takes at most `room` bytes of memory more for it, and answers all
-    // attributes. An error changes nothing.
+    // Sets the attributes that `valid` names, and returns all. A file that grows may take `room`
+    // more bytes of memory. An error changes nothing: that of `set_len`.
     pub fn set(&mut self, to: &SetattrIn, valid: SetattrValid, room: u64) -> Result<Attr, Errno>
         ensures ok { OnOk result (file_of self.new ≡ attributes_set valid.0 to.now (file_of self.old)) }
         ensures told { IfOk result (λ attr. HasAttrOf (file_of self.new) attr) }
@@ -142,8 +141,8 @@ impl Node {
         Ok(self.told())
     }
 
-    // Gives a file a length, if it takes at most `room` bytes of memory more for it. An error, as EISDIR,
-    // changes nothing.
+    // Sets a file's length. A file that grows may take `room` more bytes of memory. Errors, which
+    // change nothing, in this order: EISDIR, EFBIG, ENOSPC, ENOMEM.
     fn set_len(&mut self, len: u64, room: u64) -> Result<(), Errno>
         ensures ok { OnOk result (self.new.contents.bytes.items ≡ sized len self.old.contents.bytes.items) }
         ensures err { OnErr result (self.new.contents.bytes.items ≡ self.old.contents.bytes.items) }
@@ -155,7 +154,7 @@ impl Node {
         self.contents.set_len(len, room)
     }
 
-    // Empties a file if the flags of an open say so. An error, as EISDIR, changes nothing.
+    // Empties a file if an open's flags have O_TRUNC. EISDIR for a directory changes nothing.
     pub fn open(&mut self, flags: u32) -> Result<(), Errno>
         ensures ok { OnOk result (file_of self.new ≡ opened flags (file_of self.old)) }
         ensures err { OnErr result (file_of self.new ≡ file_of self.old) }
@@ -166,7 +165,7 @@ impl Node {
         self.set_len(0, 0)
     }
 
-    // Puts bytes of a file into a writer. EISDIR puts nothing in.
+    // Puts bytes of a file into a writer. EISDIR for a directory puts nothing in.
     pub fn read<W: ZeroCopyWriter>(
         &mut self,
         w: &mut W,
@@ -187,8 +186,8 @@ impl Node {
         self.contents.read(w, size, offset)
     }
 
-    // Writes what a reader has to a file, if it takes at most `room` bytes of memory more for it. An error,
-    // as EISDIR, changes nothing.
+    // Writes a reader's bytes to a file. A file that grows may take `room` more bytes of memory. An
+    // error changes nothing: EISDIR, or one of `Contents::write`.
     pub fn write<R: ZeroCopyReader>(
         &mut self,
         r: &mut R,
@@ -209,8 +208,8 @@ impl Node {
     }
 }
 
-// Attributes in which those are set that `valid` names, but the size. There is no clock: a time that is to be
-// now stays as it is.
+// Attributes with those set that `valid` names, but for the size. There is no clock, so ATIME_NOW
+// and MTIME_NOW are ignored: ATIME and MTIME set the times in the request.
 fn with_set(attr: Attr, to: &SetattrIn, valid: SetattrValid) -> Attr
     ensures mode { result.mode ≡ mode_set valid.0 to.now.mode attr.mode }
     ensures links { result.nlink ≡ attr.nlink }
@@ -240,7 +239,8 @@ fn with_set(attr: Attr, to: &SetattrIn, valid: SetattrValid) -> Attr
     attr
 }
 
-// The guest holds what is in a slot so many times less. It goes if it has no name either.
+// Lowers the lookup count of a slot's node by `count`. Drops the node if the count is then 0 and it
+// has no name.
 pub(crate) fn forget(slot: &mut Option<Node>, count: u64)
     ensures { slot_file slot.new ≡ option_and_then (let_go count) (slot_file slot.old) }
 {
@@ -250,7 +250,7 @@ pub(crate) fn forget(slot: &mut Option<Node>, count: u64)
     drop_unused(slot);
 }
 
-// What is in a slot loses its name. It goes if the guest doesn't hold it.
+// Takes the name of a slot's node away. Drops the node if its lookup count is 0.
 pub(crate) fn lose_name(slot: &mut Option<Node>)
     ensures { slot_file slot.new ≡ option_and_then unnamed (slot_file slot.old) }
 {
@@ -260,7 +260,7 @@ pub(crate) fn lose_name(slot: &mut Option<Node>)
     drop_unused(slot);
 }
 
-// A node goes that has no name and isn't held.
+// Drops a slot's node if it has no name and its lookup count is 0.
 fn drop_unused(slot: &mut Option<Node>)
     ensures { slot_file slot.new ≡ option_and_then kept (slot_file slot.old) }
 {
@@ -272,7 +272,7 @@ fn drop_unused(slot: &mut Option<Node>)
     }
 }
 
-// What is in a slot lies in another directory.
+// Sets the parent directory of a slot's node.
 pub(crate) fn move_to(slot: &mut Option<Node>, directory: u64)
     ensures { slot_file slot.new ≡ option_map (in_directory directory) (slot_file slot.old) }
 {
@@ -281,7 +281,7 @@ pub(crate) fn move_to(slot: &mut Option<Node>, directory: u64)
     }
 }
 
-// The place of a name among those of a directory.
+// The index of a directory's entry with this name, among all names.
 pub(crate) fn place_of(names: &[Name], parent: u64, name: &[u8]) -> Option<usize>
     ensures { result ≡ position (is_named parent name.now) (map entry_of names.now) }
 {

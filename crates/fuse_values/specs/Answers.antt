@@ -1,10 +1,10 @@
--- What the values of answers say.
+-- The answer of a file system that a value of the code means.
 use Rattle.std.specs.Prelude.{ℕ, List}
 use Rattle.fuse_fs.specs.Calls as call
 use Rattle.fuse_values.specs.declared.answer.FileAnswer.{FileAnswer}
 use Rattle.fuse_values.specs.declared.answer.FileAnswer.TheVariants as value
 
--- the answer that a value says; bytes: its data, which stands elsewhere
+-- the answer that a value means; bytes: the data, which the value doesn't hold
 abbrev pub answer_of : (bytes : List ℕ) → FileAnswer → call.FileAnswer
 answer_of bytes (value.Failed errno) = call.Failed errno
 answer_of bytes value.Done = call.Done

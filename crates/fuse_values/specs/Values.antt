@@ -1,4 +1,4 @@
--- What the values of calls say.
+-- The call of a file system that a value of the code means.
 use Rattle.std.specs.Prelude.{ℕ, zero, suc, ◌/◌, List, [], ◌∷◌, length, take, drop, option_map}
 use Rattle.fuse_in.specs.Shapes.{made}
 use Rattle.fuse_wire.specs.Records.{forget_one}
@@ -9,28 +9,29 @@ use Rattle.fuse_values.specs.declared.call.FileCall.TheVariants as value
 use Rattle.fuse_values.specs.declared.received.Label.{Label}
 use Rattle.fuse_values.specs.declared.received.Received.{Received}
 
--- a label, where it stands
+-- the label that is borrowed from a request
 abbrev pub label_of : Label → SecurityContext
 label_of l = record { name = l.name.now; label = l.secctx.now }
 
--- what comes with a node that is made, where it stands
+-- the extensions that are borrowed from a request
 abbrev pub received_extra : Received → Extra
 received_extra r = record { security = option_map label_of r.secctx; group = r.sup_gid }
 
--- the pair in front of some bytes (struct fuse_forget_one): a node, and how many times less it is held
+-- the first pair of some bytes (struct fuse_forget_one): a node, and the number to subtract from
+-- its lookup count
 abbrev pub pair_in : List ℕ → ℕ × ℕ
 pair_in bytes = let r = made forget_one.parts forget_one.make (take 16 bytes) in (r.nodeid, r.nlookup)
 
--- n of them, one after another
+-- the first n pairs of some bytes
 unfoldable pub pairs_of : (n : ℕ) → List ℕ → List (ℕ × ℕ)
 pairs_of zero bytes = []
 pairs_of (suc n) bytes = pair_in bytes ∷ pairs_of n (drop 16 bytes)
 
--- as many as there are
+-- all whole pairs of some bytes
 abbrev pub pairs_in : List ℕ → List (ℕ × ℕ)
 pairs_in bytes = pairs_of (length bytes / 16) bytes
 
--- the call that a value says; bytes: those that a WRITE writes, which stand elsewhere
+-- the call that a value means; bytes: the data of a WRITE, which the value doesn't hold
 abbrev pub call_of : (bytes : List ℕ) → FileCall → call.FileCall
 call_of bytes (value.Init capable) = call.Init capable.0
 call_of bytes value.Destroy = call.Destroy

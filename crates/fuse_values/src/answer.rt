@@ -3,19 +3,19 @@
 use fuse_base::{Attr, Errno, FsOptions, OpenOptions, StatVfs};
 use fuse_fs::{Entry, Timeout};
 
-/// An answer of a file system: an errno, or what the call asked for. Entries of a directory are added one by
-/// one instead.
+/// An answer of a file system: an errno, or the call's result. The entries of a directory have no
+/// variant: the caller adds them one by one.
 #[derive(Drop)]
 pub enum FileAnswer {
     /// An errno (errno.h, 1 to 4095).
     Failed(Errno),
-    /// It is done.
+    /// The call succeeded. It has no result.
     Done,
-    /// What a name stands for; node 0 is a name that is known not to be there.
+    /// The node of a name. Node 0 is a negative entry: the name doesn't exist.
     HasEntry(Entry<u64>),
-    /// A node's attributes, and how long they stay good.
+    /// A node's attributes, and how long the guest may cache them.
     HasAttr(Attr, Timeout),
-    /// An opened file: its number, and how it is treated.
+    /// An open file: its handle, and how the guest treats it.
     Opened {
         handle: Option<u64>,
         options: OpenOptions,
@@ -26,18 +26,18 @@ pub enum FileAnswer {
         handle: Option<u64>,
         options: OpenOptions,
     },
-    /// So many bytes of data, which stand elsewhere.
+    /// The number of bytes of data. This value doesn't hold the data.
     Bytes {
         len: usize,
     },
-    /// How many bytes there are, where they were asked for with a size of 0.
+    /// The length of a value or of names in bytes, if the call's size is 0.
     Count(u32),
-    /// The numbers of a file system.
+    /// The counts of a file system (`statvfs(3)`).
     Stats(StatVfs),
-    /// How many bytes were written.
+    /// The number of bytes written.
     Wrote(u32),
-    /// A place in a file, in bytes from its start.
+    /// An offset in a file, in bytes from its start.
     Offset(u64),
-    /// The options that are asked for, of those that both sides have.
+    /// The options that the file system asks for, of those that guest and server support.
     Wants(FsOptions),
 }

@@ -5,42 +5,42 @@ use fuse_base::{FsOptions, SetattrValid, SetxattrFlags};
 use fuse_fs::Context;
 use fuse_in::SetattrIn;
 
-/// A call of a file system with its arguments, named as those of `FileSystem` are. Nodes and open files are
-/// the numbers of linux/fuse.h; offsets and lengths count bytes; names have no zero byte. Who asks stands in
-/// `context`. Names, values and pairs are borrowed: they stand in the request.
+/// A call of a file system with its arguments, which have the names of `FileSystem`'s. Nodes and handles are
+/// numbers of linux/fuse.h. Offsets and lengths count bytes. Names have no zero byte. `context` is the
+/// calling process in the guest. Names, values and pairs are borrowed from the request.
 #[derive(Clone, Copy)]
 pub enum FileCall<'a> {
-    /// The start of a conversation (FUSE_INIT).
+    /// Starts a session (FUSE_INIT).
     Init {
         capable: FsOptions,
     },
-    /// The end of a conversation (FUSE_DESTROY).
+    /// Ends a session (FUSE_DESTROY).
     Destroy,
-    /// What a name of a directory stands for (FUSE_LOOKUP).
+    /// Looks up a name in a directory (FUSE_LOOKUP).
     Lookup {
         context: Context,
         node: u64,
         name: &'a [u8],
     },
-    /// A node is held this many times less (FUSE_FORGET).
+    /// Lowers a node's lookup count by `count` (FUSE_FORGET).
     Forget {
         context: Context,
         node: u64,
         count: u64,
     },
-    /// Nodes, each with how many times less it is held (FUSE_BATCH_FORGET): 16 bytes a pair, two numbers with
-    /// the lowest byte first (`struct fuse_forget_one`).
+    /// Lowers the lookup counts of nodes (FUSE_BATCH_FORGET). A pair has 16 bytes: a node's number
+    /// and its count, little-endian (`struct fuse_forget_one`).
     BatchForget {
         context: Context,
         counts: &'a [u8],
     },
-    /// A node's attributes (FUSE_GETATTR).
+    /// Gets a node's attributes (FUSE_GETATTR).
     Getattr {
         context: Context,
         node: u64,
         handle: Option<u64>,
     },
-    /// Those attributes of a node are set that `valid` names (FUSE_SETATTR).
+    /// Sets those attributes of a node that `valid` names (FUSE_SETATTR).
     Setattr {
         context: Context,
         node: u64,
@@ -48,12 +48,12 @@ pub enum FileCall<'a> {
         handle: Option<u64>,
         valid: SetattrValid,
     },
-    /// What a symbolic link leads to (FUSE_READLINK).
+    /// Reads the target of a symbolic link (FUSE_READLINK).
     Readlink {
         context: Context,
         node: u64,
     },
-    /// A symbolic link is made that leads to `link` (FUSE_SYMLINK).
+    /// Makes a symbolic link to `link` (FUSE_SYMLINK).
     Symlink {
         context: Context,
         link: &'a [u8],
@@ -61,7 +61,7 @@ pub enum FileCall<'a> {
         name: &'a [u8],
         extra: Received<'a>,
     },
-    /// A file of a kind is made (FUSE_MKNOD).
+    /// Makes a node of the kind in `mode` (FUSE_MKNOD).
     Mknod {
         context: Context,
         node: u64,
@@ -71,7 +71,7 @@ pub enum FileCall<'a> {
         umask: u32,
         extra: Received<'a>,
     },
-    /// A directory is made (FUSE_MKDIR).
+    /// Makes a directory (FUSE_MKDIR).
     Mkdir {
         context: Context,
         node: u64,
@@ -80,19 +80,19 @@ pub enum FileCall<'a> {
         umask: u32,
         extra: Received<'a>,
     },
-    /// A name goes that is no directory's (FUSE_UNLINK).
+    /// Removes a name that isn't a directory's (FUSE_UNLINK).
     Unlink {
         context: Context,
         node: u64,
         name: &'a [u8],
     },
-    /// An empty directory goes (FUSE_RMDIR).
+    /// Removes an empty directory (FUSE_RMDIR).
     Rmdir {
         context: Context,
         node: u64,
         name: &'a [u8],
     },
-    /// A name moves (FUSE_RENAME and FUSE_RENAME2).
+    /// Renames a file or directory (FUSE_RENAME and FUSE_RENAME2).
     Rename {
         context: Context,
         node: u64,
@@ -101,21 +101,21 @@ pub enum FileCall<'a> {
         new: &'a [u8],
         flags: u32,
     },
-    /// `old_node` gets a name in `node` (FUSE_LINK).
+    /// Gives `old_node` a name in the directory `node` (FUSE_LINK).
     Link {
         context: Context,
         old_node: u64,
         node: u64,
         name: &'a [u8],
     },
-    /// A file is opened (FUSE_OPEN).
+    /// Opens a file (FUSE_OPEN).
     Open {
         context: Context,
         node: u64,
         kill: bool,
         flags: u32,
     },
-    /// Bytes of a file (FUSE_READ); `room` bytes may come.
+    /// Reads a file (FUSE_READ). At most `room` bytes fit into the reply.
     Read {
         context: Context,
         node: u64,
@@ -126,7 +126,8 @@ pub enum FileCall<'a> {
         owner: Option<u64>,
         flags: u32,
     },
-    /// A file is written (FUSE_WRITE). The data stays where it is: it has `len` bytes.
+    /// Writes a file (FUSE_WRITE). The data has `len` bytes. It stays in the request, and this
+    /// value doesn't hold it.
     Write {
         context: Context,
         node: u64,
@@ -139,12 +140,12 @@ pub enum FileCall<'a> {
         kill: bool,
         flags: u32,
     },
-    /// What the file system holds and has room for (FUSE_STATFS).
+    /// Gets the counts of the file system (FUSE_STATFS).
     Statfs {
         context: Context,
         node: u64,
     },
-    /// The last descriptor of an open file was closed (FUSE_RELEASE).
+    /// The guest closed the last descriptor of an open file (FUSE_RELEASE).
     Release {
         context: Context,
         node: u64,
@@ -154,21 +155,21 @@ pub enum FileCall<'a> {
         unlock: bool,
         owner: Option<u64>,
     },
-    /// What was written to a file is to stand on its medium (FUSE_FSYNC).
+    /// Flushes the writes of a file to storage (FUSE_FSYNC).
     Fsync {
         context: Context,
         node: u64,
         data_only: bool,
         handle: u64,
     },
-    /// What was done to a directory is to stand on its medium (FUSE_FSYNCDIR).
+    /// Flushes the changes of a directory to storage (FUSE_FSYNCDIR).
     Fsyncdir {
         context: Context,
         node: u64,
         data_only: bool,
         handle: u64,
     },
-    /// An extended attribute is set (FUSE_SETXATTR).
+    /// Sets an extended attribute (FUSE_SETXATTR).
     Setxattr {
         context: Context,
         node: u64,
@@ -177,39 +178,39 @@ pub enum FileCall<'a> {
         flags: u32,
         extra: SetxattrFlags,
     },
-    /// The value of an extended attribute (FUSE_GETXATTR).
+    /// Gets the value of an extended attribute (FUSE_GETXATTR).
     Getxattr {
         context: Context,
         node: u64,
         name: &'a [u8],
         size: u32,
     },
-    /// The names of the extended attributes (FUSE_LISTXATTR).
+    /// Lists the names of a node's extended attributes (FUSE_LISTXATTR).
     Listxattr {
         context: Context,
         node: u64,
         size: u32,
     },
-    /// An extended attribute goes (FUSE_REMOVEXATTR).
+    /// Removes an extended attribute (FUSE_REMOVEXATTR).
     Removexattr {
         context: Context,
         node: u64,
         name: &'a [u8],
     },
-    /// A descriptor of an open file was closed (FUSE_FLUSH).
+    /// The guest closed a descriptor of an open file (FUSE_FLUSH).
     Flush {
         context: Context,
         node: u64,
         handle: u64,
         owner: u64,
     },
-    /// A directory is opened (FUSE_OPENDIR).
+    /// Opens a directory (FUSE_OPENDIR).
     Opendir {
         context: Context,
         node: u64,
         flags: u32,
     },
-    /// The entries of a directory behind an offset (FUSE_READDIR and FUSE_READDIRPLUS).
+    /// Lists the entries of a directory after an offset (FUSE_READDIR and FUSE_READDIRPLUS).
     Readdir {
         context: Context,
         node: u64,
@@ -217,34 +218,34 @@ pub enum FileCall<'a> {
         size: u32,
         offset: u64,
     },
-    /// The last descriptor of an open directory was closed (FUSE_RELEASEDIR).
+    /// The guest closed the last descriptor of an open directory (FUSE_RELEASEDIR).
     Releasedir {
         context: Context,
         node: u64,
         flags: u32,
         handle: u64,
     },
-    /// A lock's holder (FUSE_GETLK).
+    /// Gets the holder of a lock (FUSE_GETLK).
     Getlk,
-    /// A lock is taken or given up (FUSE_SETLK).
+    /// Takes or releases a lock (FUSE_SETLK).
     Setlk,
-    /// A lock is waited for (FUSE_SETLKW).
+    /// Waits for a lock (FUSE_SETLKW).
     Setlkw,
-    /// The place of a file's block (FUSE_BMAP).
+    /// Finds a block of a file on its device (FUSE_BMAP).
     Bmap,
-    /// A control of a device (FUSE_IOCTL).
+    /// Controls a device (FUSE_IOCTL).
     Ioctl,
-    /// What an open file is ready for (FUSE_POLL).
+    /// Asks which events an open file is ready for (FUSE_POLL).
     Poll,
-    /// The answer to a notice (FUSE_NOTIFY_REPLY).
+    /// Answers a notification (FUSE_NOTIFY_REPLY).
     NotifyReply,
-    /// Whether a node may be used in these ways (FUSE_ACCESS).
+    /// Checks whether the caller may access a node (FUSE_ACCESS).
     Access {
         context: Context,
         node: u64,
         mask: u32,
     },
-    /// A file is made and opened (FUSE_CREATE).
+    /// Makes a file and opens it (FUSE_CREATE).
     Create {
         context: Context,
         node: u64,
@@ -255,7 +256,7 @@ pub enum FileCall<'a> {
         umask: u32,
         extra: Received<'a>,
     },
-    /// Room of a file is set aside or freed (FUSE_FALLOCATE).
+    /// Allocates or frees space of a file (FUSE_FALLOCATE).
     Fallocate {
         context: Context,
         node: u64,
@@ -264,7 +265,7 @@ pub enum FileCall<'a> {
         offset: u64,
         len: u64,
     },
-    /// A place in an open file (FUSE_LSEEK).
+    /// Finds an offset in an open file (FUSE_LSEEK).
     Lseek {
         context: Context,
         node: u64,
@@ -272,7 +273,7 @@ pub enum FileCall<'a> {
         offset: u64,
         whence: u32,
     },
-    /// Bytes of one open file go to another (FUSE_COPY_FILE_RANGE).
+    /// Copies bytes of one open file to another (FUSE_COPY_FILE_RANGE).
     CopyFileRange {
         context: Context,
         node: u64,
@@ -284,11 +285,11 @@ pub enum FileCall<'a> {
         len: u64,
         flags: u64,
     },
-    /// All that was written is to stand on its medium (FUSE_SYNCFS).
+    /// Flushes all writes to storage (FUSE_SYNCFS).
     Syncfs {
         context: Context,
         node: u64,
     },
-    /// A file without a name (FUSE_TMPFILE).
+    /// Makes a file without a name (FUSE_TMPFILE).
     TmpFile,
 }

@@ -1,5 +1,4 @@
-//! Calls of a file system and their answers as values, for who owns the files and is told of one call after
-//! another.
+//! Calls of a file system and their answers as values, for a VMM that makes the calls itself.
 #![tactic(auto)]
 
 mod answer;

@@ -1,19 +1,19 @@
-//! What comes with a request that makes a node, where it stands.
+//! The extensions of a request that makes a node, borrowed from the request.
 
-/// A security label where it stands in a request (`struct fuse_secctx`).
+/// A security label, borrowed from a request (`struct fuse_secctx`).
 #[derive(Clone, Copy)]
 pub struct Label<'a> {
-    /// The kind of label, as `security.selinux`, without a zero byte.
+    /// The label's name, for example `security.selinux`, without a zero byte.
     pub name: &'a [u8],
-    /// The label itself.
+    /// The label's bytes.
     pub secctx: &'a [u8],
 }
 
-/// What has come of the extensions, where it stands in a request.
+/// The extensions of a request, borrowed from it.
 #[derive(Clone, Copy)]
 pub struct Received<'a> {
-    /// The new node's label, if one is told (FUSE_SECURITY_CTX).
+    /// The new node's label, if the request has one (FUSE_SECURITY_CTX).
     pub secctx: Option<Label<'a>>,
-    /// A group of the caller's besides its own (FUSE_CREATE_SUPP_GROUP).
+    /// A supplementary group of the caller, if the request has one (FUSE_CREATE_SUPP_GROUP).
     pub sup_gid: Option<u32>,
 }

@@ -1,4 +1,4 @@
--- Which request a number asks for, and which extension a number names (linux/fuse.h).
+-- The opcode or extension type that a number names, and the number of a notification (linux/fuse.h).
 use Rattle.std.specs.Prelude.{ℕ, List, [], ◌∷◌, Option, Some, None, Result, Ok, Err, slice_get, nat_lt, ◌==◌}
 use Rattle.std.specs.Prelude.{if◌then◌else◌}
 use Rattle.fuse_wire.specs.declared.opcodes.Opcode.{Opcode}
@@ -8,7 +8,7 @@ use Rattle.fuse_wire.specs.declared.opcodes.NotifyOpcode.TheVariants as notice
 use Rattle.fuse_wire.specs.declared.opcodes.ExtType.{ExtType}
 use Rattle.fuse_wire.specs.declared.opcodes.ExtType.TheVariants.{SecCtx, SupGroups}
 
--- the requests by their numbers, from 0 to 51
+-- the opcodes by their numbers, from 0 to 51
 abbrev pub opcodes : List (Option Opcode)
 opcodes =
     None ∷ Some op.Lookup ∷ Some op.Forget ∷ Some op.Getattr ∷ Some op.Setattr ∷ Some op.Readlink
@@ -25,29 +25,29 @@ opcodes =
     Some op.Rename2 ∷ Some op.Lseek ∷ Some op.CopyFileRange ∷ Some op.SetupMapping ∷ Some op.RemoveMapping ∷
     Some op.Syncfs ∷ Some op.TmpFile ∷ []
 
--- the request that a place of the list names
+-- the opcode in an entry of the list, if the entry exists and has one
 abbrev pub named : Option (Option Opcode) → Option Opcode
 named None = None
 named (Some o) = o
 
--- the request that has this number
+-- the opcode with this number, if there is one
 abbrev pub opcode_of : ℕ → Option Opcode
 opcode_of n = named (slice_get opcodes n)
 
--- a request, or the error of a number that has none
+-- the opcode, or an error if there is none
 abbrev pub read_as : Option Opcode → Result Opcode (Unit {0})
 read_as None = Err tt
 read_as (Some o) = Ok o
 
--- a request's number as it is read
+-- the opcode that a request's number is read as, or an error
 abbrev pub read_opcode : ℕ → Result Opcode (Unit {0})
 read_opcode n = read_as (opcode_of n)
 
--- an extension's number as it is read: 0 to 31 count security contexts, 32 is the groups
+-- the type that an extension's number is read as: 0 to 31 are that many security contexts, 32 is the groups
 abbrev pub read_ext_type : ℕ → Result ExtType (Unit {0})
 read_ext_type n = if nat_lt n 32 then Ok (SecCtx n) else if n == 32 then Ok SupGroups else Err tt
 
--- the number of a notice (enum fuse_notify_code)
+-- the number of a notification (enum fuse_notify_code)
 abbrev pub notice_number : NotifyOpcode → ℕ
 notice_number notice.Poll = 1
 notice_number notice.InvalInode = 2

@@ -1,5 +1,5 @@
--- The records (linux/fuse.h): those that are read from requests by their shape, the others as the fields that
--- spell them.
+-- The records of replies, notifications and extensions (linux/fuse.h). A record that the server
+-- reads is given by its shape, another by its fields.
 use Rattle.std.specs.Prelude.{List, [], ◌++◌, ◌∷◌}
 use Rattle.vm_values.specs.Fields.{Field, d, ds, i, l, q, w}
 use Rattle.fuse_base.specs.Records.{attr, file_lock, kstatfs}

@@ -1,5 +1,4 @@
-//! The records and numbers of the FUSE protocol, version 7.38 (linux/fuse.h); numbers have the lowest byte
-//! first.
+//! The records and numbers of the FUSE protocol, version 7.38 (linux/fuse.h). Numbers are little-endian.
 #![tactic(auto)]
 
 mod notices;

@@ -1,4 +1,4 @@
-//! What the server tells the guest unasked.
+//! Records of notifications: messages that the server sends without a request.
 
 ghost use Rattle.std.specs.Prelude.{refl};
 ghost use Rattle.std.proofs.Common.{rules};

@@ -1,9 +1,9 @@
-//! Numbers that say what a message is.
+//! The numbers of requests, notifications and extensions.
 
 ghost use Rattle.std.specs.Prelude.{◌≡◌, Some, slice_get};
 ghost use Rattle.fuse_wire.specs.Opcodes.{named, opcode_of, notice_number, read_opcode, read_ext_type};
 
-/// What a request asks for (`enum fuse_opcode`).
+/// The operation of a request (`enum fuse_opcode`).
 #[derive(Clone, Copy, Debug, PartialEq, Eq)]
 pub enum Opcode {
     Lookup = 1,
@@ -57,7 +57,7 @@ pub enum Opcode {
     TmpFile = 51,
 }
 
-/// What a notice tells (`enum fuse_notify_code`).
+/// The kind of a notification (`enum fuse_notify_code`).
 #[derive(Clone, Copy, Debug, PartialEq, Eq)]
 pub enum NotifyOpcode {
     Poll = 1,
@@ -69,17 +69,17 @@ pub enum NotifyOpcode {
     CodeMax = 7,
 }
 
-/// What an extension of a request holds (`enum fuse_ext_type`).
+/// The kind of a request's extension (`enum fuse_ext_type`).
 #[derive(Clone, Copy, Debug, PartialEq, Eq)]
 pub enum ExtType {
-    /// This many security contexts, at most 31.
+    /// The number of security contexts, at most 31.
     SecCtx(u32),
-    /// Groups of the caller.
+    /// Supplementary groups of the caller.
     SupGroups,
 }
 
 impl Opcode {
-    /// Its number, by which `Opcode::try_from` gives it.
+    /// The opcode's number, which `Opcode::try_from` converts back.
     pub fn number(self) -> u32
         ensures { opcode_of result ≡ Some self }
     {
@@ -88,7 +88,7 @@ impl Opcode {
 }
 
 impl NotifyOpcode {
-    /// Its number in a notice's header, where an error stands in a reply's.
+    /// The notification's number, which is the `error` field of its header (`struct fuse_out_header`).
     pub fn number(self) -> u32
         ensures { result ≡ notice_number self }
     {
@@ -96,7 +96,7 @@ impl NotifyOpcode {
     }
 }
 
-// The requests by their numbers; a hyphen stands where there is none.
+// The opcodes in the order of their numbers. A hyphen is a number without an opcode.
 macro_rules! by_number {
     (@ -) => { None };
     (@ $name:ident) => { Some(Opcode::$name) };
@@ -111,7 +111,7 @@ static OPCODES: [Option<Opcode>; 52] = by_number!(
     RemoveMapping Syncfs TmpFile
 );
 
-// What a table names at a place.
+// The opcode at an index of a table, if there is one.
 fn entry(table: &[Option<Opcode>], n: usize) -> Option<Opcode>
     ensures { result ≡ named (slice_get table.now n) }
 {

@@ -1,4 +1,4 @@
-//! The rest of the records: lists after a request, answers of devices, extensions.
+//! The other records: list elements of requests, replies of device requests, and extensions.
 
 ghost use Rattle.std.specs.Prelude.{refl};
 ghost use Rattle.std.proofs.Common.{rules};

@@ -1,4 +1,4 @@
-//! What answers a request.
+//! Records of replies.
 
 ghost use Rattle.std.specs.Prelude.{refl};
 ghost use Rattle.std.proofs.Common.{rules};

@@ -1,23 +1,23 @@
 -- The bytes of a driver's requests that make, write, move, list and remove files (linux/fuse.h): a header of
--- 40 bytes, a record, and names with a zero byte each.
+-- 40 bytes, a record, and names, each with a zero byte after it.
 use Rattle.std.specs.Prelude.{ℕ, ◌+◌, List, [], ◌∷◌, ◌++◌, length}
 use Rattle.vm_values.specs.Fields.{Field, d, q, spelled}
 use Rattle.guest_driver.specs.Requests.{header_bytes}
 
--- a name with its zero byte
+-- a name, and a zero byte after it
 abbrev pub ended : (name : List ℕ) → List ℕ
 ended name = name ++ (0 ∷ [])
 
--- a request of a record with so many bytes
+-- a request with a record of `size` bytes
 abbrev pub record_bytes : (opcode unique node size : ℕ) → List Field → List ℕ
 record_bytes opcode unique node size fields = header_bytes (40 + size) opcode unique node ++ spelled fields
 
--- a request of a record with other bytes behind it
+-- a request with a record of `size` bytes, and other bytes after it
 abbrev pub followed_bytes : (opcode unique node size : ℕ) → List Field → (behind : List ℕ) → List ℕ
 followed_bytes opcode unique node size fields behind =
     (header_bytes (40 + size + length behind) opcode unique node ++ spelled fields) ++ behind
 
--- a request of a name: LOOKUP (1), UNLINK (10), RMDIR (11)
+-- a request with a name: LOOKUP (1), UNLINK (10), RMDIR (11)
 abbrev pub named_bytes : (opcode unique parent : ℕ) → (name : List ℕ) → List ℕ
 named_bytes opcode unique parent name =
     header_bytes (40 + length (ended name)) opcode unique parent ++ ended name

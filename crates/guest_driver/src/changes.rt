@@ -1,5 +1,5 @@
-//! The flat bytes of FUSE requests that make, write, move, list and remove files (linux/fuse.h), as
-//! `requests` has those that find and read them. If an allocation fails, that is AllocError.
+//! The flat bytes of FUSE requests that make, write, move, list and remove files (linux/fuse.h); `requests`
+//! has the requests that find and read files. Each function returns AllocError if an allocation fails.
 
 ghost use Rattle.std.specs.Prelude.{◌≡◌, ◌<◌, ◌^◌, ◌+◌, ◌++◌, [], ◌∷◌, length, IfOk};
 ghost use Rattle.guest_driver.specs.Changes.{create_bytes, ended, followed_bytes, getattr_bytes, mkdir_bytes};
@@ -15,7 +15,7 @@ use fuse_wire::{
 use std::alloc::{AllocError, Global};
 use vm_values::ByteValued;
 
-// A request of a record.
+// A request with a record.
 fn recorded<T: ByteValued>(
     alloc: Global,
     opcode: u32,
@@ -29,7 +29,7 @@ fn recorded<T: ByteValued>(
     with_record(alloc, &header(len, opcode, unique, node), asked)
 }
 
-// A request of a record with bytes behind it.
+// A request with a record, and bytes after it.
 fn followed<T: ByteValued>(
     alloc: Global,
     opcode: u32,
@@ -55,7 +55,7 @@ fn ended(alloc: Global, name: &[u8]) -> Result<Vec<u8>, AllocError>
     joined(alloc, name, &[0])
 }
 
-// A request of a name.
+// A request with a name.
 fn named(
     alloc: Global,
     opcode: u32,
@@ -84,8 +84,8 @@ pub fn getattr(alloc: Global, unique: u64, node: u64) -> Result<Vec<u8>, AllocEr
     )
 }
 
-/// SETATTR of those of a node's mode and size that `valid` names (FATTR_ of linux/fuse.h, `struct
-/// fuse_setattr_in`).
+/// SETATTR of a node's mode and its size in bytes, each if its flag is in `valid` (FATTR_ of linux/fuse.h,
+/// `struct fuse_setattr_in`).
 pub fn setattr(
     alloc: Global,
     unique: u64,
@@ -158,7 +158,7 @@ pub fn rmdir(alloc: Global, unique: u64, parent: u64, name: &[u8]) -> Result<Vec
     named(alloc, Opcode::Rmdir as u32, unique, parent, name)
 }
 
-/// RENAME2 of a name under a directory to one under another, with flags of `renameat2(2)` (`struct
+/// RENAME2 of a name under a directory to a name under another, with flags of `renameat2(2)` (`struct
 /// fuse_rename2_in`).
 pub fn rename(
     alloc: Global,
@@ -234,7 +234,7 @@ pub fn release(alloc: Global, unique: u64, node: u64, fh: u64) -> Result<Vec<u8>
     recorded(alloc, Opcode::Release as u32, unique, node, &record)
 }
 
-/// STATFS, 40 bytes.
+/// STATFS of a node: a header alone, 40 bytes.
 pub fn statfs(alloc: Global, unique: u64, node: u64) -> Result<Vec<u8>, AllocError>
     ensures { IfOk result (λ all. all.items ≡ header_bytes 40 17 unique node) }
 {
@@ -254,7 +254,7 @@ pub fn opendir(alloc: Global, unique: u64, node: u64) -> Result<Vec<u8>, AllocEr
     )
 }
 
-/// READDIRPLUS of a directory behind an offset, for a reply with so many bytes of entries (`struct
+/// READDIRPLUS of a directory from an offset on, for a reply with at most `size` bytes of entries (`struct
 /// fuse_read_in`).
 pub fn readdirplus(
     alloc: Global,

@@ -1,4 +1,4 @@
-//! A guest, as tests draw one: its memory with a ring in it, the bytes of its requests, and what replies say.
+//! A guest for tests: its memory with a virtqueue in it, the bytes of its requests, and a parser of replies.
 #![tactic(auto)]
 
 pub mod changes;

@@ -1,4 +1,4 @@
-//! What the flat bytes of FUSE replies say.
+//! A parser of the flat bytes of FUSE replies.
 
 ghost use Rattle.std.specs.Prelude.{◌≡◌, ◌+◌, ◌++◌, ◌<ℤ◌, pos, length, IfOk, IfErr, IfSome, IfNone};
 ghost use Rattle.guest_driver.specs.Requests.{IsNoReply, good_header, reply_header};
@@ -9,10 +9,10 @@ use vm_values::ByteValued;
 /// The length of a reply's header in bytes (`struct fuse_out_header`).
 pub const OUT_HEADER_LEN: usize = 16;
 
-/// What follows the header of the reply to this request, or the errno that the header holds (`error` of
-/// `struct fuse_out_header`, 16 bytes, little-endian), made negative as it stands there; nothing if the bytes
-/// are no reply to it: they have no header, they are not as many as it says, it names another request, its
-/// error is above 0, or an error is followed by bytes.
+/// The bytes after the header of the reply to this request, or the header's errno, which is negative (`error`
+/// of `struct fuse_out_header`, 16 bytes, little-endian). None if the bytes are no reply to it: they are
+/// shorter than a header, the header has another length or another `unique`, its error is above 0, or bytes
+/// follow an error.
 pub fn body(reply: &[u8], unique: u64) -> Option<Result<&[u8], i32>>
     ensures good { IfSome result
         (λ told. IfOk told (λ body. reply.now ≡ good_header (16 + length body.now) unique ++ body.now)) }

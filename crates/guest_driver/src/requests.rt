@@ -1,5 +1,5 @@
-//! The flat bytes of FUSE requests (linux/fuse.h): little-endian, a header of 40 bytes in front (`struct
-//! fuse_in_header`). If an allocation fails, that is AllocError.
+//! The flat bytes of FUSE requests (linux/fuse.h): little-endian, with a header of 40 bytes in front (`struct
+//! fuse_in_header`).
 
 ghost use Rattle.std.specs.Prelude.{◌≡◌, ◌<◌, ◌^◌, ◌++◌, length, IfOk};
 ghost use Rattle.vm_values.specs.Fields.{spelled};
@@ -13,7 +13,7 @@ use vm_values::ByteValued;
 pub(crate) const IN_HEADER_LEN: usize = 40;
 
 /// A request's header (`struct fuse_in_header`, 40 bytes), from user, group and process 0. `len`, in bytes,
-/// may be any, true or not, and `opcode` of no request.
+/// may differ from the request's length, and `opcode` may be unknown.
 pub fn header(len: u32, opcode: u32, unique: u64, nodeid: u64) -> [u8; IN_HEADER_LEN]
     ensures { result ≡ header_bytes len opcode unique nodeid }
 {
@@ -29,7 +29,7 @@ pub fn header(len: u32, opcode: u32, unique: u64, nodeid: u64) -> [u8; IN_HEADER
     bytes
 }
 
-/// One piece after the other, in memory of its own; AllocError if an allocation fails.
+/// The bytes of `front` and then of `back`, copied. AllocError if an allocation fails.
 pub fn joined(alloc: Global, front: &[u8], back: &[u8]) -> Result<Vec<u8>, AllocError>
     ensures { IfOk result (λ all. all.items ≡ front.now ++ back.now) }
 {
@@ -39,7 +39,7 @@ pub fn joined(alloc: Global, front: &[u8], back: &[u8]) -> Result<Vec<u8>, Alloc
     Ok(all)
 }
 
-/// A value's bytes behind others, in memory of its own; AllocError if an allocation fails.
+/// The bytes of `front` and then of a value, copied. AllocError if an allocation fails.
 pub fn with_record<T: ByteValued>(
     alloc: Global,
     front: &[u8],
@@ -52,8 +52,8 @@ pub fn with_record<T: ByteValued>(
     joined(alloc, front, &bytes[..T::SIZE])
 }
 
-/// LOOKUP of a name, which goes out with its zero byte: 41 bytes and the name's. AllocError if an allocation
-/// fails.
+/// LOOKUP of a name: the header, the name and a zero byte, 41 bytes and the name's. AllocError if an
+/// allocation fails.
 pub fn lookup(alloc: Global, unique: u64, parent: u64, name: &[u8]) -> Result<Vec<u8>, AllocError>
     requires { length name.now < 2 ^ 16 }
     ensures { IfOk result (λ all. all.items ≡ lookup_bytes unique parent name.now) }
@@ -68,7 +68,7 @@ pub fn lookup(alloc: Global, unique: u64, parent: u64, name: &[u8]) -> Result<Ve
     Ok(all)
 }
 
-/// FORGET (`struct fuse_forget_in`) of so many lookups of a node, in 48 bytes. AllocError if an allocation
+/// FORGET (`struct fuse_forget_in`) of `nlookup` lookups of a node, 48 bytes. AllocError if an allocation
 /// fails.
 pub fn forget(
     alloc: Global,
@@ -80,7 +80,7 @@ pub fn forget(
     with_record(alloc, &header, &ForgetIn { nlookup })
 }
 
-/// READ (`struct fuse_read_in`) of so many bytes of a node's file `fh` from an offset in bytes, in 80 bytes.
+/// READ (`struct fuse_read_in`) of `size` bytes of a node's file `fh` from an offset in bytes on, 80 bytes.
 /// AllocError if an allocation fails.
 pub fn read(
     alloc: Global,
@@ -102,8 +102,8 @@ pub fn read(
     with_record(alloc, &header, &record)
 }
 
-/// INIT (`struct fuse_init_in`, its first 16 bytes) of a version with these flags, in 56 bytes. AllocError if
-/// an allocation fails.
+/// INIT with a record of version, readahead and flags (`struct fuse_init_in`, its first 16 bytes), 56 bytes.
+/// AllocError if an allocation fails.
 pub fn init(alloc: Global, unique: u64, record: &InitInCompat) -> Result<Vec<u8>, AllocError> {
     with_record(alloc, &header(56, Opcode::Init as u32, unique, 0), record)
 }

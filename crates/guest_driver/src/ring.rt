@@ -1,7 +1,7 @@
-//! A guest's memory with a split virtqueue in it, drawn entry by entry (VIRTIO 1.2, section 2.7). Addresses
-//! and lengths count bytes; all numbers stand little-endian. An access fails as `read_slice` and
-//! `write_slice` of the memory do: `InvalidGuestAddress` if no byte has a place, `PartialBuffer` if only some
-//! have.
+//! A guest's memory with a split virtqueue in it, written entry by entry (VIRTIO 1.2, section 2.7). Addresses
+//! and lengths are in bytes; all numbers are little-endian. An access has the errors of the memory's
+//! `read_slice` and `write_slice`: `InvalidGuestAddress` if its first byte isn't mapped, `PartialBuffer` if
+//! only some first bytes are.
 
 ghost use Rattle.std.specs.Prelude.{◌≡◌};
 ghost use Rattle.vm_memory_core.specs.Host.{lengths, shape};
@@ -12,17 +12,17 @@ use std::alloc::{AllocError, Global};
 use vm_memory::{FromRangesError, GuestMemoryError, GuestMemoryMmap, IommuMemory, TableIommu};
 use vm_memory_core::{GuestAddress, HostMemory, PageBitmap};
 
-/// The flag of a descriptor after which another comes (VIRTIO 1.2, 2.7.5).
+/// VIRTQ_DESC_F_NEXT: the chain continues with the descriptor's `next` (VIRTIO 1.2, 2.7.5).
 pub const NEXT: u16 = 1;
 
-/// The flag of a descriptor that the device writes (VIRTIO 1.2, 2.7.5).
+/// VIRTQ_DESC_F_WRITE: the descriptor's bytes are device-writable (VIRTIO 1.2, 2.7.5).
 pub const WRITE: u16 = 2;
 
-/// The flag of a descriptor whose bytes are a table of descriptors (VIRTIO 1.2, 2.7.5.3).
+/// VIRTQ_DESC_F_INDIRECT: the descriptor's bytes are a table of descriptors (VIRTIO 1.2, 2.7.5.3).
 pub const INDIRECT: u16 = 4;
 
-/// A descriptor as a driver puts it into a table: le64 addr, le32 len, le16 flags, le16 next (VIRTIO 1.2,
-/// 2.7.5). It is spelled here once more, so that the device does not read what it wrote itself.
+/// A descriptor as a driver writes it to a table: le64 addr, le32 len, le16 flags, le16 next (VIRTIO 1.2,
+/// 2.7.5). It is written here by hand, so that the device isn't tested against its own encoding.
 #[derive(Clone, Copy, Debug, Default, PartialEq, Eq)]
 pub struct DriverDescriptor {
     pub addr: u64,
@@ -43,7 +43,7 @@ pub struct UsedElement {
 /// (VIRTIO 1.2, 2.7).
 #[derive(Clone, Copy, Debug)]
 pub struct Ring {
-    /// How many descriptors the table has.
+    /// The number of the table's descriptors.
     pub size: u16,
     /// The address of the descriptor table: 16 bytes for each descriptor.
     pub desc: u64,
@@ -53,7 +53,7 @@ pub struct Ring {
     pub used: u64,
 }
 
-/// A guest's physical memory, a ring in it, and how many chains it has offered there, modulo 2^16.
+/// A guest's physical memory, a virtqueue in it, and the number of chains made available, modulo 2^16.
 #[derive(Drop)]
 pub struct Guest {
     pub host: HostMemory<PageBitmap>,
@@ -73,9 +73,9 @@ fn clear(host: &mut HostMemory<PageBitmap>)
 }
 
 impl Guest {
-    /// Zeros in these regions, each from an address on and so many bytes long, with a ring in which nothing
-    /// is offered. Refused as `GuestMemoryMmap::from_ranges` refuses them: MmapRegion, InvalidGuestRegion,
-    /// Collection or OutOfMemory.
+    /// Memory of zeros in these regions, each with its address and its length in bytes, with a ring in which
+    /// no chain is available. The errors of `GuestMemoryMmap::from_ranges`: MmapRegion, InvalidGuestRegion,
+    /// Collection, OutOfMemory.
     pub fn new(
         alloc: Global,
         regions: &[(GuestAddress, usize)],
@@ -118,13 +118,13 @@ impl Guest {
         Ok((host, mem))
     }
 
-    /// Puts bytes at an address. `InvalidGuestAddress` or `PartialBuffer` if not all have a place.
+    /// Writes bytes to an address. `InvalidGuestAddress` or `PartialBuffer` if not all are mapped.
     pub fn put(&mut self, addr: u64, bytes: &[u8]) -> Result<(), GuestMemoryError> {
         self.mem
             .write_slice(&mut self.host, bytes, GuestAddress(addr))
     }
 
-    /// The `N` bytes from an address on. `InvalidGuestAddress` or `PartialBuffer` if not all are there.
+    /// Reads `N` bytes from an address on. `InvalidGuestAddress` or `PartialBuffer` if not all are mapped.
     pub fn bytes<const N: usize>(&self, addr: u64) -> Result<[u8; N], GuestMemoryError> {
         let mut bytes = [0; N];
         self.mem
@@ -132,8 +132,8 @@ impl Guest {
         Ok(bytes)
     }
 
-    /// So many bytes from an address on. `InvalidGuestAddress` or `PartialBuffer` if not all are there, or
-    /// `OutOfMemory`.
+    /// Reads `len` bytes from an address on. `OutOfMemory` if an allocation fails, then `InvalidGuestAddress`
+    /// or `PartialBuffer` if not all are mapped.
     pub fn read(&self, alloc: Global, addr: u64, len: usize) -> Result<Vec<u8>, GuestMemoryError> {
         let mut bytes = Vec::new(alloc);
         bytes
@@ -144,8 +144,8 @@ impl Guest {
         Ok(bytes)
     }
 
-    /// Puts an entry of the descriptor table, 16 bytes (VIRTIO 1.2, 2.7.5). `InvalidGuestAddress` or
-    /// `PartialBuffer` if it has no place.
+    /// Writes an entry of the descriptor table, 16 bytes (VIRTIO 1.2, 2.7.5). `InvalidGuestAddress` or
+    /// `PartialBuffer` if not all of it is mapped.
     pub fn descriptor(
         &mut self,
         index: u16,
@@ -155,8 +155,8 @@ impl Guest {
         self.descriptor_in(table, index, descriptor)
     }
 
-    /// Puts an entry, 16 bytes, of a table of descriptors that begins at an address. `InvalidGuestAddress` or
-    /// `PartialBuffer` if it has no place.
+    /// Writes an entry, 16 bytes, of the table of descriptors at address `table`. `InvalidGuestAddress` or
+    /// `PartialBuffer` if not all of it is mapped.
     pub fn descriptor_in(
         &mut self,
         table: u64,
@@ -170,16 +170,16 @@ impl Guest {
         self.put(at.wrapping_add(14), &descriptor.next.to_le_bytes())
     }
 
-    /// Puts the available ring's index, an le16 (VIRTIO 1.2, 2.7.6). `InvalidGuestAddress` or `PartialBuffer`
-    /// if it has no place.
+    /// Writes the available ring's index, an le16 (VIRTIO 1.2, 2.7.6). `InvalidGuestAddress` or
+    /// `PartialBuffer` if not all of it is mapped.
     pub fn set_available(&mut self, index: u16) -> Result<(), GuestMemoryError> {
         let at = self.ring.avail.wrapping_add(2);
         self.offered = index;
         self.put(at, &index.to_le_bytes())
     }
 
-    /// Makes a chain available, by its head: the next entry of the available ring, then its index, each an
-    /// le16 (VIRTIO 1.2, 2.7.6). `InvalidGuestAddress` or `PartialBuffer` if one of them has no place.
+    /// Makes a chain available: writes its head to the next entry of the available ring, then the ring's
+    /// index, each an le16 (VIRTIO 1.2, 2.7.6). `InvalidGuestAddress` or `PartialBuffer` if one isn't mapped.
     pub fn make_available(&mut self, head: u16) -> Result<(), GuestMemoryError> {
         let slot = u64::from(self.offered % self.ring.size.max(1));
         let at = self.ring.avail.wrapping_add(4 + 2 * slot);
@@ -187,9 +187,9 @@ impl Guest {
         self.set_available(self.offered.wrapping_add(1))
     }
 
-    /// Offers a chain of the entries from `head` on: first a request's bytes, cut into these readable parts
-    /// (address and length in bytes), then these writable ones. `InvalidGuestAddress` or `PartialBuffer` if
-    /// something that is put has no place.
+    /// Writes a chain to the entries from `head` on, and makes it available. The request's bytes are cut into
+    /// the readable parts (address and length in bytes); the writable parts follow. `InvalidGuestAddress` or
+    /// `PartialBuffer` if a byte that is written isn't mapped.
     pub fn chain(
         &mut self,
         head: u16,
@@ -201,9 +201,9 @@ impl Guest {
         self.make_available(head)
     }
 
-    /// Offers such a chain of the entries of a table of its own, which begins at an address and is named by
-    /// the entry `head` of the descriptor table (VIRTIO 1.2, 2.7.5.3). `InvalidGuestAddress` or
-    /// `PartialBuffer` if something that is put has no place.
+    /// As `chain`, with the descriptors in an indirect table at address `table`, to which the entry `head` of
+    /// the descriptor table points (VIRTIO 1.2, 2.7.5.3). `InvalidGuestAddress` or `PartialBuffer` if a byte
+    /// that is written isn't mapped.
     pub fn indirect_chain(
         &mut self,
         head: u16,
@@ -224,7 +224,7 @@ impl Guest {
         self.make_available(head)
     }
 
-    // Puts a chain into the entries of a table from an index on.
+    // Writes a chain to the entries of a table from an index on.
     fn chain_in(
         &mut self,
         table: u64,
@@ -253,7 +253,7 @@ impl Guest {
     }
 
     /// The used ring's element in a slot, 8 bytes (VIRTIO 1.2, 2.7.8). `InvalidGuestAddress` or
-    /// `PartialBuffer` if it isn't there.
+    /// `PartialBuffer` if it isn't mapped.
     pub fn used(&self, slot: u16) -> Result<UsedElement, GuestMemoryError> {
         let at = self.ring.used.wrapping_add(4 + 8 * u64::from(slot));
         let id = u32::from_le_bytes(self.bytes(at)?);
@@ -262,15 +262,15 @@ impl Guest {
     }
 
     /// The used ring's index, an le16 (VIRTIO 1.2, 2.7.8). `InvalidGuestAddress` or `PartialBuffer` if it
-    /// isn't there.
+    /// isn't mapped.
     pub fn used_index(&self) -> Result<u16, GuestMemoryError> {
         let bytes = self.bytes(self.ring.used.wrapping_add(2))?;
         Ok(u16::from_le_bytes(bytes))
     }
 
-    /// The element of the chain that was returned last, if all that were offered are returned (VIRTIO 1.2,
-    /// 2.7.8); nothing if one isn't. At least one is to have been offered. `InvalidGuestAddress` or
-    /// `PartialBuffer` if the used ring isn't there.
+    /// The used element of the chain that was returned last (VIRTIO 1.2, 2.7.8). None while a chain that was
+    /// made available isn't returned. Call it only after the first chain. `InvalidGuestAddress` or
+    /// `PartialBuffer` if the used ring isn't mapped.
     pub fn last_used(&self) -> Result<Option<UsedElement>, GuestMemoryError> {
         if self.used_index()? != self.offered {
             return Ok(None);
@@ -284,7 +284,7 @@ impl Guest {
         clear(&mut self.host);
     }
 
-    /// The marked pages, by block and number in it. AllocError if an allocation fails.
+    /// The marked pages, each as a block and the page's number in it. AllocError if an allocation fails.
     pub fn marked(&self, alloc: Global) -> Result<Vec<(usize, usize)>, AllocError> {
         let mut pages = Vec::new(alloc);
         for block in 0..self.host.block_count() {
@@ -300,7 +300,7 @@ impl Guest {
     }
 }
 
-// The entry at an index of a chain, after which `left` more come, each at the next index.
+// The descriptor at an index of a chain. `left` more descriptors follow, each at the next index.
 fn linked(addr: u64, len: u32, flags: u16, index: u16, left: usize) -> DriverDescriptor {
     if left == 0 {
         DriverDescriptor {

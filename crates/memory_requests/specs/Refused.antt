@@ -1,11 +1,11 @@
--- That the allocator refused a request. Only the functions of this crate tell it, and they do nothing but
--- ask: no proof of another crate unfolds these.
+-- That the allocator refused a request. Only the contracts of this crate say so, and its functions only ask
+-- the allocator. No proof of another crate unfolds these definitions.
 use Rattle.std.specs.Prelude.{ℕ}
 
--- it refused room for so many elements
+-- the allocator refused room for n elements
 unfoldable pub RoomWasRefused : ℕ → Type 0
 RoomWasRefused n = Unit {0}
 
--- it refused a request
+-- the allocator refused a request
 unfoldable pub MemoryWasRefused : Type 0
 MemoryWasRefused = Unit {0}

@@ -1,5 +1,5 @@
-//! Requests for memory. Each function asks the allocator once and does nothing else, and its contract is the
-//! only one that tells that the allocator refused. So whoever ensures that it did has asked here.
+//! Requests for memory. Each function asks the allocator once and does nothing else. Only these contracts say
+//! that an allocation failed. So a function that ensures such a failure has called one of these.
 #![tactic(auto)]
 
 ghost use Rattle.std.specs.Prelude.{◌≡◌, ◌≤◌, ◌<◌, ◌+◌, [], IfErr, IfOk, IsOk, OnErr, OnOk};
@@ -14,7 +14,7 @@ use std::boxed::Box;
 use std::default::MadeWith;
 use std::sync::Arc;
 
-/// An empty list with room for `len` elements; AllocError if the allocator refuses it.
+/// An empty list with room for `len` elements. AllocError if the allocation fails.
 #[tactic(auto, using(crate::proofs::Asking::room_was_refused, crate::proofs::Asking::memory_was_refused))]
 pub fn list_with_room<T>(alloc: Global, len: usize) -> Result<Vec<T>, AllocError>
     ensures empty { IfOk result (λ list. list.items ≡ []) }
@@ -26,8 +26,8 @@ pub fn list_with_room<T>(alloc: Global, len: usize) -> Result<Vec<T>, AllocError
     Vec::with_capacity(alloc, len)
 }
 
-/// Room for `more` elements behind those of a list; AllocError if the allocator refuses it, and then the list
-/// is as it was.
+/// Reserves room for `more` elements behind those of a list. AllocError if the allocation fails: the list is
+/// unchanged.
 #[tactic(auto, using(crate::proofs::Asking::room_was_refused, crate::proofs::Asking::memory_was_refused))]
 pub fn reserve<T>(list: &mut Vec<T>, more: usize) -> Result<(), AllocError>
     ensures items { list.new.items ≡ list.old.items }
@@ -41,7 +41,7 @@ pub fn reserve<T>(list: &mut Vec<T>, more: usize) -> Result<(), AllocError>
     list.reserve(more)
 }
 
-/// The same of a list whose first elements take no memory.
+/// The same for a list whose first `N` elements need no allocation.
 #[tactic(auto, using(crate::proofs::Asking::room_was_refused, crate::proofs::Asking::memory_was_refused))]
 pub fn reserve_small<T: MadeWith<Global> + Drop, const N: usize>(
     list: &mut SmallVec<T, N>,
@@ -57,7 +57,7 @@ pub fn reserve_small<T: MadeWith<Global> + Drop, const N: usize>(
     list.reserve(more)
 }
 
-/// A value that others may hold; if the allocator refuses it memory, the value comes back.
+/// An `Arc` of a value. AllocFailed, which holds the value, if the allocation fails.
 #[tactic(auto, using(crate::proofs::Asking::room_was_refused, crate::proofs::Asking::memory_was_refused))]
 pub fn shared<T>(alloc: Global, value: T) -> Result<Arc<T, Global>, AllocFailed<T>>
     ensures shared { IfOk result (λ arc. arc_value arc ≡ value) }
@@ -68,7 +68,7 @@ pub fn shared<T>(alloc: Global, value: T) -> Result<Arc<T, Global>, AllocFailed<
     Arc::new(alloc, value)
 }
 
-/// A value in a box; if the allocator refuses it memory, the value comes back.
+/// A `Box` of a value. AllocFailed, which holds the value, if the allocation fails.
 #[tactic(auto, using(crate::proofs::Asking::room_was_refused, crate::proofs::Asking::memory_was_refused))]
 pub fn boxed<T>(alloc: Global, value: T) -> Result<Box<T, Global>, AllocFailed<T>>
     ensures boxed { IfOk result (λ made. made.value ≡ value) }
@@ -79,7 +79,7 @@ pub fn boxed<T>(alloc: Global, value: T) -> Result<Box<T, Global>, AllocFailed<T
     Box::new(alloc, value)
 }
 
-/// A shared value, held once more; AllocError if it can't be, since its holders aren't counted further.
+/// Another reference to a shared value. AllocError if the reference count can't grow.
 #[tactic(auto, using(crate::proofs::Asking::room_was_refused, crate::proofs::Asking::memory_was_refused))]
 pub fn held_again<T>(value: &Arc<T, Global>) -> Result<Arc<T, Global>, AllocError>
     ensures again { IfOk result (λ again. arc_value again ≡ arc_value value.now) }

@@ -19,14 +19,14 @@ use std::thread::{Threads, join};
 use vm_atomic_bitmaps::{AtomicBitmap, BitmapPass};
 use vm_bitmaps::page_words::zeros;
 
-/// The pages that were gathered, and those that were left, as words: page p is bit p mod 64 of word p / 64.
+/// The gathered pages, and the pages left marked, as words. Page p is bit p mod 64 of word p / 64.
 #[derive(Drop)]
 pub struct Account {
     pub gathered: Vec<u64>,
     pub left: Vec<u64>,
 }
 
-// A clear bitmap with two passes, each of half of all.
+// A clear bitmap with two passes, each with half of all parts. AllocError if an allocation fails.
 fn open(
     alloc: Global,
     byte_size: usize,
@@ -78,7 +78,7 @@ fn mark_beside<R: Threads + Sync>(
     )
 }
 
-// Takes both halves together and closes the bitmap.
+// Joins the two passes and closes the bitmap. AllocError if an allocation fails.
 fn settle(
     alloc: Global,
     bitmap: AtomicBitmap,
@@ -98,9 +98,9 @@ fn settle(
     }
 }
 
-/// Each list's ranges, in bytes, are marked by a thread of its own, while one more gathers each word as often
-/// as there are rounds. The pages that were gathered and those that are left are then just those that the
-/// lists have; without a round none was gathered. AllocError if an allocation fails.
+/// Marks each list's ranges, in bytes, in a thread of its own, while one more thread gathers each word once
+/// in each round. A page was then gathered or is left exactly if a list has it. Without a round no page was
+/// gathered. AllocError if an allocation fails.
 pub fn mark_and_gather<R: Threads + Sync>(
     rt: &R,
     alloc: Global,

@@ -1,4 +1,4 @@
-//! A thread that gathers all words, again and again.
+//! A thread that gathers all words, in many rounds.
 
 ghost use Rattle.std.specs.Prelude.{◌≡◌, ◌+◌, ◌*◌, ◌<◌, length, vec_len};
 ghost use Rattle.std.specs.Int.{div_ceil};
@@ -7,7 +7,7 @@ ghost use Rattle.page_marks_demo.specs.Threads.{Gathering, HaveTaken, IsTakenTo}
 
 use vm_atomic_bitmaps::{AtomicBitmap, BitmapPass};
 
-// Gathers a word into those gathered before.
+// Gathers a word, and adds its marks to those that were gathered before.
 fn gather_word(bitmap: &AtomicBitmap, pass: &mut BitmapPass, words: &mut [u64], word: usize)
     requires own { IsPassOf bitmap.now pass.old }
     requires room { length words.old ≡ div_ceil bitmap.now.len 64 }
@@ -44,7 +44,7 @@ fn gather_once(bitmap: &AtomicBitmap, pass: &mut BitmapPass, words: &mut [u64])
     }
 }
 
-// Gathers each word as often as there are rounds.
+// Gathers each word once in each round.
 fn gather_rounds(bitmap: &AtomicBitmap, pass: &mut BitmapPass, words: &mut [u64], rounds: usize)
     requires own { IsPassOf bitmap.now pass.old }
     requires room { length words.old ≡ div_ceil bitmap.now.len 64 }
@@ -64,7 +64,7 @@ fn gather_rounds(bitmap: &AtomicBitmap, pass: &mut BitmapPass, words: &mut [u64]
     }
 }
 
-// The same, with a pass and words of its own.
+// The same with a pass and words that it owns and returns.
 pub(crate) fn gather_into(
     bitmap: &AtomicBitmap,
     mut pass: BitmapPass,

@@ -1,5 +1,5 @@
-//! Threads mark dirty pages while another gathers them, as migration does: each marked page is accounted for,
-//! and no other.
+//! Threads mark dirty pages while another gathers them, as in a migration. Each marked page is gathered or
+//! left, and no other page is.
 #![tactic(auto)]
 
 mod accounts;
@@ -15,8 +15,8 @@ use std::num::NonZeroUsize;
 use std::process::ExitCode;
 use std::thread::Threads;
 
-// Guest memory of 16 MiB in pages of 4 KiB, of which four workers write 2 MiB each, one after another and
-// half over the next.
+// Guest memory of 16 MiB in pages of 4 KiB. Four workers write 2 MiB each. The second half of a worker's
+// bytes is the first half of the next worker's.
 const MEMORY: usize = 0x1000000;
 
 const PAGE: usize = 0x1000;
@@ -27,10 +27,10 @@ const STRIDE: usize = 0x100000;
 
 const RANGE_LEN: usize = 0x800;
 
-// How often the gatherer goes over all words.
+// The number of rounds in which the gatherer gathers all words.
 const ROUNDS: usize = 200;
 
-// What a worker writes, 2 KiB at a time.
+// The ranges that a worker writes, of 2 KiB each.
 fn writes(alloc: Global, worker: usize) -> Result<Vec<ByteRange>, AllocError> {
     let mut ranges = Vec::new(alloc);
     for k in 0..2 * STRIDE / RANGE_LEN {
@@ -55,7 +55,7 @@ fn migrate<R: Threads + Sync>(rt: &R, alloc: Global) -> Result<Account, AllocErr
     mark_and_gather(rt, alloc, MEMORY, page_size, &lists, ROUNDS)
 }
 
-// How many pages were written, and of a million marks how many pages were marked and gathered.
+// The number of pages that the workers wrote, and the two numbers of `mark_a_million`.
 fn both<R: Threads + Sync>(rt: &R, alloc: Global) -> Result<(u32, (u32, u32)), AllocError> {
     let account = migrate(rt, alloc)?;
     let pages = mark_a_million(rt, alloc)?;

@@ -42,7 +42,7 @@ fn mark_in_turn(bitmap: &AtomicBitmap, mut pass: BitmapPass, lists: &[Vec<ByteRa
     pass
 }
 
-// Marks the pages of each list, each in a thread of its own with a pass of its own, and joins their passes.
+// Marks the pages of each list in a thread of its own, with a pass of its own, and joins the passes.
 pub(crate) fn mark_lists<R: Threads + Sync>(
     rt: &R,
     bitmap: &AtomicBitmap,

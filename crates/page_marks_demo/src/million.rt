@@ -1,4 +1,4 @@
-//! A million marks of two threads, which a third gathers: each page is accounted for.
+//! Two threads make a million marks while a third gathers them. Each page is accounted for.
 
 use crate::accounts::{Account, mark_and_gather};
 use crate::marking::ByteRange;
@@ -6,20 +6,20 @@ use std::alloc::{AllocError, Global};
 use std::num::NonZeroUsize;
 use std::thread::Threads;
 
-// The bytes, of pages of one byte, that are marked; one more page is marked by nobody.
+// The number of marked pages, of one byte each. The bitmap has one more page, which no thread marks.
 const PAGES: usize = 1000;
 
 // How often each thread marks each page.
 const TIMES: usize = 500;
 
-// How often the gatherer goes over all words.
+// The number of rounds in which the gatherer gathers all words.
 const ROUNDS: usize = 20_000;
 
-// How often all is done, at most, until the gatherer found a page. It runs beside the markers, so mostly it
-// finds one at once.
+// The greatest number of attempts until the gatherer finds a page. It runs beside the markers, so it mostly
+// finds one in the first attempt.
 const TRIES: usize = 100;
 
-// Each page by itself, again and again: from the first on if `up`, and from the last on otherwise.
+// A range for each page, `TIMES` times over: from the first page on if `up`, otherwise from the last one on.
 fn marks(alloc: Global, up: bool) -> Result<Vec<ByteRange>, AllocError> {
     let mut ranges = Vec::with_capacity(alloc, PAGES * TIMES)?;
     for _ in 0..TIMES {
@@ -31,7 +31,7 @@ fn marks(alloc: Global, up: bool) -> Result<Vec<ByteRange>, AllocError> {
     Ok(ranges)
 }
 
-/// How many pages an account has, and how many of them were gathered.
+/// The number of pages of an account, and the number of its gathered pages.
 pub(crate) fn pages_in(account: &Account) -> (u32, u32) {
     let mut pages = (0u32, 0u32);
     for (gathered, left) in account.gathered.iter().zip(&account.left) {
@@ -41,7 +41,8 @@ pub(crate) fn pages_in(account: &Account) -> (u32, u32) {
     pages
 }
 
-/// How many pages were marked, and how many were gathered meanwhile. AllocError if an allocation fails.
+/// The number of pages that were marked, and the number that the gatherer found marked. AllocError if an
+/// allocation fails.
 pub(crate) fn mark_a_million<R: Threads + Sync>(
     rt: &R,
     alloc: Global,

@@ -26,11 +26,11 @@ blank =
     memory_of (record { blocks = new_block 0x10000 ∷ []; tables = []; io_marks = [] })
     (record { start = 0; size = 0x10000; block = 0 } ∷ [])
 
--- four descriptors, none of them taken so far
+-- a queue of four descriptors, none of whose chains was taken so far
 abbrev pub queue : Queue
 queue = record { size = 4; desc = 0; avail = 0x100; used = 0x200; position = 0; stopped = false }
 
--- bytes that the guest writes at an address
+-- the memory after the guest wrote bytes at an address
 abbrev pub put : Memory → ℕ → List ℕ → Memory
 put m a bs = stored_all m (zip (addresses a (length bs)) bs)
 
@@ -38,32 +38,32 @@ put m a bs = stored_all m (zip (addresses a (length bs)) bs)
 abbrev pub descriptor_bytes : ℕ → ℕ → ℕ → ℕ → List ℕ
 descriptor_bytes addr len flags next = le64 addr ++ le32 len ++ le16 flags ++ le16 next
 
--- a request of a header alone, of an opcode that no request has
+-- a request that is only a header, with an unknown opcode
 abbrev pub request : List ℕ
 request = in_header_bytes 40 7 1 0
 
--- the request at 0x1000 in a chain with a room of 16 bytes at 0x2000
+-- the request at 0x1000 in a chain with a reply buffer of 16 bytes at 0x2000
 abbrev pub with_one_request : Memory
 with_one_request =
     let a = put blank 0x1000 request in
     let b = put a 0 (descriptor_bytes 0x1000 40 1 1 ++ descriptor_bytes 0x2000 16 2 0) in
     put b 0x100 (le16 0 ++ le16 1 ++ le16 0)
 
--- what the queue offers over a memory
+-- the offer of the queue over a memory
 abbrev gives : Memory → Offer
 gives m = offer m 0x101000 queue
 
--- nothing waits in zeros
+-- in a memory of zeros no chain is available
 nothing_waits : gives blank ≡ Idle
 unfolding offer place addresses stored_all path found
 nothing_waits = refl
 
--- 40 bytes of request, 16 bytes of room
+-- 40 bytes of request, 16 bytes of reply buffer
 one_request : gives with_one_request ≡ Offers 0 (IsRequest request (addresses 0x2000 16))
 unfolding offer place addresses stored_all path found
 one_request = refl
 
--- a descriptor that leads to itself
+-- a descriptor whose `next` is itself
 too_long : gives (put with_one_request 0 (descriptor_bytes 0x1000 40 1 0))
     ≡ Offers 0 (CannotFetch chain_fault.TooLong)
 unfolding offer place addresses stored_all path found
@@ -110,18 +110,18 @@ with_descriptors =
     let a = put with_one_request 0x3000 (descriptor_bytes 0x1000 40 1 1 ++ descriptor_bytes 0x2000 16 2 0) in
     put a 0 (descriptor_bytes 0x3000 32 4 0)
 
--- the same request and room
+-- the same request and reply buffer
 by_table : gives with_descriptors ≡ Offers 0 (IsRequest request (addresses 0x2000 16))
 unfolding offer place addresses stored_all path found
 by_table = refl
 
--- that the descriptor is one to write says nothing
+-- VIRTQ_DESC_F_WRITE of a descriptor with an indirect table is ignored (2.7.5.3.2)
 by_table_to_write : gives (put with_descriptors 0 (descriptor_bytes 0x3000 32 6 0))
     ≡ Offers 0 (IsRequest request (addresses 0x2000 16))
 unfolding offer place addresses stored_all path found
 by_table_to_write = refl
 
--- descriptors of the queue come first, and the one that names the table is the last of these
+-- descriptors of the queue's table come first, and the last of them has the indirect table
 after_own : gives (put (put with_descriptors 0 (descriptor_bytes 0x1000 40 1 1
     ++ descriptor_bytes 0x3010 16 4 0)) 0x3010 (descriptor_bytes 0x2000 16 2 0)) ≡ Offers 0
     (IsRequest request (addresses 0x2000 16))
@@ -163,7 +163,7 @@ next_past_named_table : gives (put with_descriptors 0x3000 (descriptor_bytes 0x1
 unfolding offer place addresses stored_all path found
 next_past_named_table = refl
 
--- a descriptor of a table that leads to itself
+-- a descriptor of an indirect table whose `next` is itself
 loop_in_table : gives (put with_descriptors 0x3000 (descriptor_bytes 0x1000 40 1 0))
     ≡ Offers 0 (CannotFetch chain_fault.TooLong)
 unfolding offer place addresses stored_all path found
@@ -184,13 +184,13 @@ too_short : meaning 0 (zeros 39) 16 ≡ IsFault error.DecodeMessage
 unfolding meaning reading_of meant error_bytes fields.field_bytes
 too_short = refl
 
--- ---- whole steps, of a device whose file system is asked nothing
+-- ---- whole steps of a device that calls no file system
 
 -- a file system without a state
 abbrev pub Nothing : Type 0
 Nothing = Unit {0}
 
--- it answers no call
+-- this file system answers no call
 abbrev pub may : May Nothing
 may before call answer after = ⊥
 
@@ -203,7 +203,7 @@ device m q =
 abbrev pub unknown_reply : List ℕ
 unknown_reply = 0x10 ∷ 0 ∷ 0 ∷ 0 ∷ 0xda ∷ 0xff ∷ 0xff ∷ 0xff ∷ 1 ∷ zeros 7
 
--- the request goes back with that reply
+-- the exchange of the request with that reply
 abbrev pub unknown_exchange : Exchange
 unknown_exchange = record { head = 0; request = request; reply = unknown_reply; fault = None }
 
@@ -211,7 +211,7 @@ unknown_exchange = record { head = 0; request = request; reply = unknown_reply; 
 abbrev pub after_reply : Memory → Queue → State Nothing
 after_reply m q = after_return (device m q) 0 q 0 (addresses 0x2000 16) unknown_reply 0 tt
 
--- the chain is taken, answered and given back, and the driver is told
+-- the chain is taken, answered and returned, and the driver is notified
 pub one_step : Step may (device with_one_request queue) 0 [] (Exchanged unknown_exchange true)
     (after_reply with_one_request queue)
 unfolding offer place addresses stored_all path found meaning reading_of meant error_bytes fields.field_bytes
@@ -221,7 +221,7 @@ one_step = record {
   returns = record { exchange = refl; state = refl; told = refl };
 }
 
--- what then stands in memory
+-- the bytes in memory afterwards
 reply_stands : bytes (after_reply with_one_request queue).memory 0x2000 16 ≡ unknown_reply
 unfolding offer place addresses stored_all path found
 reply_stands = refl
@@ -231,7 +231,7 @@ element_stands :
 unfolding offer place addresses stored_all path found
 element_stands = refl
 
--- the driver asks not to be told
+-- the driver suppresses notifications (VIRTQ_AVAIL_F_NO_INTERRUPT)
 not_told : Step may (device (put with_one_request 0x100 (le16 1)) queue) 0 []
     (Exchanged unknown_exchange false) (after_reply (put with_one_request 0x100 (le16 1)) queue)
 unfolding offer place addresses stored_all path found meaning reading_of meant error_bytes fields.field_bytes
@@ -241,7 +241,7 @@ not_told = record {
   returns = record { exchange = refl; state = refl; told = refl };
 }
 
--- a queue that is told of too many chains stops
+-- an available index that is too far ahead stops the queue
 far_stops : Step may (device (put with_one_request 0x102 (le16 5)) queue) 0 [] (Refused (device_error.Queue
     queue_error.AvailTooFar)) (device (put with_one_request 0x102 (le16 5)) (with_stop queue))
 unfolding offer place addresses stored_all path found

@@ -1,5 +1,5 @@
--- A step told by loads and stores, worked out: a request of an opcode that no request has, with a room of 16
--- bytes.
+-- Worked steps by loads and stores: a request with an unknown opcode, in a chain with a reply buffer of
+-- 16 bytes.
 use Rattle.std.specs.Prelude.{◌≡◌, ℕ, true, List, [], ◌∷◌, ◌++◌, Option, Some, None, refl}
 use Rattle.std.proofs.Common.{inl}
 use Rattle.vm_memory.specs.Layout.{place}
@@ -27,22 +27,22 @@ use Rattle.plain_machine.specs.StepBy.{return_addresses, stores_among}
 abbrev entry : (index : ℕ) → List ℕ → Load
 entry index bytes = record { address = index; came = Some bytes }
 
--- what is loaded, by these entries of the table
+-- the loads of a step, with these entries of the table
 abbrev loads_with : List Load → StepLoads
 loads_with entries =
     record { index = Some (le16 1); entry = Some (le16 0); entries = entries; request = request }
 
--- 40 bytes of request, 16 bytes of room
+-- the loads of a request of 40 bytes and a reply buffer of 16
 abbrev loads : StepLoads
 loads = loads_with (entry 0 (descriptor_bytes 0x1000 40 1 1) ∷ entry 16 (descriptor_bytes 0x2000 16 2 0) ∷ [])
 
--- the memory that has the places holds none of these bytes
+-- the memory that maps the addresses holds none of these bytes
 offered : offered_by blank 0x101000 queue loads ≡ Some (Offers 0 (IsRequest request (addresses 0x2000 16)))
 unfolding place addresses stored_all found_exactly
 offered = refl
 
--- entries that change while they are walked: the first was loaded with another next the second time; no
--- request is loaded then
+-- an entry that changes during the walk: its second load has another `next` than the first; no request
+-- is loaded then
 changing : offered_by blank 0x101000 queue (record {
   index = Some (le16 1);
   entry = Some (le16 0);
@@ -53,13 +53,13 @@ changing : offered_by blank 0x101000 queue (record {
 unfolding place addresses stored_all found_exactly
 changing = refl
 
--- too few loads tell nothing
+-- too few loads determine no offer
 cut_short :
     offered_by blank 0x101000 queue (loads_with (entry 0 (descriptor_bytes 0x1000 40 1 1) ∷ [])) ≡ None
 unfolding place addresses stored_all found_exactly
 cut_short = refl
 
--- an index that is too far ahead, after which nothing is loaded
+-- an index that is too far ahead, after which nothing more is loaded
 too_far : offered_by blank 0x101000 queue
     (record { index = Some (le16 5); entry = None; entries = []; request = [] })
     ≡ Some (Refuses queue_error.AvailTooFar)
@@ -73,13 +73,13 @@ returned_in_order : return_stores queue 0 (0x2000 ∷ 0x2001 ∷ 0x3000 ∷ 0x30
     ∷ record { address = 0x202; bytes = le16 1 } ∷ []
 returned_in_order = refl
 
--- its flags are loaded behind all of them
+-- the flags are loaded after all of the stores
 flags_behind : return_acts (record { address = 0x202; bytes = le16 1 } ∷ []) (le16 1)
     ≡ Stores (record { address = 0x202; bytes = le16 1 }) ∷ LoadsFlags (le16 1) ∷ []
 flags_behind = refl
 
--- flags that a store wrote are found so behind it, and as they were before it (a ring at 0x100, whose flags
--- are at 0x100)
+-- the flags are loaded as a store wrote them before, and as they were before the store (a ring at
+-- 0x100, whose flags are at 0x100)
 flags_as_stored : FindFlags blank queue
     (LoadsFlags (le16 0) ∷ Stores (record { address = 0x100; bytes = le16 1 }) ∷ LoadsFlags (le16 1) ∷ [])
 unfolding place addresses stored_all
@@ -90,28 +90,28 @@ stores_alone : stores_among (LoadsFlags (le16 0) ∷ Stores (byte_store (0x2000,
     ∷ Stores (byte_store (0x2001, 8)) ∷ []) ≡ byte_store (0x2000, 7) ∷ byte_store (0x2001, 8) ∷ []
 stores_alone = refl
 
--- a chain that goes back is stored in its room, and then in the used element and the used index
+-- to return a chain, the device stores to its reply buffer, the used element and the used index
 return_with_room : return_addresses queue (Offers 0 (IsRequest [] (0x2000 ∷ 0x2001 ∷ [])))
     ≡ 0x2000 ∷ 0x2001 ∷ 0x204 ∷ 0x205 ∷ 0x206 ∷ 0x207 ∷ 0x208 ∷ 0x209 ∷ 0x20a ∷ 0x20b ∷ 0x202 ∷ 0x203 ∷ []
 unfolding addresses
 return_with_room = refl
 
--- a faulty one has no room
+-- a faulty chain has no reply buffer
 return_without_room : return_addresses queue (Offers 0 (CannotFetch chain_fault.TooLong))
     ≡ 0x204 ∷ 0x205 ∷ 0x206 ∷ 0x207 ∷ 0x208 ∷ 0x209 ∷ 0x20a ∷ 0x20b ∷ 0x202 ∷ 0x203 ∷ []
 unfolding addresses
 return_without_room = refl
 
--- nothing goes back where nothing waits
+-- the device stores nothing if no chain is available
 nothing_goes_back : return_addresses queue Idle ≡ []
 nothing_goes_back = refl
 
--- a room that has a byte twice may be stored over as long as none of its first bytes is stored last
+-- a reply buffer may have a byte twice if none of its first bytes is stored last
 none_last : MayStoreLast blank (0x2000 ∷ 0x2000 ∷ []) 0
 none_last = inl refl
 
--- a whole step by these loads: the reply to the unknown request, the element and the index are stored, and
--- then the flags say that the driver is told
+-- a whole step by these loads: it stores the reply to the unknown request, the element and the index,
+-- and then loads the flags, which ask for a notification
 abbrev stored_in_order : Effects
 stored_in_order =
     record {
@@ -133,7 +133,7 @@ step_by_loads = (
   },
 )
 
--- one that is refused stores nothing and loads no flags
+-- a refused step stores nothing and loads no flags
 step_stops : StepBy may (device blank queue) 0
     (record { index = Some (le16 5); entry = None; entries = []; request = [] }) []
     (Refused (device_error.Queue queue_error.AvailTooFar))

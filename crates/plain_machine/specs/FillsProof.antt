@@ -1,5 +1,5 @@
--- A proof: a room that is filled part by part. It stands here since `RoomWriter` cites it, and nothing in it
--- has to be believed.
+-- A proof: a reply buffer that is filled part by part. It is in `specs/` since `RoomWriter` cites it.
+-- Nobody has to believe it.
 use Rattle.std.proofs.Common.{◌≡◌, ℕ, zero, suc, ◌≤◌, List, [], ◌∷◌, ◌++◌, length, take, drop, refl, sym, ap}
 use Rattle.std.proofs.Common.{◌∙◌, arith, length-append}
 use Rattle.std.specs.List.{zip}
@@ -13,7 +13,7 @@ zip_nothing : (ps : List Place) → zip {X = ℕ} ps [] ≡ []
 zip_nothing [] = refl
 zip_nothing (p ∷ ps) = refl
 
--- a list of bytes cut in two
+-- a list of bytes, zipped in two parts
 pub zip-both : (ps : List Place) (xs ys : List ℕ) → length xs ≤ length ps →
     zip ps (xs ++ ys) ≡ zip (take (length xs) ps) xs ++ zip (drop (length xs) ps) ys
 zip-both ps xs ys h =
@@ -24,7 +24,7 @@ zip-both ps xs ys h =
     ∙ ap (λ (l : List ℕ). zip (take n ps) l ++ zip (drop n ps) (drop n (xs ++ ys))) (take_at xs ys n refl)
     ∙ ap (λ (l : List ℕ). zip (take n ps) xs ++ zip (drop n ps) l) (drop_at xs ys n refl)
 
--- bytes that stand at the first places alone
+-- bytes that need only the first places
 pub zip-front : (n : ℕ) (ps : List Place) (xs : List ℕ) → length xs ≤ n → zip (take n ps) xs ≡ zip ps xs
 zip-front zero ps [] h = sym (zip_nothing ps)
 zip-front zero ps (x ∷ xs) h = absurd (omega (arith, h))
@@ -32,7 +32,7 @@ zip-front (suc n) [] xs h = refl
 zip-front (suc n) (p ∷ ps) [] h = refl
 zip-front (suc n) (p ∷ ps) (x ∷ xs) h = ap (λ l. (p, x) ∷ l) (zip-front n ps xs (omega (arith, h)))
 
--- what is stored behind something
+-- storing more bytes behind stored ones
 pub stored_more : (a b c : Host) (ps : List Place) (xs ys : List ℕ) → length xs ≤ length ps →
     b ≡ put_all a (zip ps xs) → c ≡ put_all b (zip (drop (length xs) ps) ys) →
     c ≡ put_all a (zip ps (xs ++ ys))
@@ -42,7 +42,7 @@ stored_more a b c ps xs ys h e f =
     ∙ sym (put_all-append (zip (take (length xs) ps) xs) (zip (drop (length xs) ps) ys) a)
     ∙ ap (put_all a) (sym (zip-both ps xs ys h))
 
--- nothing is stored
+-- storing no byte
 pub stored_none : (h : Host) (ps : List Place) → h ≡ put_all h (zip ps [])
 unfolding put_all
 stored_none h [] = refl

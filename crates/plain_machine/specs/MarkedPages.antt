@@ -1,4 +1,4 @@
--- Which pages are marked (vm-memory, bitmap), told by the addresses that are written.
+-- The pages that a write marks (vm-memory, bitmap), by the addresses that are written.
 use Rattle.std.specs.Prelude.{◌≡◌, ◌↔◌, ℕ, zero, suc, ◌/◌, ◌^◌, ◌==◌, ◌&&◌, ◌||◌, not, nat_lt, Bool, false}
 use Rattle.std.specs.Prelude.{true, List, [], ◌∷◌, ◌++◌, length, map, Option, Some, None}
 use Rattle.std.specs.Prelude.{is_some, slice_get, option_map, option_and_then}
@@ -29,24 +29,24 @@ abbrev pub is_in_page : (block page : ℕ) → Option Place → Bool
 is_in_page block page None = false
 is_in_page block page (Some p) = (p.block == block) && (p.offset / 4096 == page)
 
--- whether a write at an address marks a page of a block: with the IOMMU off, where its place lies in that
--- page
+-- whether a write at an address marks this page of a block: the IOMMU is off, and the address is mapped
+-- to this page
 abbrev pub marks_block : Memory → (block page : ℕ) → (address : ℕ) → Bool
 marks_block m block page address = not m.translates && is_in_page block page (place m.layout address)
 
--- whether a write at an address marks a page of a set of I/O pages: with the IOMMU on, where the address has
--- a place to be written, and lies in that page of the device's set; no address lies at or past 2^64
+-- whether a write at an address marks this page of a set of I/O pages: the IOMMU is on, this is the
+-- device's set, the address is mapped for writing, lies below 2^64, and is in this page
 abbrev pub marks_io : Memory → (set page : ℕ) → (address : ℕ) → Bool
 marks_io m set page address =
     m.translates && ((m.io_pages == set)
     && (is_some (location m Write address) && (nat_lt address (2 ^ 64) && (address / 4096 == page))))
 
--- a mark after some addresses were written, of which these mark its page: it is set then, or as it was
+-- a page's mark after some addresses were written: set if one of them marks the page, else as before
 abbrev pub marked_by : (ℕ → Bool) → List ℕ → Option Bool → Option Bool
 marked_by marks written old = option_map (λ was. was || list_any marks written) old
 
--- the pages that are marked besides those that were are those that these addresses mark, and no others: a
--- page past the end of its block or of its set isn't there, and no page comes or goes
+-- a write at these addresses marks just their pages, and every other mark stays. No page appears or
+-- disappears: a page past the end of its block or set has no mark
 pub record Marks (m : Memory) (written : List ℕ) (after : Host) : Type 0 where
   pub blocks : (block page : ℕ) →
       block_mark after block page
@@ -54,16 +54,16 @@ pub record Marks (m : Memory) (written : List ℕ) (after : Host) : Type 0 where
   pub io_sets : (set page : ℕ) →
       io_mark after set page ≡ marked_by (marks_io m set page) written (io_mark m.host set page)
 
--- so it is of any writes, in order
+-- theorem: writes, in order, mark just the pages of their addresses
 abbrev pub WritesMark : Type 0
 WritesMark = (m : Memory) (writes : List (ℕ × ℕ)) → Marks m (map (λ w. w.0) writes) (stored_all m writes).host
 
--- the addresses that are written where a chain goes back: the first of its room, as many as the reply has
--- bytes, the used element and the used index
+-- the addresses that are written when a chain is returned: the first of its reply buffer, one for each
+-- byte of the reply, then the used element and the used index
 abbrev pub returned_addresses : Queue → (head : ℕ) → (room reply : List ℕ) → List ℕ
 returned_addresses q head room reply = map (λ w. w.0) (writes q head room reply)
 
--- so it is of a step that exchanges a chain, which its queue offers
+-- theorem: a step that exchanges a chain marks just the pages that returning the chain writes to
 abbrev pub StepsMark : {F : Type 0} → May F → Type 0
 StepsMark {F} may =
     (s after : State F) (i : ℕ) (calls : Calls) (x : Exchange) (notice : Bool) →
@@ -73,7 +73,7 @@ StepsMark {F} may =
 
 -- ---- over commands
 
--- the addresses that a kick writes, one exchange after the other; at an idle or refused step it writes none
+-- the addresses that a kick writes, one exchange after another; an idle or refused step writes none
 unfoldable pub KickWrites : {F : Type 0} → May F → State F → ℕ → ℕ → Turns → List ℕ → Type 0
 KickWrites may s i most [] written = written ≡ []
 KickWrites may s i zero (t ∷ ts) written = ⊥
@@ -84,35 +84,35 @@ KickWrites {F} may s i (suc most) (t ∷ ts) written =
     × KickWrites may mid i most ts later
     × (written ≡ returned_addresses o.queue t.exchange.head (room_of o.fetched) t.exchange.reply ++ later)
 
--- no page of a block is marked any more, and the I/O pages stay
+-- no page of a block is marked any more, and the marks of I/O pages stay
 pub record ClearsMarks (before after : Host) : Type 0 where
   pub blocks : (block page : ℕ) →
       block_mark after block page ≡ option_map (λ was. false) (block_mark before block page)
   pub io_sets : (set page : ℕ) →
       io_mark after set page ≡ io_mark before set page
 
--- the pages that are marked are those that were
+-- the marks stay: a page of a block is marked just if it was before, and the I/O pages stay
 pub record KeepsMarks (before after : Host) : Type 0 where
   pub blocks : (block page : ℕ) →
       (block_mark after block page ≡ Some true) ↔ (block_mark before block page ≡ Some true)
   pub io_sets : (set page : ℕ) →
       io_mark after set page ≡ io_mark before set page
 
--- a command that was done: a guest's write marks the pages of its places in their blocks, with the IOMMU on
--- too; no other marks any
+-- the marks after a command that is answered `Done`. A guest's write marks pages of blocks, even with
+-- the IOMMU on; no other command marks any
 abbrev pub DoneMarks : {F : Type 0} → State F → Command → State F → Type 0
 DoneMarks s (GuestWrite a bytes) after =
     Marks (physical s.memory) (addresses a (length bytes)) after.memory.host
 DoneMarks s command after = KeepsMarks s.memory.host after.memory.host
 
--- a kick marks what its exchanges write, one after the other
+-- a kick marks the pages that its exchanges write to, one after another
 abbrev pub ServedMarks : {F : Type 0} → May F → State F → Command → Turns → State F → Type 0
 ServedMarks may s (Kick i most) told after =
     (written : List ℕ) × KickWrites may s i most told written × Marks s.memory written after.memory.host
 ServedMarks may s command told after = KeepsMarks s.memory.host after.memory.host
 
--- by the answer to a command: an image and a harvest clear the marks of blocks; what has another answer keeps
--- the marks that there are
+-- the marks after a command with this answer: an image and a harvest clear the marks of blocks, a kick
+-- and a guest's write mark pages, and every other command keeps all marks
 abbrev pub AnswerMarks : {F : Type 0} → May F → Answer → State F → Command → Turns → State F → Type 0
 AnswerMarks may Done s command told after = DoneMarks s command after
 AnswerMarks may (Served k) s command told after = ServedMarks may s command told after
@@ -120,7 +120,7 @@ AnswerMarks may (Copied copy) s command told after = ClearsMarks s.memory.host a
 AnswerMarks may (Pages pages) s command told after = ClearsMarks s.memory.host after.memory.host
 AnswerMarks may answer s command told after = KeepsMarks s.memory.host after.memory.host
 
--- so it is of each command of a run
+-- theorem: each command of a run changes the marks just like that
 abbrev pub CommandsMark : {F : Type 0} → May F → Type 0
 CommandsMark {F} may =
     (s after : State F) (command : Command) (told : Turns) (answer : Answer) →

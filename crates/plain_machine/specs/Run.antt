@@ -22,7 +22,7 @@ use Rattle.plain_machine.specs.declared.refusal.Refusal.{Refusal}
 use Rattle.plain_machine.specs.declared.refusal.Refusal.TheVariants as why
 use Rattle.plain_machine.specs.Step.{State, Exchange, Idle, Refused, Exchanged, Calls, Step, with_queue}
 
--- what is asked of the machine
+-- the commands that a guest, its VMM or a migration can give to the machine
 pub data Command : Type 0 where
   GuestRead : (addr len : ℕ) → Command
   GuestWrite : (addr : ℕ) → (bytes : List ℕ) → Command
@@ -39,12 +39,13 @@ pub data Command : Type 0 where
   Image : Command
   Harvest : Command
 
--- the exchanges of a kick with whether each was told, and the refusal that ended it
+-- the exchanges of a kick, each with whether the driver is notified of it, and the refusal that ended
+-- it
 pub record KickAnswer : Type 0 where
   pub exchanges : List (Exchange × Bool)
   pub refused : Option DeviceError
 
--- what the machine answers
+-- the answers of the machine
 pub data Answer : Type 0 where
   Done : Answer
   Bytes : List ℕ → Answer
@@ -54,67 +55,67 @@ pub data Answer : Type 0 where
   Pages : List Page → Answer
   IsRefused : Refusal → Answer
 
--- ---- what each command but a kick does
+-- ---- the effect of each command but a kick
 
--- an answer, and the state after
+-- a command's answer, and the state after it
 abbrev pub Effect : Type 0 → Type 0
 Effect F = Answer × State F
 
--- refused, and nothing changed
+-- the command is refused, and nothing changes
 abbrev pub no : {F : Type 0} → Refusal → State F → Effect F
 no refusal s = (IsRefused refusal, s)
 
--- a guest reads its physical addresses, all of them or none
+-- a guest reads physical addresses: all of them, or none
 abbrev pub guest_read : {F : Type 0} → State F → ℕ → ℕ → Effect F
 guest_read s a n =
     if reach (physical s.memory) Read a n then (Bytes (bytes (physical s.memory) a n), s)
     else no why.NoPlace s
 
--- the memory after a guest wrote
+-- the memory after a guest's write
 abbrev pub guest_written : Memory → ℕ → List ℕ → Memory
 guest_written m a bs = record m { host = (stored_all (physical m) (zip (addresses a (length bs)) bs)).host }
 
--- a guest writes its physical addresses, all of them or none
+-- a guest writes to physical addresses: to all of them, or to none
 abbrev pub guest_write : {F : Type 0} → State F → ℕ → List ℕ → Effect F
 guest_write s a bs =
     if reach (physical s.memory) Write a (length bs)
     then (Done, record s { memory = guest_written s.memory a bs })
     else no why.NoPlace s
 
--- another host under the same layout
+-- the state with another host under the same layout
 abbrev pub with_host : {F : Type 0} → State F → Host → State F
 with_host s h = record s { memory = record s.memory { host = h } }
 
--- another layout over the same host
+-- the state with another layout over the same host
 abbrev pub with_layout : {F : Type 0} → State F → List Region → State F
 with_layout s layout = record s { memory = record s.memory { layout = layout } }
 
--- a block of zeros more, none of whose pages is marked; it is told its number
+-- a new block of zeros, without a marked page; the answer is its number
 abbrev pub make_block : {F : Type 0} → State F → ℕ → Effect F
 make_block s n =
     if n == 0 then no why.EmptyBlock s
     else (NewBlockIs (length s.memory.host.blocks), with_host s (with_block s.memory.host (new_block n)))
 
--- a region more, where its last address fits and no address gets a second place
+-- a new region: its last address must fit 64 bits, and it must overlap no other region
 abbrev pub insert : {F : Type 0} → State F → Region → Effect F
 insert s r =
     if not (fits r) then no why.BadRegion s
     else if list_any (overlap r) s.memory.layout then no why.Overlap s
     else (Done, with_layout s (with_region r s.memory.layout))
 
--- the region from an address on that is all of a block
+-- a new region from an address on that shows all of a block
 abbrev pub insert_block : {F : Type 0} → State F → (base block : ℕ) → Option Block → Effect F
 insert_block s base block None = no why.UnknownBlock s
 insert_block s base block (Some b) = insert s (record { start = base; size = length b.bytes; block = block })
 
--- the layout without a region
+-- the region with these numbers is removed
 abbrev pub remove_region : {F : Type 0} → State F → (base size : ℕ) → Effect F
 remove_region s base size =
     if list_any (is_region base size) s.memory.layout
     then (Done, with_layout s (without_region base size s.memory.layout))
     else no why.NoRegion s
 
--- whether there is a block, of this length
+-- whether a block exists and has this length
 abbrev pub has_len : ℕ → Option Block → Bool
 has_len n None = false
 has_len n (Some b) = length b.bytes == n
@@ -123,12 +124,12 @@ has_len n (Some b) = length b.bytes == n
 abbrev pub is_known : Host → Region → Bool
 is_known h r = has_len r.size (slice_get h.blocks r.block)
 
--- whether an address would have two places
+-- whether two regions of a layout have an address in common
 abbrev pub some_overlap : List Region → Bool
 some_overlap [] = false
 some_overlap (r ∷ rs) = list_any (overlap r) rs || some_overlap rs
 
--- another layout
+-- another layout: its blocks must be known, its regions must fit 64 bits and must not overlap
 abbrev pub set_layout : {F : Type 0} → State F → List Region → Effect F
 set_layout s layout =
     if not (list_all (is_known s.memory.host) layout) then no why.UnknownBlock s
@@ -136,12 +137,12 @@ set_layout s layout =
     else if some_overlap layout then no why.Overlap s
     else (Done, with_layout s layout)
 
--- a queue begins anew, as this one
+-- a queue is reset to this one
 abbrev pub reset : {F : Type 0} → State F → ℕ → (anew : Queue) → Option Queue → Effect F
 reset s i anew None = no why.NoSuchQueue s
 reset s i anew (Some q) = (Done, with_queue s i anew)
 
--- the table that the device's addresses go by is used, or not
+-- the IOMMU is turned on or off: the table that translates the device's addresses is used, or isn't
 abbrev pub set_iommu : {F : Type 0} → State F → Bool → Effect F
 set_iommu s on = (Done, record s { memory = record s.memory { translates = on } })
 
@@ -149,16 +150,16 @@ set_iommu s on = (Done, record s { memory = record s.memory { translates = on } 
 abbrev pub with_marks_cleared : {F : Type 0} → State F → State F
 with_marks_cleared s = with_host s (cleared s.memory.host)
 
--- a copy of the host, in which no page of a block is marked; nor is one in the host then
+-- a copy of the host, and the same host; afterwards neither has a marked page of a block
 abbrev pub image : {F : Type 0} → State F → Effect F
 image s = (Copied (cleared s.memory.host), with_marks_cleared s)
 
--- each marked page of a block with its bytes, by block and page; none is marked then
+-- each marked page of a block with its bytes, by block and page; afterwards none is marked
 abbrev pub harvest : {F : Type 0} → State F → Effect F
 harvest s = (Pages (harvested s.memory.host), with_marks_cleared s)
 
--- what a command answers, and the state that it leaves; a kick, and what changes the table, aren't decided
--- here
+-- a command's answer and the state after it; None for a kick and for a change of the table, which have
+-- their own definitions (`Kicks`, `ChangesTable`)
 unfoldable pub effect : {F : Type 0} → State F → Command → Option (Effect F)
 effect s (GuestRead a n) = Some (guest_read s a n)
 effect s (GuestWrite a bs) = Some (guest_write s a bs)
@@ -176,23 +177,23 @@ effect s (Unmap iova n) = None
 effect s UnmapAll = None
 effect s (Kick queue most) = None
 
--- what was decided is answered, and the state is left so; else nothing is
+-- the command has this effect, if it is decided by `effect`
 abbrev pub IsDecided : {F : Type 0} → Option (Effect F) → Answer → State F → Type 0
 IsDecided None answer after = ⊥
 IsDecided (Some decided) answer after = (answer, after) ≡ decided
 
--- ---- what changes the table
+-- ---- changes of the table
 
--- whether the end of n addresses from a on fits 64 bits
+-- whether the end of n addresses from a on is below 2^64
 abbrev pub ends_fit : ℕ → ℕ → Bool
 ends_fit a n = nat_lt (a + n) (2 ^ 64)
 
--- the state whose table is told by these ranges
+-- the state with these ranges as its table
 abbrev pub with_ranges : {F : Type 0} → State F → List IotlbRange → State F
 with_ranges s ranges = with_host s (with_table_at s.memory.host s.memory.table ranges)
 
--- the table becomes this one, and all else stays. A host tells a table by its ranges: those that ascend and
--- are as long as can be, of which each table has one list
+-- the table becomes this one, and all else stays. A host keeps a table as ranges that ascend and are as
+-- long as possible: each table has just one such list
 abbrev pub TableBecomes : {F : Type 0} → State F → Table → State F → Type 0
 TableBecomes s table after =
     (ranges : List IotlbRange)
@@ -200,7 +201,8 @@ TableBecomes s table after =
     × AreSame (table_kept ranges) table
     × (after ≡ with_ranges s ranges)
 
--- the table becomes this one where each end fits 64 bits
+-- the table becomes this one if the ends of its ranges are below 2^64; else `BadMapping`, and nothing
+-- changes
 abbrev pub ChangesTable : {F : Type 0} → State F → (fit : Bool) → Table → Answer → State F → Type 0
 ChangesTable s true table answer after = (answer ≡ Done) × TableBecomes s table after
 ChangesTable s false table answer after = (answer, after) ≡ no why.BadMapping s
@@ -211,13 +213,13 @@ Maps s iova target n perm answer after =
     ChangesTable s (ends_fit iova n && ends_fit target n) (mapped iova target n perm (table_of s.memory))
     answer after
 
--- n addresses from iova on are taken out
+-- the mappings of n addresses from iova on are removed
 abbrev pub Unmaps : {F : Type 0} → State F → (iova n : ℕ) → Answer → State F → Type 0
 Unmaps s iova n answer after =
     ChangesTable s (ends_fit iova n) (unmapped iova n (table_of s.memory)) answer after
 
--- what a command that isn't a kick may answer, and the state that it leaves then; a kick has its exchanges
--- (`Kicks`), and nothing by this
+-- a command that isn't a kick may have this answer and leave this state. Never holds for a kick, which
+-- has exchanges (`Kicks`)
 abbrev pub Affects : {F : Type 0} → State F → Command → Answer → State F → Type 0
 Affects s (Map iova target n perm) answer after = Maps s iova target n perm answer after
 Affects s (Unmap iova n) answer after = Unmaps s iova n answer after
@@ -227,29 +229,29 @@ Affects s command answer after = IsDecided (effect s command) answer after
 
 -- ---- kicks
 
--- an exchange with whether the driver was told, and the calls that it made
+-- an exchange, whether the driver is notified of it, and the calls that it made
 pub record Turn : Type 0 where
   pub exchange : Exchange
   pub notice : Bool
   pub calls : Calls
 
--- what is behind the answer to a command: the exchanges of a kick, one after the other; behind other answers
--- there is nothing
+-- the exchanges behind the answer to a command: those of a kick, one after another; none for other
+-- commands
 abbrev pub Turns : Type 0
 Turns = List Turn
 
--- what a kick lists of an exchange
+-- the part of a turn that a kick's answer lists
 abbrev pub shown : Turn → Exchange × Bool
 shown t = (t.exchange, t.notice)
 
--- a kick ends after most exchanges, or at a step that is idle or refused, which makes no call
+-- a kick ends after `most` exchanges, or at a step that is idle or refused and makes no call
 abbrev pub KickEnds : {F : Type 0} → May F → State F → ℕ → ℕ → Option DeviceError → State F → Type 0
 KickEnds may s i zero None after = after ≡ s
 KickEnds may s i (suc most) None after = Step may s i [] Idle after
 KickEnds may s i zero (Some e) after = ⊥
 KickEnds may s i (suc most) (Some e) after = Step may s i [] (Refused e) after
 
--- these exchanges, one after the other, each with its calls, and this end
+-- a kick makes these exchanges, one after another, each with its calls, and ends so
 unfoldable pub KickRun :
     {F : Type 0} → May F → State F → ℕ → ℕ → Turns → Option DeviceError → State F → Type 0
 KickRun may s i most [] refused after = KickEnds may s i most refused after
@@ -259,7 +261,7 @@ KickRun {F} may s i (suc most) (t ∷ ts) refused after =
     × Step may s i t.calls (Exchanged t.exchange t.notice) mid
     × KickRun may mid i most ts refused after
 
--- of a missing queue a kick lists that, whatever most
+-- a kick of a queue that may be missing; a missing one is refused with `NoSuchQueue`
 abbrev pub Kicks :
     {F : Type 0} → May F → State F → ℕ → ℕ → Option Queue → Turns → KickAnswer → State F → Type 0
 Kicks may s i most None told k after =
@@ -269,29 +271,31 @@ Kicks may s i most (Some q) told k after =
 
 -- ---- runs
 
--- whether a queue is there and isn't stopped
+-- whether a queue exists and isn't stopped
 abbrev pub is_open : Option Queue → Bool
 is_open None = false
 is_open (Some q) = not q.stopped
 
--- a kick makes room for its exchanges: none if its queue is missing or stopped, or if it is for none
+-- whether a kick allocates a list of its exchanges: not if its queue is missing or stopped, or `most`
+-- is 0
 abbrev pub kick_takes_memory : {F : Type 0} → State F → (queue most : ℕ) → Bool
 kick_takes_memory s queue most = is_open (slice_get s.queues queue) && nat_lt 0 most
 
--- whether a region may be there too: its last address fits, and no address gets a second place
+-- whether a region may join a layout: its last address fits 64 bits, and it overlaps no other region
 abbrev pub goes_in : List Region → Region → Bool
 goes_in layout r = fits r && not (list_any (overlap r) layout)
 
--- whether a block is there, and the region from an address on that is all of it may be there too
+-- whether a block exists, and a region from an address on that shows all of it may join the layout
 abbrev pub block_goes_in : List Region → (base block : ℕ) → Option Block → Bool
 block_goes_in layout base block None = false
 block_goes_in layout base block (Some b) =
     goes_in layout (record { start = base; size = length b.bytes; block = block })
 
--- whether a command takes memory, and so may be refused since an allocation fails: a read of some bytes, a
--- block, a region more or less and a change of mappings only if they aren't refused anyway. What maps
--- addresses takes some only if a run of them begins anew, and what takes a mapping out only if the address
--- behind them is mapped as one with the last
+-- whether a command allocates memory, and so may be refused with `OutOfMemory`: a read of at least one
+-- byte, a new block, a region added or removed, or a changed mapping, but only if no other refusal
+-- applies. A mapping allocates only if a new run of addresses begins at its first address or right
+-- behind it. A removal allocates only if the addresses before and behind its end are mapped in one
+-- piece
 abbrev pub command_takes_memory : {F : Type 0} → State F → Command → Bool
 command_takes_memory s (GuestWrite a bs) = false
 command_takes_memory s (Map iova target n perm) =
@@ -312,29 +316,29 @@ command_takes_memory s (RemoveRegion base size) = list_any (is_region base size)
 command_takes_memory s Image = true
 command_takes_memory s Harvest = true
 
--- a command has its effect, and nothing is behind its answer
+-- a command has this effect, and there is no exchange behind its answer
 abbrev pub HasEffect : {F : Type 0} → State F → Command → Turns → Answer → State F → Type 0
 HasEffect s command [] answer after = Affects s command answer after
 HasEffect s command (t ∷ ts) answer after = ⊥
 
--- a command that has enough memory
+-- a command for which the allocations succeed
 abbrev pub Does : {F : Type 0} → May F → State F → Command → Turns → Answer → State F → Type 0
 Does may s (Kick queue most) told (Served k) after =
     Kicks may s queue most (slice_get s.queues queue) told k after
 Does may s (Kick queue most) told answer after = ⊥
 Does may s command told answer after = HasEffect s command told answer after
 
--- a failed allocation changes nothing
+-- an allocation fails, and nothing changes
 abbrev pub LacksMemory : {F : Type 0} → State F → Command → Turns → State F → Type 0
 LacksMemory s command [] after = IsTrue (command_takes_memory s command) × (after ≡ s)
 LacksMemory s command (t ∷ ts) after = ⊥
 
--- a command may be answered so, with this behind its answer, and leave this state
+-- a command may have this answer, with these exchanges behind it, and leave this state
 abbrev pub Performs : {F : Type 0} → May F → State F → Command → Turns → Answer → State F → Type 0
 Performs may s command told (IsRefused why.OutOfMemory) after = LacksMemory s command told after
 Performs may s command told answer after = Does may s command told answer after
 
--- these answers to these commands, one after the other, with what is behind each
+-- these commands have these answers, one after another, each with the exchanges behind it
 unfoldable pub RunTold :
     {F : Type 0} → May F → State F → List (Command × Answer) → List Turns → State F → Type 0
 RunTold may s [] [] after = after ≡ s
@@ -343,6 +347,6 @@ RunTold may s (e ∷ es) [] after = ⊥
 RunTold {F} may s (e ∷ es) (told ∷ tolds) after =
     (mid : State F) × Performs may s e.0 told e.1 mid × RunTold may mid es tolds after
 
--- these answers to these commands, one after the other
+-- these commands may have these answers, one after another, and leave this state
 abbrev pub Run : {F : Type 0} → May F → State F → List (Command × Answer) → State F → Type 0
 Run may s events after = (tolds : List Turns) × RunTold may s events tolds after

@@ -28,28 +28,29 @@ pub record State (F : Type 0) : Type 0 where
   pub limit : ℕ
   pub page_size : ℕ
 
--- a chain that was taken and returned
+-- a chain that was taken and returned: its head, request and reply, and the fault if there is no reply
 pub record Exchange : Type 0 where
   pub head : ℕ
   pub request : List ℕ
   pub reply : List ℕ
   pub fault : Option Fault
 
--- how a step ends: nothing waits, it is refused, or a chain was exchanged, with whether the driver is told
+-- how a step ends: no chain is available, it is refused, or a chain was exchanged, with whether to
+-- notify the driver
 pub data StepEnd : Type 0 where
   Idle : StepEnd
   Refused : DeviceError → StepEnd
   Exchanged : Exchange → (notice : Bool) → StepEnd
 
--- the calls of a file system, in order, with what each was answered
+-- the calls to a file system, in order, each with its answer
 abbrev pub Calls : Type 0
 Calls = List (FileCall × FileAnswer)
 
--- the calls alone
+-- the calls without their answers
 abbrev pub calls_alone : Calls → List FileCall
 calls_alone steps = map (λ step. step.0) steps
 
--- the answers alone
+-- the answers without their calls
 abbrev pub answers_alone : Calls → List FileAnswer
 answers_alone steps = map (λ step. step.1) steps
 
@@ -58,7 +59,7 @@ abbrev pub EachSuits : Calls → Type 0
 EachSuits [] = Unit {0}
 EachSuits (step ∷ steps) = IsTrue (suits step.0 step.1) × EachSuits steps
 
--- another queue in the place of queue i
+-- the state with another queue instead of queue i
 abbrev pub with_queue : {F : Type 0} → State F → ℕ → Queue → State F
 with_queue s i q = record s { queues = changed_at s.queues i (λ _. q) }
 
@@ -78,13 +79,13 @@ after_return s i q head room reply options files =
       files = files;
     }
 
--- a fault of the server, as the exchange tells it
+-- a fault of the server, as the exchange has it
 abbrev pub served_fault : Option Error → Option Fault
 served_fault None = None
 served_fault (Some e) = Some (fault.Served e)
 
--- what the server does for a request: these calls, along which the file system's state moves, and what comes
--- of their answers
+-- the server serves a request: with these calls, through which the file system's state moves, and with
+-- this result of their answers
 pub record ServesRequest {F : Type 0} (may : May F) (page_size options : ℕ) (request : List ℕ) (room : ℕ)
     (before : F) (calls : Calls) (given : ServedMessage) (after : F) : Type 0 where
   pub gives :
@@ -92,30 +93,30 @@ pub record ServesRequest {F : Type 0} (may : May F) (page_size options : ℕ) (r
   pub asks : given.calls ≡ calls_alone calls
   pub run : FileRun may before calls after
 
--- a chain goes back with this exchange
+-- a chain is returned with this exchange
 pub record Returns {F : Type 0} (before : State F) (i : ℕ) (q : Queue) (room : List ℕ) (expected : Exchange)
     (options : ℕ) (x : Exchange) (notice : Bool) (after : State F) : Type 0 where
   pub exchange : x ≡ expected
   pub state : after ≡ after_return before i q expected.head room expected.reply options after.files
   pub told : notice ≡ wants_notice after.memory q
 
--- a faulty chain goes back with nothing
+-- the exchange of a faulty chain: no request, no reply, and its fault
 abbrev pub faulty : (head : ℕ) → ChainFault → Exchange
 faulty head why = record { head = head; request = []; reply = []; fault = Some (fault.Chain why) }
 
--- a request is answered by what it means: its reply whole, or not at all
+-- the exchange of a request that was served: its reply, or none and the fault
 abbrev pub served_exchange : (head : ℕ) → (request : List ℕ) → ServedMessage → Exchange
 served_exchange head request given =
     record { head = head; request = request; reply = given.reply; fault = served_fault given.fault }
 
--- a faulty chain goes back with nothing, and no call is made
+-- a faulty chain is returned without a reply, and no call is made
 pub record ReturnsFaulty {F : Type 0} (before : State F) (i : ℕ) (q : Queue) (head : ℕ) (why : ChainFault)
     (calls : Calls) (x : Exchange) (notice : Bool) (after : State F) : Type 0 where
   pub no_call : calls ≡ []
   pub files : after.files ≡ before.files
   pub returns : Returns before i q [] (faulty head why) before.options x notice after
 
--- a request is answered: what it means, its calls in order, its reply whole or not at all, then the used
+-- a request is answered by its meaning: its calls in order, then its whole reply or none, then the used
 -- element and the used index
 pub record Answers {F : Type 0} (may : May F) (before : State F) (i : ℕ) (q : Queue) (head : ℕ)
     (request room : List ℕ) (calls : Calls) (x : Exchange) (notice : Bool) (after : State F) : Type 0 where
@@ -124,7 +125,7 @@ pub record Answers {F : Type 0} (may : May F) (before : State F) (i : ℕ) (q : 
       given after.files
   pub returns : Returns before i q room (served_exchange head request given) given.options x notice after
 
--- a chain that was offered is exchanged
+-- the chain of an offer is exchanged
 abbrev pub Exchanges :
     {F : Type 0} → May F → State F → ℕ → Queue → Offer → Calls → Exchange → Bool → State F → Type 0
 Exchanges may before i q (Offers head (CannotFetch why)) calls x notice after =
@@ -134,8 +135,8 @@ Exchanges may before i q (Offers head (IsRequest request room)) calls x notice a
 Exchanges may before i q taking.Idle calls x notice after = ⊥
 Exchanges may before i q (Refuses e) calls x notice after = ⊥
 
--- what may happen at an offer: a step may be refused since an allocation fails, if a chain is offered, and
--- then nothing changes and no call is made
+-- the possible ends of a step on a queue with this offer. If a chain is offered, the step may also be
+-- refused because an allocation fails; then nothing changes and no call is made
 abbrev pub Acts : {F : Type 0} → May F → State F → ℕ → Queue → Offer → Calls → StepEnd → State F → Type 0
 Acts may before i q offered calls Idle after = (offered ≡ taking.Idle) × Unchanged before calls after
 Acts may before i q offered calls (Refused (device.Queue stop.OutOfMemory)) after =
@@ -153,6 +154,6 @@ StepOf may before i None calls outcome after =
 StepOf may before i (Some q) calls outcome after =
     Acts may before i q (offer before.memory before.limit q) calls outcome after
 
--- a step on queue i may make these calls, end so, and leave this state
+-- a step on queue i may make these calls, end with this outcome, and leave this state
 abbrev pub Step : {F : Type 0} → May F → State F → ℕ → Calls → StepEnd → State F → Type 0
 Step may before i calls outcome after = StepOf may before i (slice_get before.queues i) calls outcome after

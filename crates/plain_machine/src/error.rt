@@ -6,8 +6,8 @@ use fs_queue::QueueError;
 use std::alloc::AllocError;
 use thiserror::Error;
 
-/// Why a step is refused: by its queue (`QueueError`, of which `OutOfMemory` comes from the device too), or
-/// since that queue is missing.
+/// A step's refusal: an error of its queue (`QueueError`; `OutOfMemory` may also be the device's), or a
+/// missing queue.
 #[derive(Clone, Copy, Debug, PartialEq, Eq, Error)]
 pub enum DeviceError {
     #[error("{0}")]
@@ -19,7 +19,7 @@ pub enum DeviceError {
 impl DeviceError {
     ghost use Rattle.plain_machine.specs.Refusing.{refusal_number};
 
-    /// The number that tells the refusal apart: a queue's own, from 1 to 9, and 10 for `NoSuchQueue`.
+    /// The refusal's number: 1 to 9 for a queue's error (`QueueError::number`), 10 for `NoSuchQueue`.
     pub fn number(&self) -> u8
         ensures { result ≡ refusal_number self.now }
     {

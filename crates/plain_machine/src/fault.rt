@@ -3,8 +3,8 @@
 use fs_queue::ChainFault;
 use virtiofsd_fuse::Error;
 
-/// Why a chain was returned without a reply: the chain is faulty (VIRTIO 1.2, 2.7), or the server has a fault
-/// of its request (virtiofsd's `Error`).
+/// Why a chain was returned without a reply: the chain is faulty (VIRTIO 1.2, 2.7), or the server found
+/// a fault in its request (virtiofsd's `Error`).
 #[derive(Clone, Copy, Debug, PartialEq, Eq)]
 pub enum Fault {
     Chain(ChainFault),

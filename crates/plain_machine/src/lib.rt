@@ -1,5 +1,6 @@
-//! The plain machine that both devices are proved to be: a guest and its device, without windows, buffers or
-//! handles. What a step and a run are lies in `specs/`; here are the errors and faults that these name.
+//! The plain machine that both devices are proved to be: a guest and its device, without windows,
+//! buffers or handles. `specs/` defines its steps and runs; this is the code of their errors and
+//! faults.
 #![tactic(auto)]
 
 mod error;

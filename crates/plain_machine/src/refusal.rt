@@ -4,7 +4,7 @@ ghost use Rattle.std.specs.Prelude.{◌≡◌};
 
 use thiserror::Error;
 
-/// Why a command of a `Machine` changes nothing.
+/// Why a command of a `Machine` was refused. A refused command changes nothing.
 #[derive(Clone, Copy, Debug, PartialEq, Eq, Error)]
 pub enum Refusal {
     #[error("an address has no place")]
@@ -30,8 +30,7 @@ pub enum Refusal {
 impl Refusal {
     ghost use Rattle.plain_machine.specs.Refusing.{command_refusal_number};
 
-    /// The number that tells the refusal apart, from 1 for `NoPlace` to 9 for `OutOfMemory`, in the order
-    /// above.
+    /// The refusal's number: 1 for `NoPlace` to 9 for `OutOfMemory`, in the order above.
     pub fn number(&self) -> u8
         ensures { result ≡ command_refusal_number self.now }
     {

@@ -1,4 +1,4 @@
--- For whom the calls of requests are made.
+-- The caller of a file call, and the shape of its request.
 use Rattle.std.specs.Prelude.{◌≡◌, Bool, true, false}
 use Rattle.fuse_in.specs.declared.session.InHeader.{InHeader}
 use Rattle.fuse_fs.specs.declared.answers.Context.{Context}
@@ -11,7 +11,7 @@ use Rattle.fuse_fs.specs.Calls.{Removexattr, Getxattr, Rename, Setxattr, Forget,
 use Rattle.fuse_fs.specs.Calls.{Listxattr, Open, Opendir}
 use Rattle.fuse_fs.specs.Calls.{Release, Releasedir, Fsync, Fsyncdir, Flush, Fallocate, Lseek, CopyFileRange}
 
--- who gets an entry, of the calls that have one
+-- a call that may answer an entry is made for this caller
 abbrev pub IsFor : Context → FileCall → Type 0
 IsFor who (Lookup c n name) = c ≡ who
 IsFor who (Symlink c l n name x) = c ≡ who
@@ -21,7 +21,7 @@ IsFor who (Link c o n name) = c ≡ who
 IsFor who (Create c n name m k f u x) = c ≡ who
 IsFor who _ = Unit {0}
 
--- the calls of requests that hold no data and no pairs, whose room decides nothing, but INIT's
+-- every call but those of INIT, BATCH_FORGET, READ, WRITE and READDIR
 abbrev pub is_plain : FileCall → Bool
 is_plain (Init capable) = false
 is_plain (BatchForget c counts) = false
@@ -30,12 +30,12 @@ is_plain (Write c n h b s o w d k f) = false
 is_plain (Readdir c n h s o) = false
 is_plain _ = true
 
--- the call is such a one, and is made for who sent the header
+-- the call is plain, and a call that may answer an entry is made for the request's sender
 abbrev pub CallSays : InHeader → FileCall → Type 0
 CallSays h call = (is_plain call ≡ true) × IsFor (context_of h) call
 
--- what a request has behind its header: nothing, a record, a record of an open file, a name, a record with
--- names, or the name of a node that is made
+-- the parts of a request behind its header: none, a record, a record of an open file, a name, a
+-- record with names, or the name of a new node
 pub data RequestShape : Type 0 where
   Header : RequestShape
   Fixed : RequestShape
@@ -45,7 +45,7 @@ pub data RequestShape : Type 0 where
   Made : RequestShape
   Other : RequestShape
 
--- the shape of the request that asks a call
+-- the shape of the request that makes this call
 abbrev pub shape_of : FileCall → RequestShape
 shape_of (Readlink c n) = Header
 shape_of (Statfs c n) = Header
@@ -88,7 +88,7 @@ shape_of (Mkdir c n name m u x) = Made
 shape_of (Create c n name m k f u x) = Made
 shape_of _ = Other
 
--- a request of one record
+-- the request is one record
 abbrev pub is_record : RequestShape → Bool
 is_record Fixed = true
 is_record OnFile = true

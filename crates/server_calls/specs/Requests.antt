@@ -1,4 +1,4 @@
--- What requests ask of the file system, by their header and what they say (linux/fuse.h).
+-- The file call of each request, made from its header, record and names (linux/fuse.h).
 use Rattle.std.specs.Prelude.{ℕ, Bool, true, false, not, ◌||◌, nat_lt, List, [], ◌∷◌, length, Option, Some}
 use Rattle.std.specs.Prelude.{None, is_none, if◌then◌else◌, bit_and}
 use Rattle.vm_values.specs.Bits.{has_bit}
@@ -35,7 +35,7 @@ use Rattle.fuse_fs.specs.Calls.{Extra}
 use Rattle.fuse_fs.specs.Calls.{Symlink, Mknod, Mkdir, Create, NewLink, Destroy, Getlk, Setlk, Setlkw, Bmap}
 use Rattle.fuse_fs.specs.Calls.{Ioctl, Poll, NotifyReply}
 
--- a number that counts only if its flag is set
+-- a number, if its flag is set
 abbrev pub if_set : Bool → ℕ → Option ℕ
 if_set test n = if test then Some n else None
 
@@ -43,7 +43,7 @@ if_set test n = if test then Some n else None
 abbrev pub lookup_call : InHeader → List ℕ → FileCall
 lookup_call h name = Lookup (context_of h) h.nodeid name
 
--- FORGET: so many of the counts that the client holds on the node
+-- FORGET: the lookup count of a node decreases by `nlookup`
 abbrev pub forget_call : InHeader → ForgetIn → FileCall
 forget_call h r = Forget (context_of h) h.nodeid r.nlookup
 
@@ -53,16 +53,16 @@ read_call h room r =
     Read (context_of h) h.nodeid r.fh room r.size r.offset
     (if_set (has_bit r.read_flags 1) r.lock_owner) r.flags
 
--- READDIR and READDIRPLUS
+-- READDIR and READDIRPLUS: the entries of an open directory behind an offset, in `size` bytes
 abbrev pub directory_call : InHeader → ReadIn → FileCall
 directory_call h r = Readdir (context_of h) h.nodeid r.fh r.size r.offset
 
--- BATCH_FORGET: nodes, each with how many of the counts that the client holds on it
+-- BATCH_FORGET: the lookup count of each node decreases by the number beside it
 abbrev pub batch_forget_call : InHeader → List (ℕ × ℕ) → FileCall
 batch_forget_call h pairs = BatchForget (context_of h) pairs
 
--- WRITE: `lock_owner` counts only with FUSE_WRITE_LOCKOWNER (bit 1 of `write_flags`); the page cache writes
--- late with FUSE_WRITE_CACHE (bit 0), and set-id bits are dropped with FUSE_WRITE_KILL_SUIDGID (bit 2)
+-- WRITE: `lock_owner` counts only with FUSE_WRITE_LOCKOWNER (bit 1 of `write_flags`). FUSE_WRITE_CACHE (bit
+-- 0) is a delayed write of the page cache; FUSE_WRITE_KILL_SUIDGID (bit 2) drops the set-id bits
 abbrev pub write_call : InHeader → WriteIn → List ℕ → FileCall
 write_call h r bytes =
     Write (context_of h) h.nodeid r.fh bytes r.size r.offset (if_set (has_bit r.write_flags 1) r.lock_owner)
@@ -72,7 +72,7 @@ write_call h r bytes =
 abbrev pub getattr_call : InHeader → GetattrIn → FileCall
 getattr_call h r = Getattr (context_of h) h.nodeid (if_set (has_bit r.flags 0) r.fh)
 
--- the bits of `valid` in SETATTR that are known
+-- the known bits of `valid` in SETATTR
 abbrev pub known_setattr : ℕ
 known_setattr = 0xdbf
 
@@ -93,7 +93,7 @@ unlink_call h name = Unlink (context_of h) h.nodeid name
 abbrev pub rmdir_call : InHeader → List ℕ → FileCall
 rmdir_call h name = Rmdir (context_of h) h.nodeid name
 
--- OPEN: set-id bits are dropped with FUSE_OPEN_KILL_SUIDGID (bit 0 of `open_flags`)
+-- OPEN: FUSE_OPEN_KILL_SUIDGID (bit 0 of `open_flags`) drops the set-id bits
 abbrev pub open_call : InHeader → OpenIn → FileCall
 open_call h r = Open (context_of h) h.nodeid (has_bit r.open_flags 0) r.flags
 
@@ -108,11 +108,11 @@ release_call h r =
     Release (context_of h) h.nodeid r.flags r.fh (has_bit r.release_flags 0) (has_bit r.release_flags 1)
     (if_set (has_bit r.release_flags 0 || has_bit r.release_flags 1) r.lock_owner)
 
--- FSYNC: the data alone with FUSE_FSYNC_FDATASYNC (bit 0 of `fsync_flags`)
+-- FSYNC: only the data with FUSE_FSYNC_FDATASYNC (bit 0 of `fsync_flags`)
 abbrev pub fsync_call : InHeader → FsyncIn → FileCall
 fsync_call h r = Fsync (context_of h) h.nodeid (has_bit r.fsync_flags 0) r.fh
 
--- FSYNCDIR, likewise
+-- FSYNCDIR: only the data with FUSE_FSYNC_FDATASYNC (bit 0 of `fsync_flags`)
 abbrev pub fsyncdir_call : InHeader → FsyncIn → FileCall
 fsyncdir_call h r = Fsyncdir (context_of h) h.nodeid (has_bit r.fsync_flags 0) r.fh
 
@@ -153,7 +153,7 @@ copy_file_range_call h r =
 abbrev pub syncfs_call : InHeader → FileCall
 syncfs_call h = Syncfs (context_of h) h.nodeid
 
--- LINK of an old node
+-- LINK: a new name of an old node
 abbrev pub link_call : InHeader → LinkIn → List ℕ → FileCall
 link_call h r name = Link (context_of h) r.oldnodeid h.nodeid name
 
@@ -161,15 +161,16 @@ link_call h r name = Link (context_of h) r.oldnodeid h.nodeid name
 abbrev pub rename_call : InHeader → RenameIn → List ℕ × List ℕ → FileCall
 rename_call h r names = Rename (context_of h) h.nodeid names.0 r.newdir names.1 0
 
--- RENAME2, likewise, with the flags RENAME_NOREPLACE, RENAME_EXCHANGE and RENAME_WHITEOUT
+-- RENAME2 of the old name to the new one, with the flags RENAME_NOREPLACE, RENAME_EXCHANGE and
+-- RENAME_WHITEOUT
 abbrev pub rename2_call : InHeader → Rename2In → List ℕ × List ℕ → FileCall
 rename2_call h r names = Rename (context_of h) h.nodeid names.0 r.newdir names.1 (bit_and r.flags 7)
 
--- the bits of `setxattr_flags` that are known
+-- the known bits of `setxattr_flags`
 abbrev pub known_setxattr : ℕ
 known_setxattr = 1
 
--- SETXATTR of a name to a value; of its further flags one is known
+-- SETXATTR of a name to a value, with the known bit of `setxattr_flags`
 abbrev pub setxattr_call : InHeader → SetxattrIn → List ℕ × List ℕ → FileCall
 setxattr_call h r parts =
     Setxattr (context_of h) h.nodeid parts.0 parts.1 r.flags (bit_and r.setxattr_flags known_setxattr)
@@ -194,11 +195,11 @@ mknod_call h r x = Mknod (context_of h) h.nodeid x.0 r.mode r.rdev r.umask x.1
 abbrev pub mkdir_call : InHeader → MkdirIn → List ℕ × Extra → FileCall
 mkdir_call h r x = Mkdir (context_of h) h.nodeid x.0 r.mode r.umask x.1
 
--- CREATE: set-id bits are dropped with FUSE_OPEN_KILL_SUIDGID (bit 0 of `open_flags`)
+-- CREATE: FUSE_OPEN_KILL_SUIDGID (bit 0 of `open_flags`) drops the set-id bits
 abbrev pub create_call : InHeader → CreateIn → List ℕ × Extra → FileCall
 create_call h r x = Create (context_of h) h.nodeid x.0 r.mode (has_bit r.open_flags 0) r.flags r.umask x.1
 
--- the calls whose good answer is not told
+-- the calls that have no reply if they succeed
 abbrev pub is_silent : FileCall → Bool
 is_silent (Forget c n k) = true
 is_silent (BatchForget c counts) = true
@@ -212,11 +213,11 @@ is_silent NotifyReply = true
 is_silent Destroy = true
 is_silent _ = false
 
--- whether a context comes that isn't empty
+-- a security context is sent, and it isn't empty
 abbrev pub has_security : Extra → Bool
 has_security x = not (is_none x.security)
 
--- the calls that are handed memory of their own: pairs, or a context that isn't empty
+-- the calls that own memory: pairs, or a security context that isn't empty
 abbrev pub owns_memory : FileCall → Bool
 owns_memory (BatchForget c counts) = nat_lt 0 (length counts)
 owns_memory (Symlink c l n name x) = has_security x
@@ -225,23 +226,23 @@ owns_memory (Mkdir c n name m u x) = has_security x
 owns_memory (Create c n name m k f u x) = has_security x
 owns_memory _ = false
 
--- DESTROY ends what was agreed
+-- the options after a call: none after DESTROY
 abbrev pub options_after : ℕ → FileCall → ℕ
 options_after options Destroy = 0
 options_after options _ = options
 
--- the node of the entry that an answer has
+-- the node of the entry in an answer
 abbrev pub entry_node : FileAnswer → Option ℕ
 entry_node (HasEntry e) = Some e.inode
 entry_node (Created e handle options) = Some e.inode
 entry_node _ = None
 
--- the call that gives a node back, if there is one
+-- FORGET of one lookup of a node, if there is a node
 abbrev pub give_back : Context → (node : Option ℕ) → List FileCall
 give_back who None = []
 give_back who (Some node) = Forget who node 1 ∷ []
 
--- the call that gives back the entry that was answered, node 0 too; a file that `create` opened stays open
+-- FORGET of the entry that a call answered, for node 0 too. A file that CREATE opened stays open
 abbrev pub given_back : FileCall → FileAnswer → List FileCall
 given_back (Lookup who n name) answer = give_back who (entry_node answer)
 given_back (Symlink who l n name x) answer = give_back who (entry_node answer)

@@ -9,8 +9,8 @@ use fuse_fs::{Context, FileNumber, FileSystem};
 use fuse_in::{InHeader, ReadIn};
 use fuse_wire::Errno;
 
-/// READDIR and READDIRPLUS (`struct fuse_read_in`): the entries of a directory behind an offset, or the file
-/// system's errno, from 1 to 4095. READDIRPLUS then looks each of them up.
+/// READDIR and READDIRPLUS (`struct fuse_read_in`): the entries of a directory behind an offset. The error
+/// is the file system's errno, from 1 to 4095. For READDIRPLUS the server then looks up each entry.
 pub fn make_readdir_call<F: FileSystem>(
     fs: &mut F,
     head: &InHeader,

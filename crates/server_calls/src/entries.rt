@@ -1,4 +1,4 @@
-//! The entries in answers: where one can't be told, its node is given back.
+//! The entries in answers. The server forgets the node of an entry whose reply doesn't fit.
 
 ghost use Rattle.std.specs.Prelude.{◌≡◌, None, Ok, option_map};
 ghost use Rattle.fuse_fs.specs.Answers.{context_of};
@@ -9,7 +9,7 @@ use fuse_wire::{Errno, OpenOptions};
 
 /// An answer that may have an entry.
 pub trait EntryAnswer<I: FileNumber>: GoodAnswer {
-    /// The node of a good one's entry.
+    /// The node of the answer's entry, if it has one.
     fn node(&self) -> Option<I>
         ensures { option_map I.number result ≡ entry_node (Self.said (Ok self.now)) };
 }
@@ -38,7 +38,7 @@ impl<I: FileNumber, H: FileNumber> EntryAnswer<I> for (Entry<I>, Option<H>, Open
     }
 }
 
-/// The node of the entry that was answered, if there is one.
+/// The node of the entry in an answer, if it has one.
 pub fn answered_node<I: FileNumber, A: EntryAnswer<I>>(answer: &Result<A, Errno>) -> Option<I>
     ensures { option_map I.number result ≡ entry_node (A.said answer.now) }
 {

@@ -1,5 +1,5 @@
-//! What FUSE requests ask of a file system: the call that each of them makes, whose answer is handed on as it
-//! came (linux/fuse.h). READDIRPLUS goes on with a LOOKUP for each entry; INTERRUPT makes no call.
+//! The file call of each FUSE request (linux/fuse.h). The file system's answer is passed on unchanged. For
+//! READDIRPLUS the server also makes a LOOKUP for each entry. INTERRUPT makes no call.
 #![tactic(auto)]
 
 pub mod directories;

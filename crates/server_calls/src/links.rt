@@ -1,4 +1,4 @@
-//! Requests that give a node a name, and that move names.
+//! Requests that add or move names of nodes.
 
 ghost use Rattle.std.specs.Prelude.{refl};
 ghost use Rattle.server_calls.specs.Requests.{link_call, rename_call, rename2_call};
@@ -8,7 +8,7 @@ use fuse_fs::Context;
 use fuse_in::{InHeader, LinkIn, Rename2In, RenameIn};
 use fuse_values::FileCall;
 
-/// LINK (`struct fuse_link_in`): a node gets one more name.
+/// LINK (`struct fuse_link_in`): adds a name to a node.
 pub struct Link;
 
 impl RecordNameValue for Link {
@@ -28,7 +28,7 @@ impl RecordNameValue for Link {
     }
 }
 
-/// RENAME (`struct fuse_rename_in`): a name moves.
+/// RENAME (`struct fuse_rename_in`): moves a name.
 pub struct Rename;
 
 impl TwoPartsValue for Rename {
@@ -55,10 +55,10 @@ impl TwoPartsValue for Rename {
     }
 }
 
-/// The flags of `renameat2(2)`: RENAME_NOREPLACE, RENAME_EXCHANGE and RENAME_WHITEOUT.
+/// The known flags of `renameat2(2)`: RENAME_NOREPLACE, RENAME_EXCHANGE and RENAME_WHITEOUT.
 const RENAME_FLAGS: u32 = 7;
 
-/// RENAME2 (`struct fuse_rename2_in`): a name moves, by flags.
+/// RENAME2 (`struct fuse_rename2_in`): moves a name, with the known flags of `renameat2(2)`.
 pub struct Rename2;
 
 impl TwoPartsValue for Rename2 {

@@ -1,4 +1,4 @@
-//! Requests that make a node.
+//! Requests that create a node.
 
 ghost use Rattle.std.specs.Prelude.{◌≡◌, [], refl};
 ghost use Rattle.fuse_values.specs.Values.{call_of, received_extra};
@@ -10,7 +10,7 @@ use fuse_in::{CreateIn, InHeader, MkdirIn, MknodIn};
 use fuse_values::{FileCall, Received};
 use fuse_wire::constants::OPEN_KILL_SUIDGID;
 
-/// MKNOD (`struct fuse_mknod_in`): a file of a kind is made.
+/// MKNOD (`struct fuse_mknod_in`): creates a node of the kind in `mode`.
 pub struct Mknod;
 
 impl NewNameValue for Mknod {
@@ -38,7 +38,7 @@ impl NewNameValue for Mknod {
     }
 }
 
-/// MKDIR (`struct fuse_mkdir_in`): a directory is made.
+/// MKDIR (`struct fuse_mkdir_in`): creates a directory.
 pub struct Mkdir;
 
 impl NewNameValue for Mkdir {
@@ -65,7 +65,7 @@ impl NewNameValue for Mkdir {
     }
 }
 
-/// CREATE (`struct fuse_create_in`): a file is made and opened.
+/// CREATE (`struct fuse_create_in`): creates a file and opens it.
 pub struct Create;
 
 impl NewNameValue for Create {
@@ -94,7 +94,7 @@ impl NewNameValue for Create {
     }
 }
 
-/// SYMLINK: a symbolic link is made, which leads to `link`.
+/// SYMLINK: creates a symbolic link to `link`.
 pub fn symlink_value<'a>(
     head: &InHeader,
     link: &'a [u8],

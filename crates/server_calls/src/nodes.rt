@@ -14,7 +14,7 @@ use fuse_values::FileCall;
 use fuse_wire::SetattrValid;
 use fuse_wire::constants::{FATTR_FH, GETATTR_FH};
 
-/// LOOKUP: what a name stands for.
+/// LOOKUP: the entry of a name in a directory.
 pub struct Lookup;
 
 impl NameValue for Lookup {
@@ -31,7 +31,7 @@ impl NameValue for Lookup {
     }
 }
 
-/// UNLINK: a name goes.
+/// UNLINK: removes a name.
 pub struct Unlink;
 
 impl NameValue for Unlink {
@@ -48,7 +48,7 @@ impl NameValue for Unlink {
     }
 }
 
-/// RMDIR: an empty directory goes.
+/// RMDIR: removes an empty directory.
 pub struct Rmdir;
 
 impl NameValue for Rmdir {
@@ -65,7 +65,7 @@ impl NameValue for Rmdir {
     }
 }
 
-/// REMOVEXATTR: an extended attribute goes.
+/// REMOVEXATTR: removes an extended attribute.
 pub struct Removexattr;
 
 impl NameValue for Removexattr {
@@ -82,7 +82,7 @@ impl NameValue for Removexattr {
     }
 }
 
-/// FORGET (`struct fuse_forget_in`): a node is held less.
+/// FORGET (`struct fuse_forget_in`): decreases the lookup count of a node by `nlookup`.
 pub struct Forget;
 
 impl RecordValue for Forget {
@@ -120,7 +120,7 @@ impl RecordValue for Getattr {
     }
 }
 
-// The attributes that are set, of those that are known.
+// The known bits of `valid` of `struct fuse_setattr_in`.
 #[tactic(auto, using(crate::proofs::Options::known_setattr_are))]
 fn known_valid(valid: u32) -> SetattrValid
     ensures { result.0 ≡ bit_and valid known_setattr }
@@ -128,7 +128,7 @@ fn known_valid(valid: u32) -> SetattrValid
     SetattrValid::from_bits_truncate(valid)
 }
 
-/// SETATTR (`struct fuse_setattr_in`): attributes of a node are set.
+/// SETATTR (`struct fuse_setattr_in`): sets attributes of a node.
 pub struct Setattr;
 
 impl RecordValue for Setattr {
@@ -149,7 +149,7 @@ impl RecordValue for Setattr {
     }
 }
 
-/// ACCESS (`struct fuse_access_in`): whether a node may be used so.
+/// ACCESS (`struct fuse_access_in`): checks whether the caller may access a node as `mask` says.
 pub struct Access;
 
 impl RecordValue for Access {
@@ -168,7 +168,7 @@ impl RecordValue for Access {
     }
 }
 
-/// READLINK: what a symbolic link leads to.
+/// READLINK: the target of a symbolic link.
 pub struct Readlink;
 
 impl PlainValue for Readlink {
@@ -184,7 +184,7 @@ impl PlainValue for Readlink {
     }
 }
 
-/// STATFS: the numbers of the file system.
+/// STATFS: the statistics of the file system.
 pub struct Statfs;
 
 impl PlainValue for Statfs {
@@ -200,7 +200,7 @@ impl PlainValue for Statfs {
     }
 }
 
-/// SYNCFS: all is written to the disk.
+/// SYNCFS: writes the whole file system to the disk.
 pub struct Syncfs;
 
 impl PlainValue for Syncfs {

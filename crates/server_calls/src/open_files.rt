@@ -1,4 +1,4 @@
-//! Requests on open files and directories that are one record.
+//! Requests on open files and directories: each is one record.
 
 ghost use Rattle.std.specs.Prelude.{◌≡◌, ◌||◌, refl};
 ghost use Rattle.vm_values.specs.Bits.{has_bit};
@@ -17,7 +17,7 @@ use fuse_wire::constants::{
     FSYNC_FDATASYNC, OPEN_KILL_SUIDGID, RELEASE_FLOCK_UNLOCK, RELEASE_FLUSH,
 };
 
-/// OPEN (`struct fuse_open_in`): a file is opened.
+/// OPEN (`struct fuse_open_in`): opens a file.
 pub struct Open;
 
 impl RecordValue for Open {
@@ -37,7 +37,7 @@ impl RecordValue for Open {
     }
 }
 
-// Who holds the lock, where a flag says that it is told.
+// The lock owner, if FUSE_RELEASE_FLUSH or FUSE_RELEASE_FLOCK_UNLOCK is set.
 fn releasing_owner(request: &ReleaseIn) -> Option<u64>
     ensures { result ≡ if_set (has_bit request.now.release_flags 0 || has_bit request.now.release_flags 1)
         request.now.lock_owner }
@@ -47,7 +47,7 @@ fn releasing_owner(request: &ReleaseIn) -> Option<u64>
     number_if(told, request.lock_owner)
 }
 
-/// RELEASE (`struct fuse_release_in`): an open file goes.
+/// RELEASE (`struct fuse_release_in`): closes an open file.
 pub struct Release;
 
 impl RecordValue for Release {
@@ -70,7 +70,7 @@ impl RecordValue for Release {
     }
 }
 
-/// FSYNC (`struct fuse_fsync_in`): a file is written to the disk.
+/// FSYNC (`struct fuse_fsync_in`): writes a file to the disk.
 pub struct Fsync;
 
 impl RecordValue for Fsync {
@@ -90,7 +90,7 @@ impl RecordValue for Fsync {
     }
 }
 
-/// FSYNCDIR (`struct fuse_fsync_in`): a directory is written to the disk.
+/// FSYNCDIR (`struct fuse_fsync_in`): writes a directory to the disk.
 pub struct Fsyncdir;
 
 impl RecordValue for Fsyncdir {
@@ -110,7 +110,7 @@ impl RecordValue for Fsyncdir {
     }
 }
 
-/// FLUSH (`struct fuse_flush_in`): a descriptor of an open file is closed.
+/// FLUSH (`struct fuse_flush_in`): the client closed a descriptor of an open file.
 pub struct Flush;
 
 impl RecordValue for Flush {
@@ -130,7 +130,7 @@ impl RecordValue for Flush {
     }
 }
 
-/// OPENDIR (`struct fuse_open_in`): a directory is opened.
+/// OPENDIR (`struct fuse_open_in`): opens a directory.
 pub struct Opendir;
 
 impl RecordValue for Opendir {
@@ -149,7 +149,7 @@ impl RecordValue for Opendir {
     }
 }
 
-/// RELEASEDIR (`struct fuse_release_in`): an open directory goes.
+/// RELEASEDIR (`struct fuse_release_in`): closes an open directory.
 pub struct Releasedir;
 
 impl RecordValue for Releasedir {
@@ -169,7 +169,7 @@ impl RecordValue for Releasedir {
     }
 }
 
-/// FALLOCATE (`struct fuse_fallocate_in`): room in a file.
+/// FALLOCATE (`struct fuse_fallocate_in`): allocates or frees space of a file.
 pub struct Fallocate;
 
 impl RecordValue for Fallocate {
@@ -191,7 +191,7 @@ impl RecordValue for Fallocate {
     }
 }
 
-/// LSEEK (`struct fuse_lseek_in`): a place in a file.
+/// LSEEK (`struct fuse_lseek_in`): finds data or a hole in a file.
 pub struct Lseek;
 
 impl RecordValue for Lseek {
@@ -212,7 +212,7 @@ impl RecordValue for Lseek {
     }
 }
 
-/// COPY_FILE_RANGE (`struct fuse_copy_file_range_in`): bytes of one file go to another.
+/// COPY_FILE_RANGE (`struct fuse_copy_file_range_in`): copies bytes of one file to another.
 pub struct CopyFileRange;
 
 impl RecordValue for CopyFileRange {

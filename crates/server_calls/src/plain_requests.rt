@@ -1,4 +1,4 @@
-//! Requests of which a file system is told nothing but that they came.
+//! Requests whose contents the server doesn't read: the file system learns only that they arrived.
 
 ghost use Rattle.std.specs.Prelude.{refl};
 ghost use Rattle.fuse_fs.specs.Calls as call;
@@ -7,7 +7,7 @@ use crate::values::PlainValue;
 use fuse_in::InHeader;
 use fuse_values::FileCall;
 
-/// GETLK: a lock that is in the way.
+/// GETLK: tests for a lock.
 pub struct Getlk;
 
 impl PlainValue for Getlk {
@@ -20,7 +20,7 @@ impl PlainValue for Getlk {
     }
 }
 
-/// SETLK: a lock.
+/// SETLK: sets a lock.
 pub struct Setlk;
 
 impl PlainValue for Setlk {
@@ -33,7 +33,7 @@ impl PlainValue for Setlk {
     }
 }
 
-/// SETLKW: a lock that is waited for.
+/// SETLKW: sets a lock, and waits for it.
 pub struct Setlkw;
 
 impl PlainValue for Setlkw {
@@ -46,7 +46,7 @@ impl PlainValue for Setlkw {
     }
 }
 
-/// BMAP: a block of the disk.
+/// BMAP: finds the disk block of a file's block.
 pub struct Bmap;
 
 impl PlainValue for Bmap {
@@ -59,7 +59,7 @@ impl PlainValue for Bmap {
     }
 }
 
-/// IOCTL: a command of a device.
+/// IOCTL: a command for a device.
 pub struct Ioctl;
 
 impl PlainValue for Ioctl {
@@ -72,7 +72,7 @@ impl PlainValue for Ioctl {
     }
 }
 
-/// POLL: what a file is ready for.
+/// POLL: the events that a file is ready for.
 pub struct Poll;
 
 impl PlainValue for Poll {
@@ -85,7 +85,7 @@ impl PlainValue for Poll {
     }
 }
 
-/// NOTIFY_REPLY: the answer to a notice.
+/// NOTIFY_REPLY: the client's answer to a notification.
 pub struct NotifyReply;
 
 impl PlainValue for NotifyReply {
@@ -98,7 +98,7 @@ impl PlainValue for NotifyReply {
     }
 }
 
-/// TMPFILE: a file without a name; refused by each file system.
+/// TMPFILE: creates a file without a name. Every file system refuses it.
 pub struct TmpFile;
 
 impl PlainValue for TmpFile {

@@ -1,4 +1,4 @@
-//! READ: what is read of an open file.
+//! READ: reads bytes of an open file.
 
 ghost use Rattle.std.specs.Prelude.{◌≡◌, ℕ, ◌+◌, ◌<◌, List, length, IfOk, IfErr, IsTrue, OnErr};
 ghost use Rattle.fuse_fs.specs.Answers.{data_answer};
@@ -11,8 +11,8 @@ use fuse_in::{InHeader, ReadIn};
 use fuse_wire::Errno;
 use fuse_wire::constants::READ_LOCKOWNER;
 
-/// READ (`struct fuse_read_in`): bytes of a file go into a writer. Answers how many, or the file system's
-/// errno, from 1 to 4095.
+/// READ (`struct fuse_read_in`): the file system puts bytes of a file into a writer. Returns their
+/// number, or the file system's errno, from 1 to 4095.
 #[inline(always)]
 pub fn make_read_call<F: FileSystem, W: ZeroCopyWriter>(
     fs: &mut F,

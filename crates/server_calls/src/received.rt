@@ -1,4 +1,4 @@
-//! Answers of a file system as they come.
+//! Answers of a file system, passed on unchanged with the ranges of their numbers.
 
 ghost use Rattle.std.specs.Prelude.{◌≡◌, ◌<◌, ◌^◌, true, Ok, IfOk, IfErr, option_map};
 ghost use Rattle.fuse_fs.specs.Answers.{done_answer, value_answer, names_answer};
@@ -7,7 +7,7 @@ ghost use Rattle.fuse_fs.specs.Calls.{is_handle, is_of, IsBytesOrCount};
 use fuse_fs::{Entry, FileNumber, GetxattrReply, ListxattrReply, Silence};
 use fuse_wire::{Errno, OpenOptions};
 
-/// An answer as it came. An errno (errno.h) is from 1 to 4095, which is told here once for all calls.
+/// The answer, unchanged. An errno (errno.h) is from 1 to 4095: this contract says it for all calls.
 pub fn received<T>(answer: Result<T, Errno>) -> Result<T, Errno>
     ensures same { result ≡ answer }
     ensures errno { IfErr result (λ e. (0 < e) × (e < 4096)) }
@@ -22,7 +22,7 @@ pub fn received<T>(answer: Result<T, Errno>) -> Result<T, Errno>
     }
 }
 
-/// An entry as it came. The number of its node is below 2^64.
+/// The entry, unchanged. Its node number is below 2^64. An errno is from 1 to 4095.
 pub fn received_entry<I: FileNumber>(answer: Result<Entry<I>, Errno>) -> Result<Entry<I>, Errno>
     ensures same { result ≡ answer }
     ensures errno { IfErr result (λ e. (0 < e) × (e < 4096)) }
@@ -38,7 +38,7 @@ pub fn received_entry<I: FileNumber>(answer: Result<Entry<I>, Errno>) -> Result<
     }
 }
 
-// An open file's number as it came, below 2^64 where there is one.
+// The number of an open file, unchanged. It is below 2^64.
 fn received_handle<H: FileNumber>(handle: Option<H>) -> Option<H>
     ensures same { result ≡ handle }
     ensures handle { is_handle (option_map H.number result) ≡ true }
@@ -53,7 +53,7 @@ fn received_handle<H: FileNumber>(handle: Option<H>) -> Option<H>
     }
 }
 
-/// An opened file as it came. Its number is below 2^64.
+/// The opened file, unchanged. Its number is below 2^64. An errno is from 1 to 4095.
 pub fn received_opened<H: FileNumber>(
     answer: Result<(Option<H>, OpenOptions), Errno>,
 ) -> Result<(Option<H>, OpenOptions), Errno>
@@ -67,7 +67,8 @@ pub fn received_opened<H: FileNumber>(
     }
 }
 
-/// A created file as it came. The numbers of its node and of the open file are below 2^64.
+/// The created file, unchanged. The numbers of its node and open file are below 2^64. An errno is
+/// from 1 to 4095.
 pub fn received_file<I: FileNumber, H: FileNumber>(
     answer: Result<(Entry<I>, Option<H>, OpenOptions), Errno>,
 ) -> Result<(Entry<I>, Option<H>, OpenOptions), Errno>
@@ -86,7 +87,7 @@ pub fn received_file<I: FileNumber, H: FileNumber>(
     }
 }
 
-/// A count as it came, below 2^32; or the errno as it came, from 1 to 4095.
+/// The count, unchanged. It is below 2^32. An errno is from 1 to 4095.
 pub fn received_count(answer: Result<u32, Errno>) -> Result<u32, Errno>
     ensures same { result ≡ answer }
     ensures errno { IfErr result (λ e. (0 < e) × (e < 4096)) }
@@ -98,7 +99,7 @@ pub fn received_count(answer: Result<u32, Errno>) -> Result<u32, Errno>
     }
 }
 
-/// A place in a file as it came, below 2^64.
+/// The offset in a file, in bytes, unchanged. It is below 2^64. An errno is from 1 to 4095.
 pub fn received_offset(answer: Result<u64, Errno>) -> Result<u64, Errno>
     ensures same { result ≡ answer }
     ensures errno { IfErr result (λ e. (0 < e) × (e < 4096)) }
@@ -110,7 +111,7 @@ pub fn received_offset(answer: Result<u64, Errno>) -> Result<u64, Errno>
     }
 }
 
-/// A value, or its count, as it came.
+/// The value of an attribute, or its length in bytes, unchanged. An errno is from 1 to 4095.
 pub fn received_value(answer: Result<GetxattrReply, Errno>) -> Result<GetxattrReply, Errno>
     ensures same { result ≡ answer }
     ensures errno { IfErr result (λ e. (0 < e) × (e < 4096)) }
@@ -123,7 +124,7 @@ pub fn received_value(answer: Result<GetxattrReply, Errno>) -> Result<GetxattrRe
     }
 }
 
-/// Names, or their count, as they came.
+/// The names of attributes, or their length in bytes, unchanged. An errno is from 1 to 4095.
 pub fn received_names(answer: Result<ListxattrReply, Errno>) -> Result<ListxattrReply, Errno>
     ensures same { result ≡ answer }
     ensures errno { IfErr result (λ e. (0 < e) × (e < 4096)) }
@@ -136,7 +137,7 @@ pub fn received_names(answer: Result<ListxattrReply, Errno>) -> Result<Listxattr
     }
 }
 
-/// A call's answer that has no reply where it is good; or the errno as it came, from 1 to 4095.
+/// The answer of a call that has no reply if it succeeds. An errno, unchanged, is from 1 to 4095.
 pub fn silent(answer: Result<(), Errno>) -> Result<Silence, Errno>
     ensures same { done_answer result ≡ done_answer answer }
     ensures errno { IfErr result (λ e. (0 < e) × (e < 4096)) }

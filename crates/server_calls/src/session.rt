@@ -1,4 +1,4 @@
-//! INIT and DESTROY: the start and the end of a conversation.
+//! INIT and DESTROY: the start and the end of a session.
 
 ghost use Rattle.std.specs.Prelude.{IsTrue, refl};
 ghost use Rattle.fuse_fs.specs.Calls as call;
@@ -13,7 +13,7 @@ use fuse_in::InHeader;
 use fuse_values::FileCall;
 use fuse_wire::{Errno, FsOptions};
 
-/// DESTROY: the end of a conversation.
+/// DESTROY: ends the session.
 pub struct Destroy;
 
 impl PlainValue for Destroy {
@@ -26,8 +26,8 @@ impl PlainValue for Destroy {
     }
 }
 
-/// INIT (`struct fuse_init_in`): of the options that both sides have, those that the file system asks for; or
-/// its errno, from 1 to 4095.
+/// INIT (`struct fuse_init_in`): passes `capable`, the options of client and server, to the file
+/// system. Returns the options that it wants, or its errno, from 1 to 4095.
 pub fn make_init_call<F: FileSystem>(fs: &mut F, capable: FsOptions) -> Result<FsOptions, Errno>
     ensures may { F.may fs.old (Init capable.0) (options_answer result) fs.new }
     ensures suits { IsTrue (suits (Init capable.0) (options_answer result)) }

@@ -1,4 +1,4 @@
-//! Requests by their shape: the call that each of them asks for, as a value whose names stand in the request.
+//! Requests by shape. Each shape makes a file call as a value; the call's names lie in the request.
 
 ghost use Rattle.std.specs.Prelude.{◌≡◌, ℕ, List, [], true};
 ghost use Rattle.fuse_in.specs.declared.session.InHeader.{InHeader};
@@ -11,19 +11,19 @@ ghost use Rattle.server_calls.specs.Requests.{if_set};
 use fuse_in::{InHeader, InRecord};
 use fuse_values::{FileCall, Received};
 
-/// A number, where it is told.
+/// A number, if its flag is set.
 pub fn number_if(told: bool, number: u64) -> Option<u64>
     ensures { result ≡ if_set told number }
 {
     if told { Some(number) } else { None }
 }
 
-/// A request that is nothing but its header.
+/// A request that is only its header.
 pub trait PlainValue {
-    // The call that it asks for.
+    // The call of the request.
     ghost call: { InHeader → call.FileCall };
 
-    // It is of this shape, and made for who sent the request.
+    // The call has this shape, and is made for the request's sender.
     ghost says: { (h : InHeader) → (shape_of (call h) ≡ Header) × CallSays h (call h) };
 
     /// The call.
@@ -35,10 +35,10 @@ pub trait PlainValue {
 pub trait RecordValue {
     type Record: InRecord;
 
-    // The call that it asks for.
+    // The call of the request.
     ghost call: { InHeader → Self.Record → call.FileCall };
 
-    // It is of this shape, and made for who sent the request.
+    // The call has this shape, and is made for the request's sender.
     ghost says: { (h : InHeader) (r : Self.Record)
         → (is_record (shape_of (call h r)) ≡ true) × CallSays h (call h r) };
 
@@ -49,10 +49,10 @@ pub trait RecordValue {
 
 /// A request that is one name.
 pub trait NameValue {
-    // The call that it asks for.
+    // The call of the request.
     ghost call: { InHeader → List ℕ → call.FileCall };
 
-    // It is of this shape, and made for who sent the request.
+    // The call has this shape, and is made for the request's sender.
     ghost says: { (h : InHeader) (name : List ℕ)
         → (shape_of (call h name) ≡ Named) × CallSays h (call h name) };
 
@@ -65,10 +65,10 @@ pub trait NameValue {
 pub trait RecordNameValue {
     type Record: InRecord;
 
-    // The call that it asks for.
+    // The call of the request.
     ghost call: { InHeader → Self.Record → List ℕ → call.FileCall };
 
-    // It is of this shape, and made for who sent the request.
+    // The call has this shape, and is made for the request's sender.
     ghost says: { (h : InHeader) (r : Self.Record) (name : List ℕ)
         → (shape_of (call h r name) ≡ NamedRecord) × CallSays h (call h r name) };
 
@@ -81,10 +81,10 @@ pub trait RecordNameValue {
 pub trait TwoPartsValue {
     type Record: InRecord;
 
-    // The call that it asks for.
+    // The call of the request.
     ghost call: { InHeader → Self.Record → List ℕ × List ℕ → call.FileCall };
 
-    // It is of this shape, and made for who sent the request.
+    // The call has this shape, and is made for the request's sender.
     ghost says: { (h : InHeader) (r : Self.Record) (parts : List ℕ × List ℕ)
         → (shape_of (call h r parts) ≡ NamedRecord) × CallSays h (call h r parts) };
 
@@ -98,14 +98,14 @@ pub trait TwoPartsValue {
         ensures { call_of [] result ≡ call head.now request.now (first.now, second.now) };
 }
 
-/// A request that is one record and the name of a node that is made.
+/// A request that is one record and the name of a new node.
 pub trait NewNameValue {
     type Record: InRecord;
 
-    // The call that it asks for.
+    // The call of the request.
     ghost call: { InHeader → Self.Record → List ℕ × Extra → call.FileCall };
 
-    // It is of this shape, and made for who sent the request.
+    // The call has this shape, and is made for the request's sender.
     ghost says: { (h : InHeader) (r : Self.Record) (x : List ℕ × Extra)
         → (shape_of (call h r x) ≡ Made) × CallSays h (call h r x) };
 

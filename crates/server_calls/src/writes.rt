@@ -1,4 +1,4 @@
-//! WRITE: what is written to an open file.
+//! WRITE: writes bytes to an open file.
 
 ghost use Rattle.std.specs.Prelude.{◌≡◌, ◌<◌, ◌^◌, IfOk, IfErr};
 ghost use Rattle.vm_values.specs.Bits.{has_bit};
@@ -12,18 +12,18 @@ use fuse_in::{InHeader, WriteIn};
 use fuse_wire::Errno;
 use fuse_wire::constants::{WRITE_CACHE, WRITE_KILL_PRIV, WRITE_LOCKOWNER};
 
-/// What the flags of a WRITE's record say (`write_flags` of `struct fuse_write_in`).
+/// The flags of a WRITE (`write_flags` of `struct fuse_write_in`).
 #[derive(Clone, Copy)]
 pub struct WriteFlags {
-    /// Who holds the locks, if that is told.
+    /// The lock owner, if FUSE_WRITE_LOCKOWNER is set.
     pub owner: Option<u64>,
-    /// The page cache writes late.
+    /// The write is a delayed one of the page cache (FUSE_WRITE_CACHE).
     pub delayed: bool,
-    /// Set-id bits are dropped.
+    /// The file system drops the set-id bits (FUSE_WRITE_KILL_SUIDGID).
     pub kill: bool,
 }
 
-/// What the flags of a WRITE's record say.
+/// The flags of a WRITE's record.
 #[inline(always)]
 pub fn write_flags(request: &WriteIn) -> WriteFlags
     ensures owner { result.owner ≡ if_set (has_bit request.now.write_flags 1) request.now.lock_owner }
@@ -38,8 +38,8 @@ pub fn write_flags(request: &WriteIn) -> WriteFlags
     }
 }
 
-/// WRITE (`struct fuse_write_in`): a file is written with what a reader has left. Answers how many bytes, or
-/// the file system's errno, from 1 to 4095.
+/// WRITE (`struct fuse_write_in`): the file system writes the unread bytes of a reader to a file.
+/// Returns the number of bytes written, or the file system's errno, from 1 to 4095.
 pub fn make_write_call<F: FileSystem, R: ZeroCopyReader>(
     fs: &mut F,
     head: &InHeader,

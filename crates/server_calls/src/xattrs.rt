@@ -49,7 +49,7 @@ impl RecordValue for Listxattr {
     }
 }
 
-// The flags that are known.
+// The known bits of `setxattr_flags` of `struct fuse_setxattr_in`.
 #[tactic(auto, using(crate::proofs::Options::known_setxattr_are))]
 fn known(flags: u32) -> SetxattrFlags
     ensures { result.0 ≡ bit_and flags known_setxattr }
@@ -57,7 +57,7 @@ fn known(flags: u32) -> SetxattrFlags
     SetxattrFlags::from_bits_truncate(flags)
 }
 
-/// SETXATTR (`struct fuse_setxattr_in`): an extended attribute is set.
+/// SETXATTR (`struct fuse_setxattr_in`): sets an extended attribute.
 pub struct Setxattr;
 
 impl TwoPartsValue for Setxattr {

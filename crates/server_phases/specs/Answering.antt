@@ -1,4 +1,4 @@
--- What an answer gives: the reply, the options after it, and the call that gives an entry back.
+-- The result of an answer: the reply, the options after it, and the FORGET of an entry that doesn't fit.
 use Rattle.std.specs.Prelude.{◌≡◌, ℕ, ◌+◌, ◌^◌, Bool, true, false, not, ◌&&◌, nat_lt, nat_le, List, [], ◌∷◌}
 use Rattle.std.specs.Prelude.{◌++◌, length, Option, Some, None, if◌then◌else◌}
 use Rattle.fuse_fs.specs.declared.answers.Context.{Context}
@@ -21,7 +21,7 @@ use Rattle.server_phases.specs.declared.waiting.Awaits.{Awaits}
 use Rattle.server_phases.specs.declared.waiting.Awaits.TheVariants as awaits
 use Rattle.server_phases.specs.Waiting.{first_call}
 
--- the kind of good answer that is waited for
+-- the form of a successful answer that a call can have
 abbrev pub kind_for : Awaits → AnswerForm
 kind_for awaits.Entry = IsEntry
 kind_for awaits.Create = IsCreate
@@ -38,80 +38,80 @@ kind_for (awaits.Wish capable readahead) = IsWish
 kind_for awaits.Failure = IsNeverGood
 kind_for _ = IsDone
 
--- whether no error is waited for
+-- the call can't fail
 abbrev pub fails_never : Awaits → Bool
 fails_never awaits.Forgotten = true
 fails_never awaits.End = true
 fails_never _ = false
 
--- whether the client isn't told of a good answer
+-- the call has no reply if it succeeds
 abbrev pub tells_nothing : Awaits → Bool
 tells_nothing awaits.Forgotten = true
 tells_nothing awaits.NoReply = true
 tells_nothing awaits.End = true
 tells_nothing _ = false
 
--- the options after it
+-- the options after a call: none after DESTROY
 abbrev pub leaves_options : ℕ → Awaits → ℕ
 leaves_options options awaits.End = 0
 leaves_options options _ = options
 
--- whether an entry may come
+-- the call answers an entry
 abbrev pub brings_entry : Awaits → Bool
 brings_entry awaits.Entry = true
 brings_entry awaits.Create = true
 brings_entry _ = false
 
--- whether an answer is one that is waited for
+-- the call can have this answer
 abbrev pub takes : Awaits → call.FileAnswer → Bool
 takes w (call.Failed errno) = not (fails_never w) && nat_lt 0 errno && nat_lt errno 4096
 takes (awaits.FileBytes most) (call.Bytes bytes) = nat_le (length bytes) most
 takes w answer = is_of (kind_for w) answer
 
--- the data of an answer stands elsewhere, and it says how much there is
+-- an answer that is data has the length of these bytes; another answer has no bytes
 abbrev pub TellsBytes : (bytes : List ℕ) → FileAnswer → Type 0
 TellsBytes bytes (value.Bytes len) = len ≡ length bytes
 TellsBytes bytes _ = bytes ≡ []
 
--- who holds an entry less, by one
+-- FORGET of 1 for a node and its caller, if there is one
 abbrev pub forget_call : Option (Context × ℕ) → List call.FileCall
 forget_call None = []
 forget_call (Some node) = call.Forget node.0 node.1 1 ∷ []
 
--- the calls that were made, the options, and the reply; bytes: the data behind its front
+-- the calls that were made, the options, and the reply, whose data behind the front are `bytes`
 abbrev pub served_by : List call.FileCall → (options : ℕ) → Sent → (bytes : List ℕ) → ServedMessage
 served_by calls options (sent.Reply front) bytes =
     record { calls = calls; options = options; reply = front ++ bytes; fault = None }
 served_by calls options sent.NoRoom bytes =
     record { calls = calls; options = options; reply = []; fault = Some EncodeMessage }
 
--- what an answer to a command's first call gives, in a setting, with its data and the options after it
+-- the result of an answer to a command's first call is that of the server with this one answer
 abbrev pub Gives : Setting → FileCommand → (bytes : List ℕ) → FileAnswer → Answered → (options : ℕ) → Type 0
 Gives s command bytes answer given options =
     commanded s command (answer_of bytes answer ∷ [])
     ≡ served_by (first_call command ∷ forget_call given.forget) options given.sent bytes
 
--- who gave an entry holds it less
+-- FORGET of 1 for the entry in an answer, if the call answers an entry
 abbrev pub back_by : Bool → Context → call.FileAnswer → List call.FileCall
 back_by entry who answer = if entry then give_back who (entry_node answer) else []
 
--- how many bytes of data an answer has that is data
+-- the length of an answer that is data
 abbrev pub data_of : FileAnswer → Option ℕ
 data_of (value.Bytes len) = Some len
 data_of _ = None
 
--- the options that both sides have and the bytes to read ahead, if the wanted options are still awaited
+-- the options of client and server, and the client's readahead in bytes, if the call is INIT's
 abbrev pub wish_of : Awaits → Option (ℕ × ℕ)
 wish_of (awaits.Wish capable readahead) = Some (capable, readahead)
 wish_of _ = None
 
--- whether an answer is data whose reply has room, but more bytes than its header can tell (struct
--- fuse_out_header, len: 32 bits)
+-- an answer is data whose reply fits in the reply buffer, but not in its header's 32-bit length
+-- (struct fuse_out_header, len)
 abbrev pub is_too_long : (room : ℕ) → FileAnswer → Bool
 is_too_long room (value.Bytes len) = nat_le (16 + len) room && nat_le (2 ^ 32) (16 + len)
 is_too_long room _ = false
 
--- why an answer is refused: it isn't one that the call can have, or it is, and too long
+-- an answer is refused: the call can't have it, or can have it but its reply is too long
 abbrev pub IsRefusedFor : AnswerRefusal → call.FileCall → (room : ℕ) → (bytes : List ℕ) → FileAnswer → Type 0
 IsRefusedFor refused.OtherKind asked room bytes answer = suits asked (answer_of bytes answer) ≡ false
 IsRefusedFor refused.TooLong asked room bytes answer =

@@ -1,4 +1,4 @@
--- What a request asks, as it is told to who owns the files.
+-- A request decoded for the owner of the files.
 use Rattle.std.specs.Prelude.{◌≡◌, ◌==◌, ◌<◌, ◌*◌, ℕ, Bool, true, false, ◌||◌, ◌&&◌, List, [], length, take}
 use Rattle.std.specs.Prelude.{drop, nat_lt, nat_le, Some, None, Ok, if◌then◌else◌}
 use Rattle.fuse_values.specs.declared.call.FileCall.{FileCall}
@@ -20,15 +20,15 @@ use Rattle.server_phases.specs.declared.asking.AskedFront.{AskedFront}
 use Rattle.server_phases.specs.declared.asking.AskedFront.TheVariants as asked_front
 use Rattle.server_phases.specs.Waiting.{WaitsFor, first_call}
 
--- a WRITE says how many bytes of data it has, and a BATCH_FORGET has 16 bytes a pair and no more
+-- a WRITE has the number of its data bytes, and a BATCH_FORGET has 16 bytes a pair and no more
 abbrev pub TellsData : (bytes : List ℕ) → FileCall → Type 0
 TellsData bytes (value.Write context node handle len size offset owner delayed kill flags) =
     len ≡ length bytes
 TellsData bytes (value.BatchForget context counts) = length counts.now ≡ 16 * length (pairs_in counts.now)
 TellsData bytes _ = Unit {0}
 
--- the command that is asked for, the call that it makes first, and what is kept of it with its room; bytes:
--- the data of a WRITE
+-- the meaning is a command: the call is its first call, and the state has the command's kind of
+-- answer and the room. bytes: the data of a WRITE
 abbrev pub AsksCall : Setting → Meaning → (bytes : List ℕ) → FileCall → Waiting → Type 0
 AsksCall s m bytes made w =
     (command : FileCommand)
@@ -38,65 +38,65 @@ AsksCall s m bytes made w =
     × WaitsFor w command
     × (w.room ≡ s.room)
 
--- no call is made, and this is the reply
+-- the result of a request without a call: this reply
 abbrev pub all_reply : (options : ℕ) → List ℕ → ServedMessage
 all_reply options reply = record { calls = []; options = options; reply = reply; fault = None }
 
--- what is told of a request with this meaning: its call, or what it is served without one
+-- a request with this meaning is decoded: its first call, or the server's result without a call
 abbrev pub IsDecoded : Setting → Meaning → (bytes : List ℕ) → DecodedRequest → Type 0
 IsDecoded s m bytes (asked.Call made w) = AsksCall s m bytes made w
 IsDecoded s m bytes (asked.Reply reply) = (served s m [] ≡ all_reply s.options reply) × (0 < length reply)
 IsDecoded s m bytes asked.Silence = served s m [] ≡ all_reply s.options []
 IsDecoded s m bytes (asked.Fault e) = served s m [] ≡ no_reply [] s.options (Some e)
 
--- what is kept of a call that is told names this one
+-- a call that waits has this caller
 abbrev pub IsAskedBy : Context → DecodedRequest → Type 0
 IsAskedBy who (asked.Call made w) = w.context ≡ who
 IsAskedBy who asked = Unit {0}
 
--- it names who sent the request (struct fuse_in_header: uid, gid, pid)
+-- a call that waits has the sender of the request as its caller (struct fuse_in_header: uid, gid, pid)
 abbrev pub HasAsker : (request : List ℕ) → DecodedRequest → Type 0
 HasAsker request asked =
     (h : InHeader) (more : List ℕ) →
     reading_of in_header request ≡ Ok (h, more) →
     IsAskedBy (context_of h) asked
 
--- what is told of a reply without a call: it has room, or it is a fault
+-- a reply without a call, or a fault if it doesn't fit
 abbrev pub told_reply : (room : ℕ) → List ℕ → DecodedRequest
 told_reply room reply = if nat_lt room (length reply) then asked.Fault EncodeMessage else asked.Reply reply
 
--- a row of the grammar is told so, of a request whose header is this one; bytes: those behind the header
+-- a request is decoded by a row of the grammar; bytes: those behind its header
 abbrev pub IsRowTold : (page_size options : ℕ) → InHeader → (room : ℕ) → (Given → Reading Meaning) →
     (bytes : List ℕ) → DecodedRequest → Type 0
 IsRowTold page_size options h room row bytes asked =
     IsDecoded (setting page_size options room) (ended h.unique (row (given h options room) bytes))
     (drop 40 bytes) asked
 
--- the first bytes of a request
+-- these are the first bytes of a request
 abbrev pub IsRequestFront : (front request : List ℕ) → Type 0
 IsRequestFront front request = take (length front) request ≡ front
 
--- whether the first bytes of a request of so many tell what it asks: all of them do, and of a WRITE those
--- before its data
+-- the first bytes are enough to decode a request of `len` bytes: all of them, or all before the
+-- data of a WRITE
 abbrev pub front_tells : (front : List ℕ) → (len : ℕ) → Bool
 front_tells front len =
     length front == len || (nat_le 80 (length front) && nat_le (length front) len && begins_a_write front)
 
--- whether they were told
+-- the request was decoded from its first bytes
 abbrev pub is_told : AskedFront → Bool
 is_told (asked_front.Told asked) = true
 is_told asked_front.More = false
 
--- what is told by the first bytes of a request with this meaning
+-- a request with this meaning is decoded from its first bytes, if these are enough
 abbrev pub IsToldByFront : Setting → Meaning → (bytes : List ℕ) → AskedFront → Type 0
 IsToldByFront s m bytes (asked_front.Told asked) = IsDecoded s m bytes asked
 IsToldByFront s m bytes asked_front.More = Unit {0}
 
--- what is kept of a call that they tell names who sent the request
+-- a call decoded from the first bytes has the sender of the request as its caller
 abbrev pub HasAskerByFront : (request : List ℕ) → AskedFront → Type 0
 HasAskerByFront request (asked_front.Told asked) = HasAsker request asked
 HasAskerByFront request asked_front.More = Unit {0}
 
--- the bytes behind a header begin with the same record of a WRITE, or are cut short alike
+-- the bytes behind two headers have the same first 40 bytes, the record of a WRITE, or are equally short
 abbrev pub BeginsRecord : (front bytes : List ℕ) → Type 0
 BeginsRecord front bytes = take 40 front ≡ take 40 bytes

@@ -1,4 +1,4 @@
--- Listings that are answered entry by entry: what was brought, and what `served` says of it.
+-- Listings that the caller answers entry by entry, and the server's result for them.
 use Rattle.std.specs.Prelude.{◌≡◌, ℕ, ◌+◌, ◌-◌, ◌^◌, ◌≤◌, Bool, true, false, not, ◌&&◌, nat_lt, nat_le, List}
 use Rattle.std.specs.Prelude.{[], ◌∷◌, ◌++◌, length, take, drop, map, Option, Some, None, Result, Ok, Err}
 use Rattle.std.specs.Prelude.{if◌then◌else◌}
@@ -15,57 +15,56 @@ use Rattle.server_phases.specs.declared.listing.NotAdded.{NotAdded}
 use Rattle.server_phases.specs.declared.listing.NotAdded.TheVariants as not_added
 use Rattle.server_phases.specs.Waiting.{first_call}
 
--- an entry that is brought, and what its look-up gave, if it is looked up
+-- an entry with the answer of its lookup, if there was one
 abbrev pub Brought : Type 0
 Brought = Listed × Entry ℕ
 
--- whether an entry is looked up: in READDIRPLUS, but for `.` and `..`
+-- an entry is looked up in READDIRPLUS, unless it is `.` or `..`
 abbrev pub is_looked_up : (with_nodes : Bool) → Listed → Bool
 is_looked_up with_nodes d = with_nodes && not (is_dot d.name)
 
--- the node that goes out with it
+-- the node of an entry in the reply
 abbrev pub node_of : Brought → Entry ℕ
 node_of e = if is_dot e.0.name then no_node e.0 else e.1
 
--- its bytes in the list
+-- the bytes of an entry in the list
 abbrev pub bytes_of : (with_nodes : Bool) → Brought → List ℕ
 bytes_of with_nodes e = entry_bytes with_nodes (node_of e) e.0
 
--- the bytes of entries one behind another
+-- the bytes of entries, one behind another
 abbrev pub all_bytes : (with_nodes : Bool) → List Brought → List ℕ
 all_bytes with_nodes [] = []
 all_bytes with_nodes (e ∷ es) = bytes_of with_nodes e ++ all_bytes with_nodes es
 
--- what the look-up of an entry gave, if there was one
+-- the answer of an entry's lookup, if there was one
 abbrev pub found_of : (with_nodes : Bool) → Brought → List FileAnswer
 found_of with_nodes e = if is_looked_up with_nodes e.0 then HasEntry e.1 ∷ [] else []
 
--- what the look-ups gave, in their order
+-- the answers of the lookups, in their order
 abbrev pub all_found : (with_nodes : Bool) → List Brought → List FileAnswer
 all_found with_nodes [] = []
 all_found with_nodes (e ∷ es) = found_of with_nodes e ++ all_found with_nodes es
 
--- the look-up that a listing makes of an entry
+-- the LOOKUP of an entry in a listing, if it is looked up
 abbrev pub look_up : FileCommand → Listed → List FileCall
 look_up (Lists unique l) d = if is_looked_up l.with_nodes d then Lookup l.context l.node d.name ∷ [] else []
 look_up command d = []
 
--- the look-ups that it makes, in their order
+-- the LOOKUPs of the entries, in their order
 abbrev pub look_ups : FileCommand → List Brought → List FileCall
 look_ups command [] = []
 look_ups command (e ∷ es) = look_up command e.0 ++ look_ups command es
 
--- the call that gives its node back, in READDIRPLUS: `.` and `..` have node 0
+-- the FORGET of an entry's node in READDIRPLUS: node 0 for `.` and `..`
 abbrev pub node_given_back : FileCommand → Brought → List FileCall
 node_given_back (Lists unique l) e = if l.with_nodes then undo_call l.context (node_of e).inode ∷ [] else []
 node_given_back command e = []
 
--- the entries alone
+-- the entries without their nodes
 abbrev pub entries_of : List Brought → List Listed
 entries_of es = map (λ e. e.0) es
 
--- the listing of a command that has this room: how many bytes of entries were asked for, and how many have
--- room behind the header
+-- a listing belongs to this command and this room: `room` of the listing is the room behind the header
 abbrev pub IsListingFor : Listing → (room : ℕ) → FileCommand → Type 0
 IsListingFor l room (Lists unique asked) =
     (l.unique ≡ unique)
@@ -75,18 +74,18 @@ IsListingFor l room (Lists unique asked) =
     × (16 ≤ room)
 IsListingFor l room command = ⊥
 
--- whether a command is a listing
+-- a command is a listing
 abbrev pub is_listing : FileCommand → Bool
 is_listing (Lists unique l) = true
 is_listing command = false
 
--- the entries that were brought so far stand at the front of a list
+-- the bytes of the entries so far are at the front of a list
 pub record Holds (l : Listing) (list : List ℕ) (es : List Brought) : Type 0 where
   pub long : l.len ≡ length (all_bytes l.with_nodes es)
   pub stands : take l.len list ≡ all_bytes l.with_nodes es
 
--- an entry that has no place in the size that was asked for ends the list, whatever is behind it: the reply
--- is that of the entries before it, and its node is given back
+-- an entry that doesn't fit in the size ends the list. The reply has the entries before it, and in
+-- READDIRPLUS its node is forgotten; the entries behind it don't matter
 abbrev pub EndsList : Listing → (list : List ℕ) → Brought → Type 0
 EndsList l list e =
     (s : Setting) (command : FileCommand) (es : List Brought) (behind : List Listed)
@@ -99,8 +98,8 @@ EndsList l list e =
     ∷ (all_found l.with_nodes es ++ (found_of l.with_nodes e ++ answers)))
     ≡ record before { calls = before.calls ++ (look_up command e.0 ++ node_given_back command e) }
 
--- an entry fails the list by an error, whatever is behind it: the reply is that of an error after the entries
--- before it, and its node is given back
+-- an entry fails the list with this error. The reply is that of an error after the entries before
+-- it, and in READDIRPLUS its node is forgotten; the entries behind it don't matter
 abbrev pub FailsList : Listing → (list : List ℕ) → Brought → (errno : ℕ) → Type 0
 FailsList l list e errno =
     (s : Setting) (command : FileCommand) (es : List Brought) (behind : List Listed)
@@ -118,14 +117,14 @@ FailsList l list e errno =
       fault = None;
     }
 
--- the error by which an entry that isn't in fails the list, if it does
+-- the error with which an entry that wasn't added fails the list, if it does
 abbrev pub error_of : NotAdded → Option ℕ
 error_of not_added.NoRoom = Some EIO
 error_of not_added.TooLong = Some EOVERFLOW
 error_of _ = None
 
--- what comes of an entry of the listing's kind: its name is too long, or it has no place in what is left of
--- the size, or of the room, or in a list of this length; else it is in
+-- an entry of the listing's kind is added, or the first of these holds: its name is too long, or it
+-- doesn't fit in the rest of the size, of the room, or of the list
 abbrev pub placed : Listing → (list_len : ℕ) → (name_len : ℕ) → Result (Unit {0}) NotAdded
 placed l list_len name_len =
     if nat_le (2 ^ 32) name_len then Err not_added.TooLong
@@ -134,19 +133,19 @@ placed l list_len name_len =
     else if nat_lt list_len (l.len + entry_len l.with_nodes name_len) then Err not_added.ShortList
     else Ok tt
 
--- what comes of an entry without its node
+-- an entry without a node is added, unless the listing is a READDIRPLUS
 abbrev pub added_plain : Listing → (list_len : ℕ) → (name_len : ℕ) → Result (Unit {0}) NotAdded
 added_plain l list_len name_len = if l.with_nodes then Err not_added.OtherKind else placed l list_len name_len
 
--- what comes of an entry with its node
+-- an entry with a node is added, unless the listing is a READDIR
 abbrev pub added_found : Listing → (list_len : ℕ) → (name_len : ℕ) → Result (Unit {0}) NotAdded
 added_found l list_len name_len = if l.with_nodes then placed l list_len name_len else Err not_added.OtherKind
 
--- these bytes stand over those of a list from some place on
+-- a list in which these bytes replace those from `at` on
 abbrev pub put_at : (at : ℕ) → (bytes list : List ℕ) → List ℕ
 put_at at bytes list = take at list ++ bytes ++ drop (at + length bytes) list
 
--- a listing but for how many bytes came
+-- only the length of a listing has changed
 abbrev pub StaysBut : (old new : Listing) → Type 0
 StaysBut old new =
     (new.unique ≡ old.unique)
@@ -154,7 +153,7 @@ StaysBut old new =
     × (new.size ≡ old.size)
     × (new.room ≡ old.room)
 
--- these calls were made, and this is the reply, of which so many bytes stand in the list
+-- the server's result of these calls: the reply with the first `len` bytes of the list as its data
 abbrev pub served_list : List FileCall → (options : ℕ) → ListingReply → (list : List ℕ) → ServedMessage
 served_list calls options reply list =
     record { calls = calls; options = options; reply = reply.front ++ take reply.len list; fault = None }

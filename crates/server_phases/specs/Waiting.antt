@@ -1,4 +1,4 @@
--- What is kept of a request while its call waits for an answer.
+-- The state of a request while its call waits for an answer.
 use Rattle.std.specs.Prelude.{◌≡◌, ◌≤◌, ◌^◌}
 use Rattle.std.specs.Prelude.{Bool, true, false, bit_and}
 use Rattle.fuse_fs.specs.Calls.{FileCall, Init, Destroy, Lookup, Forget, BatchForget, Getattr, Setattr}
@@ -12,7 +12,7 @@ use Rattle.server_phases.specs.declared.waiting.Awaits.{Awaits}
 use Rattle.server_phases.specs.declared.waiting.Awaits.TheVariants as awaits
 use Rattle.server_phases.specs.declared.waiting.Waiting.{Waiting}
 
--- what one call waits for
+-- the kind of answer that a call can have
 abbrev pub awaits_of : FileCall → Awaits
 awaits_of (Lookup c n name) = awaits.Entry
 awaits_of (Symlink c l n name x) = awaits.Entry
@@ -45,13 +45,13 @@ awaits_of Destroy = awaits.End
 awaits_of TmpFile = awaits.Failure
 awaits_of _ = awaits.Done
 
--- the calls that requests of one call make
+-- a request with this call makes no other: every call but INIT's and READDIR's
 abbrev pub is_one_call : FileCall → Bool
 is_one_call (Init capable) = false
 is_one_call (Readdir c n h s o) = false
 is_one_call _ = true
 
--- a request that means this command waits so
+-- the state of a request belongs to this command: its number, its kind of answer and its caller
 abbrev pub WaitsFor : Waiting → FileCommand → Type 0
 WaitsFor w (One unique call) =
     (w.unique ≡ unique) × (w.awaits ≡ awaits_of call) × IsFor w.context call × (is_one_call call ≡ true)
@@ -66,7 +66,7 @@ WaitsFor w (Lists unique l) =
     × (l.size ≤ 2 ^ 20)
     × (16 ≤ w.room)
 
--- the call that a command makes first
+-- the first call of a command
 abbrev pub first_call : FileCommand → FileCall
 first_call (One unique call) = call
 first_call (Starts unique capable readahead) = Init capable

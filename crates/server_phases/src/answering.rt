@@ -1,4 +1,4 @@
-//! Answers to the calls of requests.
+//! The replies to the answers of calls.
 
 ghost use Rattle.std.specs.Prelude.{◌≡◌, ℕ, ◌+◌, ◌<◌, ◌≤◌, ◌^◌, ◌++◌, ◌&&◌, [], ◌∷◌, List, length, true};
 ghost use Rattle.std.specs.Prelude.{false, nat_lt, nat_le, option_map};
@@ -18,42 +18,44 @@ use server_replies::answers::AsFront;
 use server_replies::fronts::Front;
 use server_replies::replies::OUT_HEADER_LEN;
 
-/// What comes of a reply.
+/// The reply to an answer, or that it doesn't fit.
 #[derive(Drop)]
 pub enum Sent {
     /// The reply: this front, and the data of the answer behind it. Empty if there is no reply.
     Reply(Front),
-    /// The reply is longer than its room (`Error::EncodeMessage`).
+    /// The reply is longer than the reply buffer (`Error::EncodeMessage`).
     NoRoom,
 }
 
-/// What an answer gives.
+/// The result of an answer.
 #[derive(Drop)]
 pub struct Answered {
-    /// The reply, or that it has no room.
+    /// The reply, or that it doesn't fit.
     pub sent: Sent,
-    /// Who is to hold which node less by one (a call of `forget`): the entry that was answered has no room.
+    /// The caller and the node of a FORGET of 1 that the file system must do: the reply with the
+    /// node's entry doesn't fit.
     pub forget: Option<(Context, u64)>,
 }
 
-/// Why an answer is refused: it changes nothing.
+/// The reason for which an answer is refused. A refused answer changes nothing.
 #[derive(Clone, Copy, Debug, PartialEq, Eq)]
 pub enum AnswerRefusal {
-    /// The call waits for another kind of answer, or for no error, or for less data.
+    /// The call has no such answer: another kind, an error where it can't fail, or more data than
+    /// it asked for.
     OtherKind,
-    /// The reply has room, but 2^32 bytes or more, which its header can't tell.
+    /// The reply fits in the reply buffer, but not in its header: it has 2^32 bytes or more.
     TooLong,
 }
 
-/// An answer that is refused.
+/// A refused answer.
 #[derive(Debug, Drop)]
 pub struct RefusedAnswer {
     pub why: AnswerRefusal,
-    /// The request, which waits still.
+    /// The state of the request, which still waits for an answer.
     pub waiting: Waiting,
 }
 
-// A reply to an answer of which the client is told, without data.
+// The reply to an answer without data, of a call that has a reply.
 fn told_front(unique: u64, answer: FileAnswer) -> Front
     ensures { result ≡ told_bytes false unique (answer_of [] answer) }
 {
@@ -77,7 +79,7 @@ fn told_front(unique: u64, answer: FileAnswer) -> Front
     }
 }
 
-// A reply to an answer of which the client isn't told where it is good.
+// The reply to an answer of a silent call: empty unless it failed.
 fn silent_front(unique: u64, answer: &FileAnswer) -> Front
     ensures { result ≡ told_bytes true unique (answer_of [] answer.now) }
 {
@@ -99,7 +101,7 @@ fn front_of(waiting: &Waiting, answer: FileAnswer) -> Front
     }
 }
 
-// The node of the entry that an answer has.
+// The node of the entry in an answer.
 fn entry_node(answer: &FileAnswer) -> Option<u64>
     ensures { result ≡ entry_node (answer_of [] answer.now) }
 {
@@ -110,7 +112,7 @@ fn entry_node(answer: &FileAnswer) -> Option<u64>
     }
 }
 
-// Who is to hold which node less, if an entry was answered.
+// The caller and the node to forget, if the answer has an entry.
 fn back_of(waiting: &Waiting, answer: &FileAnswer) -> Option<(Context, u64)>
     ensures { forget_call result
         ≡ back_by (brings_entry waiting.now.awaits) waiting.now.context (answer_of [] answer.now) }
@@ -124,28 +126,28 @@ fn back_of(waiting: &Waiting, answer: &FileAnswer) -> Option<(Context, u64)>
     }
 }
 
-// Whether no error is waited for.
+// Whether the call can't fail.
 fn fails_never(awaits: &Awaits) -> bool
     ensures { result ≡ fails_never awaits.now }
 {
     matches!(awaits, Awaits::Forgotten | Awaits::End)
 }
 
-// Whether the client isn't told of a good answer.
+// Whether the call has no reply if it succeeds.
 fn tells_nothing(awaits: &Awaits) -> bool
     ensures { result ≡ tells_nothing awaits.now }
 {
     matches!(awaits, Awaits::Forgotten | Awaits::NoReply | Awaits::End)
 }
 
-// Whether an entry may come.
+// Whether the call answers an entry.
 fn brings_entry(awaits: &Awaits) -> bool
     ensures { result ≡ brings_entry awaits.now }
 {
     matches!(awaits, Awaits::Entry | Awaits::Create)
 }
 
-// A front where it has room, else that who answered is to hold a node less.
+// The front if it fits, else the node to forget.
 pub(crate) fn placed(front: Front, room: usize, back: Option<(Context, u64)>) -> Answered
     ensures { (options : ℕ) (call : FileCall)
         → replied room (call ∷ undone room front (forget_call back)) options front
@@ -176,7 +178,7 @@ pub(crate) fn answered_without_data(waiting: &Waiting, answer: FileAnswer) -> An
     placed(front_of(waiting, answer), waiting.room, back)
 }
 
-// The header of a reply with so many bytes of data.
+// The header of a reply with `len` bytes of data.
 #[tactic(auto, unfolding(server_replies::specs::WholeReplies::reply_bytes))]
 fn data_front(unique: u64, len: usize) -> Front
     requires { 16 + len < 2 ^ 32 }
@@ -204,14 +206,14 @@ pub(crate) fn data_answered(unique: u64, room: usize, len: usize) -> Answered
     }
 }
 
-// Whether a header and so many bytes of data have room.
+// Whether a header and `len` bytes of data fit in the reply buffer.
 fn has_room(room: usize, len: usize) -> bool
     ensures { result ≡ nat_le (16 + len) room }
 {
     OUT_HEADER_LEN <= room && len <= room - OUT_HEADER_LEN
 }
 
-/// Whether an answer is data whose reply has room, but more bytes than its header can tell.
+/// Whether an answer is data whose reply fits in the reply buffer, but not in its header's 32-bit length.
 pub(crate) fn is_too_long(room: usize, answer: &FileAnswer) -> bool
     ensures { result ≡ is_too_long room answer.now }
 {
@@ -222,7 +224,7 @@ pub(crate) fn is_too_long(room: usize, answer: &FileAnswer) -> bool
     }
 }
 
-// A front where it has room, of a call that gives nothing back.
+// The front if it fits, of a call without a node to forget.
 pub(crate) fn placed_alone(front: Front, room: usize) -> Answered
     ensures { (options : ℕ) (call : FileCall)
         → replied room (call ∷ []) options front
@@ -231,21 +233,21 @@ pub(crate) fn placed_alone(front: Front, room: usize) -> Answered
     placed(front, room, None)
 }
 
-// Whether a number has 64 bits: any has.
+// Whether a number has at most 64 bits: always.
 fn is_number(number: u64) -> bool
     ensures { result ≡ nat_lt number (2 ^ 64) }
 {
     true
 }
 
-// Whether a count has 32 bits: any has.
+// Whether a count has at most 32 bits: always.
 fn is_count(count: u32) -> bool
     ensures { result ≡ nat_lt count (2 ^ 32) }
 {
     true
 }
 
-// Whether an open file's number has 64 bits, if there is one: any has.
+// Whether the number of an open file has at most 64 bits, if there is one: always.
 fn is_handle(handle: Option<u64>) -> bool
     ensures { result ≡ is_handle handle }
 {
@@ -255,7 +257,7 @@ fn is_handle(handle: Option<u64>) -> bool
     }
 }
 
-/// Whether an answer is one that is waited for.
+/// Whether the call can have this answer.
 pub(crate) fn suits(awaits: &Awaits, answer: &FileAnswer) -> bool
     ensures { (bytes : List ℕ)
         → TellsBytes bytes answer.now
@@ -283,7 +285,7 @@ pub(crate) fn suits(awaits: &Awaits, answer: &FileAnswer) -> bool
     }
 }
 
-// Whether that it is done is waited for.
+// Whether the call can have the answer "done".
 fn takes_done(awaits: &Awaits) -> bool
     ensures { result ≡ takes awaits.now Done }
 {
@@ -293,7 +295,7 @@ fn takes_done(awaits: &Awaits) -> bool
     )
 }
 
-// Whether so much data is waited for.
+// Whether the call can have `len` bytes of data as its answer.
 fn takes_bytes(awaits: &Awaits, len: usize) -> bool
     ensures { (bytes : List ℕ) → len ≡ length bytes → result ≡ takes awaits.now (Bytes bytes) }
 {

@@ -1,4 +1,4 @@
-//! What a request asks.
+//! The decoded requests of single calls.
 
 ghost use Rattle.std.specs.Prelude.{◌≡◌, ℕ, ◌≤◌, ◌-◌, ◌*◌, ◌^◌, [], List, true, drop, length, bit_and};
 ghost use Rattle.fuse_fs.specs.Answers.{context_of};
@@ -31,32 +31,32 @@ use server_requests::source::{Flat, Source};
 use server_segments::Error;
 use virtiofsd_fuse::{MAX_REQUEST_LEN, REQUEST_FRONT, opcode_of};
 
-/// How many bytes a record of a WRITE has (`struct fuse_write_in`).
+/// The length in bytes of a WRITE's record (`struct fuse_write_in`).
 pub(crate) const WRITE_IN_LEN: usize = 40;
 
-/// What a request asks.
+/// A decoded request.
 #[derive(Drop)]
 pub enum DecodedRequest<'a> {
-    /// This call, whose answer is waited for.
+    /// The one call of the request, and the state for its answer.
     Call(FileCall<'a>, Waiting),
-    /// No call; this is the reply.
+    /// No call: this is the reply.
     Reply(Front),
-    /// No call, and there is no reply.
+    /// No call and no reply.
     Silence,
-    /// No call, and there is no reply: the fault.
+    /// No call and no reply: the request has this fault.
     Fault(Error),
 }
 
-/// What the first bytes of a request tell.
+/// A request decoded from its first bytes, if these are enough.
 #[derive(Drop)]
 pub enum AskedFront<'a> {
-    /// What the request asks.
+    /// The decoded request.
     Told(DecodedRequest<'a>),
-    /// Nothing yet: all of the request's bytes are wanted.
+    /// The first bytes aren't enough: pass all bytes of the request.
     More,
 }
 
-/// An immediate reply, if it has room.
+/// A reply without a call, or the fault `EncodeMessage` if it doesn't fit.
 pub(crate) fn replied<'a>(room: usize, reply: Front) -> DecodedRequest<'a>
     ensures { result ≡ told_reply room reply }
 {
@@ -67,7 +67,7 @@ pub(crate) fn replied<'a>(room: usize, reply: Front) -> DecodedRequest<'a>
     }
 }
 
-/// The reply of an error, if it has room.
+/// The reply of an error, or the fault `EncodeMessage` if it doesn't fit.
 pub(crate) fn refused<'a>(head: &InHeader, error: Errno, room: usize) -> DecodedRequest<'a>
     ensures told { (page_size options : ℕ) (m : Meaning) (bytes : List ℕ)
         → m ≡ Replies (error_bytes head.now.unique error)
@@ -77,7 +77,7 @@ pub(crate) fn refused<'a>(head: &InHeader, error: Errno, room: usize) -> Decoded
     replied(room, Front::error(head.unique, error))
 }
 
-/// A READ that has room for the header of its reply.
+/// The call of a READ, in whose reply buffer the header fits.
 pub(crate) fn read_asked<'a>(head: &InHeader, request: &ReadIn, room: usize) -> DecodedRequest<'a>
     requires { 16 ≤ room }
     ensures told { (page_size options : ℕ) (bytes : List ℕ)
@@ -95,7 +95,7 @@ pub(crate) fn read_asked<'a>(head: &InHeader, request: &ReadIn, room: usize) -> 
     DecodedRequest::Call(read_value(head, request, most), waiting)
 }
 
-// The call of a READ that has room for so many bytes.
+// The call of a READ with `most` bytes for its data.
 fn read_value<'a>(head: &InHeader, request: &ReadIn, most: usize) -> FileCall<'a>
     ensures call { (bytes : List ℕ) → call_of bytes result ≡ read_call head.now most request.now }
     ensures data_apart { (bytes : List ℕ) → TellsData bytes result }
@@ -112,7 +112,7 @@ fn read_value<'a>(head: &InHeader, request: &ReadIn, most: usize) -> FileCall<'a
     }
 }
 
-/// READDIR and READDIRPLUS, by their record.
+/// The call of a READDIR or READDIRPLUS with this record.
 pub(crate) fn entries_asked<'a>(
     head: &InHeader,
     request: &ReadIn,
@@ -150,7 +150,7 @@ pub(crate) fn entries_asked<'a>(
     )
 }
 
-// WRITE, by its record; so many bytes of data stand behind it.
+// The call of a WRITE with this record, and `len` bytes of data behind it.
 fn write_asked<'a>(
     head: &InHeader,
     request: &WriteIn,
@@ -172,7 +172,7 @@ fn write_asked<'a>(
     DecodedRequest::Call(write_value(head, request, len), waiting)
 }
 
-// The call of a WRITE of so many bytes.
+// The call of a WRITE of `len` bytes, as a value.
 fn write_value<'a>(head: &InHeader, request: &WriteIn, len: usize) -> FileCall<'a>
     ensures call { (bytes : List ℕ) → call_of bytes result ≡ write_call head.now request.now bytes }
     ensures data_apart { (bytes : List ℕ) → len ≡ length bytes → TellsData bytes result }
@@ -192,7 +192,7 @@ fn write_value<'a>(head: &InHeader, request: &WriteIn, len: usize) -> FileCall<'
     }
 }
 
-/// One call, which waits for its answer.
+/// A call, and the state for its answer.
 pub(crate) fn called<'a>(head: &InHeader, made: FileCall<'a>, room: usize) -> DecodedRequest<'a>
     ensures told { (s : Setting) (m : Meaning) (bytes : List ℕ) (c : call.FileCall)
         → s.room ≡ room
@@ -212,7 +212,7 @@ pub(crate) fn called<'a>(head: &InHeader, made: FileCall<'a>, room: usize) -> De
     DecodedRequest::Call(made, waiting)
 }
 
-/// BATCH_FORGET: a call whose pairs are these bytes.
+/// The call of a BATCH_FORGET; `counts` are the bytes of its pairs.
 pub(crate) fn pairs_asked<'a>(head: &InHeader, counts: &'a [u8], room: usize) -> DecodedRequest<'a>
     ensures told { (page_size options : ℕ) (m : Meaning) (bytes : List ℕ)
         → length counts.now ≡ 16 * length (pairs_in counts.now)
@@ -230,7 +230,7 @@ pub(crate) fn pairs_asked<'a>(head: &InHeader, counts: &'a [u8], room: usize) ->
     DecodedRequest::Call(FileCall::BatchForget { context, counts }, waiting)
 }
 
-/// The call of an INIT, whose client reads `readahead` bytes ahead.
+/// The call of an INIT. The client reads `readahead` bytes ahead.
 pub(crate) fn init_asked<'a>(
     head: &InHeader,
     capable: FsOptions,
@@ -256,7 +256,7 @@ pub(crate) fn init_asked<'a>(
     DecodedRequest::Call(FileCall::Init { capable }, waiting)
 }
 
-// WRITE: its record is read, behind which so many bytes of data stand, here or elsewhere.
+// WRITE: reads the record. Behind it are `len` bytes of data, here or elsewhere.
 pub(crate) fn ask_write_row<'a>(
     head: &InHeader,
     len: usize,
@@ -295,7 +295,7 @@ pub(crate) fn begins_a_write(front: &[u8]) -> bool
     }
 }
 
-/// What a WRITE asks, by its bytes before the data; it has `len` bytes in all.
+/// Decodes a WRITE of `len` bytes in all from its bytes before the data.
 pub(crate) fn ask_write_front<'a>(front: &'a [u8], len: usize, room: usize) -> DecodedRequest<'a>
     requires write { begins_a_write front.now ≡ true }
     requires front { 80 ≤ length front.now }
@@ -313,7 +313,7 @@ pub(crate) fn ask_write_front<'a>(front: &'a [u8], len: usize, room: usize) -> D
     }
 }
 
-// WRITE: its header is read.
+// WRITE: checks the length in the header, then reads the record.
 fn ask_write_head<'a>(
     head: &InHeader,
     len: usize,

@@ -1,4 +1,4 @@
-//! What a request asks, by its header.
+//! Decoding a request by its header.
 
 ghost use Rattle.std.specs.Prelude.{drop};
 ghost use Rattle.fuse_fs.specs.Answers.{context_of};
@@ -14,7 +14,7 @@ use server_requests::source::Flat;
 use virtiofsd_fuse::{MAX_REQUEST_LEN, opcode_of};
 
 impl Session {
-    // What a request asks, by its opcode.
+    // Decodes a request by its opcode.
     #[tactic(auto, unfolding(virtiofsd_fuse::specs::Grammar::row))]
     fn ask_row<'a>(
         &self,
@@ -38,7 +38,7 @@ impl Session {
         }
     }
 
-    /// What a request asks whose header was read.
+    /// Decodes a request whose header was read.
     pub(crate) fn ask_head<'a>(
         &self,
         head: &InHeader,

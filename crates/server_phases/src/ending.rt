@@ -1,4 +1,4 @@
-//! How a session answers the calls of requests.
+//! The answers of a session's calls.
 
 ghost use Rattle.std.specs.Prelude.{◌≡◌, ℕ, ◌<◌, ◌^◌, [], ◌∷◌, List, None, true, false, bit_and, IfOk, IfErr};
 ghost use Rattle.std.specs.Prelude.{OnOk, OnErr};
@@ -23,7 +23,7 @@ use server_replies::fronts::Front;
 use server_replies::init::start_bytes;
 use virtiofsd_fuse::{agree, known};
 
-// The options after a call that is no INIT.
+// The options after a call other than INIT.
 fn left_options(options: FsOptions, awaits: &Awaits) -> FsOptions
     requires { bit_and options.0 known_options ≡ options.0 }
     ensures options { result.0 ≡ leaves_options options.0 awaits.now }
@@ -35,7 +35,7 @@ fn left_options(options: FsOptions, awaits: &Awaits) -> FsOptions
     }
 }
 
-// How many bytes of data an answer has that is data.
+// The length in bytes of an answer that is data.
 fn data_of(answer: &FileAnswer) -> Option<usize>
     ensures { result ≡ data_of answer.now }
 {
@@ -45,7 +45,7 @@ fn data_of(answer: &FileAnswer) -> Option<usize>
     }
 }
 
-// The options and the bytes to read ahead, if the wanted options are still awaited.
+// The options of client and server, and the client's readahead in bytes, if the call is INIT's.
 fn wish_of(awaits: &Awaits) -> Option<(u64, u32)>
     ensures { result ≡ wish_of awaits.now }
 {
@@ -56,7 +56,7 @@ fn wish_of(awaits: &Awaits) -> Option<(u64, u32)>
 }
 
 impl Session {
-    // INIT: what is agreed from then on.
+    // The answer of INIT: its options are agreed from then on.
     fn start(
         &mut self,
         unique: u64,
@@ -84,7 +84,7 @@ impl Session {
         }
     }
 
-    // An answer without data, but INIT's.
+    // An answer without data, of a call other than INIT.
     fn answer_single(&mut self, waiting: &Waiting, answer: FileAnswer) -> Answered
         requires without_data { data_of answer ≡ None }
         requires single { wish_of waiting.now.awaits ≡ None }
@@ -125,7 +125,7 @@ impl Session {
         }
     }
 
-    // An answer that is waited for.
+    // An answer that the call can have.
     fn answer_taken(&mut self, waiting: &Waiting, answer: FileAnswer) -> Answered
         requires { is_too_long waiting.now.room answer ≡ false }
         ensures gives { (command : FileCommand) (bytes : List ℕ)
@@ -142,9 +142,10 @@ impl Session {
         }
     }
 
-    /// Answers the call of a request: the reply's front and the options after it, by what the call's answer
-    /// is served. An answer that the call can't have is refused (`OtherKind`), and one whose reply has room
-    /// but no length that a header tells (`TooLong`): that changes nothing, and the request waits still.
+    /// Takes the answer of a request's call. Returns the front of the reply, and sets the options
+    /// after it. Errors, in this order; each changes nothing, and returns `waiting`:
+    /// - `OtherKind`: the call can't have this answer
+    /// - `TooLong`: the reply fits in the reply buffer, but not in its header's 32-bit length
     pub fn answer(
         &mut self,
         waiting: Waiting,

@@ -1,4 +1,4 @@
-//! Entries of a directory, put over the bytes of a list.
+//! Entries of a directory, written into a list.
 
 ghost use Rattle.std.specs.Prelude.{◌≡◌, ◌+◌, ◌<◌, ◌^◌, ◌++◌, length, true};
 ghost use Rattle.fuse_fs.specs.Answers.{listed};
@@ -8,7 +8,7 @@ ghost use Rattle.server_phases.specs.Gathering.{bytes_of};
 use fuse_fs::{DirEntry, Entry};
 use server_replies::entries::{DIRENT_LEN, dirent_head, is_dot, no_node, node_bytes};
 
-// Puts `struct fuse_dirent` of an entry over these bytes.
+// Writes `struct fuse_dirent` of an entry, its name and zeros over these bytes.
 fn put_dirent(out: &mut [u8], entry: &DirEntry<'_>)
     requires short { length entry.now.name.now < 2 ^ 32 }
     requires place { length out.old ≡ dirent_len (length entry.now.name.now) }
@@ -21,7 +21,8 @@ fn put_dirent(out: &mut [u8], entry: &DirEntry<'_>)
     zeros.copy_from_slice(&[0; 8][..zeros.len()]);
 }
 
-/// Puts an entry over these bytes, of which the node stands in front, where one is asked for.
+/// Writes an entry over these bytes. For READDIRPLUS `node` is its node, written first; for READDIR
+/// it is empty.
 pub(crate) fn put_entry(out: &mut [u8], node: &[u8], entry: &DirEntry<'_>)
     requires short { length entry.now.name.now < 2 ^ 32 }
     requires place { length out.old ≡ length node.now + dirent_len (length entry.now.name.now) }
@@ -32,7 +33,7 @@ pub(crate) fn put_entry(out: &mut [u8], node: &[u8], entry: &DirEntry<'_>)
     put_dirent(behind, entry);
 }
 
-/// The node that stands before an entry, as `struct fuse_entry_out`.
+/// The node of an entry in READDIRPLUS, as `struct fuse_entry_out` (128 bytes).
 pub(crate) fn node_front(entry: &DirEntry<'_>, node: Entry<u64>) -> [u8; 128]
     ensures { result ++ dirent_bytes (listed entry.now) ≡ bytes_of true (listed entry.now, node) }
 {

@@ -1,4 +1,4 @@
-//! How a listing gathers its entries, and what it replies.
+//! Adding entries to a listing, and its reply.
 
 ghost use Rattle.std.specs.Prelude.{◌≡◌, ℕ, ◌+◌, ◌-◌, ◌<◌, ◌≤◌, ◌^◌, ◌&&◌, [], ◌∷◌, ◌++◌, List, length, take};
 ghost use Rattle.std.specs.Prelude.{min, nat_lt};
@@ -27,7 +27,7 @@ use server_replies::fronts::Front;
 use server_replies::init::MAX_BUFFER_SIZE;
 use server_replies::replies::OUT_HEADER_LEN;
 
-// How many bytes of entries are asked for: no more than a listing may have.
+// The size of the listing in bytes, at most 2^20.
 fn size_asked(size: u32) -> usize
     ensures size { size ≤ 2 ^ 20 → result ≡ size }
     ensures small { result ≤ 2 ^ 20 }
@@ -35,7 +35,7 @@ fn size_asked(size: u32) -> usize
     size.min(MAX_BUFFER_SIZE) as usize
 }
 
-// The reply that is so many bytes of the list.
+// The reply with the first `len` bytes of the list as its data.
 fn entries_reply(unique: u64, len: usize) -> ListingReply
     requires { 16 + len < 2 ^ 32 }
     ensures front { result.front ≡ data_header unique (Ok len) }
@@ -48,7 +48,7 @@ fn entries_reply(unique: u64, len: usize) -> ListingReply
 }
 
 impl NotAdded {
-    /// The error by which the listing fails, if it does.
+    /// The error that the listing fails with: EIO or EOVERFLOW; None if it doesn't fail.
     pub fn error(self) -> Option<Errno>
         ensures { result ≡ error_of self }
     {
@@ -61,8 +61,8 @@ impl NotAdded {
 }
 
 impl Listing {
-    /// The list of the entries that a READDIR or READDIRPLUS waits for: none so far. Another request is given
-    /// back.
+    /// An empty list for the entries of a READDIR or READDIRPLUS. `OtherKind` for another request,
+    /// whose `waiting` is returned.
     pub fn begin(waiting: Waiting) -> Result<Listing, RefusedAnswer>
         ensures lists { IfOk result (λ l. (command : FileCommand)
             → WaitsFor waiting command
@@ -91,14 +91,14 @@ impl Listing {
         }
     }
 
-    /// How many bytes of entries may still come.
+    /// The number of bytes of entries that still fit.
     pub fn left(&self) -> usize
         ensures { result ≡ min self.now.size self.now.room - self.now.len }
     {
         self.size.min(self.room) - self.len
     }
 
-    // Puts an entry behind the others, with these bytes of its node in front.
+    // Appends an entry, with the bytes of its node first.
     fn put(&mut self, list: &mut [u8], node: &[u8], entry: &DirEntry<'_>) -> Result<(), NotAdded>
         requires { length node.now ≡ (if self.old.with_nodes then 128 else 0) }
         ensures outcome { result ≡ placed self.old (length list.old) (length entry.now.name.now) }
@@ -128,7 +128,7 @@ impl Listing {
         Ok(())
     }
 
-    /// Puts an entry of READDIR behind the others, with zeros up to a multiple of 8 bytes.
+    /// Appends an entry of READDIR, padded with zeros to a multiple of 8 bytes.
     pub fn add(&mut self, list: &mut [u8], entry: &DirEntry<'_>) -> Result<(), NotAdded>
         ensures outcome { result ≡ added_plain self.old (length list.old) (length entry.now.name.now) }
         ensures holds { OnOk result ((es : List Brought)
@@ -152,9 +152,9 @@ impl Listing {
         self.put(list, &[], entry)
     }
 
-    /// Puts an entry of READDIRPLUS behind the others, with its node in front: `node` is what its look-up
-    /// gave, and the client holds it once more from then on. `.` and `..` aren't looked up: with them goes
-    /// node 0, whatever is brought.
+    /// Appends an entry of READDIRPLUS with its node first. `node` is the answer of its lookup, and
+    /// the client's lookup count of it is one higher from then on. `.` and `..` aren't looked up:
+    /// they get node 0, and `node` is ignored.
     pub fn add_with_node(
         &mut self,
         list: &mut [u8],
@@ -181,14 +181,14 @@ impl Listing {
         self.put(list, &node_front(entry, node), entry)
     }
 
-    // Whether entries came with nodes, which are held.
+    // Whether READDIRPLUS has added entries, whose nodes the client holds.
     fn brought_nodes(&self) -> bool
         ensures { result ≡ self.now.with_nodes && nat_lt 0 self.now.len }
     {
         self.with_nodes && 0 < self.len
     }
 
-    /// The reply: the entries so far. With none the directory has ended.
+    /// The reply with the entries so far. Without entries it is the end of the directory.
     pub fn end(self) -> ListingReply
         ensures gives { (s : Setting) (command : FileCommand) (list : List ℕ) (es : List Brought)
             → IsListingFor self s.room command
@@ -200,8 +200,8 @@ impl Listing {
         entries_reply(self.unique, self.len)
     }
 
-    /// The reply if reading, a look-up or an entry failed: the error, and nothing of the list; but if
-    /// READDIRPLUS has brought entries, these, since their nodes are held.
+    /// The reply if reading, a lookup or an entry failed: the error alone. But if READDIRPLUS has
+    /// added entries, it is these, since the client holds their nodes.
     pub fn fail(self, error: Errno) -> ListingReply
         ensures reply { (list : List ℕ) (es : List Brought)
             → Holds self list es

@@ -1,4 +1,4 @@
-//! Serving in two phases: who owns the files is told the one call of a request, and answers it.
+//! The FUSE server in two phases: it returns the one call of a request as a value, and takes its answer.
 #![tactic(auto)]
 
 mod answering;

@@ -1,18 +1,18 @@
-//! A listing that is answered entry by entry.
+//! A listing to which the caller adds entry after entry.
 
 ghost use Rattle.std.specs.Prelude.{◌≤◌, ◌^◌};
 
 use server_replies::fronts::Front;
 
-/// The entries of a READDIR or READDIRPLUS so far. They gather in a list of the caller's, the same at each
-/// call, whose front is the reply's data.
+/// The entries of a READDIR or READDIRPLUS so far. Their bytes are in a list of the caller's: it
+/// passes the same list to each call, and the front of the list is the reply's data.
 #[derive(Debug, Drop)]
 pub struct Listing {
     pub(crate) unique: u64,
     pub(crate) with_nodes: bool,
-    /// How many bytes of entries were asked for.
+    /// The size that the client asked for, in bytes of entries.
     pub(crate) size: usize,
-    /// How many bytes of them have room behind the header.
+    /// The bytes of the reply buffer behind the header.
     pub(crate) room: usize,
     pub(crate) len: usize,
     ghost asked: { len ≤ size },
@@ -20,28 +20,29 @@ pub struct Listing {
     ghost small: { size ≤ 2 ^ 20 },
 }
 
-/// Why an entry isn't in the list: nothing has changed, and who looked it up undoes that.
+/// The reason for which an entry wasn't added. Nothing has changed. The caller forgets the node if
+/// it looked it up.
 #[derive(Clone, Copy, Debug, PartialEq, Eq)]
 pub enum NotAdded {
-    /// READDIR brings entries without nodes, READDIRPLUS with them.
+    /// The entry has a node in READDIR, or none in READDIRPLUS.
     OtherKind,
-    /// It has no place in what is left of the size that was asked for: the entries so far are the answer
-    /// (`Listing::end`). In READDIRPLUS its node is given back, by FORGET of 1.
+    /// The entry doesn't fit in the rest of the size: the reply has the entries so far
+    /// (`Listing::end`). In READDIRPLUS the file system does a FORGET of 1 for its node.
     Full,
-    /// It has a place in the size, but none in the room: the listing fails by EIO (`Listing::fail`). In
-    /// READDIRPLUS its node is given back, by FORGET of 1.
+    /// The entry fits in the size, but not in the reply buffer: the listing fails with EIO
+    /// (`Listing::fail`). In READDIRPLUS the file system does a FORGET of 1 for its node.
     NoRoom,
-    /// Its name has 2^32 bytes or more: the same, by EOVERFLOW.
+    /// The name has 2^32 bytes or more: as `NoRoom`, but with EOVERFLOW.
     TooLong,
-    /// The list ends before it.
+    /// The caller's list is too short for the entry.
     ShortList,
 }
 
 /// The reply to a listing.
 #[derive(Drop)]
 pub struct ListingReply {
-    /// What stands before the data.
+    /// The bytes of the reply before the data.
     pub front: Front,
-    /// How many bytes of the list are the data.
+    /// The number of bytes of the list that are the data.
     pub len: usize,
 }

@@ -1,4 +1,4 @@
-//! What requests ask, by their opcode's row.
+//! Decoding requests by the row of their opcode.
 
 ghost use Rattle.std.specs.Prelude.{◌≡◌, ◌≤◌, ℕ, List, true};
 ghost use Rattle.fuse_fs.specs.Answers.{context_of};
@@ -24,7 +24,7 @@ use virtiofsd_fuse::{
 };
 
 impl Session {
-    /// A request that asks one plain call, or none.
+    /// Decodes a request with one plain call, or with none.
     pub(crate) fn ask_single<'a>(
         &self,
         opcode: Opcode,
@@ -45,7 +45,7 @@ impl Session {
         }
     }
 
-    // BATCH_FORGET, by how many pairs it says.
+    // BATCH_FORGET of `count` pairs.
     fn ask_pairs<'a>(
         &self,
         head: &InHeader,
@@ -101,7 +101,7 @@ impl Session {
         }
     }
 
-    /// READDIR, or READDIRPLUS.
+    /// READDIR or READDIRPLUS.
     pub(crate) fn ask_listing<'a>(
         &self,
         head: &InHeader,
@@ -139,7 +139,7 @@ impl Session {
         }
     }
 
-    /// WRITE, whose data stands behind its record.
+    /// WRITE with its data behind the record.
     pub(crate) fn ask_write<'a>(
         &self,
         head: &InHeader,

@@ -1,4 +1,4 @@
-//! What client and server have agreed on, by which requests are asked and answers told.
+//! The session of a client and its server: decodes requests and takes answers by the agreed options.
 
 ghost use Rattle.std.specs.Prelude.{◌≡◌, List, ℕ, length, drop, IsTrue, bit_and};
 ghost use Rattle.server_replies.specs.PageSizes.{is_page_size};
@@ -14,7 +14,7 @@ use fuse_wire::FsOptions;
 use server_requests::source::{Flat, Source};
 use virtiofsd_fuse::{REQUEST_FRONT, known};
 
-/// What client and server have agreed on: the guest's page size, and the options of INIT.
+/// The page size of the guest, and the options that client and server agreed on in INIT.
 #[derive(Drop)]
 pub struct Session {
     pub(crate) page_size: u32,
@@ -24,7 +24,7 @@ pub struct Session {
 }
 
 impl Session {
-    /// A session in which nothing was agreed yet. The guest's pages have `page_size` bytes.
+    /// A session without agreed options. The guest's pages have `page_size` bytes.
     pub fn new(page_size: u32) -> Session
         requires { IsTrue (is_page_size page_size) }
         ensures page_size { result.page_size ≡ page_size }
@@ -36,7 +36,8 @@ impl Session {
         }
     }
 
-    /// A session that goes on with the options that were agreed before; bits of no option are dropped.
+    /// A session with the options agreed before, except unknown bits. The guest's pages have
+    /// `page_size` bytes.
     pub fn resume(page_size: u32, options: FsOptions) -> Session
         requires { IsTrue (is_page_size page_size) }
         ensures page_size { result.page_size ≡ page_size }
@@ -48,22 +49,22 @@ impl Session {
         }
     }
 
-    /// The options that were agreed.
+    /// The agreed options.
     pub fn options(&self) -> FsOptions
         ensures { result ≡ self.now.options }
     {
         self.options
     }
 
-    /// How many bytes the guest's pages have.
+    /// The size of the guest's pages, in bytes.
     pub fn page_size(&self) -> u32
         ensures { result ≡ self.now.page_size }
     {
         self.page_size
     }
 
-    /// Tells what a request asks that has this room for its reply: its one call, or what it is served without
-    /// one. Names and values of the call stand in the request. It takes no memory.
+    /// Decodes a request with a reply buffer of `room` bytes: returns its one call, or its result without a
+    /// call. Names and values of the call are borrowed from the request. It allocates nothing.
     pub fn ask<'a>(&self, request: &'a [u8], room: usize) -> DecodedRequest<'a>
         ensures told { IsDecoded (setting self.now.page_size self.now.options.0 room)
             (meaning self.now.options.0 request.now room) (drop 80 request.now) result }
@@ -76,10 +77,10 @@ impl Session {
         }
     }
 
-    /// The same by the first bytes of a request that has `len` bytes in all: the data of a WRITE, behind the
-    /// first 80 (`REQUEST_FRONT`), stays where it stands. If they don't tell it, all bytes of the request are
-    /// wanted. A WRITE's `size` is what its record tells, `len` how many bytes of data the request has: they
-    /// may differ.
+    /// Decodes a request of `len` bytes from its first bytes. `front` is either all of them, or at
+    /// least the first 80 (`REQUEST_FRONT`) of a WRITE, whose data may be elsewhere; otherwise it
+    /// returns `More`. In the call of a WRITE, `size` is from the record and `len` is the number of
+    /// data bytes: they may differ.
     pub fn ask_front<'a>(&self, front: &'a [u8], len: usize, room: usize) -> AskedFront<'a>
         ensures told { (request : List ℕ)
             → len ≡ length request

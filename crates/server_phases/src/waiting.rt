@@ -1,4 +1,4 @@
-//! What is kept of a request while its call waits for an answer.
+//! The state of a request while its call waits for an answer.
 
 ghost use Rattle.std.specs.Prelude.{◌≡◌, []};
 ghost use Rattle.fuse_values.specs.Values.{call_of};
@@ -7,18 +7,18 @@ ghost use Rattle.server_phases.specs.Waiting.{awaits_of};
 use fuse_fs::Context;
 use fuse_values::FileCall;
 
-/// What a call waits for.
+/// The kind of answer that a call can have.
 #[derive(Clone, Copy, Debug, PartialEq, Eq)]
 pub enum Awaits {
-    /// That it is done.
+    /// Success.
     Done,
-    /// That it is done, which can't fail, and of which the client isn't told.
+    /// Success without a reply; the call can't fail.
     Forgotten,
-    /// That it is done, of which the client isn't told: there is no reply.
+    /// Success without a reply.
     NoReply,
-    /// That a conversation has ended.
+    /// Success of DESTROY, the end of the session, without a reply; the call can't fail.
     End,
-    /// An error, since there is no good answer.
+    /// An error: the call can't succeed.
     Failure,
     /// An entry.
     Entry,
@@ -32,23 +32,23 @@ pub enum Awaits {
     Bytes,
     /// At most `most` bytes of a file.
     FileBytes { most: usize },
-    /// Data, or how many bytes of it there are.
+    /// Data, or its length in bytes.
     BytesOrCount,
-    /// The numbers of a file system.
+    /// The statistics of a file system.
     Stats,
-    /// How many bytes were written.
+    /// The number of bytes written.
     Written,
-    /// A place in a file.
+    /// An offset in a file, in bytes.
     Offset,
-    /// The options that are asked for, of those that both sides have; the client reads `readahead` bytes
-    /// ahead.
+    /// INIT's options that the file system wants. `capable` are those of client and server; the
+    /// client reads `readahead` bytes ahead.
     Wish { capable: u64, readahead: u32 },
-    /// The entries of a directory in `size` bytes, each with its node or without.
+    /// The entries of a directory in at most `size` bytes, with their nodes in READDIRPLUS.
     Entries { with_nodes: bool, size: u32 },
 }
 
-/// What is kept of a request whose call waits for an answer; its bytes are wanted no more. `Session::ask` and
-/// `ask_front` alone make one, and who answers gives it up, so that each is answered once.
+/// The state of a request whose call waits for an answer; the request's bytes are needed no more. Only
+/// `Session::ask` and `ask_front` make one, and an answer consumes it, so each call is answered once.
 #[derive(Debug, Drop)]
 pub struct Waiting {
     pub(crate) unique: u64,
@@ -65,21 +65,21 @@ impl Waiting {
         self.unique
     }
 
-    /// Who asks.
+    /// The caller: uid, gid and pid of the request's header.
     pub fn context(&self) -> Context
         ensures { result ≡ self.now.context }
     {
         self.context
     }
 
-    /// What the call waits for.
+    /// The kind of answer that the call can have.
     pub fn awaits(&self) -> Awaits
         ensures { result ≡ self.now.awaits }
     {
         self.awaits
     }
 
-    /// How many bytes the reply has room for, its header among them.
+    /// The size of the reply buffer in bytes, with the header.
     pub fn room(&self) -> usize
         ensures { result ≡ self.now.room }
     {
@@ -87,7 +87,7 @@ impl Waiting {
     }
 }
 
-/// What one call waits for.
+/// The kind of answer that one call can have.
 pub(crate) fn awaits_of(call: &FileCall<'_>) -> Awaits
     ensures { result ≡ awaits_of (call_of [] call.now) }
 {

@@ -1,4 +1,4 @@
--- Replies whole, by the answers that are told (linux/fuse.h).
+-- Whole replies, made from the answers (linux/fuse.h).
 use Rattle.std.specs.Prelude.{◌≡◌, ℕ, ◌+◌, ◌-◌, ◌/◌, ◌^◌, ◌%◌, Bool, ◌&&◌, nat_lt, List, [], ◌++◌, length}
 use Rattle.std.specs.Prelude.{replicate, Option, Some, None, Result, Ok, Err, if◌then◌else◌, pos, neg_ℤ}
 use Rattle.vm_values.specs.Fields.{spelled}
@@ -14,17 +14,17 @@ use Rattle.server_segments.specs.declared.error.Error.{Error}
 use Rattle.server_segments.specs.ReaderAndWriterView.{WriterView}
 use Rattle.server_segments.specs.declared.error.Error.TheVariants.{EncodeMessage}
 
--- struct fuse_out_header and what follows it
+-- struct fuse_out_header of a success, and the bytes behind it
 unfoldable pub reply_bytes : (unique : ℕ) → List ℕ → List ℕ
 reply_bytes unique bytes =
     spelled (out_header (record { len = 16 + length bytes; error = pos 0; unique = unique })) ++ bytes
 
--- struct fuse_out_header of an error, whose number goes out as its negative
+-- the reply of an error: struct fuse_out_header with the negative error number
 unfoldable pub error_bytes : (unique errno : ℕ) → List ℕ
 error_bytes unique errno =
     spelled (out_header (record { len = 16; error = neg_ℤ (pos errno); unique = unique }))
 
--- what follows the header, by the answer
+-- the bytes of an answer behind the header
 abbrev pub body_bytes : FileAnswer → List ℕ
 body_bytes (HasEntry e) = spelled (entry_out (entry_out_of e))
 body_bytes (HasAttr attr timeout) = spelled (attr_out (attr_out_of attr timeout))
@@ -38,17 +38,17 @@ body_bytes (Wrote n) = spelled (write_out (write_out_of n))
 body_bytes (Offset n) = spelled (lseek_out (lseek_out_of n))
 body_bytes _ = []
 
--- the reply to an answer; a good one may have none
+-- the reply to an answer; a silent call has none if it succeeds
 abbrev pub told_bytes : (silent : Bool) → (unique : ℕ) → FileAnswer → List ℕ
 told_bytes silent unique (Failed errno) = error_bytes unique errno
 told_bytes silent unique answer = if silent then [] else reply_bytes unique (body_bytes answer)
 
--- what of it is data, which stands behind the front: a header, or all of a reply without data
+-- the data of an answer, behind the front of its reply
 abbrev pub told_data : (silent : Bool) → FileAnswer → List ℕ
 told_data silent (Bytes bytes) = if silent then [] else bytes
 told_data silent _ = []
 
--- struct fuse_init_out
+-- struct fuse_init_out of version 7.38 with these values; the options are in `flags` and `flags2`
 abbrev pub init_record : (readahead options max_background congestion max_write gran max_pages : ℕ) → InitOut
 init_record readahead options max_background congestion max_write gran max_pages =
     record {
@@ -66,48 +66,47 @@ init_record readahead options max_background congestion max_write gran max_pages
       unused = replicate 7 0;
     }
 
--- the record that tells a client of a later version which one is spoken
+-- struct fuse_init_out for a client of a later version: only the version isn't 0
 unfoldable pub versions_bytes : List ℕ
 versions_bytes = spelled (init_out (init_record 0 0 0 0 0 0 0))
 
--- struct fuse_init_out: 65535 requests in the background, throttled from 49149 on, writes of at most 2^20
--- bytes, times to the nanosecond, and as many pages as 2^20 bytes take
+-- struct fuse_init_out: 65535 background requests, congestion from 49149 on, writes of at most 2^20
+-- bytes, times to the nanosecond, and the number of pages of 2^20 bytes
 unfoldable pub started_bytes : (page_size readahead options : ℕ) → List ℕ
 started_bytes page_size readahead options =
     spelled (init_out (init_record readahead options 65535 49149 (2 ^ 20) 1 ((2 ^ 20 - 1) / page_size + 1)))
 
--- the reply to an answer of `read`, with the bytes that were put in
+-- the reply to a READ: the data, or the error
 abbrev pub data_reply : ℕ → Result ℕ ℕ → List ℕ → List ℕ
 data_reply unique (Ok n) bytes = reply_bytes unique bytes
 data_reply unique (Err errno) bytes = error_bytes unique errno
 
--- as many bytes of entries, or the error that is the reply; in READDIRPLUS an error after the first entry
--- ends the list
+-- the length of the entries in the reply, or the error that is the reply. In READDIRPLUS an error
+-- after the first entry only ends the list
 abbrev pub listing_answer : (len : ℕ) → (with_nodes : Bool) → Option ℕ → Result ℕ ℕ
 listing_answer len with_nodes None = Ok len
 listing_answer len with_nodes (Some errno) = if with_nodes && nat_lt 0 len then Ok len else Err errno
 
--- the header of that reply alone; an error has nothing else
+-- the header of the reply to a READ; the reply of an error is only a header
 abbrev pub data_header : ℕ → Result ℕ ℕ → List ℕ
 data_header unique (Ok n) = spelled (out_header (record { len = 16 + n; error = pos 0; unique = unique }))
 data_header unique (Err errno) = error_bytes unique errno
 
--- the reply to a listing, by the entries that went in and the error that ended it
+-- the reply to a listing: the entries in it, or the error that ended it
 abbrev pub listing_bytes : ℕ → (with_nodes : Bool) → List ℕ → Option ℕ → List ℕ
 listing_bytes unique with_nodes bytes error =
     data_reply unique (listing_answer (length bytes) with_nodes error) bytes
 
--- a writer's answer with what it wrote, and the reply that it is to be: whole, or not at all
+-- the result of a writer, with the bytes that it wrote if it succeeded
 abbrev pub with_written : Result ℕ Error → List ℕ → Result (List ℕ) Error
 with_written (Ok n) written = Ok written
 with_written (Err e) written = Err e
 
--- a reply whole, or the fault that it is longer than the room
+-- the whole reply, or the fault EncodeMessage if it is longer than the reply buffer
 abbrev pub whole_or_none : (room : ℕ) → List ℕ → Result (List ℕ) Error
 whole_or_none room bytes = if nat_lt room (length bytes) then Err EncodeMessage else Ok bytes
 
--- what an answer leaves in its writer: a reply of that length, in the room that there was; after an error
--- nothing has changed
+-- a result leaves its writer: a reply of that length in the writer's room, or after a fault no change
 abbrev pub LeavesWriter : Result ℕ Error → (old new : WriterView) → Type 0
 LeavesWriter (Ok n) old new =
     (n ≡ length new.written) × (length new.written + new.free ≡ length old.written + old.free)

@@ -1,4 +1,4 @@
-//! Answers of a file system as they are told.
+//! The reply of each answer.
 
 ghost use Rattle.std.specs.Prelude.{◌≡◌, ◌+◌, ◌<◌, ◌^◌, ◌++◌, [], length, Ok, false};
 ghost use Rattle.vm_values.specs.Fields.{spelled};
@@ -15,16 +15,16 @@ use fuse_wire::{Attr, EntryOut, Errno, Kstatfs, OpenOptions, OpenOut, StatVfs, S
 use server_segments::{Error, Writer};
 use vm_values::ByteValued;
 
-/// An answer as the client is told of a good one: the front of its reply, and the data behind it
+/// An answer with its reply: header and record of a successful call, and the data behind them
 /// (linux/fuse.h).
 pub trait AsFront: GoodAnswer + Drop {
-    /// Front and data. The data of a reply whose length has no 32 bits can't be told.
+    /// The front of the reply, and its data. The reply's length must fit the header's 32 bits.
     fn parts(&self, unique: u64) -> (Front, &[u8])
         ensures data { result.1.now ≡ told_data Self.silent (Self.said (Ok self.now)) }
         ensures told { 16 + length result.1.now < 2 ^ 32
             → result.0 ++ result.1.now ≡ told_bytes Self.silent unique (Self.said (Ok self.now)) };
 
-    /// The front of an answer without data, which is its reply.
+    /// The reply of an answer without data: its front alone.
     final fn front(&self, unique: u64) -> Front
         requires { told_data Self.silent (Self.said (Ok self.now)) ≡ [] }
         ensures { result ≡ told_bytes Self.silent unique (Self.said (Ok self.now)) }
@@ -34,8 +34,8 @@ pub trait AsFront: GoodAnswer + Drop {
     }
 }
 
-/// Replies with an answer: header and record, or the error, whole or not at all. Answers the reply's length
-/// in bytes, 0 if there is none, and `EncodeMessage` if it has no room.
+/// Writes the reply of an answer, whole or not at all: header, record and data, or the error.
+/// Returns its length in bytes, 0 if there is none. `EncodeMessage` if it doesn't fit.
 #[inline(always)]
 pub fn reply_answer<A: AsFront>(
     w: &mut Writer,
@@ -159,7 +159,8 @@ impl<I: FileNumber, H: FileNumber> AsFront for (Entry<I>, Option<H>, OpenOptions
     }
 }
 
-/// The length of a reply to CREATE behind its header: `struct fuse_entry_out` and `struct fuse_open_out`.
+/// The length in bytes of a reply to CREATE without its header: `struct fuse_entry_out` and `struct
+/// fuse_open_out`.
 const CREATE_OUT_LEN: usize = 144;
 
 // Writes the two records of a reply to CREATE.

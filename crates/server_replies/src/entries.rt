@@ -1,4 +1,4 @@
-//! Entries of a directory, which go straight into the reply.
+//! Entries of a directory, written straight into the reply.
 
 ghost use Rattle.std.specs.Prelude.{◌≡◌, ◌+◌, ◌<◌, ◌≤◌, ◌^◌, ◌++◌, length, drop, OnOk, OnErr};
 ghost use Rattle.vm_values.specs.Fields.{spelled};
@@ -16,10 +16,10 @@ use fuse_wire::{Attr, EntryOut, Errno, GuestGid, GuestUid};
 use server_segments::Writer;
 use vm_values::ByteValued;
 
-/// The length of `struct fuse_dirent` without its name.
+/// The length in bytes of `struct fuse_dirent` without its name.
 pub const DIRENT_LEN: usize = 24;
 
-/// The length of `struct fuse_dirent` with a name of this length, and what fills it up to a multiple of 8.
+/// The length in bytes of `struct fuse_dirent` with a name of this length, padded to a multiple of 8.
 pub fn dirent_len(name_len: usize) -> usize
     requires { name_len < 2 ^ 32 }
     ensures len { result ≡ dirent_len name_len }
@@ -29,7 +29,7 @@ pub fn dirent_len(name_len: usize) -> usize
     (DIRENT_LEN + name_len + 7) / 8 * 8
 }
 
-/// `struct fuse_dirent` of an entry, without its name.
+/// `struct fuse_dirent` of an entry, 24 bytes, without its name.
 pub fn dirent_head(entry: &DirEntry<'_>) -> [u8; DIRENT_LEN]
     requires { length entry.now.name.now < 2 ^ 32 }
     ensures { result ≡ spelled (dirent (dirent_of (listed entry.now))) }
@@ -50,7 +50,7 @@ pub fn node_bytes<I: FileNumber>(node: Entry<I>) -> [u8; 128]
     bytes
 }
 
-// Writes an entry, of which the node stands in front, if one is asked for.
+// Writes an entry. For READDIRPLUS `node` is its node, written first; for READDIR it is empty.
 fn write_entry(w: &mut Writer, node: &[u8], entry: &DirEntry<'_>)
     requires short { length entry.now.name.now < 2 ^ 32 }
     requires room { length node.now + dirent_len (length entry.now.name.now) ≤ w.old.free }
@@ -66,9 +66,11 @@ fn write_entry(w: &mut Writer, node: &[u8], entry: &DirEntry<'_>)
     append(w, &[0; 8][..zeros]);
 }
 
-/// Puts an entry in, if it has room, and answers how many bytes are left of the size then. Else it writes
-/// nothing and answers how the list ends: EOVERFLOW if the name has 2^32 bytes or more, no errno if the entry
-/// has more bytes than are left of the size, EIO if it has more than the writer has room for.
+/// Writes an entry, and returns the number of bytes left of the list's size. If the entry doesn't
+/// fit, nothing is written and the list ends. The reasons, in this order:
+/// - `Some(EOVERFLOW)`: the name has 2^32 bytes or more
+/// - `None`: the entry has more bytes than `left`
+/// - `Some(EIO)`: it has more bytes than the writer has free
 #[tactic(auto, unfolding(crate::specs::Entries::fit_of))]
 pub fn put_entry(
     w: &mut Writer,
@@ -101,14 +103,14 @@ pub fn put_entry(
     Ok(left - len)
 }
 
-/// Whether a name is `.` or `..`, which are not looked up.
+/// Whether a name is `.` or `..`; these are not looked up.
 pub fn is_dot(name: &[u8]) -> bool
     ensures { result ≡ is_dot name.now }
 {
     matches!(name, [b'.'] | [b'.', b'.'])
 }
 
-/// The node of `.` and `..`: node 0, of which the listing knows the number and the kind.
+/// The node of `.` and `..`: node 0, with the inode number and the kind of the listing.
 pub fn no_node<I: FileNumber>(entry: &DirEntry<'_>) -> Entry<I>
     ensures { numbered I.number result ≡ no_node (listed entry.now) }
 {
@@ -139,7 +141,7 @@ pub fn no_node<I: FileNumber>(entry: &DirEntry<'_>) -> Entry<I>
     }
 }
 
-// The reply's length without its header, or the error that is the reply.
+// The length in bytes of the entries in the reply, or the error that is the reply.
 fn ended_by(len: usize, with_nodes: bool, error: Option<Errno>) -> Result<usize, Errno>
     ensures { result ≡ listing_answer len with_nodes error }
 {
@@ -155,7 +157,8 @@ fn ended_by(len: usize, with_nodes: bool, error: Option<Errno>) -> Result<usize,
     }
 }
 
-/// Puts a header before the entries that stand behind its place, or an error in place of all of it.
+/// Writes the header before the entries, for which 16 bytes are reserved. Or replaces everything by
+/// an error. Returns the reply's length in bytes.
 pub fn reply_listing(w: &mut Writer, unique: u64, with_nodes: bool, error: Option<Errno>) -> usize
     requires behind { 16 ≤ length w.old.written }
     requires small { length w.old.written < 2 ^ 32 }

@@ -1,4 +1,4 @@
-//! The front of a reply: its header, and what stands behind it that is no data.
+//! The front of a reply: its header and its record, without data.
 
 ghost use Rattle.std.specs.Prelude.{◌≡◌, ◌+◌, ◌<◌, ◌≤◌, ◌^◌, ◌++◌, [], length, Ok};
 ghost use Rattle.vm_values.specs.Fields.{spelled};
@@ -9,10 +9,11 @@ use fuse_wire::{Errno, OutHeader};
 use std::marker::Model;
 use vm_values::ByteValued;
 
-/// The longest front: that of CREATE, a header, `struct fuse_entry_out` and `struct fuse_open_out`.
+/// The length in bytes of the longest front: header, `struct fuse_entry_out` and `struct
+/// fuse_open_out` of CREATE.
 pub const MOST_FRONT_LEN: usize = 160;
 
-/// The most data that a header can tell, in bytes: with the header they have 32 bits.
+/// The most data of a reply, in bytes: with the header its length fits 32 bits.
 pub(crate) const MOST_DATA_LEN: usize = u32::MAX as usize - OUT_HEADER_LEN;
 
 /// The front of a reply, at most 160 bytes.
@@ -32,7 +33,7 @@ impl Model for Front {
     ghost invariant = { λ f. f.len ≤ 160 };
 }
 
-// Writes one part behind another.
+// Writes two parts, one behind the other.
 #[inline(always)]
 fn put_parts(out: &mut [u8], first: &[u8], second: &[u8])
     requires { length out.old ≡ length first.now + length second.now }
@@ -43,7 +44,7 @@ fn put_parts(out: &mut [u8], first: &[u8], second: &[u8])
     back.copy_from_slice(second);
 }
 
-// Puts a good reply that is one record over these bytes.
+// Writes a successful reply that is one record.
 #[inline(always)]
 fn put_reply<T: ByteValued>(out: &mut [u8], unique: u64, body: &T)
     requires { length out.old ≡ 16 + T.SIZE }
@@ -61,7 +62,7 @@ fn put_reply<T: ByteValued>(out: &mut [u8], unique: u64, body: &T)
 }
 
 impl Front {
-    /// Its bytes.
+    /// The bytes of the front.
     #[inline(always)]
     pub fn bytes(&self) -> &[u8]
         ensures value { result.now ≡ self.now }
@@ -70,7 +71,7 @@ impl Front {
         &self.bytes[..self.len]
     }
 
-    // These two parts.
+    // A front of two parts.
     #[inline(always)]
     fn of_parts(first: &[u8], second: &[u8]) -> Front
         requires { length first.now + length second.now ≤ 160 }
@@ -82,14 +83,14 @@ impl Front {
         Front { bytes, len }
     }
 
-    /// No reply.
+    /// The empty front of a request without a reply.
     pub fn none() -> Front
         ensures { result ≡ [] }
     {
         Front::of_parts(&[], &[])
     }
 
-    /// A good reply with this body, which is no data.
+    /// A successful reply with this body, at most 144 bytes.
     #[inline(always)]
     #[tactic(auto, unfolding(crate::specs::WholeReplies::reply_bytes))]
     pub fn reply(unique: u64, body: &[u8]) -> Front
@@ -100,7 +101,7 @@ impl Front {
         Front::of_parts(&header, body)
     }
 
-    /// A good reply that is one record.
+    /// A successful reply that is one record, of at most 144 bytes.
     #[inline(always)]
     pub fn record<T: ByteValued>(unique: u64, body: &T) -> Front
         requires { T.SIZE ≤ 144 }
@@ -112,7 +113,8 @@ impl Front {
         Front { bytes, len }
     }
 
-    /// The header of a good reply with so many bytes of data; it can tell `MOST_DATA_LEN`.
+    /// The header of a successful reply with `len` bytes of data. More than `MOST_DATA_LEN` count
+    /// as that many.
     #[inline(always)]
     pub fn data(unique: u64, len: usize) -> Front
         ensures { 16 + len < 2 ^ 32 → result ≡ data_header unique (Ok len) }
@@ -121,7 +123,7 @@ impl Front {
         Front::of_parts(&header, &[])
     }
 
-    /// The reply of an error.
+    /// The reply of an error: a header, 16 bytes.
     #[inline(always)]
     pub fn error(unique: u64, error: Errno) -> Front
         ensures { result ≡ error_bytes unique error }

@@ -11,10 +11,10 @@ use fuse_wire::constants::{KERNEL_MINOR_VERSION, KERNEL_VERSION};
 use fuse_wire::{FsOptions, InitOut};
 use vm_values::ByteValued;
 
-/// The longest write, in bytes (1 MiB): the longest request but a page.
+/// The most data of a WRITE, in bytes (1 MiB). The longest request has a page more.
 pub const MAX_BUFFER_SIZE: u32 = 1 << 20;
 
-// How many pages the longest write takes.
+// The number of pages of the longest write.
 #[tactic(auto, using(crate::proofs::PageLemmas::page_least))]
 fn max_pages(page_size: u32) -> u16
     requires { IsTrue (is_page_size page_size) }
@@ -32,8 +32,7 @@ fn init_bytes(reply: &InitOut) -> [u8; 64]
     bytes
 }
 
-/// The answer to a client of a later version: `struct fuse_init_out`, of which only the versions say
-/// something.
+/// The reply to a client of a later version: `struct fuse_init_out`, in which only the version isn't 0.
 #[tactic(auto, unfolding(crate::specs::WholeReplies::versions_bytes))]
 pub fn versions() -> [u8; 64]
     ensures { result ≡ versions_bytes }
@@ -54,7 +53,7 @@ pub fn versions() -> [u8; 64]
     })
 }
 
-/// The answer to a client of this version: `struct fuse_init_out`.
+/// The reply to a client of this version: `struct fuse_init_out`.
 #[tactic(auto, unfolding(crate::specs::WholeReplies::started_bytes))]
 pub fn start_bytes(page_size: u32, readahead: u32, options: FsOptions) -> [u8; 64]
     requires { IsTrue (is_page_size page_size) }

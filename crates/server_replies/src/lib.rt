@@ -1,5 +1,4 @@
-//! FUSE replies: answers of a file system, entries of a directory and what INIT agrees on, whole or not at
-//! all.
+//! FUSE replies: answers of a file system, entries of a directory and the options of INIT.
 #![tactic(auto)]
 
 pub mod answers;

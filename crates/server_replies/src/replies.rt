@@ -1,4 +1,4 @@
-//! Replies, whole or not at all.
+//! Replies, written whole or not at all.
 
 ghost use Rattle.std.specs.Prelude.{◌≡◌, ◌+◌, ◌<◌, ◌≤◌, ◌^◌, [], ◌++◌, length, drop, false};
 ghost use Rattle.std.specs.Result.{ForOk};
@@ -27,7 +27,7 @@ pub(crate) fn header_bytes(len: u32, error: i32, unique: u64) -> [u8; OUT_HEADER
     bytes
 }
 
-/// The bytes of an error's reply.
+/// The bytes of the reply of an error.
 #[tactic(auto, unfolding(crate::specs::WholeReplies::error_bytes))]
 pub(crate) fn error_reply(unique: u64, error: Errno) -> [u8; OUT_HEADER_LEN]
     ensures { result ≡ error_bytes unique error }
@@ -35,7 +35,7 @@ pub(crate) fn error_reply(unique: u64, error: Errno) -> [u8; OUT_HEADER_LEN]
     header_bytes(16, -(error.raw() as i32), unique)
 }
 
-/// Writes these bytes, which have room.
+/// Writes these bytes, which must fit.
 #[inline(always)]
 pub fn append(w: &mut Writer, bytes: &[u8])
     requires { length bytes.now ≤ w.old.free }
@@ -46,8 +46,8 @@ pub fn append(w: &mut Writer, bytes: &[u8])
     w.write_all(bytes).unwrap();
 }
 
-/// Writes a reply, its front and the bytes behind it, whole or not at all. Answers its length in bytes, or
-/// `EncodeMessage` if it has no room.
+/// Writes a reply, its front and the bytes behind it, whole or not at all. Returns its length in
+/// bytes, or `EncodeMessage` if it doesn't fit.
 #[inline(always)]
 #[tactic(auto, using(crate::proofs::ReplyLemmas::sent_long, crate::proofs::ReplyLemmas::sent_fits))]
 pub(crate) fn send(w: &mut Writer, front: &[u8], behind: &[u8]) -> Result<usize, Error>
@@ -68,8 +68,8 @@ pub(crate) fn send(w: &mut Writer, front: &[u8], behind: &[u8]) -> Result<usize,
     Ok(front.len() + behind.len())
 }
 
-/// Writes a reply that is a front alone, whole or not at all. Answers its length in bytes, or `EncodeMessage`
-/// if it has no room.
+/// Writes a reply that is only a front, whole or not at all. Returns its length in bytes, or
+/// `EncodeMessage` if it doesn't fit.
 #[inline(always)]
 pub fn reply_front(w: &mut Writer, front: &Front) -> Result<usize, Error>
     requires fresh { w.old.written ≡ [] }
@@ -80,8 +80,8 @@ pub fn reply_front(w: &mut Writer, front: &Front) -> Result<usize, Error>
     send(w, front.bytes(), &[])
 }
 
-/// Writes an error: a header with the error's number made negative. Answers 16, or `EncodeMessage` if it has
-/// no room.
+/// Writes the reply of an error: a header with the negative errno. Returns 16, or `EncodeMessage`
+/// if it doesn't fit.
 pub fn reply_error(w: &mut Writer, unique: u64, error: Errno) -> Result<usize, Error>
     requires fresh { w.old.written ≡ [] }
     ensures sent { with_written result w.new.written ≡ whole_or_none w.old.free (error_bytes unique error) }
@@ -91,8 +91,8 @@ pub fn reply_error(w: &mut Writer, unique: u64, error: Errno) -> Result<usize, E
     reply_front(w, &Front::error(unique, error))
 }
 
-/// The header of the reply to a READ that had this answer, for who has put the data elsewhere; an error's
-/// reply is no more.
+/// The header of the reply to a READ, for a caller that puts the data elsewhere. The reply of an
+/// error is only this header.
 pub fn data_header(unique: u64, answer: Result<usize, Errno>) -> [u8; OUT_HEADER_LEN]
     requires { ForOk answer (λ n. 16 + n < 2 ^ 32) }
     ensures { result ≡ data_header unique answer }
@@ -103,7 +103,8 @@ pub fn data_header(unique: u64, answer: Result<usize, Errno>) -> [u8; OUT_HEADER
     }
 }
 
-/// Puts a header before the bytes that stand behind its place, or an error in place of all of it.
+/// Writes the header before the data, for which 16 bytes are reserved. Or replaces everything by an
+/// error. Returns the reply's length in bytes.
 #[inline(always)]
 pub fn reply_data(w: &mut Writer, unique: u64, answer: Result<usize, Errno>) -> usize
     requires behind { 16 ≤ length w.old.written }

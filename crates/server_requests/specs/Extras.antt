@@ -1,5 +1,5 @@
--- The extensions after the names of a request that makes a node (struct fuse_ext_header, fuse_secctx and
--- fuse_supp_groups of linux/fuse.h).
+-- The extensions after the names of a request that creates a node (struct fuse_ext_header,
+-- fuse_secctx and fuse_supp_groups of linux/fuse.h).
 use Rattle.std.specs.Prelude.{ℕ, zero, suc, ◌-◌, Bool, true, false, not, ◌&&◌, ◌||◌, ◌==◌, nat_le, nat_lt}
 use Rattle.std.specs.Prelude.{List, [], ◌∷◌, length, Option, Some, None, Ok, Err, Result, if◌then◌else◌}
 use Rattle.std.specs.Prelude.{is_none}
@@ -23,23 +23,23 @@ takes_security options = has_bit options 32
 abbrev pub takes_group : ℕ → Bool
 takes_group options = has_bit options 34
 
--- what has come so far: whether a context was sent, perhaps an empty one, and the parts
+-- the extensions read so far, and whether one of them was a security context, maybe an empty one
 pub record SentParts : Type 0 where
   pub was_sent : Bool
   pub security : Option SecurityContext
   pub group : Option ℕ
 
--- before the first extension
+-- no extension so far
 abbrev pub nothing_sent : SentParts
 nothing_sent = record { was_sent = false; security = None; group = None }
 
--- what has come, where it stands
+-- the extensions so far, as bytes and numbers
 abbrev pub sent_of : SoFar → SentParts
 sent_of s =
     let parts = received_extra s.received in
     record { was_sent = s.was_sent; security = parts.security; group = parts.group }
 
--- a context that isn't empty: its name and its label
+-- a security context that isn't empty: its name and its label
 unfoldable pub security_context : Reading SecurityContext
 security_context =
     reading_of secctx >>= λ head. needs (not (head.size == 0)) (Faults DecodeMessage) >> rest >>= λ more.
@@ -47,79 +47,80 @@ security_context =
     name_or DecodeMessage
     >>= λ name. exactly head.size >>= λ label. give (record { name = name; label = label }))
 
--- a group's number
+-- the number of a group, four bytes
 abbrev pub group_number : RecordShape ℕ
 group_number = record { parts = u32 ∷ []; make = λ n. n; says = λ n. n & end }
 
--- one group
+-- a list of exactly one group
 unfoldable pub one_group : Reading ℕ
 one_group =
     reading_of supp_groups
     >>= λ head. needs (head.nr_groups == 1) (Faults DecodeMessage) >> reading_of group_number
 
--- a context, of which kind 0 is empty
+-- a security context is added to the extensions so far; kind 0 is empty
 abbrev pub security_part : ℕ → SentParts → ℕ → Reading SentParts
 security_part options sent kind =
     needs (takes_security options && not sent.was_sent && nat_le kind 1) (Faults DecodeMessage)
     >> (if kind == 0 then give (record { was_sent = true; security = sent.security; group = sent.group })
     else (security_context >>= λ x. give (record { was_sent = true; security = Some x; group = sent.group })))
 
--- a group
+-- a group is added to the extensions so far
 abbrev pub group_part : ℕ → SentParts → Reading SentParts
 group_part options sent =
     needs (takes_group options && is_none sent.group) (Faults DecodeMessage)
     >> one_group
     >>= λ group. give (record { was_sent = sent.was_sent; security = sent.security; group = Some group })
 
--- what an extension's body says, by its kind
+-- an extension's body, read as its kind says: 0 and 1 are security contexts, 32 is a group, others are
+-- faults
 unfoldable pub part : ℕ → SentParts → ℕ → Reading SentParts
 part options sent kind =
     if nat_lt 32 kind then refuse (Faults DecodeMessage)
     else if kind == 32 then group_part options sent
     else security_part options sent kind
 
--- one extension; what its body has besides is ignored
+-- one extension is read; further bytes of its body are ignored
 unfoldable pub extension : ℕ → SentParts → Reading SentParts
 extension options sent =
     reading_of ext_header
     >>= λ head. needs (nat_le 8 head.size) (Faults InvalidHeaderLength) >> exactly (head.size - 8) >>= λ body.
     within body (part options sent head.ext_type)
 
--- one after the other until the bytes end; there are no more of them than bytes
+-- extensions are read until no byte is left. Each has at least one byte, so their number is at most n
 unfoldable pub extensions : ℕ → ℕ → SentParts → List ℕ → Result SentParts ReadFailure
 extensions options n sent [] = Ok sent
 extensions options zero sent (b ∷ bytes) = Ok sent
 extensions options (suc n) sent (b ∷ bytes) =
     and_then (extension options sent (b ∷ bytes)) (λ x. extensions options n x.0 x.1)
 
--- the parts as they came, without the mark that one was sent
+-- the security context and the group, without the mark that a context was sent
 abbrev pub parts_of : SentParts → Extra
 parts_of sent = record { security = sent.security; group = sent.group }
 
--- a context has to be sent where it is agreed, be it empty
+-- a request without a security context is a fault if contexts are agreed; an empty context is enough
 abbrev pub all_sent : ℕ → SentParts → Result Extra ReadFailure
 all_sent options sent =
     if takes_security options && not sent.was_sent then Err (Faults MissingExtension)
     else Ok (parts_of sent)
 
--- the bytes after the names; they are ignored if no kind of extension is agreed
+-- the extensions in the bytes after the names; the bytes are ignored if no kind of extension is agreed
 unfoldable pub extra_in : ℕ → List ℕ → Result Extra ReadFailure
 extra_in options bytes =
     if takes_security options || takes_group options
     then and_then (extensions options (length bytes) nothing_sent bytes) (all_sent options)
     else Ok (parts_of nothing_sent)
 
--- the extensions are all that is left
+-- all bytes left are extensions
 abbrev pub extra : ℕ → Reading Extra
 extra options = λ bytes. and_then (extra_in options bytes) (λ x. Ok (x, []))
 
--- a name of a node that is made, and what comes with it
+-- the name of a new node, and its extensions
 unfoldable pub new_name : ℕ → Reading (List ℕ × Extra)
 new_name options =
     front_name >>= λ name. extra options
     >>= λ more. needs name.1 (Faults InvalidCString) >> give (name.0, more)
 
--- the name of a symbolic link, what it leads to, and what comes with it
+-- the name of a new symbolic link, its target, and its extensions
 unfoldable pub new_link : ℕ → Reading NewLink
 new_link options =
     front_name >>= λ name. front_name

@@ -1,4 +1,4 @@
--- What requests begin with after their header, by the records and bytes that stand there (linux/fuse.h).
+-- The fronts of requests behind their header: records, and the bytes after them (linux/fuse.h).
 use Rattle.std.specs.Prelude.{ℕ, ◌+◌, ◌-◌, Bool, false, ◌&&◌, nat_le, nat_lt, sum, List, length, Ok, Err}
 use Rattle.std.specs.Prelude.{if◌then◌else◌}
 use Rattle.vm_values.specs.Bits.{has_bit}
@@ -13,48 +13,46 @@ use Rattle.server_segments.specs.declared.error.Error.TheVariants.{InvalidHeader
 use Rattle.server_requests.specs.Reading.{Faults, Read, Reading, ◌>>=◌, ◌>>◌, give, needs, exactly}
 use Rattle.server_requests.specs.Reading.{reading_of}
 
--- as many bytes as the header's length leaves after k bytes of record
+-- the bytes of a request behind its header and k bytes of record, by the header's length
 unfoldable pub counted : (len k : ℕ) → Reading (List ℕ)
 counted len k = needs (nat_le (40 + k) len) (Faults InvalidHeaderLength) >> exactly (len - 40 - k)
 
--- n bytes are left in these segments, and the first of them has fewer
+-- n bytes are left in these segments, but not in the first of them
 abbrev pub is_split : (n : ℕ) → (segments : List ℕ) → Bool
 is_split n segments = nat_lt (first segments) n && nat_le n (sum segments)
 
--- the same of the bytes that the header's length leaves after k bytes of record, by the segments behind the
--- header
+-- the bytes behind k bytes of record lie in several segments
 abbrev pub counted_split : (len k : ℕ) → (segments : List ℕ) → Bool
 counted_split len k segments = is_split (len - 40 - k) (past k segments)
 
--- a record of k bytes, and as many bytes as the header's length leaves after it
+-- a record of k bytes, and the bytes after it, by the header's length
 unfoldable pub with_bytes : {R : Type 0} → RecordShape R → (k len : ℕ) → Reading (R × List ℕ)
 with_bytes s k len = reading_of s >>= λ r. counted len k >>= λ bytes. give (r, bytes)
 
--- how many bytes SETXATTR's record has: FUSE_SETXATTR_EXT (bit 29 of the options) decides
+-- the length of SETXATTR's record: 16 with FUSE_SETXATTR_EXT (bit 29 of the options), else 8
 abbrev pub setxattr_len : (options : ℕ) → ℕ
 setxattr_len options = if has_bit options 29 then 16 else 8
 
--- struct fuse_setxattr_in as clients without FUSE_SETXATTR_EXT send it
+-- struct fuse_setxattr_in from the record of clients without FUSE_SETXATTR_EXT: its further flags are 0
 abbrev pub without_flags : SetxattrInCompat → SetxattrIn
 without_flags r = record { size = r.size; flags = r.flags; setxattr_flags = 0; padding = 0 }
 
--- the record of SETXATTR, whose length FUSE_SETXATTR_EXT (bit 29 of the options) decides, and the bytes after
--- it
+-- the record of SETXATTR, longer with FUSE_SETXATTR_EXT (bit 29 of the options), and the bytes after it
 unfoldable pub setxattr_front : (options len : ℕ) → Reading (SetxattrIn × List ℕ)
 setxattr_front options len =
     if has_bit options 29 then with_bytes setxattr_in 16 len
     else (with_bytes setxattr_in_compat 8 len >>= λ x. give (without_flags x.0, x.1))
 
--- struct fuse_forget_one: a node, and how many of the counts that the client holds on it
+-- struct fuse_forget_one: a node, and the number to subtract from its lookup count
 abbrev pub forget_pair : Reading (ℕ × ℕ)
 forget_pair = reading_of forget_one >>= λ r. give (r.nodeid, r.nlookup)
 
--- whether pairs were read, and not none
+-- at least one pair was read
 abbrev pub has_pairs : Read (List (ℕ × ℕ)) → Bool
 has_pairs (Ok x) = nat_lt 0 (length x.0)
 has_pairs (Err r) = false
 
--- the upper half of the client's options, read only if FUSE_INIT_EXT (bit 30 of `flags`) says that it stands
--- there
+-- the upper half of the client's options: with FUSE_INIT_EXT (bit 30 of `flags`) it is read from
+-- the rest of the record, else it is 0
 abbrev pub flags2_of : InitInCompat → Reading ℕ
 flags2_of r = if has_bit r.flags 30 then (reading_of init_in_ext >>= λ more. give more.flags2) else give 0

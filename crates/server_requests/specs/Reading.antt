@@ -1,4 +1,4 @@
--- Reading a request from its front, with the first refusal that is met.
+-- Reading a request from its front, up to the first failure.
 use Rattle.std.specs.Prelude.{ℕ, zero, suc, Bool, ◌==◌, nat_lt, List, [], ◌∷◌, length, take, drop, Option}
 use Rattle.std.specs.Prelude.{Some, None, Result, Ok, Err, if◌then◌else◌, option_map, true, false}
 use Rattle.fuse_in.specs.Shapes.{RecordShape, size, made}
@@ -6,20 +6,20 @@ use Rattle.server_segments.specs.declared.error.Error.{Error}
 use Rattle.server_segments.specs.declared.error.Error.TheVariants.{DecodeMessage, InvalidCString}
 use Rattle.server_segments.specs.declared.error.Error.TheVariants.{InvalidXattrSize, MissingParameter}
 
--- why a request isn't read to its end: a fault, or an error number that is the reply
+-- a failed reading: a fault, or an error number that is the reply
 pub data ReadFailure : Type 0 where
   Faults : Error → ReadFailure
   Sends : (errno : ℕ) → ReadFailure
 
--- what reading gives: a value and the bytes after it, or a refusal
+-- the result of a reading: a value and the bytes after it, or a failure
 abbrev pub Read : Type 0 → Type 0
 Read X = Result (X × List ℕ) ReadFailure
 
--- a way to read a value from the front of some bytes
+-- a reading of a value from the front of some bytes
 abbrev pub Reading : Type 0 → Type 0
 Reading X = List ℕ → Read X
 
--- goes on with what was read, or stays refused
+-- a result passes its value on; a failure remains
 abbrev pub and_then :
     {A B : Type 0} → Result A ReadFailure → (A → Result B ReadFailure) → Result B ReadFailure
 and_then (Ok x) f = f x
@@ -31,45 +31,45 @@ abbrev pub ◌>>=◌ : {A B : Type 0} → Reading A → (A → Reading B) → Re
 p >>= f = λ bytes. and_then (p bytes) (λ x. f x.0 x.1)
 
 infixl 10 ◌>>◌
--- one reading, whose value does not matter, and then another
+-- one reading, whose value is dropped, and then another
 abbrev pub ◌>>◌ : {A B : Type 0} → Reading A → Reading B → Reading B
 p >> q = λ bytes. and_then (p bytes) (λ x. q x.1)
 
--- a value, and nothing read
+-- a value, without reading
 abbrev pub give : {A : Type 0} → A → Reading A
 give x = λ bytes. Ok (x, bytes)
 
--- a refusal, whatever the bytes are
+-- a failure for all bytes
 abbrev pub refuse : {A : Type 0} → ReadFailure → Reading A
 refuse r = λ bytes. Err r
 
--- goes on only if the test holds
+-- a failure unless the test holds; no byte is read
 abbrev pub needs : Bool → ReadFailure → Reading (Unit {0})
 needs test r = λ bytes. if test then Ok (tt, bytes) else Err r
 
--- all that is left
+-- all bytes that are left
 abbrev pub rest : Reading (List ℕ)
 rest = λ bytes. Ok (bytes, [])
 
--- n bytes
+-- the next n bytes, or DecodeMessage if there are fewer
 abbrev pub exactly : ℕ → Reading (List ℕ)
 exactly n =
     λ bytes. if nat_lt (length bytes) n then Err (Faults DecodeMessage) else Ok (take n bytes, drop n bytes)
 
--- n of them, one after another
+-- n values, one after another
 unfoldable pub many : {A : Type 0} → ℕ → Reading A → Reading (List A)
 many zero p = give []
 many (suc n) p = p >>= λ x. many n p >>= λ xs. give (x ∷ xs)
 
--- a record, part by part
+-- a record, field by field
 unfoldable pub reading_of : {R : Type 0} → RecordShape R → Reading R
 reading_of s = exactly (size s.parts) >>= λ bytes. give (made s.parts s.make bytes)
 
--- a reading of these bytes alone, of which what is left is ignored
+-- a reading of these bytes alone; those that it leaves are ignored
 abbrev pub within : {A : Type 0} → List ℕ → Reading A → Reading A
 within bytes p = λ others. and_then (p bytes) (λ x. Ok (x.0, others))
 
--- one more byte in front of those before the zero
+-- one more byte before the zero byte
 abbrev pub before_zero : ℕ → Option (List ℕ × List ℕ) → Option (List ℕ × List ℕ)
 before_zero b split = option_map (λ p. (b ∷ p.0, p.1)) split
 
@@ -78,53 +78,53 @@ abbrev pub at_zero : List ℕ → Option (List ℕ × List ℕ)
 at_zero [] = None
 at_zero (b ∷ bs) = if b == 0 then Some ([], bs) else before_zero b (at_zero bs)
 
--- the bytes before the zero and those after it; e if there is none
+-- the bytes before the zero byte and those after it, or the fault e without a zero byte
 abbrev pub ended_or : Error → Option (List ℕ × List ℕ) → Read (List ℕ)
 ended_or e None = Err (Faults e)
 ended_or e (Some split) = Ok split
 
--- a name up to its zero byte; e if there is none
+-- a name up to its zero byte, or the fault e without a zero byte
 abbrev pub name_or : Error → Reading (List ℕ)
 name_or e = λ bytes. ended_or e (at_zero bytes)
 
--- all that is left is one name, which ends with its only zero byte
+-- one name in all bytes that are left, which end with their only zero byte
 unfoldable pub last_name : Reading (List ℕ)
 last_name =
     name_or InvalidCString
     >>= λ name. rest >>= λ more. needs (length more == 0) (Faults InvalidCString) >> give name
 
--- if no zero byte is met, all bytes are the name
+-- all bytes are the name if there is no zero byte
 abbrev pub name_by : List ℕ → Option (List ℕ × List ℕ) → Read (List ℕ × Bool)
 name_by bytes None = Ok ((bytes, false), [])
 name_by bytes (Some split) = Ok ((split.0, true), split.1)
 
--- a name up to its zero byte, or all bytes if there is none, and whether it has its zero byte
+-- a name up to its zero byte, or all bytes if there is none, and whether there is a zero byte
 unfoldable pub front_name : Reading (List ℕ × Bool)
 front_name =
     λ bytes. if length bytes == 0 then Err (Faults MissingParameter) else name_by bytes (at_zero bytes)
 
--- all that is left is two names, the first of which ends with the first zero byte
+-- two names in all bytes that are left: the first zero byte ends the first name
 unfoldable pub two_names : Reading (List ℕ × List ℕ)
 two_names = name_or MissingParameter >>= λ old. last_name >>= λ new. give (old, new)
 
--- a name, and all that is left is its value, of this size
+-- a name, and a value of this size in all bytes that are left
 unfoldable pub name_and_value : (size : ℕ) → Reading (List ℕ × List ℕ)
 name_and_value size =
     name_or MissingParameter >>= λ name. rest
     >>= λ value. needs (size == length value) (Faults (InvalidXattrSize (size, length value)))
     >> give (name, value)
 
--- what was read, whatever is left
+-- the value that was read, without the bytes after it
 abbrev pub value_of : {A : Type 0} → Read A → Result A ReadFailure
 value_of (Ok x) = Ok x.0
 value_of (Err r) = Err r
 
--- what a function answers, as what was read
+-- the result of a function, as the result of a reading without its rest
 abbrev pub outcome : {A B : Type 0} → (A → B) → Result A Error → Result B ReadFailure
 outcome view (Ok x) = Ok (view x)
 outcome view (Err e) = Err (Faults e)
 
--- what a function that reads says, with the bytes that it leaves
+-- the result of a function that reads, with the bytes that it leaves
 abbrev pub read_result : {A : Type 0} → Result A Error → List ℕ → Read A
 read_result (Ok x) more = Ok (x, more)
 read_result (Err e) more = Err (Faults e)

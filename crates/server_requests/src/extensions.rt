@@ -1,4 +1,4 @@
-//! The extensions after the names of a request that makes a node.
+//! The extensions after the names of a request that creates a node.
 
 ghost use Rattle.std.specs.Prelude.{◌≡◌, ◌+◌, ◌<◌, ◌&&◌, ◌||◌, not, nat_le, length, is_none, Ok, Err, IfOk};
 ghost use Rattle.std.specs.Prelude.{IfErr, false};
@@ -21,42 +21,42 @@ use server_segments::Error;
 use std::alloc::{AllocError, Global};
 use vm_values::ByteValued;
 
-// A record from the front of some bytes, and those after it.
+// A record, and the bytes after it.
 #[derive(Clone, Copy)]
 struct WithRest<'a, T> {
     record: T,
     rest: &'a [u8],
 }
 
-// What has come so far: whether a context was sent, be it empty, and the parts.
+// The extensions read so far, and whether one of them was a security context, maybe an empty one.
 #[derive(Clone, Copy)]
 struct SoFar<'a> {
     was_sent: bool,
     received: Received<'a>,
 }
 
-// The same with one more extension, and the bytes after it.
+// The extensions read so far, and the bytes after them.
 #[derive(Clone, Copy)]
 struct ParseProgress<'a> {
     sent: SoFar<'a>,
     rest: &'a [u8],
 }
 
-// Whether security contexts are sent.
+// Whether FUSE_SECURITY_CTX is agreed.
 fn takes_security(options: FsOptions) -> bool
     ensures { result ≡ takes_security options.0 }
 {
     (options & FsOptions::SECURITY_CTX).bits() != 0
 }
 
-// Whether a further group is sent.
+// Whether FUSE_CREATE_SUPP_GROUP is agreed.
 fn takes_group(options: FsOptions) -> bool
     ensures { result ≡ takes_group options.0 }
 {
     (options & FsOptions::CREATE_SUPP_GROUP).bits() != 0
 }
 
-// The record in front.
+// The record at the front, or `DecodeMessage` if it is cut short.
 fn front_record<T: InRecord>(bytes: &[u8]) -> Result<WithRest<'_, T>, Error>
     ensures reads { IfOk result (λ x. Ok (x.record, x.rest.now) ≡ reading_of T.shape bytes.now) }
     ensures fault { IfErr result (λ e. (Err (Faults e) ≡ reading_of T.shape bytes.now)
@@ -73,7 +73,7 @@ fn front_record<T: InRecord>(bytes: &[u8]) -> Result<WithRest<'_, T>, Error>
     })
 }
 
-// A label of `size` bytes behind its name.
+// A security context that isn't empty: its record, its name with a zero byte, and `size` bytes of label.
 #[tactic(auto, using(crate::proofs::ExtraLemmas::label_cases))]
 fn security_context(bytes: &[u8]) -> Result<Label<'_>, Error>
     ensures reads { outcome label_of result ≡ value_of (security_context bytes.now) }
@@ -105,7 +105,7 @@ fn security_context(bytes: &[u8]) -> Result<Label<'_>, Error>
     }
 }
 
-// One group.
+// A group list (`struct fuse_supp_groups`) of exactly one group.
 #[tactic(auto, using(crate::proofs::ExtraLemmas::one_group_cases))]
 fn one_group(bytes: &[u8]) -> Result<u32, Error>
     ensures reads { outcome (λ n. n) result ≡ value_of (one_group bytes.now) }
@@ -126,21 +126,21 @@ fn one_group(bytes: &[u8]) -> Result<u32, Error>
     }
 }
 
-// Whether a context of this kind may come now.
+// Whether a context of this kind may follow: contexts are agreed, and it is the first one.
 fn may_be_context(options: FsOptions, was_sent: bool, kind: u32) -> bool
     ensures { result ≡ (takes_security options.0 && not was_sent && nat_le kind 1) }
 {
     takes_security(options) && !was_sent && kind <= 1
 }
 
-// Whether a group may come now.
+// Whether a group may follow: groups are agreed, and it is the first one.
 fn may_be_group(options: FsOptions, sup_gid: Option<u32>) -> bool
     ensures { result ≡ (takes_group options.0 && is_none sup_gid) }
 {
     takes_group(options) && sup_gid.is_none()
 }
 
-// What has come with a context, of which kind 0 is empty.
+// Adds a security context to the extensions so far. A context of kind 0 is empty.
 #[tactic(auto, using(crate::proofs::ExtraLemmas::security_cases))]
 fn security_part<'a>(
     options: FsOptions,
@@ -173,7 +173,7 @@ fn security_part<'a>(
     }
 }
 
-// What has come with a group.
+// Adds a group to the extensions so far.
 #[tactic(auto, using(crate::proofs::ExtraLemmas::group_refused, crate::proofs::ExtraLemmas::group_given, crate::proofs::ExtraLemmas::group_fault))]
 fn group_part<'a>(options: FsOptions, sent: SoFar<'a>, bytes: &'a [u8]) -> Result<SoFar<'a>, Error>
     ensures reads { outcome sent_of result ≡ value_of (group_part options.0 (sent_of sent.entry) bytes.now) }
@@ -194,11 +194,10 @@ fn group_part<'a>(options: FsOptions, sent: SoFar<'a>, bytes: &'a [u8]) -> Resul
     }
 }
 
-/// The kind of the extension that holds a group (`FUSE_EXT_GROUPS`); those below it are kept for security
-/// contexts.
+/// The kind of the group extension (`FUSE_EXT_GROUPS`). Smaller kinds are reserved for security contexts.
 const EXT_GROUPS: u32 = 32;
 
-// What has come with an extension of a kind.
+// Adds an extension of this kind to the extensions so far.
 #[tactic(auto, unfolding(crate::specs::Extras::part))]
 fn part<'a>(
     options: FsOptions,
@@ -219,10 +218,10 @@ fn part<'a>(
     }
 }
 
-/// The length of an extension's header, `struct fuse_ext_header`.
+/// The length in bytes of an extension's header, `struct fuse_ext_header`.
 const EXT_HEADER_LEN: u32 = 8;
 
-// What has come with one more extension.
+// Reads one more extension with its header.
 #[tactic(auto, using(crate::proofs::ExtraLemmas::extension_cases))]
 fn extension<'a>(
     options: FsOptions,
@@ -254,7 +253,7 @@ fn extension<'a>(
     }
 }
 
-// Nothing has come.
+// No extension so far.
 fn nothing<'a>() -> SoFar<'a>
     ensures { sent_of result ≡ nothing_sent }
 {
@@ -267,7 +266,7 @@ fn nothing<'a>() -> SoFar<'a>
     }
 }
 
-// What has come with all extensions.
+// Reads all extensions.
 fn extensions<'a>(options: FsOptions, bytes: &'a [u8]) -> Result<SoFar<'a>, Error>
     ensures reads { outcome sent_of result ≡ extensions options.0 (length bytes.now) nothing_sent bytes.now }
     ensures fault { IfErr result (λ e. is_memory e ≡ false) }
@@ -282,24 +281,24 @@ fn extensions<'a>(options: FsOptions, bytes: &'a [u8]) -> Result<SoFar<'a>, Erro
     Ok(progress.sent)
 }
 
-// Whether extensions are read at all.
+// Whether any kind of extension is agreed.
 fn takes_any(options: FsOptions) -> bool
     ensures { result ≡ (takes_security options.0 || takes_group options.0) }
 {
     takes_security(options) || takes_group(options)
 }
 
-// Whether a context was to be sent and wasn't.
+// Whether a security context is agreed, but the request has none.
 fn lacks_context(options: FsOptions, was_sent: bool) -> bool
     ensures { result ≡ (takes_security options.0 && not was_sent) }
 {
     takes_security(options) && !was_sent
 }
 
-/// The extensions that these bytes are (`struct fuse_ext_header` and what follows it, again and again), where
-/// they stand; none if no kind of them is agreed. `InvalidHeaderLength`, `DecodeMessage` or
-/// `MissingParameter` if they are malformed, `MissingExtension` if a security context was agreed and none is
-/// sent.
+/// The extensions in these bytes, each behind a `struct fuse_ext_header`; they are lent. None if no
+/// kind of extension is agreed. Errors:
+/// - `InvalidHeaderLength`, `DecodeMessage`, `MissingParameter`: the first malformed extension
+/// - `MissingExtension`: a security context is agreed, but the request has none
 #[tactic(auto, using(crate::proofs::ExtraLemmas::extra_ignored))]
 pub(crate) fn received_extensions<'a>(
     options: FsOptions,
@@ -323,7 +322,7 @@ pub(crate) fn received_extensions<'a>(
     }
 }
 
-// The same bytes in memory of their own.
+// A copy of the bytes.
 fn copied(alloc: Global, bytes: &[u8]) -> Result<Vec<u8>, Error>
     ensures ok { IfOk result (λ copy. copy.items ≡ bytes.now) }
     ensures err { IfErr result (λ e. e ≡ Error.OutOfMemory) }
@@ -337,7 +336,7 @@ fn copied(alloc: Global, bytes: &[u8]) -> Result<Vec<u8>, Error>
     }
 }
 
-// A label in memory of its own.
+// A copy of a label.
 fn owned_label(alloc: Global, label: Label<'_>) -> Result<SecContext, Error>
     ensures ok { IfOk result (λ copy. security_of copy ≡ label_of label.entry) }
     ensures err { IfErr result (λ e. e ≡ Error.OutOfMemory) }
@@ -347,7 +346,7 @@ fn owned_label(alloc: Global, label: Label<'_>) -> Result<SecContext, Error>
     Ok(SecContext { name, secctx })
 }
 
-/// What has come as a file system gets it: a label in memory of its own. The error is `OutOfMemory`.
+/// The extensions as a file system takes them: the label is copied. Its only error is `OutOfMemory`.
 pub fn owned_extensions(alloc: Global, received: Received<'_>) -> Result<Extensions, Error>
     ensures ok { IfOk result (λ ext. extra_of ext ≡ received_extra received.entry) }
     ensures err { IfErr result (λ e. (e ≡ Error.OutOfMemory)

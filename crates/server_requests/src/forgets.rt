@@ -1,4 +1,4 @@
-//! BATCH_FORGET's pairs.
+//! The pairs of BATCH_FORGET.
 
 ghost use Rattle.std.specs.Prelude.{◌≡◌, Ok, Err, IfOk, IfErr, false};
 ghost use Rattle.fuse_fs.specs.Answers.{pair_numbers};
@@ -12,12 +12,13 @@ use fuse_wire::ForgetOne;
 use server_segments::{Error, Reader};
 use std::alloc::Global;
 
-/// How many bytes `struct fuse_forget_one` has.
+/// The length in bytes of `struct fuse_forget_one`.
 pub(crate) const FORGET_ONE_LEN: usize = 16;
 
-/// The next `count` pairs of a node and how many times less it is held (`struct fuse_forget_one`, 16 bytes
-/// each), or `DecodeMessage` if they are not all there. The memory for all of them is had first, where they
-/// are there.
+/// The next `count` pairs of a node and the number to subtract from its lookup count (`struct
+/// fuse_forget_one`, 16 bytes each). Errors, in this order:
+/// - `DecodeMessage`: the reader has fewer bytes
+/// - `OutOfMemory`: the allocation for all pairs failed
 pub fn read_pairs<I: FileNumber>(
     alloc: Global,
     r: &mut Reader<'_>,

@@ -1,4 +1,4 @@
-//! The parts of FUSE requests: records, names, values and extensions, read from the front of what is left.
+//! The parts of FUSE requests: records, names, values and extensions, read from the front.
 #![tactic(auto)]
 
 pub mod extensions;

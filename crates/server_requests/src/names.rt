@@ -15,17 +15,17 @@ use std::alloc::Global;
 use std::borrow::CowSlice;
 use std::io::Read;
 
-/// Bytes of a request: where they stand, or in memory of their own where they stood in several segments.
+/// Bytes of a request: lent, or a copy if they lie in several segments.
 pub(crate) type RequestBytes<'a> = CowSlice<'a, u8, Global>;
 
-// The place of the first zero byte.
+// The index of the first zero byte.
 fn zero_at(bytes: &[u8]) -> Option<usize>
     ensures { result ≡ position (λ b. b == 0) bytes.now }
 {
     bytes.iter().position(|b| *b == 0)
 }
 
-// The next bytes in memory of their own.
+// A copy of the next `n` bytes.
 fn read_owned(alloc: Global, r: &mut Reader<'_>, n: usize) -> Result<Vec<u8>, Error>
     requires { n ≤ length r.old.left }
     ensures ok { IfOk result (λ v. (r.old.left ≡ v.items ++ r.new.left) × (length v.items ≡ n)) }
@@ -38,7 +38,7 @@ fn read_owned(alloc: Global, r: &mut Reader<'_>, n: usize) -> Result<Vec<u8>, Er
     Ok(bytes)
 }
 
-// The next bytes, where they stand if they stand in one segment.
+// The next `n` bytes: lent if they lie in one segment, else a copy.
 #[inline(always)]
 fn read_bytes<'a>(alloc: Global, r: &mut Reader<'a>, n: usize) -> Result<RequestBytes<'a>, Error>
     requires { n ≤ length r.old.left }
@@ -52,9 +52,11 @@ fn read_bytes<'a>(alloc: Global, r: &mut Reader<'a>, n: usize) -> Result<Request
     Ok(CowSlice::Owned(read_owned(alloc, r, n)?))
 }
 
-/// As many bytes as the header's length, `len`, leaves after the header, 40 bytes, and `fixed` bytes of
-/// record. `InvalidHeaderLength` if it doesn't reach so far, `DecodeMessage` if fewer bytes are there, and
-/// `OutOfMemory` only if they stand in several segments.
+/// The bytes of the request, by `len` of its header, behind the header (40 bytes) and a record of
+/// `fixed` bytes. Errors, in this order:
+/// - `InvalidHeaderLength`: `len` is less than 40 + `fixed`
+/// - `DecodeMessage`: the reader has fewer bytes
+/// - `OutOfMemory`: only if they lie in several segments
 #[inline(always)]
 pub(crate) fn read_counted<'a>(
     alloc: Global,
@@ -81,7 +83,7 @@ pub(crate) fn read_counted<'a>(
     read_bytes(alloc, r, count as usize)
 }
 
-/// The name up to the first zero byte, and the bytes after it.
+/// The name before the first zero byte, and the bytes after it. None if there is no zero byte.
 #[tactic(auto, using(crate::proofs::NameLemmas::at_split, crate::proofs::NameLemmas::at_none))]
 pub(crate) fn first_name(bytes: &[u8]) -> Option<(&[u8], &[u8])>
     ensures some { IfSome result (λ p. at_zero bytes.now ≡ Some (p.0.now, p.1.now)) }
@@ -93,7 +95,7 @@ pub(crate) fn first_name(bytes: &[u8]) -> Option<(&[u8], &[u8])>
     }
 }
 
-/// The name that these bytes are, which end with their only zero byte; else `InvalidCString`.
+/// The one name in these bytes. `InvalidCString` unless they end with their only zero byte.
 #[tactic(auto, using(crate::proofs::NameLemmas::named, crate::proofs::NameLemmas::unnamed, crate::proofs::NameLemmas::endless))]
 pub fn last_name(bytes: &[u8]) -> Result<&[u8], Error>
     ensures ok { IfOk result (λ name. Ok name.now ≡ value_of (last_name bytes.now)) }
@@ -112,8 +114,9 @@ pub fn last_name(bytes: &[u8]) -> Result<&[u8], Error>
     }
 }
 
-/// The two names that these bytes are, each with a zero byte behind it: `MissingParameter` if the first isn't
-/// ended, `InvalidCString` if the second isn't, or more follows.
+/// The two names in these bytes, each ended by a zero byte. Errors, in this order:
+/// - `MissingParameter`: there is no zero byte
+/// - `InvalidCString`: the second zero byte is missing, or isn't the last byte
 #[tactic(auto, using(crate::proofs::NameLemmas::both_named, crate::proofs::NameLemmas::second_unnamed, crate::proofs::NameLemmas::first_missing))]
 pub fn two_names(bytes: &[u8]) -> Result<(&[u8], &[u8]), Error>
     ensures ok { IfOk result (λ p. Ok (p.0.now, p.1.now) ≡ value_of (two_names bytes.now)) }
@@ -129,8 +132,9 @@ pub fn two_names(bytes: &[u8]) -> Result<(&[u8], &[u8]), Error>
     }
 }
 
-/// The name and, behind its zero byte, the value that these bytes are. `MissingParameter` if the name isn't
-/// ended; the value has `size` bytes, else `InvalidXattrSize` tells both lengths.
+/// The name in these bytes, and the value behind its zero byte. Errors, in this order:
+/// - `MissingParameter`: there is no zero byte
+/// - `InvalidXattrSize`, with both lengths: the value's length isn't `size`
 #[tactic(auto, using(crate::proofs::NameLemmas::valued, crate::proofs::NameLemmas::value_sized, crate::proofs::NameLemmas::value_unnamed))]
 pub fn name_and_value(bytes: &[u8], size: u32) -> Result<(&[u8], &[u8]), Error>
     ensures ok { IfOk result (λ p. Ok (p.0.now, p.1.now) ≡ value_of (name_and_value size bytes.now)) }
@@ -149,7 +153,7 @@ pub fn name_and_value(bytes: &[u8], size: u32) -> Result<(&[u8], &[u8]), Error>
     }
 }
 
-/// A name in front, whether it ends with its zero byte, and the bytes after it.
+/// A name at the front, whether a zero byte ends it, and the bytes after it.
 #[derive(Clone, Copy)]
 pub(crate) struct FrontName<'a> {
     pub name: &'a [u8],
@@ -157,7 +161,8 @@ pub(crate) struct FrontName<'a> {
     pub rest: &'a [u8],
 }
 
-/// The name up to the first zero byte, or of all bytes if there is none.
+/// The name before the first zero byte, or all bytes if there is none. `MissingParameter` if there
+/// is no byte.
 #[tactic(auto, using(crate::proofs::NameLemmas::front_empty, crate::proofs::NameLemmas::front_ended, crate::proofs::NameLemmas::front_endless))]
 pub(crate) fn front_name(bytes: &[u8]) -> Result<FrontName<'_>, Error>
     ensures reads { IfOk result (λ x. Ok ((x.name.now, x.ends), x.rest.now) ≡ front_name bytes.now) }

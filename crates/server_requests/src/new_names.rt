@@ -1,4 +1,4 @@
-//! Names of nodes that are made, with the extensions after them.
+//! Names of new nodes, with the extensions after them.
 
 ghost use Rattle.std.specs.Prelude.{◌≡◌, ◌&&◌, Ok, Err, IfOk, IfErr, false};
 ghost use Rattle.server_segments.specs.Errors.{is_memory};
@@ -12,30 +12,32 @@ use fuse_values::Received;
 use fuse_wire::FsOptions;
 use server_segments::Error;
 
-/// The name of a node that is made, and what comes with it.
+/// The name of a new node, and its extensions.
 #[derive(Clone, Copy)]
 pub struct NewName<'a> {
     /// The name, without its zero byte.
     pub name: &'a [u8],
-    /// The extensions, where they stand.
+    /// The extensions, lent.
     pub received: Received<'a>,
 }
 
-/// The name of a symbolic link that is made, what it leads to, and what comes with it.
+/// The name of a new symbolic link, its target, and its extensions.
 #[derive(Clone, Copy)]
 pub struct LinkParts<'a> {
     /// The name, without its zero byte.
     pub name: &'a [u8],
-    /// What it leads to, without its zero byte.
+    /// The target, without its zero byte.
     pub link: &'a [u8],
-    /// The extensions, where they stand.
+    /// The extensions, lent.
     pub received: Received<'a>,
 }
 
-/// What these bytes say of a node that is made: its name, a zero byte, and extensions if they are agreed.
-/// Refused, in this order: `MissingParameter` if there is no byte; `InvalidHeaderLength`, `DecodeMessage` or
-/// `MissingParameter` if the extensions are malformed, and `MissingExtension` if a security context was
-/// agreed and none is sent; `InvalidCString` if the name has no zero byte.
+/// The name of a new node, ended by a zero byte, and its extensions, if any kind is agreed. Errors,
+/// in this order:
+/// - `MissingParameter`: there is no byte
+/// - `InvalidHeaderLength`, `DecodeMessage`, `MissingParameter`: the first malformed extension
+/// - `MissingExtension`: a security context is agreed, but the request has none
+/// - `InvalidCString`: the name has no zero byte
 #[tactic(auto, using(crate::proofs::ExtraLemmas::new_name_cases))]
 pub fn new_name<'a>(options: FsOptions, bytes: &'a [u8]) -> Result<NewName<'a>, Error>
     ensures reads { IfOk result
@@ -61,17 +63,18 @@ pub fn new_name<'a>(options: FsOptions, bytes: &'a [u8]) -> Result<NewName<'a>, 
     }
 }
 
-// Whether both names end.
+// Whether both names have their zero byte.
 fn both_end(first: bool, second: bool) -> bool
     ensures { result ≡ (first && second) }
 {
     first && second
 }
 
-/// What these bytes say of a symbolic link that is made: its name and what it leads to, each with a zero byte
-/// behind it, and extensions if they are agreed. Refused, in this order: `MissingParameter` if no byte is
-/// left for one of the two; what is wrong with the extensions, as `new_name` has it; `InvalidCString` if one
-/// of the two has no zero byte.
+/// The name and the target of a new symbolic link, each ended by a zero byte, and its extensions,
+/// if any kind is agreed. Errors, in this order:
+/// - `MissingParameter`: no byte is left for the name or for the target
+/// - the errors of the extensions, as of `new_name`
+/// - `InvalidCString`: the name or the target has no zero byte
 #[tactic(auto, using(crate::proofs::ExtraLemmas::new_link_cases))]
 pub fn new_link<'a>(options: FsOptions, bytes: &'a [u8]) -> Result<LinkParts<'a>, Error>
     ensures reads { IfOk result

@@ -1,4 +1,4 @@
-//! The records of requests, read from a reader.
+//! The records of requests.
 
 ghost use Rattle.std.specs.Prelude.{◌≡◌, IfErr, OnOk};
 ghost use Rattle.fuse_fs.specs.Lengths.{past};
@@ -7,7 +7,7 @@ ghost use Rattle.server_requests.specs.Reading.{read_result, reading_of};
 use fuse_in::InRecord;
 use server_segments::{Error, Reader};
 
-/// The record that the next bytes spell, or `DecodeMessage` if there are too few.
+/// The record in the next bytes, or `DecodeMessage` if there are too few.
 #[inline(always)]
 pub fn read_record<T: InRecord>(r: &mut Reader<'_>) -> Result<T, Error>
     ensures reads { read_result result r.new.left ≡ reading_of T.shape r.old.left }

@@ -1,4 +1,4 @@
-//! From where requests are read: the bytes behind a header, and what of them is lent.
+//! The sources of requests: the bytes behind a header, and the bytes that a call borrows.
 
 ghost use Rattle.std.specs.Prelude.{◌≡◌, ◌-◌, ◌≤◌, ◌*◌, ◌&&◌, ℕ, Bool, true, false, List, [], length, Ok};
 ghost use Rattle.std.specs.Prelude.{Err, IfOk, IfErr, OnOk};
@@ -19,29 +19,31 @@ use server_segments::{Error, Reader};
 use std::alloc::Global;
 use std::borrow::CowSlice;
 
-// In `InitInCompat::flags`: the record goes on.
+// The bit of `InitInCompat::flags` for a longer record.
 const INIT_EXT: u32 = 1 << 30;
 
-/// From where a request is read, front to back. Bytes that are lent stay for `'a`.
+/// A source of a request's bytes, read front to back. Lent bytes are borrowed for `'a`.
 pub trait Source<'a> {
-    // The bytes that are left.
+    // The unread bytes.
     ghost left: { Self → List ℕ };
 
-    // The lengths of the segments in which they stand.
+    // The lengths of the segments of the unread bytes.
     ghost segments: { Self → List ℕ };
 
-    // Whether they may stand in several.
+    // Whether there may be several segments.
     ghost splits: { Bool };
 
-    /// The record that the next bytes spell, or `DecodeMessage` if there are too few.
+    /// The record in the next bytes, or `DecodeMessage` if there are too few.
     fn record<T: InRecord>(&mut self) -> Result<T, Error>
         ensures reads { read_result result (left self.new) ≡ reading_of T.shape (left self.old) }
         ensures fault { IfErr result (λ e. e ≡ Error.DecodeMessage) }
         ensures segments { OnOk result (segments self.new ≡ past T.SIZE (segments self.old)) };
 
-    /// As many bytes as the header's length, `len`, leaves after the header, 40 bytes, and `fixed` bytes of
-    /// record. `InvalidHeaderLength` if it doesn't reach so far, `DecodeMessage` if fewer bytes are there,
-    /// and `OutOfMemory` only if they stand in several segments.
+    /// The bytes of the request, by `len` of its header, behind the header (40 bytes) and a record
+    /// of `fixed` bytes. Errors, in this order:
+    /// - `InvalidHeaderLength`: `len` is less than 40 + `fixed`
+    /// - `DecodeMessage`: the source has fewer bytes
+    /// - `OutOfMemory`: only if they lie in several segments
     fn counted(self, len: u32, fixed: u32) -> Result<&'a [u8], Error>
         requires { fixed ≤ 256 }
         ensures bytes { IfOk result (λ bytes. Ok bytes.now ≡ value_of (counted len fixed (left self))) }
@@ -52,7 +54,7 @@ pub trait Source<'a> {
         ensures segments { past 0 (segments self) ≡ segments self };
 }
 
-/// The bytes that are left of a request that stands in one piece.
+/// The unread bytes of a request in one piece.
 #[derive(Clone, Copy)]
 pub struct Flat<'a> {
     pub bytes: &'a [u8],
@@ -91,8 +93,8 @@ impl<'a> Source<'a> for Flat<'a> {
 }
 
 impl<'a> Flat<'a> {
-    /// The bytes of the next `count` pairs of BATCH_FORGET (`struct fuse_forget_one`, 16 bytes each), or
-    /// `DecodeMessage` if they are not all there.
+    /// The bytes of the next `count` pairs of BATCH_FORGET (`struct fuse_forget_one`, 16 bytes
+    /// each), or `DecodeMessage` if there are fewer.
     #[tactic(auto, using(crate::proofs::ForgetLemmas::pairs_cut, crate::proofs::ForgetLemmas::pairs_read))]
     pub fn pairs(self, count: u32) -> Result<&'a [u8], Error>
         ensures bytes { IfOk result
@@ -111,8 +113,7 @@ impl<'a> Flat<'a> {
     }
 }
 
-/// The bytes that are left of a request, in segments. Where bytes that are lent stand in several, they are
-/// copied to `held`.
+/// The unread bytes of a request, in segments. Lent bytes that lie in several segments are copied to `held`.
 #[derive(Drop)]
 pub struct Segments<'a, 'r: 'a> {
     pub alloc: Global,
@@ -150,9 +151,9 @@ impl<'a, 'r: 'a> Source<'a> for Segments<'a, 'r> {
     }
 }
 
-/// The high 32 bits of the options that the client has, where INIT's record goes on with them (FUSE_INIT_EXT
-/// in `flags` of `struct fuse_init_in`); else 0, and no byte is read. `DecodeMessage` if the 48 bytes more
-/// aren't all there.
+/// The high 32 bits of the client's options. They are in the 48 bytes after the compatible record,
+/// if FUSE_INIT_EXT is set in `flags` of `struct fuse_init_in`; else they are 0, and no byte is
+/// read. `DecodeMessage` if fewer than 48 bytes are left.
 pub fn flags2<'a, S: Source<'a>>(request: &InitInCompat, source: &mut S) -> Result<u32, Error>
     ensures reads { read_result result (S.left source.new) ≡ flags2_of request.now (S.left source.old) }
     ensures fault { IfErr result (λ e. e ≡ Error.DecodeMessage) }
@@ -166,18 +167,20 @@ pub fn flags2<'a, S: Source<'a>>(request: &InitInCompat, source: &mut S) -> Resu
     }
 }
 
-/// A record with the bytes after it, as many as the header's length (`len` of `struct fuse_in_header`) says.
+/// A record with the bytes after it, up to the header's `len` (`struct fuse_in_header`).
 #[derive(Clone, Copy)]
 pub struct RecordAndBytes<'a, T> {
-    /// The record, with which the request begins behind its header.
+    /// The record, directly behind the request's header.
     pub record: T,
     /// The bytes after it.
     pub bytes: &'a [u8],
 }
 
-/// A record, and as many bytes as the header's length, `len`, leaves after it. `DecodeMessage` if the record
-/// or these bytes aren't all there, `InvalidHeaderLength` if `len` ends before the record does, and
-/// `OutOfMemory` only where the bytes stand in several segments.
+/// A record, and the bytes after it up to `len`, the length in the request's header. Errors, in this order:
+/// - `DecodeMessage`: the record is cut short
+/// - `InvalidHeaderLength`: `len` ends before the record does
+/// - `DecodeMessage`: the bytes after it are cut short
+/// - `OutOfMemory`: only if these lie in several segments
 pub fn record_and_bytes<'a, T: InRecord, S: Source<'a> + Drop>(
     source: S,
     len: u32,
@@ -199,8 +202,8 @@ pub fn record_and_bytes<'a, T: InRecord, S: Source<'a> + Drop>(
     }
 }
 
-/// The record of SETXATTR (`struct fuse_setxattr_in`: 16 bytes with `SETXATTR_EXT`, else 8), and the bytes
-/// after it: `DecodeMessage`, `InvalidHeaderLength` or `OutOfMemory`, as `record_and_bytes` has them.
+/// The record of SETXATTR (`struct fuse_setxattr_in`: 16 bytes with `SETXATTR_EXT`, else 8), and
+/// the bytes after it. The errors are those of `record_and_bytes`.
 #[tactic(auto, using(crate::proofs::NameLemmas::setxattr_long))]
 pub fn setxattr_and_bytes<'a, S: Source<'a> + Drop>(
     source: S,

@@ -1,4 +1,4 @@
-//! SETXATTR's record, which has two lengths.
+//! The record of SETXATTR, which has two lengths.
 
 ghost use Rattle.std.specs.Prelude.{◌≡◌};
 ghost use Rattle.vm_values.specs.Bits.{has_bit};
@@ -8,14 +8,14 @@ use bitflags::Flags;
 use fuse_in::{SetxattrIn, SetxattrInCompat};
 use fuse_wire::FsOptions;
 
-// Whether SETXATTR has its longer record.
+// Whether SETXATTR has its longer record (FUSE_SETXATTR_EXT).
 pub(crate) fn has_setxattr_ext(options: FsOptions) -> bool
     ensures { result ≡ has_bit options.0 29 }
 {
     (options & FsOptions::SETXATTR_EXT).bits() != 0
 }
 
-// The longer record, of a client that sends the shorter one.
+// The longer record for a client that sends the shorter one: its further flags are 0.
 pub(crate) fn with_no_flags(request: &SetxattrInCompat) -> SetxattrIn
     ensures { result ≡ without_flags request.now }
 {

@@ -1,4 +1,4 @@
--- The faults by their numbers.
+-- The numbers of the faults.
 use Rattle.std.specs.Prelude.{ℕ, Bool, true, false, Result, Ok, Err}
 use Rattle.server_segments.specs.declared.error.Error.{Error}
 use Rattle.server_segments.specs.declared.error.Error.TheVariants.{DecodeMessage, EncodeMessage, FlushMessage}
@@ -8,7 +8,7 @@ use Rattle.server_segments.specs.declared.error.Error.TheVariants.{InvalidCStrin
 use Rattle.server_segments.specs.declared.error.Error.TheVariants.{DescriptorChainOverflow, SplitOutOfBounds}
 use Rattle.server_segments.specs.declared.error.Error.TheVariants.{IoError, OutOfMemory}
 
--- the number that tells a fault apart
+-- the number of a fault
 abbrev pub error_number : Error → ℕ
 error_number DecodeMessage = 1
 error_number EncodeMessage = 2
@@ -24,12 +24,12 @@ error_number (SplitOutOfBounds offset) = 11
 error_number (IoError kind) = 12
 error_number OutOfMemory = 13
 
--- whether an allocation fails
+-- a fault is a failed allocation
 abbrev pub is_memory : Error → Bool
 is_memory OutOfMemory = true
 is_memory _ = false
 
--- whether an answer says that an allocation fails
+-- a result is the fault of a failed allocation
 abbrev pub lacks_memory : Result ℕ Error → Bool
 lacks_memory (Ok n) = false
 lacks_memory (Err e) = is_memory e

@@ -1,15 +1,15 @@
--- What contracts see of a reader and of a writer.
+-- The views of a reader and of a writer in contracts.
 use Rattle.std.specs.Prelude.{ℕ, List, length}
 use Rattle.fuse_fs.specs.Lengths.{past}
 
--- the bytes that are left, the lengths of the segments in which they stand, and how many bytes were read
+-- a reader: the unread bytes, the lengths of their segments, and the number of bytes read
 pub record ReaderView : Type 0 where
   pub left : List ℕ
   pub segments : List ℕ
   pub read : ℕ
 
--- the bytes that were written, how many more there is room for, the lengths of all segments, written ones
--- too; and how many segments and bytes a writer may have that is joined on
+-- a writer: the written bytes, the number of free bytes, and the lengths of all segments. A writer
+-- that is joined on has at most `rejoin` segments and `spare` bytes
 pub record WriterView : Type 0 where
   pub written : List ℕ
   pub free : ℕ
@@ -17,6 +17,6 @@ pub record WriterView : Type 0 where
   pub rejoin : ℕ
   pub spare : ℕ
 
--- the lengths of the room that is free
+-- the lengths of the segments of the free bytes
 abbrev pub rooms : WriterView → List ℕ
 rooms w = past (length w.written) w.segments

@@ -1,18 +1,18 @@
-//! Why a request has no reply (virtiofsd's `Error`).
+//! The faults of a request: each leaves it without a reply (virtiofsd's `Error`).
 
 ghost use Rattle.std.specs.Prelude.{◌≡◌};
 
 use std::io;
 use thiserror::Error as ThisError;
 
-/// Why a message was not served, numbered from 1 to 13 (virtiofsd's `Error`).
+/// The fault of a request, numbered from 1 to 13 (virtiofsd's `Error`).
 #[derive(Clone, Copy, Debug, PartialEq, Eq, ThisError)]
 pub enum Error {
     #[error("the request can't be decoded")]
     DecodeMessage,
     #[error("the reply doesn't fit its room")]
     EncodeMessage,
-    /// Not answered.
+    /// The server never returns it.
     #[error("the reply can't be flushed")]
     FlushMessage,
     #[error("a parameter is missing")]
@@ -23,15 +23,15 @@ pub enum Error {
     InvalidHeaderLength,
     #[error("a name doesn't end with its only zero byte")]
     InvalidCString,
-    /// Not answered.
+    /// The server never returns it.
     #[error("a name has no zero byte")]
     InvalidCString2,
-    /// The size that was told, and the length that the value has.
+    /// The `size` of `struct fuse_setxattr_in`, and the value's length, in bytes.
     #[error("the value's size was told wrong")]
     InvalidXattrSize((u32, usize)),
     #[error("the lengths of a chain's parts add up to too much")]
     DescriptorChainOverflow,
-    /// The place of the split.
+    /// The offset of the split, in bytes.
     #[error("a split at {0} is out of bounds")]
     SplitOutOfBounds(usize),
     #[error("reading or writing failed")]
@@ -43,7 +43,7 @@ pub enum Error {
 impl Error {
     ghost use Rattle.server_segments.specs.Errors.{error_number};
 
-    /// The number that tells the fault apart, from 1 to 13.
+    /// The fault's number, from 1 to 13.
     pub fn number(&self) -> u8
         ensures { result ≡ error_number self.now }
     {

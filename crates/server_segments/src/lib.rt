@@ -1,4 +1,4 @@
-//! What requests are read from and replies are written to, over segments (virtiofsd's `descriptor_utils`).
+//! Readers of requests and writers of replies, over segments (virtiofsd's `descriptor_utils`).
 #![tactic(auto)]
 
 mod error;
@@ -11,7 +11,7 @@ pub use reader::Reader;
 pub use writer::Writer;
 pub use zero_copy::{ZcReader, ZcWriter};
 
-/// What a descriptor is for: the device reads its bytes, or writes them (VIRTIO 1.2, 2.7.5).
+/// The direction of a descriptor: the device reads its bytes, or writes them (VIRTIO 1.2, 2.7.5).
 #[derive(Clone, Copy, Debug, PartialEq, Eq)]
 pub enum DescriptorType {
     Readable,

@@ -1,4 +1,4 @@
-//! What a request is read from (virtiofsd's `Reader`).
+//! The reader of a request (virtiofsd's `Reader`).
 
 ghost use Rattle.std.specs.Prelude.{◌≡◌, ◌+◌, ◌<◌, ◌≤◌, ◌^◌, min, sum, [], ◌∷◌, ◌++◌, length, take, drop};
 ghost use Rattle.std.specs.Prelude.{cond, nat_le};
@@ -21,7 +21,7 @@ use std::marker::Model;
 use std::{io, mem};
 use vm_values::ByteValued;
 
-/// The bytes of a request that are left, in segments.
+/// A reader: the unread bytes of a request, in segments.
 #[derive(Drop)]
 pub struct Reader<'a> {
     first: &'a [u8],
@@ -48,7 +48,8 @@ impl<'a> Model for Reader<'a> {
         × (length r.first.now ≡ 0 → r.later.items ≡ []) };
 }
 
-// A segment that isn't empty, if one is left: this one, or the next one of those behind it.
+// The first of `segment` and `later` that isn't empty, removed from `later` with all before it. An
+// empty segment if all are empty.
 fn next_filled<'a>(segment: &'a [u8], later: &mut VecDeque<&'a [u8]>) -> &'a [u8]
     ensures all { all_of result.now later.new.items ≡ all_of segment.now later.old.items }
     ensures segments { filled (length result.now ∷ segment_lengths later.new.items)
@@ -65,8 +66,8 @@ fn next_filled<'a>(segment: &'a [u8], later: &mut VecDeque<&'a [u8]>) -> &'a [u8
     current
 }
 
-// Takes the first bytes off a queue of segments, as a queue of their own; with what is left of the segment
-// where they end.
+// Removes the first `offset` bytes from a queue of segments. Returns them as a queue, with the rest
+// of the segment in which they end.
 #[tactic(auto, using(crate::proofs::Cutting::nothing_past))]
 fn take_front<'a>(
     alloc: Global,
@@ -102,7 +103,7 @@ fn take_front<'a>(
     Ok((front, rest))
 }
 
-// Writes over the first bytes.
+// Overwrites the first bytes of `buf`.
 pub(crate) fn write_front(buf: &mut [u8], front: &[u8])
     requires { length front.now ≤ length buf.old }
     ensures { buf.new ≡ front.now ++ drop (length front.now) buf.old }
@@ -110,7 +111,7 @@ pub(crate) fn write_front(buf: &mut [u8], front: &[u8])
     buf[..front.len()].copy_from_slice(front);
 }
 
-// Writes these bytes at a place.
+// Overwrites the bytes of `buf` from `at` on.
 #[tactic(auto, using(crate::proofs::Filling::placed))]
 fn write_at(buf: &mut [u8], at: usize, bytes: &[u8])
     requires { at + length bytes.now ≤ length buf.old }
@@ -120,8 +121,8 @@ fn write_at(buf: &mut [u8], at: usize, bytes: &[u8])
 }
 
 impl<'a> Reader<'a> {
-    /// A reader of these segments, one after another. `DescriptorChainOverflow` if their lengths' sum doesn't
-    /// fit usize.
+    /// A reader of these segments, one after another. `DescriptorChainOverflow` if the sum of their
+    /// lengths doesn't fit usize.
     pub fn new(segments: Vec<&'a [u8]>) -> Result<Reader<'a>, Error>
         ensures ok { IfOk result
             (λ r. (r.left ≡ joined segments.entry.items)
@@ -141,7 +142,7 @@ impl<'a> Reader<'a> {
         Ok(Reader::over(&[], VecDeque::from(segments), total))
     }
 
-    /// A reader of one segment.
+    /// A reader of one segment. It allocates nothing.
     pub fn of_slice(alloc: Global, bytes: &'a [u8]) -> Reader<'a>
         ensures left { result.left ≡ bytes.now }
         ensures segments { result.segments ≡ filled (length bytes.now ∷ []) }
@@ -155,7 +156,7 @@ impl<'a> Reader<'a> {
         }
     }
 
-    // A reader of so many bytes, of which none was read.
+    // A reader of these segments, `left` bytes in all.
     fn over(segment: &'a [u8], later: VecDeque<&'a [u8]>, left: usize) -> Reader<'a>
         requires { left ≡ length (all_of segment.now later.items) }
         ensures left { result.left ≡ all_of segment.entry.now later.entry.items }
@@ -173,7 +174,7 @@ impl<'a> Reader<'a> {
         }
     }
 
-    /// How many bytes are left.
+    /// The number of unread bytes.
     pub fn available_bytes(&self) -> usize
         ensures left { result ≡ length self.now.left }
         ensures segments { (sum self.now.segments ≡ length self.now.left)
@@ -182,7 +183,7 @@ impl<'a> Reader<'a> {
         self.left
     }
 
-    /// How many bytes were read.
+    /// The number of bytes read so far.
     pub fn bytes_read(&self) -> usize
         ensures { result ≡ self.now.read }
     {
@@ -201,7 +202,7 @@ impl<'a> Reader<'a> {
         self.first
     }
 
-    // Reads over some bytes of the first segment.
+    // Skips the first `n` bytes of the first segment.
     #[tactic(auto, using(fuse_fs::proofs::Lengths::past_first, fuse_fs::proofs::Lengths::first_of))]
     fn advance(&mut self, n: usize)
         requires { n ≤ first self.old.segments }
@@ -215,7 +216,8 @@ impl<'a> Reader<'a> {
         self.read += n;
     }
 
-    /// The next bytes where they stand, if the first segment has as many; else nothing is read.
+    /// The next `n` bytes, lent without a copy. Returns None and reads nothing if the first segment
+    /// has fewer.
     #[inline(always)]
     pub fn read_in_place(&mut self, n: usize) -> Option<&'a [u8]>
         ensures some { IfSome result (λ b. (self.old.left ≡ b.now ++ self.new.left)
@@ -233,7 +235,7 @@ impl<'a> Reader<'a> {
         Some(&segment[..n])
     }
 
-    // Reads as many bytes as there are, and as there is room for; answers how many.
+    // Reads as many bytes as are left and fit in `buf`; returns their number.
     fn fill(&mut self, buf: &mut [u8]) -> usize
         ensures count { result ≡ min (length buf.old) (length self.old.left) }
         ensures bytes { buf.new ≡ take result self.old.left ++ drop result buf.old }
@@ -253,8 +255,8 @@ impl<'a> Reader<'a> {
         count
     }
 
-    /// The value that the next bytes spell. Where there are too few, they are used up, and that is `IoError`
-    /// of kind `UnexpectedEof`.
+    /// The value of the next bytes. `IoError` of kind `UnexpectedEof` if fewer than `T::SIZE` are
+    /// left; they are then read.
     #[inline(always)]
     pub fn read_obj<T: ByteValued>(&mut self) -> Result<T, Error>
         ensures ok { IfOk result (λ x. (self.old.left ≡ spelled (T.fields x) ++ self.new.left)
@@ -280,9 +282,9 @@ impl<'a> Reader<'a> {
         Ok(T::get_bytes(&buffer[..T::SIZE]))
     }
 
-    /// Lends the front of the first segment that isn't empty, cut to `count` bytes, to one call of a file,
-    /// and answers how many it wrote; without a call 0, if nothing is left or `count` is 0. An errno is the
-    /// file's own, and uses up nothing.
+    /// Writes to a file, by one call, at most `count` bytes of the first segment that isn't empty.
+    /// Returns the number of bytes that the file took. Without a byte to write it makes no call and
+    /// returns 0. An errno is the file's own; nothing is then read.
     pub fn write_to_file_at<F: PositionedFile>(
         &mut self,
         file: &mut F,
@@ -311,9 +313,10 @@ impl<'a> Reader<'a> {
         }
     }
 
-    /// Splits what is left at a place, in bytes: what stands behind it goes to a reader of its own, with no
-    /// byte read. `SplitOutOfBounds` if the place is past the end, else `OutOfMemory`. A refusal changes
-    /// nothing.
+    /// Splits the unread bytes at an offset, in bytes: returns a reader of the bytes behind it.
+    /// Errors, in this order; each changes nothing:
+    /// - `SplitOutOfBounds`: fewer than `offset` bytes are left
+    /// - `OutOfMemory`
     #[tactic(auto, using(crate::proofs::Cutting::take_past, crate::proofs::Cutting::drop_past))]
     pub fn split_at(&mut self, alloc: Global, offset: usize) -> Result<Reader<'a>, Error>
         ensures left { OnOk result ((offset ≤ length self.old.left)

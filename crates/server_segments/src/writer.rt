@@ -1,4 +1,4 @@
-//! What a reply is written to (virtiofsd's `Writer`).
+//! The writer of a reply (virtiofsd's `Writer`).
 
 ghost use Rattle.std.specs.Prelude.{◌≡◌, ℕ, ◌+◌, ◌<◌, ◌≤◌, ◌^◌, min, sum, List, [], ◌∷◌, ◌++◌, length, take};
 ghost use Rattle.std.specs.Prelude.{drop};
@@ -28,7 +28,7 @@ use std::io::{ErrorKind, Write};
 use std::marker::Model;
 use vm_values::ByteValued;
 
-// A place in segments: one of them, and how many bytes of it are before the place.
+// A place in segments: the index of a segment, and the number of its bytes before the place.
 #[derive(Clone, Copy)]
 struct SegmentPlace {
     segment: usize,
@@ -41,17 +41,18 @@ const START: SegmentPlace = SegmentPlace {
     used: 0,
 };
 
-// The lengths of segments. One of them needs no memory.
+// The lengths of segments. A list of one needs no allocation.
 type Lengths = SmallVec<usize, 1>;
 
-/// A reply with the room for it, in segments. The writer owns its room, so writing takes no memory.
+/// A reply with its free bytes, in segments. The writer owns memory for all of them, so writing
+/// allocates nothing.
 #[derive(Drop)]
 pub struct Writer {
     bytes: Vec<u8>,
     room: usize,
-    // How long each segment is; none is empty.
+    // The length of each segment; none is 0.
     segments: Lengths,
-    // Where writing goes on.
+    // The place of the next byte.
     place: SegmentPlace,
     rejoin: usize,
     spare: usize,
@@ -83,7 +84,7 @@ impl Model for Writer {
         × IsIn w.segments.items w.place.segment w.place.used };
 }
 
-// The place so many bytes behind another one.
+// The place `n` bytes behind another one.
 #[inline(always)]
 fn behind(segments: &[usize], from: SegmentPlace, n: usize) -> SegmentPlace
     requires segment { from.segment ≤ length segments.now }
@@ -102,7 +103,7 @@ fn behind(segments: &[usize], from: SegmentPlace, n: usize) -> SegmentPlace
     SegmentPlace { segment, used }
 }
 
-// The sum of the lengths, if it fits.
+// The sum of the lengths, or None if it doesn't fit usize.
 fn total(lengths: &[usize]) -> Option<usize>
     ensures some { IfSome result (λ n. n ≡ sum lengths.now) }
     ensures none { IfNone result (2 ^ 64 ≤ sum lengths.now) }
@@ -117,7 +118,7 @@ fn total(lengths: &[usize]) -> Option<usize>
     Some(total)
 }
 
-// Appends a length that isn't 0.
+// Appends a length, unless it is 0.
 fn push_filled(segments: &mut Lengths, size: usize)
     requires { HasRoomFor segments.old 1 }
     ensures items { segments.new.items ≡ segments.old.items ++ filled (size ∷ []) }
@@ -143,7 +144,7 @@ fn filled_of(alloc: Global, lengths: &[usize]) -> Result<Lengths, Error>
     Ok(segments)
 }
 
-// The segments behind a place.
+// The lengths of the segments behind a place, the rest of the place's own segment first.
 fn segments_behind(alloc: Global, segments: &[usize], place: SegmentPlace) -> Result<Lengths, Error>
     requires { IsIn segments.now place.segment place.used }
     ensures ok { IfOk result (λ s. s.items ≡ past place.used (drop place.segment segments.now)) }
@@ -162,7 +163,7 @@ fn segments_behind(alloc: Global, segments: &[usize], place: SegmentPlace) -> Re
     Ok(behind)
 }
 
-// Cuts segments off at a place.
+// Cuts the segments off at a place.
 fn cut_off(segments: &mut Lengths, place: SegmentPlace)
     requires inside { IsIn segments.old.items place.segment place.used }
     requires room { place.segment < segments.old.capacity }
@@ -174,7 +175,7 @@ fn cut_off(segments: &mut Lengths, place: SegmentPlace)
     push_filled(segments, place.used);
 }
 
-// Appends what one read of a file gives.
+// Appends the bytes that one call reads from a file.
 #[inline(always)]
 fn append_once<F: PositionedFile>(
     bytes: &mut Vec<u8>,
@@ -199,8 +200,9 @@ fn append_once<F: PositionedFile>(
 }
 
 impl Writer {
-    /// A writer with segments of these lengths, in bytes. `DescriptorChainOverflow` if their sum doesn't fit
-    /// usize, else `OutOfMemory`.
+    /// A writer with segments of these lengths, in bytes. Errors, in this order:
+    /// - `DescriptorChainOverflow`: their sum doesn't fit usize
+    /// - `OutOfMemory`
     pub fn new(alloc: Global, lengths: &[usize]) -> Result<Writer, Error>
         ensures written { IfOk result (λ w. w.written ≡ []) }
         ensures room { IfOk result (λ w. (w.free ≡ sum lengths.now) × (w.segments ≡ filled lengths.now)) }
@@ -216,8 +218,8 @@ impl Writer {
         Writer::over(alloc, room, segments)
     }
 
-    /// A writer with one segment of this length in bytes; with none if that is 0. `OutOfMemory` is its only
-    /// error, if the allocator refuses it.
+    /// A writer with one segment of this length in bytes, or with none if that is 0. `OutOfMemory`
+    /// is its only error.
     pub fn of_length(alloc: Global, size: usize) -> Result<Writer, Error>
         ensures written { IfOk result (λ w. w.written ≡ []) }
         ensures room { IfOk result (λ w. (w.free ≡ size) × (w.segments ≡ filled (size ∷ []))) }
@@ -231,7 +233,7 @@ impl Writer {
         Writer::over(alloc, size, segments)
     }
 
-    /// A writer without room. It takes no memory.
+    /// A writer without free bytes. It allocates nothing.
     pub fn empty(alloc: Global) -> Writer
         ensures written { result.written ≡ [] }
         ensures room { (result.free ≡ 0) × (result.segments ≡ []) }
@@ -247,7 +249,7 @@ impl Writer {
         }
     }
 
-    // A writer of so much room, in these segments.
+    // A writer of `room` bytes, in these segments.
     fn over(alloc: Global, room: usize, segments: Lengths) -> Result<Writer, Error>
         requires sum { sum segments.items ≡ room }
         requires filled { filled segments.items ≡ segments.items }
@@ -272,7 +274,7 @@ impl Writer {
         })
     }
 
-    /// How many bytes more there is room for.
+    /// The number of free bytes.
     pub fn available_bytes(&self) -> usize
         ensures free { result ≡ self.now.free }
         ensures segments { (sum self.now.segments ≡ length self.now.written + self.now.free)
@@ -281,14 +283,14 @@ impl Writer {
         self.room - self.bytes.len()
     }
 
-    /// How many bytes were written.
+    /// The number of bytes written so far.
     pub fn bytes_written(&self) -> usize
         ensures { result ≡ length self.now.written }
     {
         self.bytes.len()
     }
 
-    /// Copies out what was written.
+    /// Copies the written bytes to `out`, which has the same length.
     pub fn copy_written(&self, out: &mut [u8])
         requires { length out.old ≡ length self.now.written }
         ensures { out.new ≡ self.now.written }
@@ -296,7 +298,7 @@ impl Writer {
         out.copy_from_slice(&self.bytes);
     }
 
-    /// What was written.
+    /// The written bytes.
     pub fn into_written(self) -> Vec<u8>
         ensures { result.items ≡ self.written }
     {
@@ -304,7 +306,7 @@ impl Writer {
         bytes
     }
 
-    /// Writes over the first bytes that were written.
+    /// Overwrites the first of the written bytes.
     #[inline(always)]
     pub fn put_front(&mut self, front: &[u8])
         requires { length front.now ≤ length self.old.written }
@@ -317,7 +319,7 @@ impl Writer {
         write_front(&mut self.bytes, front);
     }
 
-    /// Takes back what was written.
+    /// Removes all written bytes: their room is free again.
     pub fn clear(&mut self)
         ensures written { self.new.written ≡ [] }
         ensures free { self.new.free ≡ self.old.free + length self.old.written }
@@ -329,7 +331,7 @@ impl Writer {
         self.place = behind(&self.segments, START, 0);
     }
 
-    // The room of the first segment that has some.
+    // The number of free bytes in the first segment that has any.
     #[inline(always)]
     fn first_room(&self) -> usize
         ensures first { result ≡ first (rooms self.now) }
@@ -343,7 +345,7 @@ impl Writer {
         }
     }
 
-    // Writes the first bytes of these that there is room for; answers how many.
+    // Writes as many bytes as fit; returns their number.
     #[inline(always)]
     fn put(&mut self, more: &[u8]) -> usize
         ensures count { result ≡ min (length more.now) self.old.free }
@@ -359,8 +361,8 @@ impl Writer {
         n
     }
 
-    /// Writes the value's bytes. Where they have no room, what there is is used up, nothing more can be
-    /// written, and that is `IoError` of kind `WriteZero`.
+    /// Writes the value's bytes. `IoError` of kind `WriteZero` if they don't fit: the first of them
+    /// then fill the free bytes.
     pub fn write_obj<T: ByteValued>(&mut self, value: T) -> Result<(), Error>
         ensures fits { AllFit (T.fields value) }
         ensures ok { OnOk result ((self.new.written ≡ self.old.written ++ spelled (T.fields value))
@@ -381,9 +383,10 @@ impl Writer {
         Ok(())
     }
 
-    /// Splits the room that is free at a place, in bytes: what stands behind it goes to a writer of its own,
-    /// with no byte written. `SplitOutOfBounds` if the place is past the end, else `OutOfMemory`. A refusal
-    /// changes nothing.
+    /// Splits the free bytes at an offset, in bytes: returns a writer of the bytes behind it.
+    /// Errors, in this order; each changes nothing:
+    /// - `SplitOutOfBounds`: fewer than `offset` bytes are free
+    /// - `OutOfMemory`
     pub fn split_at(&mut self, alloc: Global, offset: usize) -> Result<Writer, Error>
         ensures written { self.new.written ≡ self.old.written }
         ensures free { OnOk result ((offset ≤ self.old.free) × (self.new.free ≡ offset)) }
@@ -420,8 +423,8 @@ impl Writer {
         Ok(other)
     }
 
-    /// Joins on the first bytes of a writer that a split handed out; its other room is free again. It brings
-    /// no more segments and bytes than the split handed out.
+    /// Appends the first `count` bytes of a writer that `split_at` returned; the rest of its room is free
+    /// again. It may have no more segments and bytes than that writer had. No byte of `self` is free.
     pub fn rejoin(&mut self, other: Writer, count: usize)
         requires full { self.old.free ≡ 0 }
         requires count { count ≤ length other.written }
@@ -447,9 +450,9 @@ impl Writer {
         self.spare = 0;
     }
 
-    /// Writes what one call of a file reads into the first segment that has room, at most `count` bytes, and
-    /// answers how many; no call is made, and it answers 0, if there is no room or `count` is 0. An errno is
-    /// the file's own, and uses up nothing.
+    /// Reads from a file, by one call, at most `count` bytes into the first segment with free
+    /// bytes. Returns the number of bytes read. Without a free byte, or with `count` 0, it makes no
+    /// call and returns 0. An errno is the file's own; nothing is then written.
     #[inline(always)]
     pub fn read_from_file_at<F: PositionedFile>(
         &mut self,

@@ -1,4 +1,4 @@
-//! Readers that files empty, and writers that they fill (virtiofsd's `ZcReader` and `ZcWriter`).
+//! A file writes from these readers, and reads into these writers (virtiofsd's `ZcReader` and `ZcWriter`).
 
 ghost use Rattle.std.specs.Prelude.{◌≡◌, ℕ, ◌+◌, List, ◌++◌, length, sum};
 ghost use Rattle.fuse_fs.specs.Lengths.{past, up_to};
@@ -10,7 +10,7 @@ use crate::writer::Writer;
 use fuse_fs::{PositionedFile, WritevFlags, ZeroCopyReader, ZeroCopyWriter};
 use fuse_wire::Errno;
 
-/// A reader of the data that a file system is to write. A file is lent one segment after another.
+/// A reader of the data of a WRITE. It passes a file one segment after another.
 #[derive(Drop)]
 pub struct ZcReader<'a> {
     pub reader: Reader<'a>,
@@ -52,7 +52,7 @@ impl<'a> ZeroCopyReader for ZcReader<'a> {
     }
 }
 
-/// A writer of the data that a file system reads. A file is asked for one segment after another.
+/// A writer of the data of a READ. A file reads into one segment after another.
 #[derive(Drop)]
 pub struct ZcWriter {
     pub writer: Writer,

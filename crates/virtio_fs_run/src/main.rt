@@ -1,4 +1,4 @@
-//! Runs a script of guest accesses and kicks, read from standard input, on a virtio-fs device.
+//! Reads a script of guest accesses and kicks from standard input, and runs it on a virtio-fs device.
 #![tactic(auto)]
 
 use std::env::{Env, FillError};
@@ -11,7 +11,7 @@ fn has_argument(environment: &impl Env) -> bool {
     !matches!(environment.arg(1, &mut []), Err(FillError::NotPresent))
 }
 
-// Runs the script, tells on standard error why a line wasn't a command, and answers the status.
+// Runs the script, prints on standard error why a line isn't a command, and returns the exit status.
 fn run(rt: &HostRuntime, writer: &mut impl Write) -> u8 {
     let Err(halt) = play_script(rt.alloc(), &mut rt.reader(), writer) else {
         return 0;

@@ -1,11 +1,11 @@
-//! What the file system was asked since it was printed last.
+//! The calls of the file system since they were last printed.
 
 use arrayvec::ArrayVec;
 
-// The most calls that are kept.
+// The most calls that a list keeps.
 const MOST_CALLS: usize = 64;
 
-// The most bytes of a name that are kept.
+// The most bytes that are kept of a name.
 const MOST_NAME_BYTES: usize = 16;
 
 /// A call of the file system.
@@ -13,7 +13,7 @@ const MOST_NAME_BYTES: usize = 16;
 pub enum Call {
     #[default]
     Init,
-    /// The name's first bytes.
+    /// With the name's first 16 bytes.
     Lookup {
         parent: u64,
         name: ArrayVec<u8, MOST_NAME_BYTES>,
@@ -37,7 +37,7 @@ pub enum Call {
 }
 
 impl Call {
-    /// A look-up of a name, of which the first bytes are kept.
+    /// A look-up of a name, which keeps the name's first 16 bytes.
     pub fn lookup(parent: u64, name: &[u8]) -> Call {
         let mut kept = ArrayVec::new();
         kept.try_extend_from_slice(&name[..name.len().min(MOST_NAME_BYTES)])
@@ -46,7 +46,7 @@ impl Call {
     }
 }
 
-/// The first 64 calls, and how many came after them. It takes no memory.
+/// The first 64 calls, and the number of later ones. Allocates no memory.
 #[derive(Default, Drop)]
 pub struct FirstCalls {
     pub calls: ArrayVec<Call, MOST_CALLS>,
@@ -54,7 +54,7 @@ pub struct FirstCalls {
 }
 
 impl FirstCalls {
-    /// Writes a call down.
+    /// Adds a call to the list, or counts it if the list is full.
     pub fn note(&mut self, call: Call) {
         if self.calls.is_full() {
             self.more = self.more.saturating_add(1);

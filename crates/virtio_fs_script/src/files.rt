@@ -1,4 +1,4 @@
-//! The program's file system: a root with one file, which writes down what it is asked.
+//! The program's file system: a root with one file. It logs its calls.
 
 ghost use Rattle.std.specs.Prelude.{⊤, ◌≤◌, ◌+◌, ◌↔◌, IsTrue, drop};
 ghost use Rattle.virtio_fs_script.specs.Root.{root_entries};
@@ -12,39 +12,39 @@ use virtiofsd_fuse::{
     OpensNothing, PositionedFile, Timeout, WritevFlags, ZeroCopyReader, ZeroCopyWriter, defaults,
 };
 
-// The root's node.
+// The root's node ID (FUSE_ROOT_ID in linux/fuse.h).
 const ROOT: u64 = 1;
 
-// The file's node, and its name in the root.
+// The file's node ID.
 const FILE: u64 = 2;
 
 const FILE_NAME: &[u8] = b"a";
 
-// What the file holds at first.
+// The file's bytes at first.
 const FILE_BYTES: &[u8] = b"hello";
 
-// The most bytes that the file holds.
+// The greatest length of the file in bytes.
 const MOST_FILE_BYTES: usize = 4096;
 
 const BLOCK_BYTES: u32 = 4096;
 
-// How many seconds an entry and its attributes stay good.
+// The seconds that the guest may cache an entry and its attributes.
 const TIMEOUT_SECONDS: u64 = 1;
 
-// The error of a write that the file can't hold (EFBIG in errno.h).
+// The error of a write past the greatest length (EFBIG in errno.h).
 fn file_too_large() -> Errno {
     Errno::new(27).unwrap()
 }
 
-// Whether the file can hold so many bytes at a place.
+// Whether the file can hold `count` bytes at an offset.
 fn fits(off: u64, count: usize) -> bool
     ensures { IsTrue result ↔ (off + count ≤ 4096) }
 {
     off <= MOST_FILE_BYTES as u64 && count <= MOST_FILE_BYTES - off as usize
 }
 
-// The file, kept in place. It never gets shorter, so the bytes behind its end are the zeros that they were at
-// first.
+// The file, in an array. It never gets shorter, so the bytes after its end are still the zeros that they were
+// at first.
 #[derive(Drop)]
 struct SmallFile {
     bytes: [u8; MOST_FILE_BYTES],
@@ -95,7 +95,7 @@ impl PositionedFile for SmallFile {
     }
 }
 
-// How long an entry and its attributes stay good.
+// The time that the guest may cache an entry and its attributes.
 fn timeout() -> Timeout {
     Timeout::new(TIMEOUT_SECONDS, 0).unwrap()
 }
@@ -111,7 +111,7 @@ fn root_attr() -> Attr {
     }
 }
 
-/// The root's entries from one on.
+/// The root's entries from number `at` on.
 #[derive(Drop)]
 pub(crate) struct RootEntries {
     at: u64,
@@ -143,8 +143,8 @@ impl DirectoryIterator for RootEntries {
     }
 }
 
-/// Root 1 with the file `a`, which is node 2. Calls of the kinds that it has something of its own to do for
-/// stand in the log.
+/// The root, node 1, with the file `a`, node 2. The calls that it implements itself are logged: INIT, LOOKUP,
+/// FORGET, GETATTR, READ, WRITE and READDIR.
 #[derive(Drop)]
 pub(crate) struct LoggingFiles<'a> {
     log: &'a Cell<FirstCalls>,
@@ -152,7 +152,7 @@ pub(crate) struct LoggingFiles<'a> {
 }
 
 impl<'a> LoggingFiles<'a> {
-    /// The file holds `hello`.
+    /// The file system with `hello` in its file.
     pub fn new(log: &'a Cell<FirstCalls>) -> LoggingFiles<'a> {
         LoggingFiles {
             log,
@@ -179,7 +179,7 @@ impl<'a> LoggingFiles<'a> {
     }
 }
 
-// A file system whose relation lets it answer anything: what it answers is shown by tests.
+// The relation allows every answer: tests show the answers.
 impl<'a> FileSystemBase for LoggingFiles<'a> {
     type Inode = u64;
 
@@ -271,7 +271,7 @@ impl<'a> FewCalls for LoggingFiles<'a> {
         Ok(RootEntries { at: offset })
     }
 
-    // Whether the file can hold what is asked is seen before a byte is taken.
+    // EFBIG comes before a byte of the request's data is read.
     fn write<R: ZeroCopyReader>(
         &mut self,
         _ctx: Context,

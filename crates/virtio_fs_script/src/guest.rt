@@ -1,4 +1,4 @@
-//! A guest with its device, and what is asked of the two.
+//! A guest with its device, and the commands on both.
 
 ghost use Rattle.std.specs.Prelude.{◌≡◌, ◌≤◌, length, IfOk};
 
@@ -13,10 +13,10 @@ use virtiofsd_fuse::Server;
 use vm_memory::{GuestMemoryMmap, IommuMemory, TableIommu};
 use vm_memory_core::HostMemory;
 
-// The I/O addresses below this one have their pages marked.
+// The bytes of I/O addresses, from 0 on, whose pages are marked.
 const IO_BYTES: usize = 0x10000;
 
-// How many bytes a page of the guest has.
+// The bytes of a guest page.
 pub(crate) const PAGE_BYTES: u32 = 4096;
 
 /// A guest and the device that serves it.
@@ -37,8 +37,8 @@ fn alone(alloc: Global, command: Command) -> Result<Vec<Command>, AllocError>
 }
 
 impl<'a> GuestMachine<'a> {
-    /// A guest without memory, whose device has these queues and an IOMMU that is off and maps nothing. What
-    /// the device's file system is asked is logged.
+    /// A guest without memory, whose device has these queues and an IOMMU that is off and maps nothing. The
+    /// device's file system logs its calls. AllocError if an allocation fails.
     pub fn new(
         alloc: Global,
         log: &'a Cell<FirstCalls>,
@@ -61,19 +61,20 @@ impl<'a> GuestMachine<'a> {
         })
     }
 
-    /// Whether there is a queue of this number.
+    /// Whether the device has a queue of this number, from 0.
     pub fn has_queue(&self, queue: usize) -> bool {
         self.machine.device.queue(queue).is_some()
     }
 
-    /// Does one command of the machine.
+    /// Carries out one command of the machine. AllocError if an allocation fails.
     pub fn perform(&mut self, command: Command) -> Result<Answer, AllocError> {
         let mut answers = self.machine.run(self.alloc, alone(self.alloc, command)?)?;
         Ok(answers.pop().unwrap())
     }
 
-    /// The guest as it goes on on another host; and how many bytes its device's record has. An IOMMU that is
-    /// on is off on the way. A machine stays if an allocation fails.
+    /// Migrates guest and device to another host; the second result is the length of the device's record in
+    /// bytes. An IOMMU that is on is off during the move. If an allocation fails, the error is
+    /// `Halt::OutOfMemory`, and the guest is dropped.
     pub fn moved(self) -> Result<(GuestMachine<'a>, usize), Halt> {
         let GuestMachine {
             alloc,
@@ -101,7 +102,7 @@ impl<'a> GuestMachine<'a> {
         ))
     }
 
-    /// What the file system was asked since this was called last.
+    /// The calls of the file system since this was last called.
     pub fn take_log(&self) -> FirstCalls {
         self.log.take()
     }

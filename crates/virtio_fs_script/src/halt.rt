@@ -10,18 +10,19 @@ use thiserror::Error;
 pub enum Halt {
     #[error("script too long")]
     TooLong,
-    /// The line of this number isn't a command, or not one that may stand there, for this reason.
+    /// The line of this number, from 1, isn't a command, or not one that is allowed there, for this reason.
     #[error("line {0}: not a command")]
     NotACommand(usize, WrongLine),
     #[error("out of memory")]
     OutOfMemory,
-    /// The script can't be read, or what is printed can't be written.
+    /// Reading the script or writing the output failed.
     #[error("a stream failed")]
     Stream,
 }
 
 impl Halt {
-    /// The status that the program then ends with.
+    /// The program's exit status: 1 for a script that is too long or wrong, 2 for out of memory, 3 for a
+    /// failed stream.
     pub fn status(&self) -> u8 {
         match self {
             Halt::TooLong | Halt::NotACommand(_, _) => 1,

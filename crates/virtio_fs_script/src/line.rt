@@ -1,4 +1,4 @@
-//! The commands of a script, and how a line is read as one.
+//! The commands of a script, and the parser of a line.
 
 use crate::number::{is_numeral, parse_number};
 use crate::wrong::WrongLine;
@@ -8,7 +8,7 @@ use hex::FromHexError;
 use std::alloc::{AllocError, Global};
 use vm_memory_core::Permissions;
 
-/// A queue's size, and the addresses of its three areas.
+/// A queue's size, and the addresses of its three areas, as a line gives them: not yet checked.
 #[derive(Clone, Copy)]
 pub(crate) struct AskedLayout {
     pub size: u16,
@@ -18,7 +18,7 @@ pub(crate) struct AskedLayout {
 }
 
 impl AskedLayout {
-    /// The layout, if it is one.
+    /// The layout, or the error of `QueueLayout::new`.
     pub fn layout(self) -> Result<QueueLayout, QueueLayoutError> {
         QueueLayout::new(self.size, self.desc, self.avail, self.used)
     }
@@ -27,28 +27,28 @@ impl AskedLayout {
 /// A command of the script.
 #[derive(Drop)]
 pub(crate) enum Line {
-    /// One more queue.
+    /// Adds a queue.
     Queue(AskedLayout),
-    /// A region of guest memory over a new block.
+    /// Adds a region of guest memory over a new block.
     Region { base: u64, size: u64 },
-    /// The device serves at most that many requests of a queue.
+    /// The device serves at most `most` requests of a queue.
     Kick { queue: u64, most: u16 },
-    /// A queue begins anew.
+    /// Resets a queue.
     Reset { queue: u64, layout: AskedLayout },
-    /// The guest and its device go on on another host.
+    /// Moves guest and device to another host.
     Move,
-    /// One command of the machine, as each other line is.
+    /// One command of the machine: any other line.
     Machine(Command),
 }
 
-// What is left of a line: words with one space between each two, or nothing after the last.
+// The rest of a line: words with one space between each two, or None after the last word.
 #[derive(Drop)]
 struct Words<'a> {
     rest: Option<&'a [u8]>,
 }
 
 impl<'a> Words<'a> {
-    // The next word, which has a byte, and no carriage return behind it.
+    // The next word: it isn't empty, and doesn't end in a carriage return.
     fn next_word(&mut self) -> Result<&'a [u8], WrongLine> {
         let Some(rest) = self.rest else {
             return Err(WrongLine::MissingWord);
@@ -94,7 +94,7 @@ impl<'a> Words<'a> {
         })
     }
 
-    // What a mapping allows.
+    // The permissions of a mapping.
     fn next_permissions(&mut self) -> Result<Permissions, WrongLine> {
         match self.next_word()? {
             b"none" => Ok(Permissions::No),
@@ -105,7 +105,7 @@ impl<'a> Words<'a> {
         }
     }
 
-    // Whether something is to be on.
+    // A switch: true for `on`.
     fn next_switch(&mut self) -> Result<bool, WrongLine> {
         match self.next_word()? {
             b"on" => Ok(true),
@@ -114,7 +114,7 @@ impl<'a> Words<'a> {
         }
     }
 
-    // Nothing is left.
+    // ExtraWord if a word is left.
     fn end(&mut self) -> Result<(), WrongLine> {
         match self.next_word() {
             Err(WrongLine::MissingWord) => Ok(()),
@@ -124,7 +124,7 @@ impl<'a> Words<'a> {
     }
 }
 
-// The bytes that a word of at least two hexadecimal digits writes.
+// The bytes of a word of hexadecimal digits, two for each byte.
 fn parse_bytes(alloc: Global, word: &[u8]) -> Result<Result<Vec<u8>, WrongLine>, AllocError> {
     match hex::decode(alloc, word) {
         Ok(bytes) => Ok(Ok(bytes)),
@@ -133,7 +133,7 @@ fn parse_bytes(alloc: Global, word: &[u8]) -> Result<Result<Vec<u8>, WrongLine>,
     }
 }
 
-// The address behind `write`, and the word of its bytes.
+// The operands of `write`: the address, and the word of its bytes.
 fn next_write<'a>(words: &mut Words<'a>) -> Result<(u64, &'a [u8]), WrongLine> {
     let addr = words.next_number()?;
     let word = words.next_word()?;
@@ -216,7 +216,7 @@ fn parse_unmap(words: &mut Words<'_>) -> Result<Command, WrongLine> {
     Ok(Command::Unmap { iova, len })
 }
 
-// What stands behind the first word of a line other than `write`.
+// The command of a line other than `write`, by its first word and the operands after it.
 fn parse_operands(name: &[u8], words: &mut Words<'_>) -> Result<Line, WrongLine> {
     match name {
         b"queue" => Ok(Line::Queue(words.next_layout()?)),
@@ -235,14 +235,14 @@ fn parse_operands(name: &[u8], words: &mut Words<'_>) -> Result<Line, WrongLine>
     }
 }
 
-// The same, with nothing behind the last operand.
+// The same, and ExtraWord if a word follows the last operand.
 fn parse_all(name: &[u8], words: &mut Words<'_>) -> Result<Line, WrongLine> {
     let line = parse_operands(name, words)?;
     words.end()?;
     Ok(line)
 }
 
-/// The command of a line, or why it is none.
+/// The command of a line, or the reason that it is none. AllocError if an allocation fails.
 pub(crate) fn parse(alloc: Global, line: &[u8]) -> Result<Result<Line, WrongLine>, AllocError> {
     let mut words = Words { rest: Some(line) };
     match words.next_word() {

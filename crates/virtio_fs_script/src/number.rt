@@ -5,7 +5,7 @@ ghost use Rattle.std.specs.Option.{SomeIff};
 ghost use Rattle.std.specs.Str.Parse.{IsNumeral, digits_value};
 ghost use Rattle.virtio_fs_script.specs.Number.{is_hexadecimal, radix_of, digits_of};
 
-// The number that digits in a radix write, if there are any and it fits.
+// The number of digits in a radix. None if there is no digit, a wrong one, or it doesn't fit 64 bits.
 fn parse_digits(radix: u32, digits: &[u8]) -> Option<u64>
     requires low { 2 ≤ radix }
     requires high { radix ≤ 36 }
@@ -33,7 +33,8 @@ fn has_hexadecimal_prefix(word: &[u8]) -> bool
     word.len() >= 2 && word[0] == b'0' && word[1] == b'x'
 }
 
-/// The number that a word writes, in decimal digits or behind `0x` in hexadecimal ones, if it fits.
+/// The number of a word: decimal digits, or hexadecimal digits after `0x`. None if the word is no number, or
+/// the number doesn't fit 64 bits.
 pub fn parse_number(word: &[u8]) -> Option<u64>
     ensures { let radix = radix_of word.now in let digits = digits_of word.now in
         SomeIff result (IsNumeral radix digits
@@ -46,7 +47,7 @@ pub fn parse_number(word: &[u8]) -> Option<u64>
     }
 }
 
-// Whether there are digits in a radix, and nothing else.
+// Whether the bytes are digits in a radix, at least one.
 fn are_digits(radix: u32, digits: &[u8]) -> bool
     requires low { 2 ≤ radix }
     requires high { radix ≤ 36 }
@@ -60,7 +61,7 @@ fn are_digits(radix: u32, digits: &[u8]) -> bool
     !digits.is_empty()
 }
 
-/// Whether a word is written as a number, whether that fits or not.
+/// Whether a word is a number by its digits, of any size.
 pub(crate) fn is_numeral(word: &[u8]) -> bool
     ensures { IsTrue result ↔ IsNumeral (radix_of word.now) (digits_of word.now) }
 {

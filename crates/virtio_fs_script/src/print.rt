@@ -1,4 +1,4 @@
-//! What is printed of a command's outcome.
+//! The output lines of a command's outcome.
 
 use crate::calls::{Call, FirstCalls};
 use crate::guest::PAGE_BYTES;
@@ -10,7 +10,7 @@ use virtiofsd_fuse::Error;
 
 const CHUNK: usize = 32;
 
-// A line of a word and the numbers behind it.
+// A line of a word, and the numbers after it.
 fn print_line<W: Write>(writer: &mut W, word: &[u8], numbers: &[u64]) -> io::Result<()> {
     writer.write_all(word)?;
     for number in numbers {
@@ -19,12 +19,12 @@ fn print_line<W: Write>(writer: &mut W, word: &[u8], numbers: &[u64]) -> io::Res
     writer.write_all(b"\n")
 }
 
-/// That a command was done which has nothing to tell.
+/// `ok`: a command was done that has no other output.
 pub(crate) fn print_ok<W: Write>(writer: &mut W) -> io::Result<()> {
     writer.write_all(b"ok\n")
 }
 
-/// Why a queue's layout isn't one.
+/// `badlayout`, and the number of the layout's error.
 pub(crate) fn print_bad_layout<W: Write>(
     writer: &mut W,
     error: QueueLayoutError,
@@ -32,12 +32,12 @@ pub(crate) fn print_bad_layout<W: Write>(
     print_line(writer, b"badlayout", &[u64::from(error.number())])
 }
 
-/// How many bytes the record had by which a device went on elsewhere.
+/// `moved`, and the length of the device's record in bytes.
 pub(crate) fn print_moved<W: Write>(writer: &mut W, record_len: usize) -> io::Result<()> {
     print_line(writer, b"moved", &[record_len as u64])
 }
 
-/// Why a command was refused, by its number.
+/// `refused`, and the number of the refusal.
 pub(crate) fn print_refused<W: Write>(writer: &mut W, number: u8) -> io::Result<()> {
     print_line(writer, b"refused", &[u64::from(number)])
 }
@@ -63,7 +63,7 @@ fn print_bytes<W: Write>(writer: &mut W, bytes: &[u8]) -> io::Result<()> {
     writer.write_all(b"\n")
 }
 
-// A look-up of a name.
+// The call of a look-up, with the name's first bytes in hexadecimal digits.
 fn print_lookup<W: Write>(writer: &mut W, parent: u64, name: &[u8]) -> io::Result<()> {
     write!(writer, "call lookup {parent} ")?;
     print_hexadecimal(writer, name)?;
@@ -83,7 +83,7 @@ fn print_call<W: Write>(writer: &mut W, call: &Call) -> io::Result<()> {
     }
 }
 
-/// The calls of the file system in one step.
+/// The calls of the file system in one step, and `more` with the number of calls that weren't kept.
 pub fn print_calls<W: Write>(writer: &mut W, log: &FirstCalls) -> io::Result<()> {
     for call in log.calls.as_slice() {
         print_call(writer, call)?;
@@ -94,7 +94,7 @@ pub fn print_calls<W: Write>(writer: &mut W, log: &FirstCalls) -> io::Result<()>
     Ok(())
 }
 
-// The name of what is wrong with a chain.
+// The name of a chain's fault.
 fn chain_fault_name(fault: &ChainFault) -> &'static str {
     match fault {
         ChainFault::TooLong => "TooLong",
@@ -110,7 +110,7 @@ fn chain_fault_name(fault: &ChainFault) -> &'static str {
     }
 }
 
-// The name of the server's error.
+// The name of a server's error.
 fn error_name(error: &Error) -> &'static str {
     match error {
         Error::DecodeMessage => "DecodeMessage",
@@ -138,7 +138,7 @@ fn fault_name(fault: &Option<Fault>) -> &'static str {
     }
 }
 
-// A request that was returned, served or for a fault, and whether the guest is notified.
+// A request that was returned, with its reply's length in bytes, its fault, and whether to notify the driver.
 fn print_done<W: Write>(writer: &mut W, exchange: &Exchange, notify: bool) -> io::Result<()> {
     let head = exchange.head;
     let len = exchange.reply.len();
@@ -147,7 +147,7 @@ fn print_done<W: Write>(writer: &mut W, exchange: &Exchange, notify: bool) -> io
     writeln!(writer, "done {head} {len} {fault} {notify}")
 }
 
-// The requests that were returned, and why none came after them, if that is a refusal.
+// The requests that were returned, and then the refusal that ended the run, if any.
 fn print_run<W: Write>(writer: &mut W, run: &QueueRun) -> io::Result<()> {
     for (exchange, notify) in &run.done {
         print_done(writer, exchange, *notify)?;
@@ -158,7 +158,7 @@ fn print_run<W: Write>(writer: &mut W, run: &QueueRun) -> io::Result<()> {
     }
 }
 
-/// What a command of the machine came to.
+/// The answer to a command of the machine.
 pub(crate) fn print_answer<W: Write>(writer: &mut W, answer: &Answer) -> io::Result<()> {
     match answer {
         Answer::Done => print_ok(writer),
@@ -171,12 +171,12 @@ pub(crate) fn print_answer<W: Write>(writer: &mut W, answer: &Answer) -> io::Res
     }
 }
 
-/// That no request was waiting.
+/// `idle`: no request was available.
 pub(crate) fn print_idle<W: Write>(writer: &mut W) -> io::Result<()> {
     writer.write_all(b"idle\n")
 }
 
-// The pages that were marked.
+// The marked pages by block and number in it, or `none`.
 fn print_pages<W: Write>(writer: &mut W, pages: &[HarvestedPage]) -> io::Result<()> {
     if pages.is_empty() {
         return writer.write_all(b"none\n");

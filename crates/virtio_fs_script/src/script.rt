@@ -1,4 +1,4 @@
-//! A whole script: it is read, and run line by line.
+//! A whole script: reads it, and runs it line by line.
 
 use crate::calls::FirstCalls;
 use crate::halt::Halt;
@@ -13,10 +13,10 @@ const MOST_SCRIPT_BYTES: usize = 1_048_576;
 
 const BUFFER: usize = 4096;
 
-// The status of a call with arguments.
+// The exit status if the program is called with arguments.
 const USAGE_STATUS: u8 = 1;
 
-// The whole script, if it isn't too long.
+// The whole script. TooLong if it has more than `MOST_SCRIPT_BYTES`.
 fn read_script<R: Read>(alloc: Global, reader: &mut R) -> Result<Vec<u8>, Halt> {
     let mut script = Vec::new(alloc);
     let mut buffer = [0u8; BUFFER];
@@ -34,7 +34,7 @@ fn read_script<R: Read>(alloc: Global, reader: &mut R) -> Result<Vec<u8>, Halt> 
     Ok(script)
 }
 
-// Runs the line of this number. An empty one and a comment are skipped.
+// Runs the line of this number. Skips an empty line and a comment.
 fn run_line<W: Write>(
     alloc: Global,
     session: &mut ScriptSession<'_>,
@@ -51,7 +51,7 @@ fn run_line<W: Write>(
     }
 }
 
-// Runs each line in turn, up to the first that can't be run.
+// Runs each line in turn, up to the first that fails.
 fn run_lines<W: Write>(alloc: Global, script: &[u8], writer: &mut W) -> Result<(), Halt> {
     let log = Cell::new(FirstCalls::default());
     let mut session = ScriptSession::new(alloc, &log);
@@ -72,7 +72,7 @@ fn read_and_run<R: Read, W: Write>(
     run_lines(alloc, &script, writer)
 }
 
-// Prints why a script ended early, if a stream can still say it, and answers that.
+// Prints why a script ended early, unless a stream failed, and returns it; Stream if printing fails.
 fn print_halt<W: Write>(halt: Halt, writer: &mut W) -> Halt {
     if halt != Halt::Stream && writeln!(writer, "{halt}").is_err() {
         return Halt::Stream;
@@ -80,7 +80,7 @@ fn print_halt<W: Write>(halt: Halt, writer: &mut W) -> Halt {
     halt
 }
 
-// Reads a script and runs it. What is printed may still stand in the writer's buffer.
+// Reads a script, runs it, and prints why it ended early, if it did. Doesn't flush the writer.
 fn run_and_tell<R: Read, W: Write>(
     alloc: Global,
     reader: &mut R,
@@ -92,8 +92,8 @@ fn run_and_tell<R: Read, W: Write>(
     }
 }
 
-/// Reads a script, runs it, and prints what its lines print; answers why it ended early, if it did, which is
-/// printed too.
+/// Reads a script, runs it, and prints the output of its lines. If it ends early, prints and returns the
+/// reason.
 pub fn play_script<R: Read, W: Write>(
     alloc: Global,
     reader: &mut R,
@@ -109,7 +109,7 @@ pub fn play_script<R: Read, W: Write>(
     }
 }
 
-/// The same, but answers the program's status.
+/// As `play_script`, but returns the program's exit status: 0, or `Halt::status`.
 pub fn run_script<R: Read, W: Write>(alloc: Global, reader: &mut R, writer: &mut W) -> u8 {
     match play_script(alloc, reader, writer) {
         Ok(()) => 0,
@@ -117,7 +117,7 @@ pub fn run_script<R: Read, W: Write>(alloc: Global, reader: &mut R, writer: &mut
     }
 }
 
-/// Prints how the program is called, in place of a run, and answers its status.
+/// Prints the usage line in place of a run, and returns the exit status: 1, or 3 if printing fails.
 pub fn print_usage<W: Write>(writer: &mut W) -> u8 {
     match writer.write_all(b"usage: virtio_fs_run < script\n") {
         Ok(()) => USAGE_STATUS,

@@ -1,4 +1,4 @@
-//! What a script's commands do, one after another.
+//! Runs a script's commands, one after another.
 
 ghost use Rattle.std.specs.Prelude.{◌≤◌, length};
 
@@ -20,7 +20,7 @@ use std::mem;
 // The most queues of a device.
 const MOST_QUEUES: usize = 64;
 
-/// The queues so far, and from the first other command on a guest whose device has them.
+/// The queues so far. From the first other command on, a guest whose device has these queues.
 #[derive(Drop)]
 pub(crate) struct ScriptSession<'a> {
     alloc: Global,
@@ -31,7 +31,7 @@ pub(crate) struct ScriptSession<'a> {
 }
 
 impl<'a> ScriptSession<'a> {
-    /// No queue yet. What the file system is asked goes through the log.
+    /// A session without queues. The file system's calls are passed through `log`.
     pub fn new(alloc: Global, log: &'a Cell<FirstCalls>) -> ScriptSession<'a> {
         ScriptSession {
             alloc,
@@ -41,7 +41,7 @@ impl<'a> ScriptSession<'a> {
         }
     }
 
-    /// Runs the command of a line, and prints what came of it. 1 to 64 queues come first.
+    /// Runs the command of a line, and prints its outcome. A script begins with 1 to 64 queues.
     pub fn run<W: Write>(&mut self, number: usize, line: Line, writer: &mut W) -> Result<(), Halt> {
         if let Line::Queue(layout) = line {
             return self.add_queue(number, layout, writer);
@@ -79,7 +79,7 @@ impl<'a> ScriptSession<'a> {
         Ok(())
     }
 
-    // The guest goes on on another host.
+    // Moves the guest to another host. NoQueue without a guest.
     fn move_guest<W: Write>(&mut self, number: usize, writer: &mut W) -> Result<(), Halt> {
         let Some(guest) = self.guest.take() else {
             return Err(Halt::NotACommand(number, WrongLine::NoQueue));
@@ -90,7 +90,7 @@ impl<'a> ScriptSession<'a> {
         Ok(())
     }
 
-    // Makes the guest, once there is a queue.
+    // Makes the guest at the first command after the queues.
     fn start(&mut self) -> Result<(), AllocError> {
         if !self.queues.is_empty() {
             let queues = mem::replace(&mut self.queues, Vec::new(self.alloc));
@@ -116,7 +116,7 @@ fn run_on<W: Write>(
     }
 }
 
-// Makes a block and a region over all of it. Where the region is refused the block stays.
+// Makes a block and a region over all of it, and prints the answer. The block stays if the region is refused.
 fn region<W: Write>(
     guest: &mut GuestMachine<'_>,
     base: u64,
@@ -128,7 +128,7 @@ fn region<W: Write>(
     Ok(())
 }
 
-// Makes a block and a region over all of it, and answers the block, or why there is no such region.
+// Makes a block and a region over all of it. The answer is the block, or a refusal.
 fn insert_block(guest: &mut GuestMachine<'_>, base: u64, size: u64) -> Result<Answer, AllocError> {
     let len = size as usize;
     let made = guest.perform(Command::NewBlock { len })?;
@@ -141,7 +141,7 @@ fn insert_block(guest: &mut GuestMachine<'_>, base: u64, size: u64) -> Result<An
     }
 }
 
-// Does one command of the machine, and prints its answer.
+// Carries out one command of the machine, and prints its answer.
 fn perform<W: Write>(
     guest: &mut GuestMachine<'_>,
     command: Command,
@@ -152,14 +152,14 @@ fn perform<W: Write>(
     Ok(())
 }
 
-// What a step of a queue came to.
+// The outcome of a step of a queue.
 enum StepOutcome {
     Idle,
     Done,
     Refused,
 }
 
-// What the answer to a kick of one request says of the step.
+// The step's outcome, from the answer to a kick for one request.
 fn printed_outcome(answer: &Answer) -> StepOutcome {
     match answer {
         Answer::Served(run) if run.refused.is_some() => StepOutcome::Refused,
@@ -169,7 +169,7 @@ fn printed_outcome(answer: &Answer) -> StepOutcome {
     }
 }
 
-// Serves the next request of a queue, and prints it behind the file system's calls.
+// Serves the next request of a queue, and prints the file system's calls and then the answer.
 fn step<W: Write>(
     guest: &mut GuestMachine<'_>,
     queue: usize,
@@ -181,7 +181,8 @@ fn step<W: Write>(
     Ok(printed_outcome(&answer))
 }
 
-// Serves requests of a queue until none is waiting, one step is refused, or `most` are done.
+// Serves requests of a queue until none is available, a step is refused, or `most` are done. Prints `idle` if
+// none was done and no step was refused.
 fn kick<W: Write>(
     guest: &mut GuestMachine<'_>,
     queue: u64,

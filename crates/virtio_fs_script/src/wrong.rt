@@ -1,8 +1,8 @@
-//! Why a line isn't a command.
+//! The reasons that a line isn't a command.
 
 use thiserror::Error;
 
-/// Why a line isn't a command, or not one that may stand where it does.
+/// Why a line isn't a command, or not one that is allowed there.
 #[derive(Clone, Copy, Debug, PartialEq, Eq, Error)]
 pub enum WrongLine {
     #[error("there is no such command")]
@@ -11,7 +11,7 @@ pub enum WrongLine {
     MissingWord,
     #[error("there is a word too many")]
     ExtraWord,
-    /// A word of no byte: a blank at either end, or two that touch.
+    /// An empty word: a blank at either end of the line, or two in a row.
     #[error("a blank stands at an end of the line, or behind another")]
     ExtraBlank,
     #[error("a carriage return stands behind a word")]

@@ -1,4 +1,4 @@
--- Which requests have data that may stay where it stands.
+-- The requests whose data may be kept apart from their other bytes.
 use Rattle.std.specs.Prelude.{ℕ, Bool, true, false, List, Option, Some, is_ok}
 use Rattle.fuse_in.specs.Records.{in_header}
 use Rattle.fuse_in.specs.declared.session.InHeader.{InHeader}
@@ -8,16 +8,16 @@ use Rattle.fuse_wire.specs.Opcodes.{opcode_of}
 use Rattle.server_segments.specs.declared.error.Error.TheVariants.{DecodeMessage}
 use Rattle.server_requests.specs.Reading.{Reading, Faults, ◌>>=◌, ◌>>◌, give, needs, reading_of}
 
--- the request that is asked for is a WRITE
+-- the opcode is that of a WRITE
 abbrev pub is_write : Option Opcode → Bool
 is_write (Some op.Write) = true
 is_write _ = false
 
--- the header of a WRITE, if a request begins with one (linux/fuse.h, struct fuse_in_header)
+-- the header of a WRITE at the front of a request (linux/fuse.h, struct fuse_in_header)
 abbrev pub write_header : Reading InHeader
 write_header =
     reading_of in_header >>= λ h. needs (is_write (opcode_of h.opcode)) (Faults DecodeMessage) >> give h
 
--- whether a request begins with one
+-- a request begins with the header of a WRITE
 abbrev pub begins_a_write : (request : List ℕ) → Bool
 begins_a_write request = is_ok (write_header request)

@@ -1,4 +1,4 @@
--- Requests that take memory, and requests that don't, worked out.
+-- Worked examples of requests that need memory, and of requests that don't.
 use Rattle.std.specs.Prelude.{◌≡◌, ℕ, ◌^◌, true, false, List, [], ◌∷◌, ◌++◌, refl}
 use Rattle.fuse_fs.specs.Lengths.{past}
 use Rattle.server_segments.specs.ReaderAndWriterView.{ReaderView}
@@ -17,7 +17,7 @@ in_segments segments bytes = record { left = bytes; segments = segments; read = 
 abbrev lookup : List ℕ
 lookup = in_header_bytes 42 1 1 1 ++ 97 ∷ 0 ∷ []
 
--- its name stands behind the header, or in a segment of its own
+-- the name lies behind the header, or in a segment of its own
 name_behind : may_take_memory 0 (in_segments (42 ∷ []) lookup) 143 ≡ false
 unfolding reading_of past
 name_behind = refl
@@ -26,17 +26,17 @@ name_apart : may_take_memory 0 (in_segments (40 ∷ 2 ∷ []) lookup) 143 ≡ fa
 unfolding reading_of past
 name_apart = refl
 
--- it stands in two segments
+-- the name lies in two segments
 name_split : may_take_memory 0 (in_segments (41 ∷ 1 ∷ []) lookup) 143 ≡ true
 unfolding reading_of past
 name_split = refl
 
--- of two segments the second is missing
+-- the second of the two segments is missing
 name_short : may_take_memory 0 (in_segments (41 ∷ []) (in_header_bytes 42 1 1 1 ++ 97 ∷ [])) 143 ≡ false
 unfolding reading_of past
 name_short = refl
 
--- BATCH_FORGET of so many pairs, with one pair
+-- BATCH_FORGET of `count` pairs, with one pair behind its record
 abbrev forgets : (count : ℕ) → List ℕ
 forgets count = in_header_bytes 64 42 2 0 ++ le32 count ++ le32 0 ++ le64 5 ++ le64 3
 
@@ -48,21 +48,21 @@ one_pair : may_take_memory 0 (in_segments (64 ∷ []) (forgets 1)) 0 ≡ true
 unfolding reading_of past row many
 one_pair = refl
 
--- the second is missing
+-- the second pair is missing
 two_pairs : may_take_memory 0 (in_segments (64 ∷ []) (forgets 2)) 0 ≡ false
 unfolding reading_of past row many
 two_pairs = refl
 
--- MKDIR of `d`, in so many bytes, with an extension where security contexts are agreed
+-- MKDIR of `d`, `len` bytes long, with an extension
 abbrev mkdir : (len : ℕ) → List ℕ → List ℕ
 mkdir len extension = in_header_bytes len 9 1 1 ++ le32 511 ++ le32 18 ++ 100 ∷ 0 ∷ extension
 
--- an empty context
+-- an empty security context
 context_empty : may_take_memory (2 ^ 32) (in_segments (58 ∷ []) (mkdir 58 (le32 8 ++ le32 0))) 0 ≡ false
 unfolding reading_of past row counted with_bytes front_name new_name extra_in extensions extension part
 context_empty = refl
 
--- one with the name `s` and the label `x`
+-- a security context with the name `s` and the label `x`
 context_given : may_take_memory (2 ^ 32)
     (in_segments (69 ∷ []) (mkdir 69 (le32 19 ++ le32 1 ++ le32 1 ++ le32 0 ++ 115 ∷ 0 ∷ 120 ∷ []))) 0 ≡ true
 unfolding reading_of past row counted with_bytes front_name new_name extra_in extensions extension part

@@ -1,4 +1,4 @@
--- What a request means, by the options that client and server agreed on, its bytes and the length of its room
+-- The meaning of a request, from its bytes, the agreed options and the length of its reply buffer
 -- (linux/fuse.h).
 use Rattle.std.specs.Prelude.{ℕ, ◌+◌, ◌-◌, ◌*◌, ◌^◌, nat_le, nat_lt, List, Option, Some, None, Result, Ok}
 use Rattle.std.specs.Prelude.{Err, if◌then◌else◌, bit_and}
@@ -42,48 +42,48 @@ pub data FileCommand : Type 0 where
   Starts : (unique capable readahead : ℕ) → FileCommand
   Lists : (unique : ℕ) → ListRequest → FileCommand
 
--- what a request means: a fault, a reply that asks no file system, silence, or a file command
+-- the meaning of a request: a fault, a reply without a file call, silence, or a file command
 pub data Meaning : Type 0 where
   IsFault : Error → Meaning
   Replies : (bytes : List ℕ) → Meaning
   IsSilent : Meaning
   Asks : FileCommand → Meaning
 
--- error numbers of Linux: the request is too long, or an allocation fails
+-- the error number of Linux for a request that is too long, or a failed allocation
 abbrev pub ENOMEM : ℕ
 ENOMEM = 12
 
--- the call is not known or not served
+-- the error number of Linux for a call that is not known or not served
 abbrev pub ENOSYS : ℕ
 ENOSYS = 38
 
--- the versions do not fit
+-- the error number of Linux for a version that the server doesn't support
 abbrev pub EPROTO : ℕ
 EPROTO = 71
 
--- what the rows of the grammar know besides the bytes
+-- the input of the grammar's rows besides the bytes: header, agreed options and the reply buffer's length
 pub record Given : Type 0 where
   pub header : InHeader
   pub options : ℕ
   pub room : ℕ
 
--- a header with what client and server agreed on and the room for the reply
+-- a header with the agreed options and the length of the reply buffer
 abbrev pub given : InHeader → (options room : ℕ) → Given
 given header options room = record { header = header; options = options; room = room }
 
--- one call, whose answer is told to the request's unique number
+-- one call, whose reply has the request's unique number
 abbrev pub one : Given → FileCall → Reading Meaning
 one g call = give (Asks (One g.header.unique call))
 
--- every option that is known
+-- all known options
 abbrev pub known_options : ℕ
 known_options = 0x117fbffffff
 
--- the options that are agreed on without being asked for, if the client has them
+-- the options that are agreed if the client has them, even if the file system doesn't want them
 abbrev pub default_options : ℕ
 default_options = 0x10448449829
 
--- the versions first, and then what both sides can
+-- INIT with its records: the versions are compared, then the client's known options are found
 abbrev pub started : Given → InitInCompat → ℕ → Reading Meaning
 started g r flags2 =
     if nat_lt r.major 7 then refuse (Sends EPROTO)
@@ -92,47 +92,47 @@ started g r flags2 =
     else give (Asks (Starts g.header.unique (bit_and (flags2 * 2 ^ 32 + r.flags) known_options)
     r.max_readahead))
 
--- the rows of the grammar by their shape, each of which asks one call; one record
+-- the row of a request that is one record
 abbrev pub record_row : {R : Type 0} → RecordShape R → (InHeader → R → FileCall) → Given → Reading Meaning
 record_row s call g = reading_of s >>= λ r. one g (call g.header r)
 
--- nothing but the header
+-- the row of a request that is only its header
 abbrev pub header_row : (InHeader → FileCall) → Given → Reading Meaning
 header_row call g = one g (call g.header)
 
--- one name
+-- the row of a request that is one name
 abbrev pub name_row : (InHeader → List ℕ → FileCall) → Given → Reading Meaning
 name_row call g =
     counted g.header.len 0 >>= λ bytes. within bytes last_name >>= λ name. one g (call g.header name)
 
--- a record, and bytes that are read in a way that it may decide
+-- the row of a record and bytes behind it; the record may decide how the bytes are read
 abbrev pub bytes_row :
     {R A : Type 0} → (Given → Reading (R × List ℕ)) → (Given → R → Reading A) → (InHeader → R → A → FileCall)
     → Given → Reading Meaning
 bytes_row front parts call g = front g >>= λ x. within x.1 (parts g x.0) >>= λ y. one g (call g.header x.0 y)
 
--- a record of k bytes, and one name
+-- the row of a record of k bytes and one name
 abbrev pub record_name_row :
     {R : Type 0} → RecordShape R → (k : ℕ) → (InHeader → R → List ℕ → FileCall) → Given → Reading Meaning
 record_name_row s k call = bytes_row (λ g. with_bytes s k g.header.len) (λ g r. last_name) call
 
--- a record of k bytes, and two names
+-- the row of a record of k bytes and two names
 abbrev pub two_names_row : {R : Type 0} → RecordShape R → (k : ℕ) →
     (InHeader → R → List ℕ × List ℕ → FileCall) → Given → Reading Meaning
 two_names_row s k call = bytes_row (λ g. with_bytes s k g.header.len) (λ g r. two_names) call
 
--- a record of k bytes, and the name of a node that is made
+-- the row of a record of k bytes and the name of a new node
 abbrev pub new_name_row : {R : Type 0} → RecordShape R → (k : ℕ) →
     (InHeader → R → List ℕ × Extra → FileCall) → Given → Reading Meaning
 new_name_row s k call = bytes_row (λ g. with_bytes s k g.header.len) (λ g r. new_name g.options) call
 
--- SYMLINK: two names
+-- SYMLINK: the name and the target
 abbrev pub symlink_row : Given → Reading Meaning
 symlink_row g =
     counted g.header.len 0
     >>= λ bytes. within bytes (new_link g.options) >>= λ x. one g (symlink_call g.header x)
 
--- a value or a list of names has at most 2^20 bytes
+-- a size of more than 2^20 bytes is the error ENOMEM
 abbrev pub at_most_a_mebibyte : ℕ → Reading (Unit {0})
 at_most_a_mebibyte n = needs (nat_le n (2 ^ 20)) (Sends ENOMEM)
 
@@ -152,7 +152,7 @@ abbrev pub setxattr_row : Given → Reading Meaning
 setxattr_row =
     bytes_row (λ g. setxattr_front g.options g.header.len) (λ g r. name_and_value r.size) setxattr_call
 
--- a READ is a fault where its room has no place for the header of the reply
+-- a READ is a fault if the reply's header doesn't fit in the reply buffer
 abbrev pub read_asked : Given → ReadIn → Reading Meaning
 read_asked g r = needs (nat_le 16 g.room) (Faults EncodeMessage) >> one g (read_call g.header (g.room - 16) r)
 
@@ -160,12 +160,12 @@ read_asked g r = needs (nat_le 16 g.room) (Faults EncodeMessage) >> one g (read_
 abbrev pub read_row : Given → Reading Meaning
 read_row g = reading_of read_in >>= λ r. read_asked g r
 
--- WRITE: struct fuse_write_in, and the data, which is all that is left
+-- WRITE: struct fuse_write_in, and the data, which is all bytes behind it
 abbrev pub write_row : Given → Reading Meaning
 write_row g = reading_of write_in >>= λ r. rest >>= λ bytes. one g (write_call g.header r bytes)
 
--- READDIR and READDIRPLUS ask for at most 2^20 bytes, and room for as many as they ask for; without a place
--- for the header of the reply they are faults
+-- READDIR and READDIRPLUS ask for at most 2^20 bytes and at most the reply buffer's length, else
+-- the error is ENOMEM. It is a fault if the reply's header doesn't fit
 abbrev pub listing_asked : Bool → ReadIn → Given → Reading Meaning
 listing_asked with_nodes r g =
     at_most_a_mebibyte r.size >> needs (nat_le r.size g.room) (Sends ENOMEM)
@@ -176,29 +176,29 @@ listing_asked with_nodes r g =
 abbrev pub listing_row : (with_nodes : Bool) → Given → Reading Meaning
 listing_row with_nodes g = reading_of read_in >>= λ r. listing_asked with_nodes r g
 
--- as many pairs as a BATCH_FORGET says
+-- BATCH_FORGET with this number of pairs: their bytes are at most 2^20, else the error is ENOMEM
 abbrev pub forgets_asked : ℕ → Given → Reading Meaning
 forgets_asked count g =
     at_most_a_mebibyte (count * 16) >> many count forget_pair
     >>= λ pairs. one g (batch_forget_call g.header pairs)
 
--- BATCH_FORGET: struct fuse_batch_forget_in, and that many of struct fuse_forget_one
+-- BATCH_FORGET: struct fuse_batch_forget_in, and `count` times struct fuse_forget_one
 abbrev pub batch_forget_row : Given → Reading Meaning
 batch_forget_row g = reading_of batch_forget_in >>= λ r. forgets_asked r.count g
 
--- INIT: struct fuse_init_in, whose end stands there with FUSE_INIT_EXT
+-- INIT: struct fuse_init_in, whose last 48 bytes are read only with FUSE_INIT_EXT
 abbrev pub init_row : Given → Reading Meaning
 init_row g = reading_of init_in_compat >>= λ r. flags2_of r >>= λ flags2. started g r flags2
 
--- a request that asks nothing, and has no reply
+-- a request without a call and without a reply
 abbrev pub silent_row : Given → Reading Meaning
 silent_row g = give IsSilent
 
--- a request that isn't served: no window of a file is mapped into the guest
+-- a request that isn't served, since no window of a file is mapped into the guest: the error is ENOSYS
 abbrev pub unserved_row : Given → Reading Meaning
 unserved_row g = refuse (Sends ENOSYS)
 
--- the row of a request
+-- the row of an opcode
 unfoldable pub row : Given → Opcode → Reading Meaning
 row g op.Lookup = name_row lookup_call g
 row g op.Forget = record_row forget_in forget_call g
@@ -250,34 +250,34 @@ row g op.Link = record_name_row link_in 8 link_call g
 row g op.Rename = two_names_row rename_in 8 rename_call g
 row g op.Rename2 = two_names_row rename2_in 16 rename2_call g
 
--- what a refusal means: a fault, or the reply of an error
+-- the meaning of a failed reading: a fault, or the reply of an error
 abbrev pub refused : ℕ → ReadFailure → Meaning
 refused unique (Faults fault) = IsFault fault
 refused unique (Sends errno) = Replies (error_bytes unique errno)
 
--- what a row means that was read to its end or refused; bytes after it are ignored
+-- the meaning of a row's result; bytes behind it are ignored
 abbrev pub ended : ℕ → Result (Meaning × List ℕ) ReadFailure → Meaning
 ended unique (Ok x) = x.0
 ended unique (Err r) = refused unique r
 
--- the row of an opcode, or ENOSYS for a number that has none
+-- the row of an opcode, or the error ENOSYS for a number without one
 abbrev pub row_of : Given → Option Opcode → Reading Meaning
 row_of g None = refuse (Sends ENOSYS)
 row_of g (Some opcode) = row g opcode
 
--- after the header: a length that is too great, then the opcode's row
+-- the bytes behind the header: ENOMEM for a length above 0x101000, else the opcode's row
 abbrev pub body : Given → Reading Meaning
 body g = needs (nat_le g.header.len 0x101000) (Sends ENOMEM) >> row_of g (opcode_of g.header.opcode)
 
--- what the bytes after the header mean
+-- the meaning of the bytes behind the header
 unfoldable pub meant : Given → List ℕ → Meaning
 meant g bytes = ended g.header.unique (body g bytes)
 
--- a request of fewer bytes than a header is a fault
+-- a request that is shorter than a header is a fault; another has the meaning of its bytes behind it
 abbrev pub with_header : ℕ → ℕ → Result (InHeader × List ℕ) ReadFailure → Meaning
 with_header options room (Err r) = IsFault DecodeMessage
 with_header options room (Ok x) = meant (given x.0 options room) x.1
 
--- what a request means
+-- the meaning of a request
 unfoldable pub meaning : (options : ℕ) (request : List ℕ) (room : ℕ) → Meaning
 meaning options request room = with_header options room (reading_of in_header request)

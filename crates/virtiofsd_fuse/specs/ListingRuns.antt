@@ -1,12 +1,12 @@
--- Listings with the calls of the file system that come with them.
+-- Listings with their calls of the file system.
 use Rattle.std.specs.Prelude.{◌≡◌, ℕ, List, ◌∷◌, ◌++◌, map, Option, Ok, Err}
 use Rattle.fuse_fs.specs.Calls.{FileCall, FileAnswer, FileRun, Listed}
 use Rattle.server_replies.specs.Entries.{AfterEntry}
 use Rattle.virtiofsd_fuse.specs.Listings.{ListRequest, list_entries}
 use Rattle.virtiofsd_fuse.specs.Serving.{May}
 
--- from one state of the file system to another, entries are listed behind what was written; error: what ended
--- the list, if an error did
+-- entries are listed behind the bytes written so far, by calls that the file system may answer so;
+-- error: the error that ended the list, if one did
 pub record ListRun {F : Type 0} (may : May F) (l : ListRequest) (ds : List Listed) (left room : ℕ)
     (before : F)
     (written final : List ℕ) (error : Option ℕ) (after : F) : Type 0 where
@@ -17,7 +17,7 @@ pub record ListRun {F : Type 0} (may : May F) (l : ListRequest) (ds : List Liste
       ≡ record { calls = map (λ step. step.0) steps; bytes = bytes; error = error }
   pub all : final ≡ written ++ bytes
 
--- one entry is listed, whatever entries come after it: they go on from there, or the list ends with it
+-- one entry is listed, for all entries behind it: the listing goes on with them, or ends with this one
 abbrev pub EntryRun : {F : Type 0} → May F → ListRequest → Listed → (left room : ℕ) → F → List ℕ →
     AfterEntry → (room : ℕ) → F → List ℕ → Type 0
 EntryRun {F} may l d left room before written (Ok left_after) room_after after written_after =

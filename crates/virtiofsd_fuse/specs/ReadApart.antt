@@ -1,4 +1,4 @@
--- A READ whose data goes elsewhere than the header of its reply.
+-- A READ whose data is kept apart from its reply's header.
 use Rattle.std.specs.Prelude.{ℕ, ◌-◌, ◌&&◌, nat_le, Bool, true, false, Option, Some}
 use Rattle.fuse_in.specs.Records.{in_header, read_in}
 use Rattle.fuse_wire.specs.declared.opcodes.Opcode.{Opcode}
@@ -10,17 +10,16 @@ use Rattle.server_calls.specs.Requests.{read_call}
 use Rattle.virtiofsd_fuse.specs.declared.reads.ReadRequest.{ReadRequest}
 use Rattle.virtiofsd_fuse.specs.Grammar.{Meaning, Asks, One}
 
--- what a READ means that has this room, which holds the reply's header at least
+-- the meaning of a READ with this room, in which the reply's header fits
 abbrev pub read_meaning : ReadRequest → (room : ℕ) → Meaning
 read_meaning q room = Asks (One q.header.unique (read_call q.header (room - 16) q.record))
 
--- the request that is asked for is a READ
+-- the opcode is that of a READ
 abbrev pub is_read : Option Opcode → Bool
 is_read (Some op.Read) = true
 is_read _ = false
 
--- the READ that the first bytes of a request are: a header of one, which says no length that is too great,
--- and its record
+-- the READ in the first bytes of a request: its header, with a length of at most 0x101000, and its record
 abbrev pub read_request : Reading ReadRequest
 read_request =
     reading_of in_header

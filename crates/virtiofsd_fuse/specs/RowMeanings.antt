@@ -1,4 +1,4 @@
--- What is read of a request by its row of the grammar.
+-- The results of reading a request by its row of the grammar.
 use Rattle.std.specs.Prelude.{◌≡◌, ◌≤◌, ◌-◌, ◌^◌, ℕ, Bool, true, false, ◌&&◌, List, [], Result, Ok, Err}
 use Rattle.std.specs.Prelude.{bit_and}
 use Rattle.fuse_in.specs.declared.session.InHeader.{InHeader}
@@ -24,7 +24,7 @@ use Rattle.virtiofsd_fuse.specs.declared.meanings_apart.InitMeaning.TheVariants 
 use Rattle.virtiofsd_fuse.specs.declared.meanings_apart.ForgetsMeaning.{ForgetsMeaning}
 use Rattle.virtiofsd_fuse.specs.declared.meanings_apart.ForgetsMeaning.TheVariants as forgets
 
--- the requests that ask one plain call, or none: neither INIT, BATCH_FORGET, READ, WRITE nor a listing
+-- an opcode with one plain call, or with none: not INIT, BATCH_FORGET, READ, WRITE or a listing
 abbrev pub is_single : Opcode → Bool
 is_single op.Init = false
 is_single op.BatchForget = false
@@ -34,8 +34,8 @@ is_single op.Readdir = false
 is_single op.Readdirplus = false
 is_single _ = true
 
--- what is told of a request with this meaning; splits: it may stand in several segments; takes: memory may be
--- taken for it
+-- the result of reading a request with this meaning. splits: its bytes may lie in several segments;
+-- takes: memory may be allocated for it
 abbrev pub Reads : (splits takes : Bool) → InHeader → RequestMeaning → Meaning → Type 0
 Reads splits takes h (value.Call call) m =
     (m ≡ Asks (One h.unique (call_of [] call)))
@@ -46,26 +46,26 @@ Reads splits takes h value.Silence m = m ≡ IsSilent
 Reads splits takes h (value.Fault e) m =
     (is_memory e ≡ false → m ≡ IsFault e) × ((splits && takes) ≡ false → is_memory e ≡ false)
 
--- the same of a row that reads these bytes after the header, whatever the room is
+-- the result of reading these bytes behind the header by a row, for every room
 abbrev pub RowReads : (splits : Bool) → (takes : Given → Bool) → InHeader → (options : ℕ) →
     (Given → Reading Meaning) → (bytes : List ℕ) → RequestMeaning → Type 0
 RowReads splits takes h options row bytes told =
     (room : ℕ) →
     Reads splits (takes (given h options room)) h told (ended h.unique (row (given h options room) bytes))
 
--- what is told of a READ with this meaning in this room: its record, or the fault
+-- the result of reading a READ with this meaning and room: its record, or the fault
 abbrev pub ReadIsRead : InHeader → (room : ℕ) → Result ReadIn Error → Meaning → Type 0
 ReadIsRead h room (Ok r) m = (m ≡ Asks (One h.unique (read_call h (room - 16) r))) × (16 ≤ room)
 ReadIsRead h room (Err e) m = (m ≡ IsFault e) × (is_memory e ≡ false)
 
--- the same of a listing
+-- the result of reading a listing with this meaning
 abbrev pub ListingIsRead : (with_nodes : Bool) → InHeader → (room : ℕ) → ListingMeaning → Meaning → Type 0
 ListingIsRead with_nodes h room (listing.List r) m =
     (m ≡ Asks (Lists h.unique (listing_of with_nodes h r))) × (16 ≤ room) × (r.size ≤ 2 ^ 20)
 ListingIsRead with_nodes h room (listing.Error errno) m = m ≡ Replies (error_bytes h.unique errno)
 ListingIsRead with_nodes h room (listing.Fault e) m = (m ≡ IsFault e) × (is_memory e ≡ false)
 
--- and of an INIT
+-- the result of reading an INIT with this meaning
 abbrev pub InitIsRead : InHeader → InitMeaning → Meaning → Type 0
 InitIsRead h (init.Start capable readahead) m =
     (m ≡ Asks (Starts h.unique capable.0 readahead)) × (bit_and capable.0 known_options ≡ capable.0)
@@ -73,7 +73,7 @@ InitIsRead h init.Versions m = m ≡ Replies (reply_bytes h.unique versions_byte
 InitIsRead h (init.Error errno) m = m ≡ Replies (error_bytes h.unique errno)
 InitIsRead h (init.Fault e) m = (m ≡ IsFault e) × (is_memory e ≡ false)
 
--- and of a BATCH_FORGET, whose pairs are still to be read from the rest
+-- the result of reading a BATCH_FORGET's record: its pairs are still to be read from the rest
 abbrev pub ForgetsAreRead : Given → ForgetsMeaning → (rest : List ℕ) → Meaning → Type 0
 ForgetsAreRead g (forgets.Pairs count) rest m =
     (m ≡ ended g.header.unique (forgets_asked count g rest)) × (count ≤ 65536)

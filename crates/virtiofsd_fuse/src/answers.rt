@@ -1,4 +1,4 @@
-//! Answers of calls that may have an entry: the client is told, or the entry is given back.
+//! Answers that may have an entry: they are the reply, or the entry's node is forgotten.
 
 ghost use Rattle.std.specs.Prelude.{◌≡◌, ◌<◌, ◌^◌, [], false, option_map};
 ghost use Rattle.fuse_fs.specs.Calls.{FileRun};
@@ -15,7 +15,7 @@ use server_replies::answers::{AsFront, reply_answer};
 use server_segments::{Error, Writer};
 
 impl<F: FileSystem> Server<F> {
-    // Gives a node back, if there is one.
+    // Calls `forget` once for a node, if there is one.
     fn give_back(&mut self, context: Context, node: Option<F::Inode>)
         ensures run { FileRun F.may self.old.fs
             (all_done (give_back context (option_map F.Inode.number node))) self.new.fs }
@@ -28,8 +28,8 @@ impl<F: FileSystem> Server<F> {
         }
     }
 
-    /// Replies with an answer that may have an entry. If the reply has no room, the entry is given back, and
-    /// the answer is `EncodeMessage`.
+    /// Writes the reply of an answer that may have an entry. Returns its length in bytes.
+    /// `EncodeMessage` if it doesn't fit: the entry's node is then forgotten.
     pub(crate) fn reply_entry<A: AsFront + EntryAnswer<F::Inode>>(
         &mut self,
         context: Context,

@@ -1,4 +1,4 @@
-//! Which bytes of a request and of its reply are data that may stay where they stand.
+//! The data of a request and of its reply, which may be kept apart from the other bytes.
 
 ghost use Rattle.std.specs.Prelude.{◌≡◌};
 ghost use Rattle.fuse_wire.specs.Opcodes.{opcode_of};
@@ -12,12 +12,11 @@ use server_requests::records::read_record;
 use server_segments::Reader;
 use std::alloc::Global;
 
-/// How many bytes of a request stand before its data, in bytes: all that a READ has, and what stands before
-/// the data of a WRITE (linux/fuse.h: `struct fuse_in_header`, and `struct fuse_read_in` or `struct
-/// fuse_write_in`).
+/// The bytes of a request before its data: all of a READ, or the bytes before the data of a WRITE
+/// (linux/fuse.h: `struct fuse_in_header`, and `struct fuse_read_in` or `struct fuse_write_in`).
 pub const REQUEST_FRONT: usize = 80;
 
-/// How many bytes of a reply stand before its data, in bytes: `struct fuse_out_header` (linux/fuse.h).
+/// The bytes of a reply before its data: `struct fuse_out_header` (linux/fuse.h).
 pub const REPLY_FRONT: usize = OUT_HEADER_LEN;
 
 // Whether a header is that of a WRITE.
@@ -28,8 +27,8 @@ fn is_write(header: &InHeader) -> bool
     matches!(opcode_of(header.opcode), Some(Opcode::Write))
 }
 
-/// Whether what follows the first `REQUEST_FRONT` bytes of a request, which begins so, is data that is
-/// written: whether its header is that of a WRITE.
+/// Whether the bytes behind the first `REQUEST_FRONT` of a request are data to write: its header,
+/// at the front of `front`, is that of a WRITE.
 #[inline(always)]
 pub fn writes_data(alloc: Global, front: &[u8]) -> bool
     ensures { result ≡ begins_a_write front.now }

@@ -1,4 +1,4 @@
-//! BATCH_FORGET: many nodes are held less.
+//! BATCH_FORGET: decreases the lookup counts of nodes.
 
 ghost use Rattle.std.specs.Prelude.{◌≡◌, ◌<◌, ◌≤◌, ◌^◌, []};
 ghost use Rattle.virtiofsd_fuse.specs.Grammar.{given, batch_forget_row, forgets_asked};
@@ -16,11 +16,11 @@ use server_requests::source::Segments;
 use server_segments::{Error, Reader, Writer};
 use std::alloc::Global;
 
-// How many pairs one request may have: 2^20 bytes of them.
+// The most pairs of one request: those of 2^20 bytes.
 pub(crate) const MAX_FORGETS: u32 = 65536;
 
 impl<F: FileSystem> Server<F> {
-    // BATCH_FORGET, by how many pairs it says.
+    // BATCH_FORGET of `count` pairs.
     fn forget_pairs(
         &mut self,
         alloc: Global,
@@ -46,7 +46,7 @@ impl<F: FileSystem> Server<F> {
         }
     }
 
-    /// BATCH_FORGET: nodes are held less.
+    /// BATCH_FORGET: decreases the lookup counts of nodes.
     pub(crate) fn batch_forget(
         &mut self,
         alloc: Global,

@@ -1,4 +1,4 @@
-//! The FUSE server: it serves requests over a file system (virtiofsd's `Server`).
+//! The FUSE server of a file system (virtiofsd's `Server`).
 #![tactic(auto)]
 
 mod answers;

@@ -1,4 +1,4 @@
-//! READDIR and READDIRPLUS: entries of a directory go straight into the reply.
+//! READDIR and READDIRPLUS: writes the entries of a directory straight into the reply.
 
 ghost use Rattle.std.specs.Prelude.{◌≡◌, ◌+◌, ◌<◌, ◌≤◌, ◌^◌, Bool, true, false, List, ℕ, [], ◌++◌, length};
 ghost use Rattle.std.specs.Prelude.{OnOk, OnErr};
@@ -25,7 +25,7 @@ use server_requests::source::Segments;
 use server_segments::{Error, Writer};
 
 impl<F: FileSystem> Server<F> {
-    // Puts an entry with its node in; where it doesn't go in, the node is taken back.
+    // Writes an entry with its node. Forgets the node if the entry doesn't fit.
     fn put_node(
         &mut self,
         head: &InHeader,
@@ -58,7 +58,7 @@ impl<F: FileSystem> Server<F> {
         }
     }
 
-    // Looks an entry up, and puts it in.
+    // Looks up an entry, and writes it with its node.
     fn look_up(
         &mut self,
         head: &InHeader,
@@ -81,7 +81,7 @@ impl<F: FileSystem> Server<F> {
         }
     }
 
-    // Lists one entry.
+    // Writes one entry, in READDIRPLUS with its node.
     fn list_entry(
         &mut self,
         head: &InHeader,
@@ -106,7 +106,7 @@ impl<F: FileSystem> Server<F> {
         self.look_up(head, entry, left, w)
     }
 
-    // Lists the entries that go in; answers the error that ended the list, if one did.
+    // Writes the entries that fit. Returns the error that ended the list, if one did.
     fn list_entries(
         &mut self,
         head: &InHeader,
@@ -133,7 +133,7 @@ impl<F: FileSystem> Server<F> {
         None
     }
 
-    // READDIR and READDIRPLUS, by their record.
+    // READDIR or READDIRPLUS with this record.
     fn list(
         &mut self,
         head: &InHeader,
@@ -159,7 +159,7 @@ impl<F: FileSystem> Server<F> {
         }
     }
 
-    /// READDIR: the entries of a directory; READDIRPLUS: each with its node.
+    /// READDIR: the entries of a directory. READDIRPLUS (`with_nodes`): each entry with its node.
     pub(crate) fn read_directory(
         &mut self,
         head: &InHeader,

@@ -1,5 +1,5 @@
-//! What requests mean, read once for both uses: `Server` performs the call, and who serves in two phases is
-//! told it.
+//! The meanings of requests with at most one plain call. `Server` performs the call;
+//! `server_phases` returns it to its caller.
 
 ghost use Rattle.std.specs.Prelude.{◌≡◌, ◌||◌, true, false};
 ghost use Rattle.server_requests.specs.Fronts.{counted_split, setxattr_len};
@@ -32,20 +32,20 @@ use server_requests::new_names::{new_link, new_name};
 use server_requests::source::{Source, record_and_bytes, setxattr_and_bytes};
 use server_segments::Error;
 
-/// What a request means that asks at most one call, whose names stand in the request.
+/// The meaning of a request with at most one call. The call's names are borrowed from the request.
 #[derive(Drop)]
 pub enum RequestMeaning<'a> {
-    /// This call.
+    /// The file call of the request.
     Call(FileCall<'a>),
-    /// No call; the reply tells this error.
+    /// No call: the reply is this error.
     Error(Errno),
-    /// No call, and no reply.
+    /// No call and no reply.
     Silence,
-    /// No call, and no reply: the fault.
+    /// No call and no reply: the request has this fault.
     Fault(Error),
 }
 
-// Nothing but the header.
+// A request that is only its header.
 #[inline(always)]
 fn header_row<'a, R: PlainValue, S: Source<'a> + Drop>(
     head: &InHeader,
@@ -57,7 +57,7 @@ fn header_row<'a, R: PlainValue, S: Source<'a> + Drop>(
     RequestMeaning::Call(R::value(head))
 }
 
-// One record.
+// A request that is one record.
 #[inline(always)]
 fn record_row<'a, R: RecordValue, S: Source<'a> + Drop>(
     head: &InHeader,
@@ -74,7 +74,7 @@ fn record_row<'a, R: RecordValue, S: Source<'a> + Drop>(
     }
 }
 
-// One name.
+// A request that is one name.
 #[inline(always)]
 fn name_row<'a, R: NameValue, S: Source<'a> + Drop>(
     head: &InHeader,
@@ -93,7 +93,7 @@ fn name_row<'a, R: NameValue, S: Source<'a> + Drop>(
     }
 }
 
-// One record and one name.
+// A request that is one record and one name.
 #[inline(always)]
 fn record_name_row<'a, R: RecordNameValue, S: Source<'a> + Drop>(
     head: &InHeader,
@@ -112,7 +112,7 @@ fn record_name_row<'a, R: RecordNameValue, S: Source<'a> + Drop>(
     }
 }
 
-// One record and two names.
+// A request that is one record and two names.
 #[inline(always)]
 fn two_names_row<'a, R: TwoPartsValue, S: Source<'a> + Drop>(
     head: &InHeader,
@@ -131,7 +131,7 @@ fn two_names_row<'a, R: TwoPartsValue, S: Source<'a> + Drop>(
     }
 }
 
-// One record and the name of a node that is made.
+// A request that is one record and the name of a new node.
 #[inline(always)]
 fn new_name_row<'a, R: NewNameValue, S: Source<'a> + Drop>(
     head: &InHeader,
@@ -155,7 +155,7 @@ fn new_name_row<'a, R: NewNameValue, S: Source<'a> + Drop>(
     }
 }
 
-// SYMLINK: two names.
+// SYMLINK: the name and the target.
 #[inline(always)]
 fn symlink_row<'a, S: Source<'a> + Drop>(
     head: &InHeader,
@@ -178,7 +178,7 @@ fn symlink_row<'a, S: Source<'a> + Drop>(
     }
 }
 
-// GETXATTR: a record, and the name of an attribute, whose value has at most 2^20 bytes.
+// GETXATTR: a record, and the name of an attribute. ENOMEM if the client asks for more than 2^20 bytes.
 #[inline(always)]
 fn getxattr_row<'a, S: Source<'a> + Drop>(
     head: &InHeader,
@@ -202,7 +202,7 @@ fn getxattr_row<'a, S: Source<'a> + Drop>(
     }
 }
 
-// LISTXATTR: a record, and names of at most 2^20 bytes.
+// LISTXATTR: a record. ENOMEM if the client asks for more than 2^20 bytes.
 #[inline(always)]
 fn listxattr_row<'a, S: Source<'a> + Drop>(
     head: &InHeader,
@@ -245,8 +245,8 @@ fn setxattr_row<'a, S: Source<'a> + Drop>(
     }
 }
 
-// A match over opcodes. A row: how requests of a shape are read, and their opcodes; and behind the rows other
-// arms.
+// A match over opcodes. Each row has the function that reads requests of a shape, and their
+// opcodes. Other arms follow the rows.
 macro_rules! by_shape {
     ($opcode:expr, $head:ident, $options:ident, $source:ident,
         { $($row:ident: $($name:ident)+;)* } $($arm:tt)*) => {
@@ -257,8 +257,8 @@ macro_rules! by_shape {
     };
 }
 
-/// What a request means, by its opcode and what stands behind its header. The fault is `OutOfMemory` only if
-/// names, or a name and a value, stand in several segments, and memory for them is refused.
+/// The meaning of a request with this opcode and these bytes behind its header. The fault is `OutOfMemory`
+/// only if names, or a name and a value, lie in several segments and the allocation for a copy failed.
 #[tactic(auto, unfolding(crate::specs::Grammar::row))]
 #[inline(always)]
 pub fn row_meaning<'a, S: Source<'a> + Drop>(

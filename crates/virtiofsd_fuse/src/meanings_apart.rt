@@ -1,6 +1,6 @@
-//! What requests mean of which the room, a size, a version or a count decides something, read here for both
-//! uses: READ, READDIR, READDIRPLUS, INIT, and BATCH_FORGET but for its pairs, which each use reads by
-//! itself, as it does a WRITE.
+//! The meanings of requests that depend on the room, a size, a version or a count: READ, READDIR,
+//! READDIRPLUS, INIT and BATCH_FORGET, for `Server` and `server_phases`. Each of the two reads the
+//! pairs of a BATCH_FORGET, and WRITEs, by itself.
 
 ghost use Rattle.std.specs.Prelude.{ℕ, Bool, List};
 ghost use Rattle.fuse_in.specs.declared.session.InHeader.{InHeader};
@@ -18,7 +18,9 @@ use server_replies::replies::OUT_HEADER_LEN;
 use server_requests::source::{Source, flags2};
 use server_segments::Error;
 
-/// What a READ asks for by its record, if its reply has room for a header; else the fault.
+/// The record of a READ. Errors, in this order:
+/// - `DecodeMessage`: the record is cut short
+/// - `EncodeMessage`: the reply buffer has less than the 16 bytes of the reply's header
 #[inline(always)]
 pub fn read_with_room<'a, S: Source<'a> + Drop>(room: usize, source: S) -> Result<ReadIn, Error>
     ensures { (h : InHeader) (options : ℕ)
@@ -36,18 +38,18 @@ pub fn read_with_room<'a, S: Source<'a> + Drop>(room: usize, source: S) -> Resul
     }
 }
 
-/// What a READDIR or READDIRPLUS means.
+/// The meaning of a READDIR or READDIRPLUS.
 #[derive(Drop)]
 pub enum ListingMeaning {
-    /// The entries of a directory are asked for by this record; the reply has room for its header.
+    /// It asks for the entries of a directory with this record. The reply's header fits.
     List(ReadIn),
-    /// No call; the reply tells this error.
+    /// No call: the reply is this error.
     Error(Errno),
-    /// No call, and no reply: the fault.
+    /// No call and no reply: the request has this fault.
     Fault(Error),
 }
 
-/// What a READDIR or READDIRPLUS means in a room of so many bytes.
+/// The meaning of a READDIR or READDIRPLUS with a reply buffer of `room` bytes.
 pub fn listing_meaning<'a, S: Source<'a> + Drop>(room: usize, source: S) -> ListingMeaning
     ensures { (with_nodes : Bool) (h : InHeader) (options : ℕ)
         → ListingIsRead with_nodes h room result
@@ -71,20 +73,20 @@ pub fn listing_meaning<'a, S: Source<'a> + Drop>(room: usize, source: S) -> List
     }
 }
 
-/// What an INIT means.
+/// The meaning of an INIT.
 #[derive(Drop)]
 pub enum InitMeaning {
-    /// A conversation starts: the known options that the client has, and how many bytes it reads ahead.
+    /// It starts a session: the known options of the client, and its readahead in bytes.
     Start { capable: FsOptions, readahead: u32 },
-    /// No call; the reply tells the server's versions, since the client's is later.
+    /// No call: the reply has the server's version, since the client's is later.
     Versions,
-    /// No call; the reply tells this error.
+    /// No call: the reply is this error.
     Error(Errno),
-    /// No call, and no reply: the fault.
+    /// No call and no reply: the request has this fault.
     Fault(Error),
 }
 
-// INIT, by its records: the versions first, and then what both sides can.
+// INIT with these records: compares the versions, then finds the client's known options.
 fn started(request: &InitInCompat, flags2: u32) -> InitMeaning
     ensures { (g : Given) (more : List ℕ)
         → InitIsRead g.header result (ended g.header.unique (started g request.now flags2 more)) }
@@ -105,7 +107,7 @@ fn started(request: &InitInCompat, flags2: u32) -> InitMeaning
     }
 }
 
-/// What an INIT means.
+/// The meaning of an INIT.
 pub fn init_meaning<'a, S: Source<'a> + Drop>(source: S) -> InitMeaning
     ensures { (h : InHeader) (options room : ℕ)
         → InitIsRead h result (ended h.unique (init_row (given h options room) (S.left source))) }
@@ -120,18 +122,18 @@ pub fn init_meaning<'a, S: Source<'a> + Drop>(source: S) -> InitMeaning
     }
 }
 
-/// What a BATCH_FORGET means by its record.
+/// The meaning of a BATCH_FORGET by its record.
 #[derive(Drop)]
 pub enum ForgetsMeaning {
-    /// So many pairs are told, which are to stand behind the record: 2^20 bytes of them at most.
+    /// The number of pairs behind the record: at most 2^20 bytes of them.
     Pairs(u32),
-    /// No call; the reply tells this error.
+    /// No call: the reply is this error.
     Error(Errno),
-    /// No call, and no reply: the fault.
+    /// No call and no reply: the request has this fault.
     Fault(Error),
 }
 
-/// What a BATCH_FORGET means by its record, which alone is read.
+/// The meaning of a BATCH_FORGET by its record. Reads no byte behind the record.
 pub fn forgets_meaning<'a, S: Source<'a>>(source: &mut S) -> ForgetsMeaning
     ensures { (h : InHeader) (options room : ℕ)
         → ForgetsAreRead (given h options room) result (S.left source.new)

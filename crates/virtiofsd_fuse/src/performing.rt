@@ -1,4 +1,4 @@
-//! Calls, performed: the file system is asked, and the client is told its answer.
+//! Performing calls: calls the file system, and writes the reply of its answer.
 
 ghost use Rattle.std.specs.Prelude.{◌≡◌, ◌<◌, ◌^◌, [], true, false, option_map};
 ghost use Rattle.fuse_values.specs.Values.{call_of};
@@ -18,7 +18,7 @@ use server_replies::answers::reply_answer;
 use server_segments::{Error, Writer};
 use std::alloc::Global;
 
-// An open file, where it is told.
+// The handle of an open file, if there is one.
 fn numbered_if<H: FileNumber>(handle: Option<u64>) -> Option<H>
     ensures { option_map H.number result ≡ handle }
 {
@@ -28,8 +28,8 @@ fn numbered_if<H: FileNumber>(handle: Option<u64>) -> Option<H>
     }
 }
 
-// A match over calls. A row of a call on a node: its fields besides, how its answer is received, the file
-// system's method with what it is given besides; and behind the rows other arms.
+// A match over calls. Each row is a call on a node: its other fields, the function that receives
+// its answer, and the file system's method with its other arguments. Other arms follow the rows.
 macro_rules! performed {
     ($server:ident, $unique:ident, $w:ident, $call:expr, {
         $($name:ident { $($field:ident),* } $received:ident $method:ident($($given:expr),*);)*
@@ -44,7 +44,8 @@ macro_rules! performed {
     };
 }
 
-// A match over calls by the shape of their requests. A row: the calls of a shape, and what performs them.
+// A match over calls by the shape of their requests. Each row has the calls of a shape, and an
+// expression that performs them.
 macro_rules! by_shape {
     ($call:expr, { $($($name:ident)+ => $performed:expr;)* }) => {
         match $call {
@@ -55,8 +56,8 @@ macro_rules! by_shape {
 }
 
 impl<F: FileSystem> Server<F> {
-    /// Performs the one call that a request asks. What the file system owns of it takes memory, before the
-    /// call.
+    /// Performs the one call of a request. `OutOfMemory`, before the call, if the allocation for
+    /// the extensions of a new node failed.
     #[inline(always)]
     pub(crate) fn perform(
         &mut self,
@@ -84,7 +85,7 @@ impl<F: FileSystem> Server<F> {
         })
     }
 
-    // Performs a call whose request is nothing but its header.
+    // Performs a call whose request is only its header.
     #[inline(always)]
     fn perform_header(
         &mut self,

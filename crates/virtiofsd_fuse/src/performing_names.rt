@@ -1,4 +1,4 @@
-//! Calls of requests with names, performed: the file system is asked, and the client is told its answer.
+//! Performing calls with names: calls the file system, and writes the reply of its answer.
 
 ghost use Rattle.std.specs.Prelude.{◌≡◌, ◌<◌, ◌^◌, [], false};
 ghost use Rattle.fuse_values.specs.Values.{call_of};
@@ -16,8 +16,8 @@ use server_requests::extensions::owned_extensions;
 use server_segments::{Error, Writer};
 use std::alloc::Global;
 
-// A match over calls, of which the first may have an entry. A row: the call's fields besides who asks, how
-// its answer is received, and the file system's method with what it is given besides.
+// A match over calls; the first group may answer an entry. Each row has the call's fields without its
+// context, the function that receives its answer, and the file system's method with its other arguments.
 macro_rules! performed {
     ($server:ident, $unique:ident, $w:ident, $call:expr,
         entries { $($name:ident { $($field:ident),* } $received:ident $method:ident($($given:expr),*);)* }
@@ -36,7 +36,7 @@ macro_rules! performed {
     };
 }
 
-// The same of calls that make a node, which are given extensions of their own.
+// The same for calls that create a node. Their extensions are copied for the file system.
 macro_rules! made {
     ($server:ident, $alloc:ident, $unique:ident, $w:ident, $call:expr,
         { $($name:ident { $($field:ident),* } $received:ident $method:ident($($given:expr),*);)* }) => {
@@ -78,7 +78,7 @@ impl<F: FileSystem> Server<F> {
         })
     }
 
-    /// Performs a call whose request is one record with names, or with a name and a value.
+    /// Performs a call whose request is one record with one or two names, or with a name and a value.
     #[inline(always)]
     pub(crate) fn perform_recorded(
         &mut self,
@@ -105,7 +105,8 @@ impl<F: FileSystem> Server<F> {
         })
     }
 
-    /// Performs a call that makes a node. What the file system owns of it takes memory, before any call.
+    /// Performs a call that creates a node. `OutOfMemory`, before any call, if the allocation for
+    /// its extensions failed.
     #[inline(always)]
     pub(crate) fn perform_made(
         &mut self,

@@ -1,4 +1,4 @@
-//! READ: bytes of a file go straight into the reply.
+//! READ: puts bytes of a file straight into the reply.
 
 ghost use Rattle.std.specs.Prelude.{◌≡◌, ℕ, ◌+◌, ◌-◌, ◌<◌, ◌≤◌, ◌^◌, List, [], ◌++◌, length, false, is_ok};
 ghost use Rattle.std.specs.Prelude.{is_some, IfSome, IsTrue, Ok, Some};
@@ -22,7 +22,7 @@ use server_segments::{Error, Reader, Writer, ZcWriter};
 use std::alloc::Global;
 use std::mem;
 
-/// A READ that was read from a request's bytes: its header and its record.
+/// A decoded READ: its header and its record.
 #[derive(Clone, Copy)]
 pub struct ReadRequest {
     pub header: InHeader,
@@ -30,8 +30,8 @@ pub struct ReadRequest {
 }
 
 impl ReadRequest {
-    /// The READ that a request's bytes are; None if they are another request's, are cut short, or say a
-    /// length that is too great.
+    /// The READ in a request's bytes. None if it is another request, its header has a length above
+    /// `MAX_REQUEST_LEN`, or its record is cut short.
     pub fn of_bytes(alloc: Global, request: &[u8]) -> Option<ReadRequest>
         ensures some { is_some result ≡ is_ok (read_request request.now) }
         ensures means { (options room : ℕ)
@@ -60,7 +60,7 @@ fn is_read(header: &InHeader) -> bool
     matches!(opcode_of(header.opcode), Some(Opcode::Read))
 }
 
-// How many bytes a read moved.
+// The number of bytes that a read moved; 0 if it failed.
 fn moved(answer: &Result<usize, Errno>) -> usize
     ensures { result ≡ moved answer.now }
 {
@@ -70,7 +70,7 @@ fn moved(answer: &Result<usize, Errno>) -> usize
     }
 }
 
-/// The reply to a READ whose data has gone elsewhere: its header, and its length in bytes with the data.
+/// The reply to a READ whose data is elsewhere: its header, and its length in bytes with the data.
 #[derive(Clone, Copy)]
 pub struct ReadReply {
     pub header: [u8; OUT_HEADER_LEN],
@@ -78,8 +78,9 @@ pub struct ReadReply {
 }
 
 impl<F: FileSystem> Server<F> {
-    /// Serves a READ of which the data goes to a writer, for a file system whose reads put nothing in if they
-    /// fail. The header of the reply is answered; with the data behind it, it is the reply.
+    /// Serves a READ whose data the file system puts straight into `writer`. A read of this file
+    /// system must put in no byte if it fails (`reads_whole`). The returned header, with the data
+    /// behind it, is the reply.
     pub fn read_into<W: ZeroCopyWriter>(
         &mut self,
         request: &ReadRequest,
@@ -104,7 +105,7 @@ impl<F: FileSystem> Server<F> {
         }
     }
 
-    // READ, by its record: the data goes behind the header's place in the reply.
+    // READ with this record: puts the data behind the 16 bytes that are reserved for the reply's header.
     #[inline(always)]
     fn read_data(
         &mut self,
@@ -130,7 +131,7 @@ impl<F: FileSystem> Server<F> {
         Ok(reply_data(w, head.unique, answer))
     }
 
-    /// READ: bytes of a file.
+    /// READ: bytes of an open file.
     #[inline(always)]
     pub(crate) fn read(
         &mut self,

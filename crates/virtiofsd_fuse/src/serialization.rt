@@ -1,4 +1,4 @@
-//! Carrying a server's file system over to another process.
+//! Moving the state of a server's file system to another process (virtiofsd's `SerializableFileSystem`).
 
 ghost use Rattle.virtiofsd_fuse.specs.Carrying.{ServerPrepared, ServerCarried};
 
@@ -14,17 +14,17 @@ impl<F: SerializableFileSystem> SerializableFileSystem for Server<F> {
 
     ghost may_apply = { ServerCarried F.may_apply };
 
-    /// Has its file system made ready.
+    /// Calls the file system's `prepare_serialization`.
     fn prepare_serialization(&mut self, cancel: &AtomicBool) {
         self.fs.prepare_serialization(cancel);
     }
 
-    /// Has its file system write its state, and answers what it answers.
+    /// Writes the state of the file system to `w`. Returns the file system's answer.
     fn serialize<W: Write>(&mut self, w: &mut W) -> io::Result<()> {
         self.fs.serialize(w)
     }
 
-    /// Has its file system read a state, and answers what it answers.
+    /// Reads the state of the file system from `r`, and applies it. Returns the file system's answer.
     fn deserialize_and_apply<R: Read>(&mut self, r: &mut R) -> io::Result<()> {
         self.fs.deserialize_and_apply(r)
     }

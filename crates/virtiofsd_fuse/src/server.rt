@@ -1,4 +1,4 @@
-//! The server: it reads a request, asks its file system, and writes the reply (virtiofsd's `Server`).
+//! The server: it decodes a request, calls its file system, and writes the reply (virtiofsd's `Server`).
 
 ghost use Rattle.std.specs.Prelude.{◌≡◌, ◌+◌, ◌<◌, ◌≤◌, ◌^◌, true, false, [], length, IfOk, OnOk, OnErr};
 ghost use Rattle.std.specs.Prelude.{IsTrue, bit_and};
@@ -21,8 +21,8 @@ use server_requests::source::Segments;
 use server_segments::{Error, Reader, Writer};
 use std::alloc::Global;
 
-/// The longest request, in bytes: 2^20 of data, and one page (virtiofsd's `MAX_BUFFER_SIZE` and
-/// `FUSE_BUFFER_HEADER_SIZE`).
+/// The length of the longest request, in bytes: 2^20 of data, and one page (virtiofsd's
+/// `MAX_BUFFER_SIZE` and `FUSE_BUFFER_HEADER_SIZE`).
 pub const MAX_REQUEST_LEN: u32 = 0x101000;
 
 /// A server of one file system.
@@ -35,7 +35,7 @@ pub struct Server<F> {
     ghost known: { bit_and options.0 known_options ≡ options.0 },
 }
 
-/// The request that a number asks for.
+/// The opcode with this number, or None.
 pub fn opcode_of(number: u32) -> Option<Opcode>
     ensures { result ≡ opcode_of number }
 {
@@ -48,7 +48,7 @@ pub fn opcode_of(number: u32) -> Option<Opcode>
 impl<F: FileSystem> Server<F> {
     ghost use Rattle.virtiofsd_fuse.specs.Serving.{ServerHandles, OpcodeHandles, Leaves};
 
-    /// A server with which nothing was agreed yet. The guest's pages have `page_size` bytes.
+    /// A server without agreed options. The guest's pages have `page_size` bytes.
     pub fn new(fs: F, page_size: u32) -> Server<F>
         requires { IsTrue (is_page_size page_size) }
         ensures fs { result.fs ≡ fs }
@@ -62,8 +62,8 @@ impl<F: FileSystem> Server<F> {
         }
     }
 
-    /// A server that goes on with the options that were agreed before; bits of no option are dropped. The
-    /// guest's pages have `page_size` bytes.
+    /// A server with the options agreed before, except unknown bits. The guest's pages have
+    /// `page_size` bytes.
     pub fn resume(fs: F, page_size: u32, options: FsOptions) -> Server<F>
         requires { IsTrue (is_page_size page_size) }
         ensures fs { result.fs ≡ fs }
@@ -77,7 +77,7 @@ impl<F: FileSystem> Server<F> {
         }
     }
 
-    /// The file system, without its server.
+    /// The file system; the server is consumed.
     pub fn into_fs(self) -> F
         ensures { result ≡ self.fs }
     {
@@ -85,7 +85,7 @@ impl<F: FileSystem> Server<F> {
         fs
     }
 
-    /// The options that were agreed.
+    /// The agreed options.
     pub fn options(&self) -> FsOptions
         ensures value { result ≡ self.now.options }
         ensures known { bit_and result.0 known_options ≡ result.0 }
@@ -93,7 +93,7 @@ impl<F: FileSystem> Server<F> {
         self.options
     }
 
-    /// How many bytes the guest's pages have.
+    /// The size of the guest's pages, in bytes.
     pub fn page_size(&self) -> u32
         ensures value { result ≡ self.now.page_size }
         ensures is_one { IsTrue (is_page_size result) }
@@ -108,9 +108,9 @@ impl<F: FileSystem> Server<F> {
         &self.fs
     }
 
-    // Serves a request that asks one plain call, or none (`is_single`). It isn't inlined into
-    // `handle_message` as the others are: its code is long, and with it `handle_message` would not be inlined
-    // where a chain is served.
+    // Serves a request with one plain call, or with none (`is_single`). The other functions are
+    // inlined into `handle_message`. This one is too long for that: `handle_message` itself would
+    // no longer be inlined where a chain is served.
     #[inline(never)]
     fn serve_single(
         &mut self,
@@ -200,9 +200,9 @@ impl<F: FileSystem> Server<F> {
         }
     }
 
-    /// Serves one request, which is what the reader has left: what its bytes mean, by calls of the file
-    /// system that may be answered so. Answers the reply's length; the reply stands in the writer, whose free
-    /// bytes are its room. A fault leaves the writer as it was. `OutOfMemory` comes before any call.
+    /// Serves the one request in the reader: decodes it, calls the file system, and writes the reply. The
+    /// writer's free bytes are the reply buffer. Returns the reply's length in bytes, 0 without a reply. A
+    /// fault leaves the writer unchanged. `OutOfMemory` is returned only before any call.
     #[tactic(auto, using(crate::proofs::Left::left_length, crate::proofs::Left::left_room, crate::proofs::Left::left_same))]
     #[inline(always)]
     pub fn handle_message(

@@ -1,4 +1,4 @@
-//! The start of a conversation.
+//! The start and the end of a session.
 
 ghost use Rattle.std.specs.Prelude.{◌≡◌, ◌<◌, ◌^◌, [], bit_and, Ok, false};
 ghost use Rattle.fuse_fs.specs.Calls.{Destroy, Done};
@@ -18,7 +18,7 @@ use server_replies::replies::{reply_error, reply_front};
 use server_requests::source::Segments;
 use server_segments::{Error, Writer};
 
-/// The options that are known, of these bits.
+/// The known options among these bits.
 #[tactic(auto, using(crate::proofs::Options::known_bits_are, crate::proofs::Options::known_twice))]
 pub fn known(bits: u64) -> FsOptions
     ensures options { result.0 ≡ bit_and bits known_options }
@@ -27,7 +27,7 @@ pub fn known(bits: u64) -> FsOptions
     FsOptions::from_bits_truncate(bits)
 }
 
-/// What both sides have, and the file system asks for or is agreed on anyway.
+/// The agreed options: those of `capable` that the file system wants, or that are agreed by default.
 #[tactic(auto, using(crate::proofs::Options::some_known))]
 pub fn agree(capable: FsOptions, wanted: FsOptions) -> FsOptions
     requires { bit_and capable.0 known_options ≡ capable.0 }
@@ -38,7 +38,7 @@ pub fn agree(capable: FsOptions, wanted: FsOptions) -> FsOptions
 }
 
 impl<F: FileSystem> Server<F> {
-    // INIT: what both sides can is agreed from then on.
+    // INIT with the client's known options: calls the file system, and sets the agreed options.
     fn start(
         &mut self,
         head: &InHeader,
@@ -64,7 +64,7 @@ impl<F: FileSystem> Server<F> {
         }
     }
 
-    /// INIT: the versions, and the options that are agreed from then on.
+    /// INIT: compares the versions, and sets the agreed options.
     pub(crate) fn init(
         &mut self,
         head: &InHeader,
@@ -85,7 +85,7 @@ impl<F: FileSystem> Server<F> {
         }
     }
 
-    /// Ends a conversation: the file system is told, and nothing is agreed from then on.
+    /// Ends the session: calls the file system's `destroy`. No option is agreed from then on.
     pub fn destroy(&mut self)
         ensures may { F.may self.old.fs Destroy Done self.new.fs }
         ensures options { self.new.options.0 ≡ 0 }
@@ -96,7 +96,7 @@ impl<F: FileSystem> Server<F> {
     }
 }
 
-/// No reply.
+/// The length of no reply.
 pub(crate) fn silence() -> Result<usize, Error>
     ensures { result ≡ Ok 0 }
 {

@@ -1,4 +1,4 @@
-//! WRITE: a file is written with the rest of a request.
+//! WRITE: writes the data of a request to a file.
 
 ghost use Rattle.std.specs.Prelude.{◌≡◌, ◌<◌, ◌^◌, [], false};
 ghost use Rattle.virtiofsd_fuse.specs.Grammar.{write_row};
@@ -13,7 +13,7 @@ use server_requests::records::read_record;
 use server_segments::{Error, Reader, Writer, ZcReader};
 
 impl<F: FileSystem> Server<F> {
-    /// WRITE: the data is all that is left of the request.
+    /// WRITE: the data is all bytes behind the record.
     pub(crate) fn write(
         &mut self,
         head: &InHeader,

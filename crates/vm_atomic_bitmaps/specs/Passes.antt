@@ -1,4 +1,4 @@
--- What callers see of a bitmap that threads share, and of its passes.
+-- The callers' view of a bitmap that threads share, and of its passes.
 use Rattle.std.specs.Prelude.{◌≡◌, ℕ, ◌+◌, ◌*◌, ◌<◌, ◌≤◌, ◌/◌, ◌%◌, min, max, Bool, true, false, not, List}
 use Rattle.std.specs.Prelude.{length, replicate}
 use Rattle.std.specs.Int.{bit_at}
@@ -13,19 +13,19 @@ use Rattle.vm_atomic_bitmaps.specs.Counts.{tally_of, after_mark, after_clearing,
 use Rattle.vm_atomic_bitmaps.specs.Counts.{IsWhole}
 use Rattle.vm_atomic_bitmaps.specs.Steps.{Settles, SettlesWord}
 
--- a bitmap: its name, which no other has, and its pages
+-- a shared bitmap: its unique name, the bytes of a page, the bytes in all, and the number of pages
 pub record SharedPages : Type 0 where
   pub name : TableId
   pub page_size : ℕ
   pub byte_size : ℕ
   pub len : ℕ
 
--- a pass: the name of its bitmap, and what it has counted
+-- a pass: the name of its bitmap, and its counts
 pub record Pass : Type 0 where
   pub name : TableId
   pub counts : PageCounts
 
--- the pass is this bitmap's
+-- the pass belongs to this bitmap: it has the bitmap's name, and a tally for each page
 abbrev pub IsPassOf : SharedPages → Pass → Type 0
 IsPassOf b p = (p.name ≡ b.name) × (length p.counts.pages ≡ b.len)
 
@@ -33,31 +33,31 @@ IsPassOf b p = (p.name ≡ b.name) × (length p.counts.pages ≡ b.len)
 abbrev pub counting : Pass → List Tally → Pass
 counting p pages = record { name = p.name; counts = with_pages p.counts pages }
 
--- a mark of the pass v met the page, whose bit was 0 or 1: where the pass has every part, the bit that it
--- knows
+-- the tally t of a page becomes u by a mark of the pass v, which found its bit 0 or 1. If v has every part, t
+-- determines that bit
 abbrev pub ByMark : (v : PageCounts) (p : ℕ) → Tally → Tally → Type 0
 ByMark v p t u = (was : ℕ) × (was < 2) × (IsWhole v → Settles t was) × (u ≡ after_mark was t)
 
--- a gather or a clear of the pass v met the page, whose bit was 0 or 1: where the pass has every part, the
--- bit that it knows
+-- the tally t of a page becomes u by a gather or a clear of the pass v, which found its bit 0 or 1. If v has
+-- every part, t determines that bit
 abbrev pub ByClearing : (v : PageCounts) (p : ℕ) → Tally → Tally → Type 0
 ByClearing v p t u = (was : ℕ) × (was < 2) × (IsWhole v → Settles t was) × (u ≡ after_clearing was t)
 
--- the tally of a page that this change met, whose bit was `was`
+-- the tally of a page after this change, which found its bit `was`
 abbrev pub after_change : PageChange → (was : ℕ) → Tally → Tally
 after_change change.Mark = after_mark
 after_change change.Clear = after_clearing
 
--- this change of the pass v met the page, as `ByMark` and `ByClearing` say it of a mark and of a clear
+-- the tally t of a page becomes u by this change of the pass v: `ByMark` for a mark, `ByClearing` for a clear
 abbrev pub ByChange : PageChange → (v : PageCounts) → (p : ℕ) → Tally → Tally → Type 0
 ByChange change v p t u =
     (was : ℕ) × (was < 2) × (IsWhole v → Settles t was) × (u ≡ after_change change was t)
 
--- a gather met the page, whose bit is that of the words
+-- the tally t of page p becomes u by a gather, which found the page's bit of the words
 abbrev pub ByGathering : List ℕ → (p : ℕ) → Tally → Tally → Type 0
 ByGathering words p t u = u ≡ after_clearing (page_bit words p) t
 
--- the pass has read the word of page p, and the bit of the page there is b
+-- the pass has loaded the word of page p, in which the page's bit is b
 abbrev pub HasRead : (old new : Pass) (p b : ℕ) → Type 0
 HasRead old new p b =
     (found : ℕ)
@@ -65,14 +65,14 @@ HasRead old new p b =
     × SettlesWord old.counts (p / 64) found
     × (bit_at found (p % 64) ≡ b)
 
--- the tallies of the pages that are hit have changed so, and the others are as they were
+-- the tallies of the pages with `hit` have changed by Change, and no others have
 pub record Changes (Change : ℕ → Tally → Tally → Type 0) (hit : ℕ → Bool) (old new : List Tally) :
     Type 0 where
   pub count : length new ≡ length old
   pub changed : (p : ℕ) → p < length old → hit p ≡ true → Change p (tally_of old p) (tally_of new p)
   pub same : (p : ℕ) → hit p ≡ false → tally_of new p ≡ tally_of old p
 
--- the tallies of the pages from first up to end have changed so, and the others are as they were
+-- the tallies of the pages from first up to end, excluded, have changed by Change, and no others have
 pub record ChangesRun (Change : ℕ → Tally → Tally → Type 0) (old new : List Tally) (first end : ℕ) :
     Type 0 where
   pub count : length new ≡ length old
@@ -80,22 +80,21 @@ pub record ChangesRun (Change : ℕ → Tally → Tally → Type 0) (old new : L
   pub below : (p : ℕ) → p < first → tally_of new p ≡ tally_of old p
   pub above : (p : ℕ) → end ≤ p → tally_of new p ≡ tally_of old p
 
--- the tallies of those pages from first to last that lie in a word have changed so, and the others are as
--- they were
+-- the tallies of the pages of one word from first to last have changed by Change, and no others have
 abbrev pub ChangesInWord :
     (ℕ → Tally → Tally → Type 0) → (old new : List Tally) → (word first last : ℕ) → Type 0
 ChangesInWord Change old new word first last =
     ChangesRun Change old new (max first (64 * word)) (min (last + 1) (64 * word + 64))
 
--- whether page p is one of those that the exact bitmap, with len pages, marks for n bytes from start on
+-- whether to mark n bytes from start on marks page p of a bitmap with len pages (`marked_range`)
 abbrev pub marks_page : (size len start n p : ℕ) → Bool
 marks_page size len start n p = mark_of (marked_range size (replicate len false) start n) p
 
--- whether page p is one of those that the exact bitmap, with len pages, clears for n bytes from start on
+-- whether to clear n bytes from start on clears page p of a bitmap with len pages (`cleared_range`)
 abbrev pub clears_page : (size len start n p : ℕ) → Bool
 clears_page size len start n p = not (mark_of (cleared_range size (replicate len true) start n) p)
 
--- whether page p is one of those that the exact bitmap, with len pages, changes so for n bytes from start on
+-- whether this change of n bytes from start on changes page p of a bitmap with len pages
 abbrev pub changes_page : PageChange → (size len start n p : ℕ) → Bool
 changes_page change.Mark = marks_page
 changes_page change.Clear = clears_page

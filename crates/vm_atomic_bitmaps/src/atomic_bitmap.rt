@@ -23,8 +23,8 @@ use std::marker::Model;
 use std::num::NonZeroUsize;
 use vm_bitmaps::page_words::zeros;
 
-/// A mark for each page of some bytes (vm-memory's `AtomicBitmap`). Threads share it by `&`, each with a pass
-/// of its own. Page p is bit p mod 64 of word p / 64.
+/// A mark for each page of a range of bytes (vm-memory's `AtomicBitmap`). Threads share it by `&`, each with
+/// a pass of its own. Page p is bit p mod 64 of word p / 64.
 #[derive(Drop)]
 pub struct AtomicBitmap {
     pub(crate) page_size: usize,
@@ -53,7 +53,7 @@ impl Model for AtomicBitmap {
         × (b.table.shared.table_id.words ≡ table_words b.len) × (b.table.shared.table_id.slots ≡ 0) };
 }
 
-// The first words of a table that was closed.
+// Copies the first words of a closed table.
 fn copy_words(closed: &Closed<(), Global>, words: &mut [u64])
     requires full { IsFull closed.now.words }
     requires room { length words.old ≤ slots_len closed.now.words }
@@ -96,7 +96,7 @@ impl AtomicBitmap {
         Ok((bitmap, BitmapPass { seat }))
     }
 
-    /// The number of pages: the bytes over the bytes of a page, rounded up (vm-memory's `AtomicBitmap::len`).
+    /// The number of pages: `byte_size` divided by page size, rounded up (vm-memory's `AtomicBitmap::len`).
     pub fn len(&self) -> usize
         ensures len { result ≡ self.now.len }
         ensures pages { result ≡ pages_of self.now.page_size self.now.byte_size }
@@ -119,7 +119,7 @@ impl AtomicBitmap {
         self.len.div_ceil(64)
     }
 
-    // Sets the bits of the mask in a word, in one step, and answers the word as it was.
+    // Sets the bits of the mask in a word, in one step, and returns the word's value before it.
     #[inline]
     pub(crate) fn mark_word(&self, pass: &mut BitmapPass, word: usize, mask: u64) -> u64
         requires own { IsPassOf self.now pass.old }
@@ -134,7 +134,7 @@ impl AtomicBitmap {
             .fetch_or::<Mark>(&mut pass.seat, word, mask)
     }
 
-    // Clears the bits of the mask in a word, in one step, and answers the word as it was.
+    // Clears the bits of the mask in a word, in one step, and returns the word's value before it.
     #[inline]
     pub(crate) fn clear_word(&self, pass: &mut BitmapPass, word: usize, mask: u64) -> u64
         requires own { IsPassOf self.now pass.old }
@@ -148,10 +148,9 @@ impl AtomicBitmap {
             .fetch_and::<Clear>(&mut pass.seat, word, !mask)
     }
 
-    /// Takes the marks of a word, in one step, a swap: the word is 0 afterwards. Bit b is page 64 * word + b.
-    /// At that step each page's bit is how much more often it was set than cleared by the counts of all
-    /// passes, of which this is one (`StandsAt`): a part of the passes knows its own counts and those that it
-    /// met.
+    /// Returns the marks of a word and clears them, in one step: a swap with 0. Bit b is page 64 * word + b.
+    /// Each returned bit is how often all passes had set the page less how often they had cleared it
+    /// (`StandsAt`). One pass alone knows its own counts, and `held` and `seen` of the passes that it met.
     #[inline]
     pub fn gather(&self, pass: &mut BitmapPass, word: usize) -> u64
         requires own { IsPassOf self.now pass.old }
@@ -165,9 +164,9 @@ impl AtomicBitmap {
         self.table.shared.swap::<Gather>(&mut pass.seat, word, 0)
     }
 
-    /// Reads a word, in one step, a load. Bit b is page 64 * word + b. The pass has then seen each of its
-    /// pages set or cleared as often as its bit tells. At that step the bits are those of the counts of all
-    /// passes, as for `gather`.
+    /// Returns a word, in one step: a load. Bit b is page 64 * word + b. Afterwards the pass's `held` of each
+    /// of these pages is its `seen` plus its bit. The bits follow from the counts of all passes, as for
+    /// `gather`.
     #[inline]
     pub fn word(&self, pass: &mut BitmapPass, word: usize) -> u64
         requires own { IsPassOf self.now pass.old }
@@ -181,7 +180,7 @@ impl AtomicBitmap {
         self.table.shared.load::<Read>(&mut pass.seat, word)
     }
 
-    /// A second pass, which has counted nothing. Each has half of the part that this one had.
+    /// A second pass, which has counted nothing. Each of the two has half of the part. Always `Some`.
     pub fn split_pass(&self, pass: &mut BitmapPass) -> Option<BitmapPass>
         requires { IsPassOf self.now pass.old }
         ensures some { IsSome result }
@@ -195,7 +194,7 @@ impl AtomicBitmap {
         Some(BitmapPass { seat })
     }
 
-    /// Takes in another pass: its counts and its part.
+    /// Adds the counts and the part of another pass to this one. The other pass is consumed.
     pub fn join_pass(&self, pass: &mut BitmapPass, other: BitmapPass)
         requires own { IsPassOf self.now pass.old }
         requires other { IsPassOf self.now other }
@@ -207,7 +206,7 @@ impl AtomicBitmap {
         self.table.shared.join_seat::<TakeIn>(&mut pass.seat, seat);
     }
 
-    /// The first pass takes over what the other has seen. It always can.
+    /// Raises `held` and `seen` of the first pass to those of the other. Always returns true.
     pub fn meet_pass(&self, pass: &mut BitmapPass, other: &mut BitmapPass) -> bool
         requires own { IsPassOf self.now pass.old }
         requires other { IsPassOf self.now other.old }
@@ -222,8 +221,8 @@ impl AtomicBitmap {
         true
     }
 
-    /// Ends the sharing, and answers the words: page p is bit p mod 64 of word p / 64. An error, if an
-    /// allocation fails, hands bitmap and pass back as they were.
+    /// Consumes the bitmap and the pass, and returns the words. Page p is bit p mod 64 of word p / 64. If an
+    /// allocation fails, the error holds the bitmap and the pass, unchanged.
     pub fn close(
         self,
         alloc: Global,

@@ -1,11 +1,10 @@
-//! What a thread marks and gathers with.
+//! The pass with which a thread marks and gathers.
 
 use crate::counts::PageCounts;
 use atomic_table::Seat;
 use std::marker::Model;
 
-/// A thread's pass of one `AtomicBitmap`. It has no bytes, and each step of the thread changes what it has
-/// counted.
+/// A thread's pass of one `AtomicBitmap`. It takes no bytes. Each step of the thread changes its counts.
 #[derive(Drop)]
 pub struct BitmapPass {
     pub(crate) seat: Seat<(), PageCounts>,

@@ -1,13 +1,13 @@
-//! What a pass counts, the rule that a bitmap keeps, and what each kind of step tells. No value of these
-//! types is made.
+//! The counts of a pass, the rule that a bitmap keeps, and the kinds of steps. These types are for contracts:
+//! no value of them is made.
 
 use atomic_table::{Join, Play, Split, TableRule};
 use std::collections::LinkedList;
 
-/// What a pass has counted of one page: whether it marked it, how often it found it clear and set it (`on`),
-/// how often it found it set and cleared it (`off`), how often all passes did the one and the other as far as
-/// it has seen, and how many of its own steps were marks of it, and gathers or clears of it, whatever they
-/// found.
+/// A pass's counts of one page. `marked`: the pass marked it. `on`: how often the pass found it clear and
+/// set it. `off`: how often the pass found it set and cleared it. `held` and `seen`: how often all passes
+/// set and cleared it, as far as the pass has seen. `mark_steps`: the pass's marks of it, also when it was
+/// set. `clear_steps`: the pass's gathers and clears of it, also when it was clear.
 pub struct Tally {
     pub marked: bool,
     pub on: u64,
@@ -18,14 +18,14 @@ pub struct Tally {
     pub clear_steps: u64,
 }
 
-/// What a pass has counted of each page, and its part of all passes: `parts` over 2 to the power of `depth`.
+/// A pass's counts of each page, and its part of all passes: `parts` divided by 2 to the power of `depth`.
 pub struct PageCounts {
     pub pages: LinkedList<Tally>,
     pub parts: u64,
     pub depth: u64,
 }
 
-/// The rule of a bitmap's words and of all its passes.
+/// The rule of a bitmap's words and all its passes (`KeepsRule`).
 pub struct PageRule;
 
 impl TableRule<(), PageCounts, usize> for PageRule {
@@ -73,7 +73,7 @@ impl Play<(), PageCounts> for Read {
     ghost then = { ReadStep };
 }
 
-// Half of a pass's part for a new pass.
+// Splits a pass: the new pass has half of its part.
 pub(crate) struct Halve;
 
 impl Split<PageCounts> for Halve {
@@ -84,7 +84,7 @@ impl Split<PageCounts> for Halve {
     ghost right = { new_half };
 }
 
-// What a pass has seen, for another to take in.
+// Copies a pass's `held` and `seen`, which another pass then joins.
 pub(crate) struct Tell;
 
 impl Split<PageCounts> for Tell {
@@ -95,7 +95,7 @@ impl Split<PageCounts> for Tell {
     ghost right = { telling };
 }
 
-// A pass that another takes in.
+// Joins a pass into another.
 pub(crate) struct TakeIn;
 
 impl Join<PageCounts> for TakeIn {

@@ -1,4 +1,4 @@
-//! Runs of many pages: one step for each word that they lie in.
+//! Calls on runs of many pages: one atomic step for each word of the run.
 
 ghost use Rattle.std.specs.Prelude.{◌≡◌, ℕ, ◌+◌, ◌*◌, ◌<◌, ◌≤◌, ◌/◌, IfOk, OnErr, vec_len, slice_set, length};
 ghost use Rattle.std.specs.Prelude.{true, false, min, max, nat_eq};
@@ -15,7 +15,7 @@ use std::alloc::{AllocError, Global};
 use vm_bitmaps::page_bitmap::{last_page, page_of};
 use vm_bitmaps::page_words::mask;
 
-// Which bits of a word are pages from `first` to `last`.
+// The first bit of a word that is a page from `first` to `last`, and the bit after the last such one.
 #[inline]
 fn bits_in_word(word: usize, first: usize, last: usize) -> (usize, usize)
     requires ordered { first ≤ last }
@@ -30,7 +30,7 @@ fn bits_in_word(word: usize, first: usize, last: usize) -> (usize, usize)
     (from, to)
 }
 
-// What a call does to the pages that it names.
+// The change that a call makes to its pages.
 #[derive(Clone, Copy)]
 enum PageChange {
     Mark,
@@ -38,7 +38,7 @@ enum PageChange {
 }
 
 impl AtomicBitmap {
-    // Changes those pages from `first` to `last` that lie in a word, in one step.
+    // Changes the pages of one word from `first` to `last`, in one step.
     #[inline(always)]
     fn change_in_word(
         &self,
@@ -103,7 +103,7 @@ impl AtomicBitmap {
         self.change_run(pass, change, first, last);
     }
 
-    /// Marks a page. One past the end is ignored (vm-memory's `AtomicBitmap::set_bit`).
+    /// Marks page `index`. A page past the end is ignored (vm-memory's `AtomicBitmap::set_bit`).
     #[inline]
     pub fn set_bit(&self, pass: &mut BitmapPass, index: usize)
         requires { IsPassOf self.now pass.old }
@@ -117,7 +117,7 @@ impl AtomicBitmap {
         }
     }
 
-    /// Clears a page. One past the end is ignored (vm-memory's `AtomicBitmap::reset_bit`).
+    /// Clears page `index`. A page past the end is ignored (vm-memory's `AtomicBitmap::reset_bit`).
     #[inline]
     pub fn reset_bit(&self, pass: &mut BitmapPass, index: usize)
         requires { IsPassOf self.now pass.old }
@@ -171,8 +171,8 @@ impl AtomicBitmap {
         (word >> (index % 64)) & 1 == 1
     }
 
-    /// Whether a page is marked, by one read of its word. One past the end is not, and no word is read
-    /// (vm-memory's `AtomicBitmap::is_bit_set`).
+    /// Whether page `index` is marked, by one load of its word (vm-memory's `AtomicBitmap::is_bit_set`). A
+    /// page past the end isn't, and no word is loaded.
     #[inline]
     pub fn is_bit_set(&self, pass: &mut BitmapPass, index: usize) -> bool
         requires { IsPassOf self.now pass.old }
@@ -195,7 +195,7 @@ impl AtomicBitmap {
         self.is_bit_set(pass, page_of(self.page_size, addr))
     }
 
-    // Takes the marks of a word into `words`.
+    // Gathers the marks of a word into `words`.
     #[inline]
     fn take_into(&self, pass: &mut BitmapPass, words: &mut [u64], word: usize)
         requires own { IsPassOf self.now pass.old }
@@ -212,7 +212,7 @@ impl AtomicBitmap {
         words[word] = self.gather(pass, word);
     }
 
-    // Takes all marks into `words`.
+    // Gathers all marks into `words`.
     fn take_all(&self, pass: &mut BitmapPass, words: &mut [u64])
         requires own { IsPassOf self.now pass.old }
         requires room { length words.old ≡ div_ceil self.now.len 64 }
@@ -231,8 +231,8 @@ impl AtomicBitmap {
         }
     }
 
-    /// Takes all marks, in one step for each word: page p is bit p mod 64 of word p / 64 (vm-memory's
-    /// `AtomicBitmap::get_and_reset`). AllocError if an allocation fails; then nothing is taken.
+    /// Returns all marks and clears them, in one step for each word. Page p is bit p mod 64 of word p / 64
+    /// (vm-memory's `AtomicBitmap::get_and_reset`). AllocError if an allocation fails: no mark is cleared.
     pub fn get_and_reset(
         &self,
         alloc: Global,

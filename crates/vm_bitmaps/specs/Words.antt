@@ -8,7 +8,7 @@ use Rattle.std.specs.List.{range_with_len}
 unfoldable pub page_bit : List ℕ → (p : ℕ) → ℕ
 page_bit words p = bit_at (slice_index words (p / 64)) (p % 64)
 
--- the bit that stands for a mark
+-- the bit of a mark: 1 if marked, 0 if clear
 abbrev pub bit_of : Bool → ℕ
 bit_of mark = if mark then 1 else 0
 
@@ -16,18 +16,18 @@ bit_of mark = if mark then 1 else 0
 unfoldable pub marks_of : (n : ℕ) → List ℕ → List Bool
 marks_of n words = map (λ p. nat_eq (page_bit words p) 1) (range_with_len 0 n)
 
--- the words have room for n pages and no more than that takes, and no bit past the last page is set
+-- there are exactly the words that n pages need, and no bit past the last page is set
 pub record IsClean (n : ℕ) (words : List ℕ) : Type 0 where
   pub count : length words ≡ div_ceil n 64
   pub rest : (p : ℕ) → n ≤ p → page_bit words p ≡ 0
 
--- the pages from first up to end have the mark, and the others are as they were
+-- the bits of the pages from first up to end, excluded, are the mark, and all others are unchanged
 pub record WritesRun (old new : List ℕ) (first end : ℕ) (mark : Bool) : Type 0 where
   pub inside : (p : ℕ) → first ≤ p → p < end → page_bit new p ≡ bit_of mark
   pub below : (p : ℕ) → p < first → page_bit new p ≡ page_bit old p
   pub above : (p : ℕ) → end ≤ p → page_bit new p ≡ page_bit old p
 
--- the bits of a word from from up to to have the mark, and the others are as they were
+-- the bits of a word from `from` up to `to`, excluded, are the mark, and all others are unchanged
 pub record WritesBits (old new from to : ℕ) (mark : Bool) : Type 0 where
   pub inside : (k : ℕ) → from ≤ k → k < to → bit_at new k ≡ bit_of mark
   pub below : (k : ℕ) → k < from → bit_at new k ≡ bit_at old k

@@ -1,4 +1,4 @@
-//! What a set of dirty pages does (vm-memory's `Bitmap`, `NewBitmap`).
+//! The traits of a set of dirty pages (vm-memory's `Bitmap`, `NewBitmap`).
 
 ghost use Rattle.std.specs.Prelude.{◌≡◌, ℕ, ◌+◌, Bool, List, [], IfOk, false, replicate, option_map};
 ghost use Rattle.std.specs.Prelude.{unwrap_or, refl};
@@ -9,14 +9,14 @@ use std::alloc::{AllocError, Global};
 
 /// The dirty pages of a range of bytes; offsets and lengths count bytes (vm-memory's `Bitmap`).
 pub trait Bitmap {
-    // the bytes of a page, where in the pages the range begins, and the pages' marks
+    // the number of bytes of a page, the offset of the range's first byte in the pages, and the pages' marks
     ghost page_size: { Self → ℕ };
 
     ghost base: { Self → ℕ };
 
     ghost marks: { Self → List Bool };
 
-    // what else a bitmap keeps when pages are marked
+    // the bitmap's other parts, which don't change when pages are marked
     ghost Keeps: { Self → Self → Type 0 } = { λ old new. Unit {0} };
 
     /// Marks the pages of `len` bytes from `offset` on. Bytes past the bitmap are ignored.
@@ -31,26 +31,26 @@ pub trait Bitmap {
     fn dirty_at(&self, offset: usize) -> bool
         ensures { result ≡ is_marked (page_size self.now) (marks self.now) (base self.now + offset) };
 
-    // to mark nothing keeps it
+    // an unchanged bitmap is kept
     ghost keeps_same: { (b : Self) → Keeps b b };
 }
 
-/// How many bytes a page of guest memory has.
+/// The number of bytes of a page of guest memory.
 pub const PAGE_SIZE: usize = 4096;
 
 /// A bitmap that can be made for any length, with pages of 4096 bytes (vm-memory's `NewBitmap`).
 pub trait NewBitmap: Bitmap + Drop {
-    // how many marks the bitmap of some bytes has
+    // the number of marks of a bitmap for n bytes
     ghost count: { ℕ → ℕ };
 
-    /// A clear bitmap for `len` bytes (vm-memory's `NewBitmap::with_len`); AllocError if an allocation fails.
+    /// A clear bitmap for `len` bytes (vm-memory's `NewBitmap::with_len`). AllocError if an allocation fails.
     fn with_len(alloc: Global, len: usize) -> Result<Self, AllocError>
         ensures size { IfOk result (λ b. Self.page_size b ≡ 4096) }
         ensures base { IfOk result (λ b. Self.base b ≡ 0) }
         ensures clear { IfOk result (λ b. Self.marks b ≡ replicate (count len) false) };
 }
 
-/// No pages: nothing is marked and nothing is dirty.
+/// A bitmap without pages: it marks nothing, and nothing is dirty.
 impl Bitmap for () {
     ghost page_size = { λ b. 4096 };
 
@@ -75,7 +75,7 @@ impl NewBitmap for () {
     }
 }
 
-/// With `None` there are no pages.
+/// `None` is a bitmap without pages.
 impl<B: Bitmap> Bitmap for Option<B> {
     ghost page_size = { λ o. unwrap_or (option_map B.page_size o) 4096 };
 
@@ -101,7 +101,7 @@ impl<B: Bitmap> Bitmap for Option<B> {
     }
 }
 
-/// The bitmap behind a reference, which stays the same reference.
+/// The bitmap behind a reference. Marking doesn't change the reference.
 impl<B: Bitmap> Bitmap for &mut B {
     ghost page_size = { λ r. B.page_size r.now };
 

@@ -25,8 +25,8 @@ impl<B> BaseSlice<B> {
     }
 }
 
-/// Each offset is counted from the slice's own. Where the sum does not fit 64 bits there is no byte, so
-/// nothing is marked and nothing is dirty.
+/// Each offset counts from the slice's own. If their sum doesn't fit 64 bits, there is no byte at it: nothing
+/// is marked and nothing is dirty.
 impl<B: Bitmap> Bitmap for BaseSlice<B> {
     ghost page_size = { λ s. B.page_size (sliced_of s) };
 

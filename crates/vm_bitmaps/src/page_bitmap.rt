@@ -1,4 +1,4 @@
-//! The dirty pages of some bytes, as the bits of words.
+//! The dirty pages of a range of bytes, as the bits of words.
 
 ghost use Rattle.std.specs.Prelude.{◌≡◌, ℕ, ◌+◌, ◌-◌, ◌^◌, ◌<◌, ◌/◌, IfOk, OnOk, OnErr, length, min};
 ghost use Rattle.std.specs.Prelude.{if◌then◌else◌, refl, vec_len};
@@ -13,8 +13,8 @@ use std::marker::Model;
 use std::mem;
 use std::num::NonZeroUsize;
 
-/// The dirty pages of some bytes: a mark for each page (the counterpart of vm-memory's `AtomicBitmap`
-/// behind an exclusive reference).
+/// The dirty pages of a range of bytes: a mark for each page (vm-memory's `AtomicBitmap`, behind an exclusive
+/// reference).
 #[derive(Clone, Drop)]
 pub struct PageBitmap {
     page_size: usize,
@@ -44,7 +44,7 @@ impl Model for PageBitmap {
         × IsSummary b.words.items b.summary.items };
 }
 
-/// The page of the byte at `addr`. Pages of 4096 bytes, as those of guest memory, need no division.
+/// The page of the byte at `addr`. Pages of 4096 bytes, those of guest memory, need no division.
 #[inline]
 pub fn page_of(page_size: usize, addr: usize) -> usize
     requires { 0 < page_size }
@@ -57,7 +57,7 @@ pub fn page_of(page_size: usize, addr: usize) -> usize
     }
 }
 
-/// The page of the last of `len` bytes from `start` on, of those below 2^64.
+/// The page of the last of `len` bytes from `start` on. Bytes from 2^64 on don't count.
 #[inline]
 pub fn last_page(page_size: usize, start: usize, len: usize) -> usize
     requires positive { 0 < page_size }
@@ -88,7 +88,7 @@ impl PageBitmap {
         })
     }
 
-    /// Clear marks for `byte_size` bytes in pages of `page_size` bytes (vm-memory's `AtomicBitmap::new`);
+    /// Clear marks for `byte_size` bytes in pages of `page_size` bytes (vm-memory's `AtomicBitmap::new`).
     /// AllocError if an allocation fails.
     pub fn new(alloc: Global, byte_size: usize, page_size: NonZeroUsize) -> Result<Self, AllocError>
         ensures { IfOk result (λ b. b ≡ clear_set (non_zero_usize_get page_size) byte_size) }
@@ -96,8 +96,7 @@ impl PageBitmap {
         PageBitmap::made(alloc, byte_size, page_size.get())
     }
 
-    /// The same bytes, pages and marks once more, in memory of the allocator that this value was made with;
-    /// AllocError if that fails.
+    /// A copy, in memory of the allocator that this value was made with. AllocError if an allocation fails.
     pub fn try_clone(&self) -> Result<PageBitmap, AllocError>
         ensures { IfOk result (λ b. b ≡ self.now) }
     {
@@ -110,7 +109,7 @@ impl PageBitmap {
         })
     }
 
-    /// The number of pages: the bytes over the bytes of a page, rounded up (vm-memory's `AtomicBitmap::len`).
+    /// The number of pages: `byte_size` divided by `page_size`, rounded up (vm-memory's `AtomicBitmap::len`).
     pub fn len(&self) -> usize
         ensures pages { result ≡ pages_of self.now.page_size self.now.byte_size }
         ensures marks { result ≡ length self.now.marks }
@@ -125,7 +124,7 @@ impl PageBitmap {
         self.byte_size
     }
 
-    /// The bytes of a page.
+    /// The number of bytes of a page.
     pub fn page_size(&self) -> usize
         ensures size { result ≡ self.now.page_size }
         ensures positive { 0 < result }
@@ -133,8 +132,7 @@ impl PageBitmap {
         self.page_size
     }
 
-    /// Whether the page number `index` is marked: one past the end is not (vm-memory's
-    /// `AtomicBitmap::is_bit_set`).
+    /// Whether page `index` is marked. A page past the end isn't (vm-memory's `AtomicBitmap::is_bit_set`).
     pub fn is_bit_set(&self, index: usize) -> bool
         ensures { result ≡ mark_of self.now.marks index }
     {
@@ -148,8 +146,7 @@ impl PageBitmap {
         self.is_bit_set(page_of(self.page_size, addr))
     }
 
-    /// The first marked page from the page number `from` on. Words without a mark are passed over 64 at a
-    /// time.
+    /// The first marked page from page `from` on. The search skips 64 words without a mark at a time.
     pub fn next_marked(&self, from: usize) -> Option<usize>
         ensures { IsNextMarked self.now.marks from result }
     {
@@ -210,9 +207,9 @@ impl PageBitmap {
         clear_words(&mut self.words, &mut self.summary);
     }
 
-    /// The marks as words of 64 pages, which are all cleared. Page p is bit p mod 64 of word p / 64
-    /// (vm-memory's `AtomicBitmap::get_and_reset`). The memory is of the allocator that this value was made
-    /// with; where there is none, that is AllocError, and nothing changes.
+    /// Returns the marks as words of 64 pages, and clears all marks. Page p is bit p mod 64 of word p / 64
+    /// (vm-memory's `AtomicBitmap::get_and_reset`). The new words are from the allocator that this value was
+    /// made with. AllocError if that allocation fails: nothing changes.
     pub fn get_and_reset(&mut self) -> Result<Vec<u64>, AllocError>
         ensures words { IfOk result (λ words. words.items ≡ words_of self.old.marks) }
         ensures count { IfOk result (λ words. vec_len words ≡ div_ceil (length self.old.marks) 64) }

@@ -6,7 +6,7 @@ ghost use Rattle.vm_bitmaps.specs.Words.{WritesBits, WritesRun};
 
 use std::alloc::{AllocError, Global};
 
-/// So many words of 64 bits, all zero; AllocError if an allocation fails.
+/// `count` words of 64 bits, all zero. AllocError if the allocation fails.
 pub fn zeros(alloc: Global, count: usize) -> Result<Vec<u64>, AllocError>
     ensures { IfOk result (λ words. words.items ≡ replicate count 0) }
 {
@@ -14,7 +14,7 @@ pub fn zeros(alloc: Global, count: usize) -> Result<Vec<u64>, AllocError>
     Ok(words)
 }
 
-// As many words of zeros as `words` has, from its allocator.
+// A zero word for each word of `words`, from its allocator. AllocError if the allocation fails.
 pub(crate) fn zeros_like(words: &Vec<u64>) -> Result<Vec<u64>, AllocError>
     ensures zeros { IfOk result (λ zeros. zeros.items ≡ replicate (length words.now.items) 0) }
     ensures fits { (i : ℕ) → slice_index words.now.items i < 2 ^ 64 }
@@ -22,7 +22,7 @@ pub(crate) fn zeros_like(words: &Vec<u64>) -> Result<Vec<u64>, AllocError>
     zeros(*words.allocator(), words.len())
 }
 
-/// The bits of a word from `from` up to `to`.
+/// The word whose bits from `from` up to `to`, excluded, are 1.
 #[inline]
 pub fn mask(from: usize, to: usize) -> u64
     requires ordered { from < to }
@@ -32,7 +32,7 @@ pub fn mask(from: usize, to: usize) -> u64
     (u64::MAX >> (64 - (to - from))) << from
 }
 
-// The word with its bits from `from` up to `to` written.
+// The word with its bits from `from` up to `to`, excluded, set to the mark.
 #[inline]
 fn written(word: u64, from: usize, to: usize, mark: bool) -> u64
     requires ordered { from < to }
@@ -43,7 +43,7 @@ fn written(word: u64, from: usize, to: usize, mark: bool) -> u64
     if mark { word | run } else { word & !run }
 }
 
-// Writes the bits from `from` up to `to` of one word.
+// Sets the bits from `from` up to `to`, excluded, of one word to the mark.
 #[inline]
 pub(crate) fn write_in_word(words: &mut [u64], index: usize, from: usize, to: usize, mark: bool)
     requires inside { index < length words.old }
@@ -54,7 +54,7 @@ pub(crate) fn write_in_word(words: &mut [u64], index: usize, from: usize, to: us
     words[index] = written(words[index], from, to, mark);
 }
 
-// Makes each word from `from` up to `to` the same.
+// Sets each word from `from` up to `to`, excluded, to `word`.
 fn fill_words(words: &mut [u64], from: usize, to: usize, word: u64)
     requires ordered { from ≤ to }
     requires within { to ≤ length words.old }
@@ -63,7 +63,7 @@ fn fill_words(words: &mut [u64], from: usize, to: usize, word: u64)
     words[from..to].fill(word);
 }
 
-// Writes whole words, from word `from` up to word `to`.
+// Sets all bits of the words from `from` up to `to`, excluded, to the mark.
 fn write_whole_words(words: &mut [u64], from: usize, to: usize, mark: bool)
     requires ordered { from ≤ to }
     requires within { to ≤ length words.old }
@@ -72,7 +72,7 @@ fn write_whole_words(words: &mut [u64], from: usize, to: usize, mark: bool)
     fill_words(words, from, to, if mark { u64::MAX } else { 0 });
 }
 
-// Writes the pages from `first` up to `last`, and `last` too.
+// Sets the bits of the pages from `first` to `last`, included, to the mark.
 #[inline]
 pub(crate) fn write_run(words: &mut [u64], first: usize, last: usize, mark: bool)
     requires ordered { first ≤ last }

@@ -8,7 +8,7 @@ ghost use Rattle.vm_bitmaps.specs.Words.{WritesRun, page_bit};
 
 use crate::page_words::{write_in_word, write_run};
 
-// The place of the lowest bit of a word that is set.
+// The index of the lowest set bit of a word.
 #[inline]
 fn lowest_bit(word: u64) -> usize
     requires { 0 < word }
@@ -19,7 +19,7 @@ fn lowest_bit(word: u64) -> usize
     word.trailing_zeros() as usize
 }
 
-// The first page from one on, of those in its word, whose bit is set.
+// The first page from `from` on whose bit is set, in the word of page `from`.
 #[inline]
 pub(crate) fn first_in_word(words: &[u64], from: usize) -> Option<usize>
     requires { from / 64 < length words.now }
@@ -33,7 +33,7 @@ pub(crate) fn first_in_word(words: &[u64], from: usize) -> Option<usize>
     }
 }
 
-// The first page from one on whose bit is set.
+// The first page from `from` on whose bit is set.
 fn next_set(words: &[u64], from: usize) -> Option<usize>
     requires { 64 * length words.now ≤ 2 ^ 64 }
     ensures { IsNextSet words.now from result }
@@ -52,7 +52,7 @@ fn next_set(words: &[u64], from: usize) -> Option<usize>
     None
 }
 
-// The same, of words with a summary: of the words after that of the page, only one that isn't 0 is read.
+// The same for words with a summary. After the word of page `from` it reads at most one word, which isn't 0.
 pub(crate) fn next_page(words: &[u64], summary: &[u64], from: usize) -> Option<usize>
     requires summary { IsSummary words.now summary.now }
     requires fits { length words.now ≤ 2 ^ 58 }
@@ -70,7 +70,7 @@ pub(crate) fn next_page(words: &[u64], summary: &[u64], from: usize) -> Option<u
     first_in_word(words, 64 * word)
 }
 
-// Tells of a word that it isn't 0.
+// Sets the summary bit of a word.
 #[inline]
 fn tell_one(summary: &mut [u64], word: usize)
     requires { word < 64 * length summary.old }
@@ -79,7 +79,7 @@ fn tell_one(summary: &mut [u64], word: usize)
     write_in_word(summary, word / 64, word % 64, word % 64 + 1, true);
 }
 
-// Tells of a word that isn't 0 that it isn't.
+// Sets the summary bit of a word if the word isn't 0.
 #[inline]
 fn tell(words: &[u64], summary: &mut [u64], word: usize)
     requires inside { word < length words.now }
@@ -93,7 +93,7 @@ fn tell(words: &[u64], summary: &mut [u64], word: usize)
     }
 }
 
-// Marks the pages from `first` up to `last`, and `last` too.
+// Marks the pages from `first` to `last`, included.
 #[inline]
 pub(crate) fn mark_run(words: &mut [u64], summary: &mut [u64], first: usize, last: usize)
     requires ordered { first ≤ last }
@@ -116,7 +116,7 @@ pub(crate) fn mark_run(words: &mut [u64], summary: &mut [u64], first: usize, las
     }
 }
 
-// Clears the pages from `first` up to `last`, and `last` too.
+// Clears the pages from `first` to `last`, included.
 pub(crate) fn clear_run(words: &mut [u64], summary: &mut [u64], first: usize, last: usize)
     requires ordered { first ≤ last }
     requires within { last < 64 * length words.old }
@@ -130,7 +130,7 @@ pub(crate) fn clear_run(words: &mut [u64], summary: &mut [u64], first: usize, la
     tell(words, summary, last / 64);
 }
 
-// Makes each word 0: those that aren't yet.
+// Sets all words to 0. It writes only those that aren't 0.
 pub(crate) fn clear_words(words: &mut [u64], summary: &mut [u64])
     requires summary { IsSummary words.old summary.old }
     requires fits { length words.old ≤ 2 ^ 58 }

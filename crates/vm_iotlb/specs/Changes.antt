@@ -1,4 +1,4 @@
--- How a table changes, or is refused to.
+-- The changes of a table, and their errors.
 use Rattle.std.specs.Prelude.{◌≡◌, ℕ, ◌+◌, ◌<◌, ◌≤◌, ◌^◌, true, List, ◌⊎◌, Result, Ok, Err}
 use Rattle.vm_iotlb.specs.declared.permissions.Permissions.{Permissions}
 use Rattle.vm_iotlb.specs.declared.range.IotlbRange.{IotlbRange}
@@ -9,9 +9,9 @@ use Rattle.vm_iotlb.specs.Table.{AreSame, mapped, unmapped}
 use Rattle.vm_iotlb.specs.Ranges.{table_kept}
 use Rattle.vm_iotlb.specs.AddressRuns.{begins_anew_about, goes_on_at}
 
--- n addresses from iova on are mapped to those from target on, unless an end does not fit 64 bits; an
--- allocation may fail only if a run begins anew where they begin or right behind them. What is refused
--- changes nothing
+-- n addresses from iova on are mapped to those from target on, or an error changes nothing.
+-- IommuMisconfigured: an end doesn't fit 64 bits. OutOfMemory: an allocation failed. That can be only if a
+-- run begins at the first address or right behind the last where none began before
 abbrev pub SetsMapping : (iova target n : ℕ) → Permissions → (old new : List IotlbRange) → {X : Type 0} →
     Result X IommuError → Type 0
 SetsMapping iova target n perm old new (Ok done) =
@@ -29,8 +29,9 @@ SetsMapping iova target n perm old new (Err OutOfMemory) =
 SetsMapping iova target n perm old new (Err (CannotResolve range)) = ⊥
 SetsMapping iova target n perm old new (Err Fragmented) = ⊥
 
--- n addresses from iova on are taken out, unless their end does not fit 64 bits; an allocation may fail only
--- if the address behind them is mapped as one with the last. What is refused changes nothing
+-- the mappings of n addresses from iova on are removed, or an error changes nothing. IommuMisconfigured:
+-- their end doesn't fit 64 bits. OutOfMemory: an allocation failed. That can be only if the address behind
+-- them is mapped as one with the last
 abbrev pub InvalidatesMapping :
     (iova n : ℕ) → (old new : List IotlbRange) → {X : Type 0} → Result X IommuError → Type 0
 InvalidatesMapping iova n old new (Ok done) =

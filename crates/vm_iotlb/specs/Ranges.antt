@@ -1,27 +1,27 @@
--- Which table a list of ranges keeps. Clauses speak of the table alone; the ranges are how it is kept.
+-- The table that a list of ranges keeps. Contracts use the table alone; the ranges are its representation.
 use Rattle.std.specs.Prelude.{◌≡◌, ℕ, ◌+◌, ◌-◌, ◌<◌, ◌≤◌, ◌^◌, Bool, ◌&&◌, nat_le, nat_lt, List, [], ◌∷◌}
 use Rattle.std.specs.Prelude.{Option, Some, None, if◌then◌else◌}
 use Rattle.vm_iotlb.specs.declared.range.IotlbRange.{IotlbRange}
 use Rattle.vm_iotlb.specs.Table.{Mapping, Table}
 
--- whether a range has an address
+-- whether a range contains an address
 abbrev pub has : IotlbRange → ℕ → Bool
 has r a = nat_le r.start a && nat_lt a r.end
 
--- what a range maps an address of its own to
+-- the mapping that a range gives an address of its own
 abbrev pub mapping_in : IotlbRange → ℕ → Mapping
 mapping_in r a = record { target = r.target + (a - r.start); perm = r.perm }
 
--- the table that ranges keep: an address has the mapping of the range that has it
+-- the table that ranges keep: an address has the mapping of the first range that contains it
 unfoldable pub table_kept : List IotlbRange → ℕ → Option Mapping
 table_kept [] a = None
 table_kept (r ∷ rs) a = if has r a then Some (mapping_in r a) else table_kept rs a
 
--- a range is not empty, and its end and the end of what it maps to fit 64 bits
+-- a range isn't empty, and its end and the end of its targets fit 64 bits
 abbrev pub IsRange : IotlbRange → Type 0
 IsRange r = (r.start < r.end) × (r.end < 2 ^ 64) × (r.target + (r.end - r.start) < 2 ^ 64)
 
--- one range goes on in another, so that one range would do for both
+-- one range goes on in another, so that one range could replace both
 abbrev pub GoesOnIn : IotlbRange → IotlbRange → Type 0
 GoesOnIn r s = (r.end ≡ s.start) × (r.target + (r.end - r.start) ≡ s.target) × (r.perm ≡ s.perm)
 
@@ -34,24 +34,24 @@ abbrev pub PrecedesAll : IotlbRange → List IotlbRange → Type 0
 PrecedesAll r [] = Unit {0}
 PrecedesAll r (s ∷ rest) = Precedes r s
 
--- ranges ascend, have no address in common, and are as long as can be
+-- ranges ascend, have no address in common, and none goes on in the next
 abbrev pub AreRanges : List IotlbRange → Type 0
 AreRanges [] = Unit {0}
 AreRanges (r ∷ rs) = IsRange r × PrecedesAll r rs × AreRanges rs
 
--- the first range ends above an address
+-- the first range, if there is one, ends above an address
 abbrev pub EndsAbove : ℕ → List IotlbRange → Type 0
 EndsAbove a [] = Unit {0}
 EndsAbove a (r ∷ rs) = a < r.end
 
--- a table after the addresses of a range were mapped as it says; all others keep theirs
+-- a table after a range was added: its addresses have its mapping, and all others keep theirs
 abbrev pub with_range : IotlbRange → Table → Table
 with_range r table = λ a. if has r a then Some (mapping_in r a) else table a
 
--- ranges do what one more does to its own addresses, and to others what some did before
+-- the new ranges keep the old ranges' table with one range added
 abbrev pub AddsRange : IotlbRange → (old new : List IotlbRange) → Type 0
 AddsRange r old new = (a : ℕ) → table_kept new a ≡ with_range r (table_kept old) a
 
--- ranges do what a table does, from one address up to another
+-- ranges map each address from a up to e, excluded, as a table does
 abbrev pub Agree : Table → List IotlbRange → ℕ → ℕ → Type 0
 Agree table l a e = (x : ℕ) → a ≤ x → x < e → table x ≡ table_kept l x

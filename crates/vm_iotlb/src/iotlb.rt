@@ -23,8 +23,8 @@ use std::collections::btree_map::Range;
 use std::marker::Model;
 use vm_values::GuestAddress;
 
-/// What each I/O address is mapped to, and what may be done there (vm-memory's `Iotlb`). Lengths count bytes.
-/// Clauses see its ranges, and say by `table_kept` what it does to each address.
+/// The target and the permission of each mapped I/O address (vm-memory's `Iotlb`). Lengths count bytes.
+/// In contracts a table is the list of its ranges, and `table_kept` is the mapping of each address.
 #[derive(Drop)]
 pub struct Iotlb {
     alloc: Global,
@@ -46,7 +46,7 @@ impl Model for Iotlb {
 }
 
 impl Iotlb {
-    /// No address is mapped (vm-memory's `Iotlb::new`).
+    /// A table without mappings (vm-memory's `Iotlb::new`).
     pub fn new(alloc: Global) -> Iotlb
         ensures { result ≡ [] }
     {
@@ -56,7 +56,7 @@ impl Iotlb {
         }
     }
 
-    /// The same mappings once more, in memory of the allocator that this table was made with.
+    /// A copy, in memory of the allocator that this table was made with. AllocError if an allocation fails.
     pub fn try_clone(&self) -> Result<Iotlb, AllocError>
         ensures { IfOk result (λ t. t ≡ self.now) }
     {
@@ -66,10 +66,11 @@ impl Iotlb {
         })
     }
 
-    /// Maps `length` I/O addresses to those from a target on, whatever they had before (vm-memory's
-    /// `Iotlb::set_mapping`). Refused with IommuMisconfigured or OutOfMemory. It takes memory only if a run
-    /// of addresses that are mapped as one begins where none did: at the first of them or right behind the
-    /// last.
+    /// Maps `length` I/O addresses from `iova` on to those from `target` on, and replaces their earlier
+    /// mappings (vm-memory's `Iotlb::set_mapping`). An error changes nothing:
+    /// - IommuMisconfigured: `iova + length` or `target + length` doesn't fit 64 bits.
+    /// - OutOfMemory: an allocation failed. It allocates only if a run of addresses that are mapped as one
+    ///   begins where none did: at `iova` or right behind the last address.
     pub fn set_mapping(
         &mut self,
         iova: GuestAddress,
@@ -100,9 +101,11 @@ impl Iotlb {
         }
     }
 
-    /// Takes the mapping of `length` I/O addresses out (vm-memory's `Iotlb::invalidate_mapping`). Refused
-    /// with IommuMisconfigured or OutOfMemory. It takes memory only if the address behind them is mapped as
-    /// one with the last: taking the middle of a range out leaves two.
+    /// Removes the mappings of `length` I/O addresses (vm-memory's `Iotlb::invalidate_mapping`). An error
+    /// changes nothing:
+    /// - IommuMisconfigured: `iova + length` doesn't fit 64 bits.
+    /// - OutOfMemory: an allocation failed. It allocates only if the address behind them is mapped as one
+    ///   with the last: a range without its middle is two ranges.
     pub fn invalidate_mapping(
         &mut self,
         iova: GuestAddress,
@@ -122,15 +125,15 @@ impl Iotlb {
         }
     }
 
-    /// Takes each mapping out (vm-memory's `Iotlb::invalidate_all`).
+    /// Removes all mappings (vm-memory's `Iotlb::invalidate_all`).
     pub fn invalidate_all(&mut self)
         ensures { self.new ≡ [] }
     {
         self.ranges.clear();
     }
 
-    /// What `length` I/O addresses are mapped to, if each may be accessed so (vm-memory's `Iotlb::lookup`).
-    /// Only one that fails takes memory: LookupError::Fails, or OutOfMemory if there is none to say it.
+    /// The addresses that `length` I/O addresses are mapped to, if each of them allows `access` (vm-memory's
+    /// `Iotlb::lookup`). Otherwise LookupError::Fails, or OutOfMemory: only a look-up that fails allocates.
     #[inline]
     pub fn lookup(
         &self,
@@ -152,7 +155,7 @@ impl Iotlb {
         }
     }
 
-    // The same, range by range.
+    // The same, for addresses that may be in several ranges.
     fn lookup_pieces(
         &self,
         iova: GuestAddress,
@@ -172,8 +175,8 @@ impl Iotlb {
         }
     }
 
-    /// What the first of `length` I/O addresses is mapped to, with those after it that are mapped as one with
-    /// it, where each of them may be accessed.
+    /// The addresses that the first run of `length` I/O addresses is mapped to. All of them must be mapped,
+    /// and some access must be allowed at each.
     #[inline]
     pub fn first_piece(&self, iova: GuestAddress, length: usize) -> Option<MappedRange>
         requires some { 0 < length }
@@ -186,8 +189,8 @@ impl Iotlb {
         IotlbIterator::over(&self.ranges, iova.0, iova.0 + length as u64).next()
     }
 
-    /// What an address is mapped to, with those after it that are mapped as one with it, at most so many.
-    /// None if the access may not go through it. It takes no memory.
+    /// The addresses that `iova` and those behind it in its run, `most` in all at most, are mapped to. None
+    /// if `iova` doesn't allow `access`. It allocates nothing.
     #[inline]
     pub fn piece_at(
         &self,
@@ -215,8 +218,8 @@ impl Iotlb {
         })
     }
 
-    /// The first of `length` addresses without a mapping, with those after it that have none either. None if
-    /// each has one, whatever it lets through. It takes no memory.
+    /// The first run of addresses without a mapping, among `length` addresses from `iova` on. None if each
+    /// has a mapping, with any permission. It allocates nothing.
     pub fn first_miss(&self, iova: GuestAddress, length: usize) -> Option<IovaRange>
         requires ends { iova.0 + length < 2 ^ 64 }
         ensures { MatchOption result (missing (table_kept self.now) iova.0 length ≡ [])
@@ -225,7 +228,7 @@ impl Iotlb {
         first_gap(self.ranges_from(iova.0), iova.0, iova.0 + length as u64)
     }
 
-    // The ranges that end above an address.
+    // The ranges that end above `iova`.
     #[inline]
     fn ranges_from(&self, iova: u64) -> Range<'_, u64, IotlbRange>
         ensures ranges { AreRanges (values_of result) }
@@ -235,8 +238,7 @@ impl Iotlb {
         self.ranges.range(key_from(&self.ranges, iova)..)
     }
 
-    /// Tables that do the same to each address are the same, range by range: this is a law, and the call does
-    /// nothing.
+    /// Two tables that map each address alike have the same ranges. This is a theorem: the call does nothing.
     pub fn law_canonical(&self, other: &Iotlb)
         ensures { AreSame (table_kept self.now) (table_kept other.now) → self.now ≡ other.now }
     {

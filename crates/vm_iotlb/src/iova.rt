@@ -1,4 +1,4 @@
-//! Ranges of I/O addresses, and of what they are mapped to.
+//! Ranges of I/O addresses, and of the addresses that they are mapped to.
 
 ghost use Rattle.vm_iotlb.specs.Numbers.{IsIovaRange};
 
@@ -6,12 +6,12 @@ use crate::error::IommuError;
 use std::ops::Range;
 use vm_values::GuestAddress;
 
-/// I/O addresses that follow one another (vm-memory's `IovaRange`).
+/// Consecutive I/O addresses (vm-memory's `IovaRange`).
 #[derive(Clone, Copy, Debug, PartialEq, Eq)]
 pub struct IovaRange {
-    /// The first of them.
+    /// The first address.
     pub base: GuestAddress,
-    /// How many they are.
+    /// The number of addresses, of one byte each.
     pub length: usize,
 }
 
@@ -31,11 +31,11 @@ impl TryFrom<Range<u64>> for IovaRange {
     }
 }
 
-/// Addresses that follow one another, which I/O addresses are mapped to (vm-memory's `MappedRange`).
+/// Consecutive addresses that I/O addresses are mapped to (vm-memory's `MappedRange`).
 #[derive(Clone, Copy, Debug, PartialEq, Eq)]
 pub struct MappedRange {
-    /// The first of them.
+    /// The first address.
     pub base: GuestAddress,
-    /// How many they are.
+    /// The number of addresses, of one byte each.
     pub length: usize,
 }

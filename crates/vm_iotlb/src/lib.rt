@@ -1,4 +1,4 @@
-//! An IOMMU's table: which address each I/O address is mapped to, and what may be done there.
+//! An IOMMU's table: the address that each I/O address is mapped to, and its permission.
 #![tactic(auto)]
 
 mod error;

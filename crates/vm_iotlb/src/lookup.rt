@@ -1,4 +1,4 @@
-//! What a look-up answers.
+//! The results of a look-up.
 
 ghost use Rattle.std.specs.Prelude.{◌≡◌, ◌+◌, ◌^◌, ◌-◌, ◌≤◌, ◌<◌, ◌++◌, ◌∷◌, List, [], IfOk, OnOk};
 ghost use Rattle.std.specs.Prelude.{MatchOption, length};
@@ -21,8 +21,8 @@ use std::marker::Model;
 use thiserror::Error;
 use vm_values::GuestAddress;
 
-/// What stands in the way of a look-up (vm-memory's `IotlbFails`). Each range is as long as can be, and they
-/// ascend.
+/// The addresses at which a look-up fails (vm-memory's `IotlbFails`). The ranges ascend. Each is a longest
+/// run, among the addresses asked for, that has no mapping or is mapped as one.
 #[derive(Debug, Drop)]
 pub struct IotlbFails {
     /// Addresses that have no mapping.
@@ -31,17 +31,17 @@ pub struct IotlbFails {
     pub access_fails: Vec<IovaRange>,
 }
 
-/// Why a look-up gave nothing: `Iotlb::lookup`.
+/// An error of `Iotlb::lookup`.
 #[derive(Debug, Drop, Error)]
 pub enum LookupError {
-    /// Not each address is mapped with the permission.
+    /// Some addresses aren't mapped with the permission.
     #[error("not mapped throughout with the permission")]
     Fails(IotlbFails),
     #[error("out of memory")]
     OutOfMemory,
 }
 
-// The range with the greatest start up to an address, which may have been found before.
+// The range with the greatest start that is at most `addr`. It is `found`, if that is there.
 #[inline]
 fn found_or_last<'a>(
     ranges: &'a Ranges,
@@ -59,7 +59,7 @@ fn found_or_last<'a>(
     }
 }
 
-/// What I/O addresses are mapped to, range by range (vm-memory's `IotlbIterator`).
+/// The addresses that I/O addresses are mapped to, run by run (vm-memory's `IotlbIterator`).
 #[derive(Drop)]
 pub struct IotlbIterator<'a> {
     ranges: Option<&'a Ranges>,
@@ -81,7 +81,7 @@ impl<'a> Model for IotlbIterator<'a> {
 }
 
 impl<'a> IotlbIterator<'a> {
-    // The pieces of the addresses from one up to another, each of which is mapped.
+    // The mapped ranges of the addresses from `iova` up to `end`, excluded. Each of them must be mapped.
     #[inline]
     pub(crate) fn over(ranges: &'a Ranges, iova: u64, end: u64) -> IotlbIterator<'a>
         requires keyed { AreKeyed ranges.now.entries }
@@ -97,7 +97,7 @@ impl<'a> IotlbIterator<'a> {
         }
     }
 
-    // The same, where the range that has the first of them was found.
+    // The same, with the range that contains `iova`.
     #[inline]
     pub(crate) fn from_range(
         ranges: &'a Ranges,
@@ -121,7 +121,7 @@ impl<'a> IotlbIterator<'a> {
 }
 
 impl<'a> Default for IotlbIterator<'a> {
-    /// No pieces: what no addresses are mapped to.
+    /// An iterator without items.
     fn default() -> IotlbIterator<'a>
         ensures { result ≡ [] }
     {
@@ -163,7 +163,7 @@ impl<'a> Iterator for IotlbIterator<'a> {
     }
 }
 
-// Whether an access may go through each address from one up to another.
+// Whether each address from `iova` up to `end`, excluded, allows `access`.
 #[inline]
 pub(crate) fn is_covered(
     ranges: Range<'_, u64, IotlbRange>,
@@ -194,7 +194,7 @@ pub(crate) fn is_covered(
     end <= next
 }
 
-// The first addresses without a mapping from one up to another, as long as they go together.
+// The first run of addresses without a mapping, from `iova` up to `end`, excluded.
 pub(crate) fn first_gap(
     ranges: Range<'_, u64, IotlbRange>,
     iova: u64,
@@ -231,7 +231,7 @@ pub(crate) fn first_gap(
     })
 }
 
-// The answer where the end of the asked range does not fit 64 bits.
+// The error for a range whose end doesn't fit 64 bits: all of it is missing.
 pub(crate) fn misses_whole(alloc: Global, iova: GuestAddress, length: usize) -> LookupError
     ensures { IsMissedWhole iova.0 length result }
 {
@@ -246,7 +246,7 @@ pub(crate) fn misses_whole(alloc: Global, iova: GuestAddress, length: usize) -> 
     }
 }
 
-// Adds the addresses from one up to another, if there are any.
+// Adds the range of the addresses from `start` up to `end`, excluded, if there are any.
 fn push_between(ranges: &mut Vec<IovaRange>, start: u64, end: u64) -> Result<(), AllocError>
     ensures { OnOk result (ranges.new.items ≡ ranges.old.items ++ between start end) }
 {
@@ -260,7 +260,7 @@ fn push_between(ranges: &mut Vec<IovaRange>, start: u64, end: u64) -> Result<(),
     Ok(())
 }
 
-// What stands in the way among the addresses from one up to another.
+// The addresses from `iova` up to `end`, excluded, that have no mapping or don't allow `access`.
 pub(crate) fn fails_among(
     alloc: Global,
     ranges: Range<'_, u64, IotlbRange>,

@@ -1,11 +1,11 @@
-//! What an access may do.
+//! The permissions of addresses and accesses.
 
 ghost use Rattle.std.specs.Prelude.{◌≡◌};
 ghost use Rattle.vm_iotlb.specs.Table.{HasEither, HasShared, allows, can_read, can_write};
 
 use std::ops::{BitAnd, BitOr};
 
-/// What may be done at an address, or what an access asks for (vm-memory's `Permissions`).
+/// The accesses that an address allows, or those that a caller asks for (vm-memory's `Permissions`).
 #[derive(Clone, Copy, Debug, PartialEq, Eq)]
 pub enum Permissions {
     /// Neither reading nor writing.
@@ -14,12 +14,12 @@ pub enum Permissions {
     Read,
     /// Writing alone.
     Write,
-    /// Both.
+    /// Reading and writing.
     ReadWrite,
 }
 
 impl Permissions {
-    // What allows the one and the other.
+    // The permission with reading if `read`, and with writing if `write`.
     fn of(read: bool, write: bool) -> Permissions
         ensures read { can_read result ≡ read }
         ensures write { can_write result ≡ write }
@@ -52,7 +52,7 @@ impl Permissions {
         }
     }
 
-    /// Whether it has all that an access asks for (vm-memory's `Permissions::allow`).
+    /// Whether it allows all accesses of `access` (vm-memory's `Permissions::allow`).
     pub fn allow(&self, access: Permissions) -> bool
         ensures { result ≡ allows self.now access }
     {

@@ -1,4 +1,4 @@
-//! A range that a table keeps.
+//! A range of a table.
 
 ghost use Rattle.std.specs.Prelude.{◌≤◌, ◌<◌};
 ghost use Rattle.std.specs.Bool.{OnFalse, OnTrue};
@@ -7,22 +7,21 @@ ghost use Rattle.vm_iotlb.specs.Keys.{Aligns, AlignsBehind};
 
 use crate::permissions::Permissions;
 
-/// I/O addresses, each of a byte, from a first one up to an end, which are mapped to addresses from a target
-/// on.
+/// Consecutive I/O addresses, of one byte each, that are mapped to consecutive addresses.
 #[derive(Clone, Copy)]
 pub struct IotlbRange {
     /// The first I/O address.
     pub start: u64,
-    /// The I/O address behind the last.
+    /// The I/O address right behind the last.
     pub end: u64,
-    /// The address that the first is mapped to; those that follow go on from there.
+    /// The address that the first one is mapped to. The others are mapped to the addresses behind it.
     pub target: u64,
-    /// The accesses that are let through.
+    /// The accesses that are allowed.
     pub perm: Permissions,
 }
 
 impl IotlbRange {
-    // Whether it maps the addresses from another's start on as that one does.
+    // Whether it maps the addresses from `next.start` on as `next` does, once it is extended that far.
     pub(crate) fn aligns(&self, next: &IotlbRange) -> bool
         requires range { IsRange self.now }
         requires order { (self.now.start ≤ next.now.start) × (next.now.start ≤ self.now.end) }
@@ -32,7 +31,7 @@ impl IotlbRange {
         self.target + (next.start - self.start) == next.target && self.perm == next.perm
     }
 
-    // Whether another one maps the addresses from its end on as it would.
+    // Whether `next` maps the addresses from this range's end on as this range would, extended that far.
     pub(crate) fn goes_on_in(&self, next: &IotlbRange) -> bool
         requires range { IsRange self.now × IsRange next.now }
         requires order { (next.now.start ≤ self.now.end) × (self.now.end < next.now.end) }

@@ -1,4 +1,4 @@
-//! The ranges of a table by their starts, and how they change.
+//! The ranges of a table, keyed by their starts, and their changes.
 
 ghost use Rattle.std.specs.Prelude.{◌≡◌, ℕ, ◌+◌, ◌<◌, ◌≤◌, ◌&&◌, nat_le, nat_lt, true, None, Some, IsSome};
 ghost use Rattle.std.specs.Prelude.{if◌then◌else◌, OnOk, OnErr, MatchOption};
@@ -17,10 +17,10 @@ use crate::range::IotlbRange;
 use std::alloc::AllocError;
 use std::collections::BTreeMap;
 
-// Each range under its start.
+// Each range, keyed by its start.
 pub(crate) type Ranges = BTreeMap<u64, IotlbRange>;
 
-// The range with the greatest start up to an address.
+// The range with the greatest start that is at most `addr`.
 #[inline]
 pub(crate) fn last_up_to(ranges: &Ranges, addr: u64) -> Option<&IotlbRange>
     requires { AreKeyed ranges.now.entries }
@@ -33,7 +33,7 @@ pub(crate) fn last_up_to(ranges: &Ranges, addr: u64) -> Option<&IotlbRange>
     }
 }
 
-// The least key of a range that ends above an address, if there is one.
+// A number that divides the keys: ranges below it end at or below `addr`, and ranges from it on end above.
 #[inline]
 pub(crate) fn key_from(ranges: &Ranges, addr: u64) -> u64
     requires keyed { AreKeyed ranges.now.entries }
@@ -49,7 +49,7 @@ pub(crate) fn key_from(ranges: &Ranges, addr: u64) -> u64
     range.start
 }
 
-// The range that begins below an address and ends there or above it.
+// The range that begins below `addr` and ends at `addr` or above it.
 fn reaching_from(ranges: &Ranges, addr: u64) -> Option<IotlbRange>
     requires keyed { AreKeyed ranges.now.entries }
     requires ranges { AreRanges (values_of ranges.now.entries) }
@@ -65,7 +65,7 @@ fn reaching_from(ranges: &Ranges, addr: u64) -> Option<IotlbRange>
     }
 }
 
-// The range that has an address.
+// The range that contains `addr`.
 pub(crate) fn having(ranges: &Ranges, addr: u64) -> Option<IotlbRange>
     requires keyed { AreKeyed ranges.now.entries }
     requires ranges { AreRanges (values_of ranges.now.entries) }
@@ -78,14 +78,14 @@ pub(crate) fn having(ranges: &Ranges, addr: u64) -> Option<IotlbRange>
     }
 }
 
-// A map's keys ascend: this is a law, and the call does nothing.
+// A map's keys ascend. This is a theorem: the call does nothing.
 fn law_ordered(ranges: &Ranges)
     ensures { IsOrdered nat_cmp ranges.now }
 {
     let _len = ranges.len();
 }
 
-// Puts a range under its start. Only a new key can allocate.
+// Inserts a range, keyed by its start. Only a new key can allocate. AllocError: nothing changed.
 fn put(ranges: &mut Ranges, range: Option<IotlbRange>) -> Result<(), AllocError>
     ensures ok { OnOk result ((q : ℕ)
         → range_at ranges.new.entries q ≡ put_at range (range_at ranges.old.entries) q) }
@@ -101,7 +101,7 @@ fn put(ranges: &mut Ranges, range: Option<IotlbRange>) -> Result<(), AllocError>
     }
 }
 
-// Takes out what was put under a key that was free.
+// Removes a range that was inserted under a new key.
 fn take_back(ranges: &mut Ranges, range: Option<IotlbRange>)
     ensures { (before : SeenMap ℕ IotlbRange)
         → IsOrdered nat_cmp before
@@ -117,7 +117,7 @@ fn take_back(ranges: &mut Ranges, range: Option<IotlbRange>)
     }
 }
 
-// The first key from an address up to another.
+// The first key from `from` up to `to`, excluded.
 fn key_between(ranges: &Ranges, from: u64, to: u64) -> Option<u64>
     requires { from ≤ to }
     ensures { MatchOption result ((q : ℕ) → from ≤ q → q < to → range_at ranges.now.entries q ≡ None)
@@ -129,7 +129,7 @@ fn key_between(ranges: &Ranges, from: u64, to: u64) -> Option<u64>
     }
 }
 
-// Takes out the ranges whose starts lie from an address up to another.
+// Removes the ranges whose starts are from `from` up to `to`, excluded.
 fn clear(ranges: &mut Ranges, from: u64, to: u64)
     requires { from ≤ to }
     ensures { (q : ℕ) → range_at ranges.new.entries q ≡ cleared from to (range_at ranges.old.entries) q }
@@ -139,8 +139,9 @@ fn clear(ranges: &mut Ranges, from: u64, to: u64)
     }
 }
 
-// Puts up to three ranges in, of which the last is under a key that is there, and takes those out whose
-// starts lie from an address up to another: all of it, or nothing. Only a new key can allocate.
+// Inserts up to three ranges, then removes those whose starts are from `from` up to `to`, excluded. The first
+// one's key must be new, and the third one's must exist. Only a new key can allocate. AllocError: nothing
+// changed.
 fn exchange(
     ranges: &mut Ranges,
     puts: (Option<IotlbRange>, Option<IotlbRange>, Option<IotlbRange>),
@@ -172,7 +173,7 @@ fn exchange(
     Ok(())
 }
 
-// The part of a range before an address.
+// The part of a range below `end`.
 fn part_up_to(range: Option<IotlbRange>, end: u64) -> Option<IotlbRange>
     ensures { result ≡ part_up_to range end }
 {
@@ -182,7 +183,7 @@ fn part_up_to(range: Option<IotlbRange>, end: u64) -> Option<IotlbRange>
     }
 }
 
-// The part of a range from an address behind its first one on.
+// The part of a range from `start` on. None if the range begins there.
 fn part_from(range: Option<IotlbRange>, start: u64) -> Option<IotlbRange>
     requires { MatchOption range (Unit {0}) (λ r. IsRange r × (r.start ≤ start) × (start < r.end)) }
     ensures { result ≡ part_from range start }
@@ -198,7 +199,7 @@ fn part_from(range: Option<IotlbRange>, start: u64) -> Option<IotlbRange>
     }
 }
 
-// The range before another one, if one range would do for both.
+// The range before `range`, if both can be joined into one range.
 fn joined_left(range: &IotlbRange, before: Option<IotlbRange>) -> Option<IotlbRange>
     requires range { IsRange range.now }
     requires before { MatchOption before (Unit {0}) (λ b. IsRange b
@@ -213,7 +214,7 @@ fn joined_left(range: &IotlbRange, before: Option<IotlbRange>) -> Option<IotlbRa
     }
 }
 
-// The range behind another one, if one range would do for both.
+// The range behind `range`, if both can be joined into one range.
 fn joined_right(range: &IotlbRange, after: Option<IotlbRange>) -> Option<IotlbRange>
     requires range { IsRange range.now }
     requires after { MatchOption after (Unit {0}) (λ a. IsRange a
@@ -228,7 +229,7 @@ fn joined_right(range: &IotlbRange, after: Option<IotlbRange>) -> Option<IotlbRa
     }
 }
 
-// A range joined with those before and behind it.
+// The range joined with those before and behind it.
 fn joined(range: &IotlbRange, left: Option<IotlbRange>, right: Option<IotlbRange>) -> IotlbRange
     ensures { result ≡ joined range.now left right }
 {
@@ -243,7 +244,7 @@ fn joined(range: &IotlbRange, left: Option<IotlbRange>, right: Option<IotlbRange
     new
 }
 
-// What is left of the range before, unless it was joined.
+// The rest of the range before, up to `end`. None if it was joined.
 fn left_over(left: Option<IotlbRange>, before: Option<IotlbRange>, end: u64) -> Option<IotlbRange>
     ensures { result ≡ left_over left before end }
 {
@@ -253,7 +254,7 @@ fn left_over(left: Option<IotlbRange>, before: Option<IotlbRange>, end: u64) -> 
     }
 }
 
-// What is left of the range behind, unless it was joined.
+// The rest of the range behind, from `start` on. None if it was joined.
 fn right_over(
     right: Option<IotlbRange>,
     after: Option<IotlbRange>,
@@ -268,8 +269,8 @@ fn right_over(
     }
 }
 
-// Maps the addresses of a range as it says, whatever they had before. It can allocate only if a run begins
-// anew at its start or at its end.
+// Maps the addresses of a range, and replaces their earlier mappings. It can allocate only if a run begins at
+// its start or at its end where none began before.
 pub(crate) fn map_range(ranges: &mut Ranges, range: &IotlbRange) -> Result<(), AllocError>
     requires keyed { AreKeyed ranges.old.entries }
     requires ranges { AreRanges (values_of ranges.old.entries) }
@@ -296,7 +297,7 @@ pub(crate) fn map_range(ranges: &mut Ranges, range: &IotlbRange) -> Result<(), A
     exchange(ranges, puts, new.start + 1, new.end)
 }
 
-// Takes the addresses from one up to another out. It can allocate only if a range goes on at the end.
+// Removes the mappings from `start` up to `end`, excluded. It can allocate only if a run goes on at `end`.
 pub(crate) fn take_out(ranges: &mut Ranges, start: u64, end: u64) -> Result<(), AllocError>
     requires keyed { AreKeyed ranges.old.entries }
     requires ranges { AreRanges (values_of ranges.old.entries) }

@@ -1,4 +1,4 @@
--- Which places an access to bytes reaches.
+-- The places that an access to bytes reaches.
 use Rattle.std.specs.Prelude.{◌≡◌, ℕ, ◌==◌, true, List, [], ◌∷◌, Option, Some, None, ◌⊎◌, if◌then◌else◌}
 use Rattle.std.specs.Prelude.{Result, Ok, Err}
 use Rattle.vm_values.specs.declared.address.GuestAddress.{GuestAddress}
@@ -15,7 +15,7 @@ use Rattle.vm_memory_core.specs.Access.{reached_places}
 use Rattle.vm_memory_core.specs.declared.error.VolatileMemoryError.{VolatileMemoryError}
 use Rattle.vm_memory.specs.Regions.{whole_of}
 
--- a place and those that follow, unless there is none
+-- a place and the places after it; none if there is no first place
 abbrev pub and_after : Option Place → List Place → List Place
 and_after None rest = []
 and_after (Some p) rest = p ∷ rest
@@ -25,28 +25,30 @@ unfoldable pub places_at : (ℕ → Option Place) → List ℕ → List Place
 places_at where_is [] = []
 places_at where_is (a ∷ rest) = and_after (where_is a) (places_at where_is rest)
 
--- places that n bytes from an address on reach: none of them is refused, unless nothing was asked for
+-- the places that n bytes from an address on reach, or InvalidGuestAddress if n isn't 0 and there are
+-- none
 abbrev pub unless_none : GuestAddress → (n : ℕ) → List Place → Result (List Place) GuestMemoryError
 unless_none addr n [] = if n == 0 then Ok [] else Err (InvalidGuestAddress addr)
 unless_none addr n (p ∷ rest) = Ok (p ∷ rest)
 
--- the places that n bytes from an address on reach, where 0 comes after the greatest address
+-- the places that n bytes from an address on reach, by a layout; 0 follows the greatest address
 abbrev pub reached_by : List Region → GuestAddress → (n : ℕ) → Result (List Place) GuestMemoryError
 reached_by layout addr n = unless_none addr n (places_at (place layout) (circular addr.0 n))
 
 -- ---- the bytes of a memory, translated or not
 
--- the places that n bytes from an address on reach, for an access
+-- the places that n bytes from an address on reach, for an access; 0 follows the greatest address
 abbrev pub reached_from : Memory → Permissions → GuestAddress → (n : ℕ) → Result (List Place) GuestMemoryError
 reached_from m access addr n = unless_none addr n (places_at (location m access) (circular addr.0 n))
 
--- no places are reached, since the addresses aren't mapped throughout; an allocation may fail to say that
+-- an access is refused because its addresses aren't mapped throughout, or because an allocation failed
+-- then
 abbrev pub IsNotMapped : Memory → Permissions → (a n : ℕ) → Result (List Place) GuestMemoryError → Type 0
 IsNotMapped m access a n (Ok places) = ⊥
 IsNotMapped m access a n (Err e) = CannotGive m access a n e
 
--- an access to n bytes from an address on: where they are mapped throughout it reaches their places, and else
--- none
+-- the result of an access to n bytes from an address on: the places that it reaches if they are mapped
+-- throughout, else an error
 abbrev pub MayReach :
     Memory → Permissions → GuestAddress → (n : ℕ) → Result (List Place) GuestMemoryError → Type 0
 MayReach m access addr n places =
@@ -55,11 +57,11 @@ MayReach m access addr n places =
 
 -- ---- the bytes of one region
 
--- what refuses an access to a window refuses one to its region
+-- the result of an access to a region, from that to its whole window: an error is InvalidBackendAddress
 abbrev pub region_result : {X : Type 0} → Result X VolatileMemoryError → Result X GuestMemoryError
 region_result (Ok x) = Ok x
 region_result (Err e) = Err InvalidBackendAddress
 
--- the places that n bytes from an offset on reach
+-- the places that n bytes from an offset of a region on reach
 abbrev pub reached_in : Region → MemoryRegionAddress → (n : ℕ) → Result (List Place) GuestMemoryError
 reached_in r offset n = region_result (reached_places (whole_of r) offset.0 n)

@@ -1,4 +1,4 @@
--- Which regions are a layout, and how a layout changes.
+-- The lists of regions that are a layout, and changes of a layout.
 use Rattle.std.specs.Prelude.{◌≡◌, ◌⊎◌, ℕ, length, false, true, nat_lt, List, [], ◌∷◌, find, Option, Some}
 use Rattle.std.specs.Prelude.{None, IsSome, if◌then◌else◌, Result, Ok, Err}
 use Rattle.std.specs.List.{list_any}
@@ -13,34 +13,34 @@ use Rattle.vm_memory.specs.declared.error.GuestRegionCollectionError.TheVariants
 use Rattle.vm_memory.specs.declared.error.GuestRegionCollectionError.TheVariants.{UnsortedMemoryRegions}
 use Rattle.vm_memory.specs.declared.error.GuestRegionCollectionError.TheVariants.{OutOfMemory}
 
--- what is wrong with two regions that stand one after the other, if anything is
+-- the error of two consecutive regions of a list, if they have one
 abbrev pub fault_between : Region → Region → Option GuestRegionCollectionError
 fault_between r s =
     if nat_lt s.start r.start then Some UnsortedMemoryRegions
     else if overlap r s then Some MemoryRegionOverlap
     else None
 
--- the first fault among neighbours
+-- the first error of two consecutive regions, from this region on
 unfoldable pub fault_after : Region → List Region → Option GuestRegionCollectionError
 fault_after r [] = None
 fault_after r (s ∷ rest) = option_or (fault_between r s) (fault_after s rest)
 
--- what is wrong with some regions, if anything is
+-- the error of a list of regions, if it has one
 abbrev pub fault_of : List Region → Option GuestRegionCollectionError
 fault_of [] = Some NoMemoryRegion
 fault_of (r ∷ rest) = fault_after r rest
 
--- some regions, unless there is a fault
+-- a list of regions, or its error
 abbrev pub unless :
     Option GuestRegionCollectionError → List Region → Result (List Region) GuestRegionCollectionError
 unless None regions = Ok regions
 unless (Some fault) regions = Err fault
 
--- the allocator refused so many regions: their list, or one of them
+-- the allocator refused memory for a list of n regions, or for one region
 abbrev pub RegionsWereRefused : ℕ → Type 0
 RegionsWereRefused n = RoomWasRefused n ⊎ RoomWasRefused 1
 
--- some regions are a layout, or what is wrong with them; if nothing is, the allocator may refuse
+-- the result of making a layout: the regions, or their error; if they have none, an allocation may fail
 abbrev pub Collects : List Region → Result (List Region) GuestRegionCollectionError → Type 0
 Collects regions (Ok layout) = (fault_of regions ≡ None) × (layout ≡ regions)
 Collects regions (Err NoMemoryRegion) = fault_of regions ≡ Some NoMemoryRegion
@@ -48,8 +48,8 @@ Collects regions (Err MemoryRegionOverlap) = fault_of regions ≡ Some MemoryReg
 Collects regions (Err UnsortedMemoryRegions) = fault_of regions ≡ Some UnsortedMemoryRegions
 Collects regions (Err OutOfMemory) = (fault_of regions ≡ None) × RegionsWereRefused (length regions)
 
--- a layout with one more region, which has no address in common with any that is there; the allocator may
--- refuse if it has none
+-- the result of inserting a region that has no address in common with those of a layout. An allocation
+-- fails only if it has none
 abbrev pub Inserts : Region → List Region → Result (List Region) GuestRegionCollectionError → Type 0
 Inserts r layout (Ok new) = (list_any (overlap r) layout ≡ false) × (new ≡ with_region r layout)
 Inserts r layout (Err NoMemoryRegion) = ⊥
@@ -57,14 +57,15 @@ Inserts r layout (Err MemoryRegionOverlap) = list_any (overlap r) layout ≡ tru
 Inserts r layout (Err UnsortedMemoryRegions) = ⊥
 Inserts r layout (Err OutOfMemory) = (list_any (overlap r) layout ≡ false) × MemoryWasRefused
 
--- the layout that is left, and the region that was shared
+-- the layout after a removal, and the removed region in place of its `Arc`
 abbrev pub with_removed :
     {X Z : Type 0} → (X → Region) → Result (List Region × Arc X Z) GuestRegionCollectionError
     → Result (List Region × Region) GuestRegionCollectionError
 with_removed region (Ok left) = Ok (left.0, region (arc_value left.1))
 with_removed region (Err e) = Err e
 
--- a layout without the region of this base and size, and that region; the allocator may refuse if it is there
+-- the result of removing the region of a base and a size; an allocation fails only if it is in the
+-- layout
 abbrev pub Removes :
     (base size : ℕ) → List Region → Result (List Region × Region) GuestRegionCollectionError → Type 0
 Removes base size layout (Ok left) =

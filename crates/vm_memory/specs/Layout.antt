@@ -1,4 +1,4 @@
--- Which place a guest's physical address has: a partial function, given by regions.
+-- The places of a guest's physical addresses: a partial function, given by regions.
 use Rattle.std.specs.Prelude.{ℕ, zero, suc, ◌≡◌, ◌+◌, ◌-◌, ◌<◌, ◌≤◌, ◌^◌, Bool, ◌&&◌, not, nat_le, nat_lt}
 use Rattle.std.specs.Prelude.{◌==◌, List, [], ◌∷◌, length, map, Option, Some, None, if◌then◌else◌}
 use Rattle.std.specs.Prelude.{slice_index_or}
@@ -10,13 +10,13 @@ use Rattle.vm_iotlb.specs.Table.{is_within}
 use Rattle.vm_memory_core.specs.Host.{Host, Place, lengths, shape}
 use Rattle.std.proofs.Common.{subst, sym, ap}
 
--- size addresses from start on, which are the offsets of a block from 0 on
+-- a region: the `size` addresses from `start` on, which are the offsets of a block from 0 on
 pub record Region : Type 0 where
   pub start : ℕ
   pub size : ℕ
   pub block : ℕ
 
--- a block and its length
+-- a block's number and its length
 pub record Backing : Type 0 where
   pub size : ℕ
   pub block : ℕ
@@ -35,7 +35,7 @@ place_in r a =
     if is_within r.start r.size a then Some (record { block = r.block; offset = a - r.start; io = None })
     else None
 
--- the place of an address
+-- the place of an address in a layout
 unfoldable pub place : List Region → ℕ → Option Place
 place [] a = None
 place (r ∷ rs) a = option_or (place_in r a) (place rs a)
@@ -45,26 +45,26 @@ unfoldable pub region_at : List Region → ℕ → Option Region
 region_at [] a = None
 region_at (r ∷ rs) a = if is_within r.start r.size a then Some r else region_at rs a
 
--- how many addresses from one on its region still has
+-- the number of addresses from an address to its region's end; 0 without a region
 abbrev pub left_of : ℕ → Option Region → ℕ
 left_of a None = 0
 left_of a (Some r) = r.start + r.size - a
 
--- how many addresses from one on the region that has it still has; none if no region has it
+-- the number of addresses from an address to the end of the region that has it; 0 if no region has it
 abbrev pub left_at : List Region → ℕ → ℕ
 left_at layout a = left_of a (region_at layout a)
 
--- the regions that are shared
+-- the regions in a list of `Arc`s
 abbrev pub regions_of : {X Z : Type 0} → (X → Region) → List (Arc X Z) → List Region
 regions_of region shared = map (λ a. region (arc_value a)) shared
 
--- where the i-th region begins
+-- the first address of the i-th region
 abbrev pub start_at : List Region → ℕ → ℕ
 start_at [] i = 0
 start_at (r ∷ rs) zero = r.start
 start_at (r ∷ rs) (suc i) = start_at rs i
 
--- the address that follows the i-th region
+-- the address after the i-th region
 abbrev pub end_at : List Region → ℕ → ℕ
 end_at [] i = 0
 end_at (r ∷ rs) zero = r.start + r.size
@@ -78,7 +78,7 @@ overlap r s = nat_lt r.start (s.start + s.size) && nat_lt s.start (r.start + r.s
 abbrev pub fits : Region → Bool
 fits r = nat_le (r.start + r.size) (2 ^ 64)
 
--- regions stand by ascending start: the layout with one more
+-- a layout with one more region; regions are in the order of their first addresses
 abbrev pub with_region : Region → List Region → List Region
 with_region r [] = r ∷ []
 with_region r (s ∷ rest) = if nat_lt r.start s.start then r ∷ s ∷ rest else s ∷ with_region r rest
@@ -96,23 +96,23 @@ abbrev pub AllFrom : ℕ → List Region → Type 0
 AllFrom a [] = Unit {0}
 AllFrom a (r ∷ rs) = (a ≤ r.start) × AllFrom a rs
 
--- the regions are ascending, none is empty or ends past 2^64, and no two have an address in common
+-- the regions ascend, none is empty or ends past 2^64, and no two have an address in common
 abbrev pub IsLayout : List Region → Type 0
 IsLayout [] = Unit {0}
 IsLayout (r ∷ rs) = (0 < r.size) × (r.start + r.size ≤ 2 ^ 64) × AllFrom (r.start + r.size) rs × IsLayout rs
 
--- blocks of these lengths have the regions, each as long as its block
+-- each region has a block of its length among blocks of these lengths
 abbrev pub AreHeld : List ℕ → List Region → Type 0
 AreHeld lengths [] = Unit {0}
 AreHeld lengths (r ∷ rs) =
     (r.block < length lengths) × (slice_index_or lengths r.block 0 ≡ r.size) × AreHeld lengths rs
 
--- the blocks of a host have the regions, each as long as its block
+-- each region has a block of its length in a host
 abbrev pub HostHolds : Host → List Region → Type 0
 HostHolds h layout = AreHeld (lengths h) layout
 
--- a proof that a ghost member needs, of which nothing has to be believed: hosts of the same shape have the
--- same regions
+-- a proof that a ghost member needs, which nobody has to believe: hosts of the same shape have the
+-- blocks of the same layouts
 pub held-same :
     (layout : List Region) (h g : Host) → shape g ≡ shape h → HostHolds h layout → HostHolds g layout
 held-same layout h g same held = subst (λ l. AreHeld l layout) (sym (ap (λ s. s.block_lengths) same)) held

@@ -1,4 +1,4 @@
--- What making blocks, regions and layouts answers, and what it leaves in the host.
+-- Results of making blocks, regions and layouts, and the host after them.
 use Rattle.std.specs.Prelude.{◌≡◌, ℕ, ◌+◌, ◌<◌, ◌≤◌, ◌^◌, nat_le, nat_lt, Bool, true, false, ◌&&◌, ◌⊎◌}
 use Rattle.std.specs.Prelude.{List, [], ◌∷◌, ◌++◌, length, map, take, replicate, Option, Some, None}
 use Rattle.std.specs.Prelude.{if◌then◌else◌, option_map, slice_get, Result, Ok, Err}
@@ -15,7 +15,7 @@ use Rattle.vm_memory.specs.declared.error.FromRangesError.TheVariants.{InvalidGu
 use Rattle.vm_memory.specs.declared.error.MmapRegionError.{MmapRegionError}
 use Rattle.vm_memory.specs.declared.error.MmapRegionError.TheVariants as mmap
 
--- a new block of zeros, none of whose pages is marked
+-- a new block of zeros without a mark
 abbrev pub zero_block : (ℕ → ℕ) → ℕ → Block
 zero_block count size = record { bytes = replicate size 0; marks = replicate (count size) false }
 
@@ -23,7 +23,7 @@ zero_block count size = record { bytes = replicate size 0; marks = replicate (co
 abbrev pub grown : (ℕ → ℕ) → Host → ℕ → Host
 grown count h size = with_block h (zero_block count size)
 
--- a new block of some size, which is not 0
+-- the result of making a block: `Mmap` if its size is 0
 abbrev pub IsMapped :
     (count : ℕ → ℕ) → (before after : Host) → (size : ℕ) → Result Backing MmapRegionError → Type 0
 IsMapped count before after size (Ok m) =
@@ -38,7 +38,7 @@ abbrev pub backing_at : Host → ℕ → Option Backing
 backing_at h b =
     option_map (λ block. record { size = length block.bytes; block = b }) (slice_get h.blocks b)
 
--- what has at least one byte
+-- a block, if it has at least one byte
 abbrev not_empty : Option Backing → Option Backing
 not_empty None = None
 not_empty (Some m) = if nat_lt 0 m.size then Some m else None
@@ -53,8 +53,8 @@ region_over m base =
     if nat_le (base + m.size) (2 ^ 64) then Some (record { start = base; size = m.size; block = m.block })
     else None
 
--- one region over a new block; a size of 0 makes no block, and a last address past the greatest leaves the
--- block in the host
+-- the result of making a region over a new block. A size of 0 makes no block. If the last address
+-- doesn't fit 64 bits, the block stays in the host
 abbrev pub IsRegionMade :
     (count : ℕ → ℕ) → (before after : Host) → (base size : ℕ) → Result Region FromRangesError → Type 0
 IsRegionMade count before after base size (Ok r) =
@@ -69,7 +69,7 @@ IsRegionMade count before after base size (Err InvalidGuestRegion) =
     (0 < size) × (2 ^ 64 < base + size) × (after ≡ grown count before size)
 IsRegionMade count before after base size (Err OutOfMemory) = (0 < size) × (after ≡ before)
 
--- a first address, and how many addresses: neither none of them, nor one past the greatest
+-- whether a range, a first address and a length, isn't empty and ends by 2^64
 abbrev pub is_good : GuestAddress × ℕ → Bool
 is_good range = nat_lt 0 range.1 && nat_le (range.0.0 + range.1) (2 ^ 64)
 
@@ -93,8 +93,9 @@ abbrev pub AreBlocksMade :
 AreBlocksMade count before after ranges k =
     (list_all is_good (take k ranges) ≡ true) × (after ≡ grown_by count before (take k ranges))
 
--- regions over new blocks, one for each range up to the first that is refused; their blocks stay in the host.
--- An allocation may fail at a range that isn't empty, before its block is made or after
+-- the result of making regions over new blocks, one for each range up to the first bad one. The blocks
+-- stay in the host. An allocation may fail at a range that isn't empty, before its block is made or
+-- after
 abbrev pub AreRegionsMade : (count : ℕ → ℕ) → (before after : Host) → List (GuestAddress × ℕ)
     → Result (List Region) FromRangesError → Type 0
 AreRegionsMade count before after ranges (Ok regions) =
@@ -115,7 +116,7 @@ AreRegionsMade count before after ranges (Err OutOfMemory) =
     (k : ℕ) × (range : GuestAddress × ℕ) × (slice_get ranges k ≡ Some range) × (0 < range.1)
     × (AreBlocksMade count before after ranges k ⊎ AreBlocksMade count before after ranges (k + 1))
 
--- a layout of such regions, if there is no fault among them
+-- the result of making a layout of new regions: an error if the list of regions has one
 abbrev pub IsMadeOf : (count : ℕ → ℕ) → (before after : Host) → List (GuestAddress × ℕ) →
     Result (List Region) FromRangesError → Type 0
 IsMadeOf count before after ranges (Ok layout) =
@@ -125,7 +126,7 @@ IsMadeOf count before after ranges (Err (Collection e)) =
     × (fault_of (regions_from (length before.blocks) ranges) ≡ Some e)
 IsMadeOf count before after ranges (Err e) = AreRegionsMade count before after ranges (Err e)
 
--- shared regions, or why there are none
+-- the regions in a list of `Arc`s, or the error
 abbrev pub shared_regions :
     {X Z W E : Type 0} → (X → Region) → Result (Vec (Arc X Z) W) E → Result (List Region) E
 shared_regions region (Ok shared) = Ok (regions_of region shared.items)

@@ -1,5 +1,5 @@
--- What blocks of some lengths hold has one proof, as a ghost field that keeps it needs. Nothing here has to
--- be believed.
+-- Proofs that windows and layouts lie in blocks are unique, as a ghost field that keeps one needs.
+-- Nobody has to believe anything here.
 use Rattle.std.specs.Prelude.{ℕ, List, [], ◌∷◌}
 use Rattle.std.specs.Coded.{Unit-prop, le_prop}
 use Rattle.vm_memory.specs.Layout.{Region, AreHeld}

@@ -1,5 +1,5 @@
--- An access by address reaches at most as many places as it asks for: proofs, of which nothing has to be
--- believed.
+-- Proofs that an access by address reaches at most as many places as it asks for. Nobody has to believe
+-- anything here.
 use Rattle.std.specs.Prelude.{◌≡◌, ℕ, zero, suc, ◌+◌, ◌%◌, ◌^◌, ◌≤◌, ◌==◌, List, [], ◌∷◌, length, Option}
 use Rattle.std.specs.Prelude.{Some, None, if◌then◌else◌, Result, Ok, Err, refl, true, false}
 use Rattle.std.proofs.Common.{ap, sym, subst, arith, inl, inr, ◌∙◌}
@@ -40,7 +40,7 @@ unless_none_at_most addr n [] h =
     else Err (InvalidGuestAddress addr))) [ true ↦ omega arith | false ↦ tt ]
 unless_none_at_most addr n (p ∷ ps) h = h
 
--- where addresses are makes no difference
+-- this holds for any places of the addresses
 reached_at_most : (f : ℕ → Option Place) (addr : GuestAddress) (n : ℕ) (places : List Place) →
     Ok places ≡ unless_none addr n (places_at f (circular addr.0 n)) → length places ≤ n
 reached_at_most f addr n places e =

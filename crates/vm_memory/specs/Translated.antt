@@ -1,4 +1,4 @@
--- Memory behind a table: where I/O addresses are, and how long a window of them can be.
+-- Memory behind a table: the places of I/O addresses, and the greatest length of a window of them.
 use Rattle.std.specs.Prelude.{◌≡◌, ℕ, zero, suc, ◌+◌, ◌-◌, ◌<◌, ◌^◌, min, length, Bool, true, false, refl}
 use Rattle.std.specs.Prelude.{List, [], ◌∷◌, Option, if◌then◌else◌, option_map, slice_get, map, unwrap_or}
 use Rattle.std.specs.Borrow.{Bor}
@@ -15,40 +15,39 @@ use Rattle.vm_memory.specs.Layout.{Region, HostHolds, held-same, left_at}
 use Rattle.vm_memory.specs.Memory.{for_io, place_behind, table_in}
 use Rattle.vm_memory.specs.Slices.{Slices}
 
--- the place of an I/O address, by a layout and a table, where the access is allowed; a write there marks the
+-- the place of an I/O address by a layout and a table, if the access is allowed; a write there marks the
 -- address's page in a set
 abbrev pub translated : List Region → Table → (set : ℕ) → Permissions → ℕ → Option Place
 translated layout table set access a = for_io set a (place_behind layout access (table a))
 
--- how many of n addresses from a on are mapped as one, from a on
+-- the number of addresses, of n from a on, that go together: mapped as one piece, or none of them mapped
 unfoldable pub run_len : Table → (a n : ℕ) → ℕ
 run_len table a zero = 0
 run_len table a (suc n) = if go_together (table a) (table (a + 1)) then suc (run_len table (a + 1) n) else 1
 
--- how many I/O addresses from a on a window of them has at most: it ends with what is mapped as one, and with
--- its region
+-- the greatest length of a window from an I/O address on: the window ends with the piece that is mapped
+-- as one, and with its region
 abbrev pub translated_left : List Region → Table → ℕ → ℕ
 translated_left layout table a = min (run_len table a (2 ^ 64 - a)) (left_at layout (target_of (table a)))
 
--- n addresses from a on that end below 2^64 and are mapped with a permission, and the pieces that they are
--- mapped to
+-- n addresses from a on end below 2^64 and are mapped with a permission to these pieces
 abbrev pub AreMappedTo : Table → Permissions → (a n : ℕ) → List MappedRange → Type 0
 AreMappedTo table access a n mapped =
     (a + n < 2 ^ 64) × (may_all table access a n ≡ true) × (mapped ≡ pieces table a n)
 
--- what n addresses from a on are mapped to, piece by piece: a piece, if it isn't empty, and those that follow
+-- n addresses from a on are mapped to these pieces: to the first, unless it is empty, and to the rest
 abbrev pub AreLeft : Table → (a n : ℕ) → MappedRange → List MappedRange → Type 0
 AreLeft table a n piece rest =
     (piece.base.0 + piece.length < 2 ^ 64)
     × (0 < piece.length → pieces table a n ≡ piece ∷ rest)
     × (piece.length ≡ 0 → pieces table a n ≡ rest)
 
--- some addresses that are mapped throughout, and what they are mapped to
+-- n addresses from a on, at least one, are mapped with a permission throughout, to these pieces
 abbrev pub MappedLeft : Table → Permissions → (a n : ℕ) → MappedRange → List MappedRange → Type 0
 MappedLeft table access a n piece rest =
     (0 < n) × (a + n < 2 ^ 64) × (may_all table access a n ≡ true) × AreLeft table a n piece rest
 
--- windows of I/O addresses that are still to come
+-- windows of I/O addresses: layout, table, set of I/O pages, access, and the addresses that are left
 pub record TranslatedSlices : Type 0 where
   pub layout : List Region
   pub ranges : List IotlbRange
@@ -56,7 +55,7 @@ pub record TranslatedSlices : Type 0 where
   pub access : Permissions
   pub left : List ℕ
 
--- where these addresses are
+-- windows of I/O addresses, with the places of their layout and table
 abbrev pub slices_translated : TranslatedSlices → Slices
 slices_translated s = record {
   where_is = translated s.layout (table_kept s.ranges) s.set s.access;
@@ -64,24 +63,24 @@ slices_translated s = record {
   left = s.left;
 }
 
--- the ranges of a table, if it is there: one that isn't maps nothing
+-- the ranges of a table; a missing table maps nothing
 abbrev pub ranges_of : Option (Bor (List IotlbRange)) → List IotlbRange
 ranges_of table = unwrap_or (option_map (λ t. t.now) table) []
 
--- the ranges of a table of a host, by its number
+-- the ranges of the table of this number in a host
 abbrev pub ranges_in : Host → (number : ℕ) → List IotlbRange
 ranges_in h number = unwrap_or (slice_get h.tables number) []
 
--- how many addresses from a on a window has at most, behind an IOMMU that is on or off
+-- the greatest length of a window from an address on, behind an IOMMU that is on or off
 abbrev pub left_behind : (on : Bool) → Host → List Region → (number : ℕ) → ℕ → ℕ
 left_behind on h layout number a =
     if on then translated_left layout (table_in h number) a else left_at layout a
 
--- a host has the blocks of a layout, a table of this number and a set of I/O pages of that one
+-- a host has the blocks of a layout, a table of this number, and a set of I/O pages of this number
 abbrev pub HoldsBehind : Host → List Region → (number set : ℕ) → Type 0
 HoldsBehind h layout number set = HostHolds h layout × (number < length h.tables) × (set < length h.io_marks)
 
--- proofs that ghost members need, of which nothing has to be believed
+-- proofs that ghost members need, which nobody has to believe
 pub left-off : (on : Bool) (x y : ℕ) → on ≡ false → (if on then x else y) ≡ y
 left-off on x y off = rw off refl
 

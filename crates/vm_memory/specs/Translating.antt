@@ -1,4 +1,4 @@
--- What a translation of I/O addresses answers.
+-- Results of translating I/O addresses.
 use Rattle.std.specs.Prelude.{◌≡◌, ℕ, ◌+◌, ◌<◌, ◌≤◌, ◌^◌, true, false, List, ◌⊎◌, Result, Ok, Err}
 use Rattle.vm_iotlb.specs.declared.permissions.Permissions.{Permissions}
 use Rattle.vm_iotlb.specs.declared.iova.MappedRange.{MappedRange}
@@ -8,13 +8,13 @@ use Rattle.vm_iotlb.specs.declared.error.IommuError.TheVariants.{IommuMisconfigu
 use Rattle.vm_iotlb.specs.Table.{Table}
 use Rattle.vm_iotlb.specs.AddressRuns.{addresses_joined, may_all, pieces, run_of, targets}
 
--- n addresses from iova on can't be translated: their end doesn't fit 64 bits, or an access may not go
--- through each of them
+-- n addresses from iova on can't be translated: their end doesn't fit 64 bits, or the table doesn't
+-- allow the access to each
 abbrev pub CannotTranslate : Table → (iova n : ℕ) → Permissions → Type 0
 CannotTranslate table iova n access = (2 ^ 64 ≤ iova + n) ⊎ (may_all table access iova n ≡ false)
 
--- what n addresses from iova on are mapped to, piece by piece, or that they can't be translated; an
--- allocation may fail to say that
+-- the result of translating n addresses from iova on: the pieces to which they are mapped, or an error.
+-- An allocation fails only if they can't be translated
 abbrev pub Translates : Table → (iova n : ℕ) → Permissions → Result (List MappedRange) IommuError → Type 0
 Translates table iova n access (Ok all) =
     (iova + n < 2 ^ 64)

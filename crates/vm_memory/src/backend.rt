@@ -12,7 +12,7 @@ use std::marker::Model;
 use std::sync::Arc;
 use vm_memory_core::{GuestAddress, MemoryRegionAddress, VolatileSlice};
 
-/// Regions, one after another.
+/// The regions of a layout, by ascending address.
 #[derive(Drop)]
 pub struct RegionIter<'a, R: GuestMemoryRegion> {
     regions: &'a [Arc<R>],
@@ -45,24 +45,24 @@ impl<'a, R: GuestMemoryRegion> Iterator for RegionIter<'a, R> {
     }
 }
 
-/// Memory of a guest, as regions by ascending address (vm-memory's `GuestMemoryBackend`).
+/// A guest's physical memory, as regions by ascending address (vm-memory's `GuestMemoryBackend`).
 pub trait GuestMemoryBackend {
-    /// What a region is.
+    /// The type of a region.
     type R: GuestMemoryRegion;
 
     // the regions
     ghost layout: { Self → List Region };
 
-    /// How many regions there are.
+    /// The number of regions.
     fn num_regions(&self) -> usize
         ensures { result ≡ length (layout self.now) };
 
-    /// The region that has an address.
+    /// The region that has an address, None if no region has it.
     fn find_region(&self, addr: GuestAddress) -> Option<&Self::R>
         ensures found { option_map (λ r. Self.R.region r.now) result ≡ region_at (layout self.now) addr.0 }
         ensures layout { IsLayout (layout self.now) };
 
-    /// The regions, one after another.
+    /// The regions, by ascending address.
     fn iter(&self) -> RegionIter<'_, Self::R>
         ensures { result ≡ layout self.now };
 
@@ -70,7 +70,7 @@ pub trait GuestMemoryBackend {
     fn last_addr(&self) -> GuestAddress
         ensures { result.0 ≡ last_of (layout self.now) };
 
-    /// The region that has an address, and the address's offset there.
+    /// The region that has an address, and the address's offset in it, in bytes.
     #[inline]
     final fn to_region_addr(&self, addr: GuestAddress) -> Option<(&Self::R, MemoryRegionAddress)>
         ensures { option_map (λ p. (Self.R.region p.0.now, p.1.0)) result
@@ -93,7 +93,7 @@ pub trait GuestMemoryBackend {
         self.find_region(addr).is_some()
     }
 
-    /// An address, if a region has it.
+    /// The address, if a region has it.
     #[inline]
     final fn check_address(&self, addr: GuestAddress) -> Option<GuestAddress>
         ensures { result ≡ checked_at (layout self.now) addr.0 }
@@ -104,7 +104,7 @@ pub trait GuestMemoryBackend {
         }
     }
 
-    /// The address that lies `offset` bytes behind another, if a region has it.
+    /// The address `offset` bytes after another, if a region has it.
     #[inline]
     final fn checked_offset(&self, base: GuestAddress, offset: usize) -> Option<GuestAddress>
         ensures { result ≡ checked_at (layout self.now) (base.0 + offset) }
@@ -115,8 +115,8 @@ pub trait GuestMemoryBackend {
         }
     }
 
-    /// The window of `count` bytes from an address on, if its region has them: else InvalidGuestAddress if no
-    /// region has the address, or InvalidBackendAddress.
+    /// The window of `count` bytes from an address on. InvalidGuestAddress if no region has the address,
+    /// InvalidBackendAddress if its region doesn't have all of the bytes.
     #[inline]
     final fn get_slice(
         &self,
@@ -131,8 +131,8 @@ pub trait GuestMemoryBackend {
         }
     }
 
-    /// Where the byte at an address is in the host, or InvalidGuestAddress (vm-memory's
-    /// `GuestMemoryBackend::get_host_address`).
+    /// The block and the offset of the byte at an address, InvalidGuestAddress if no region has it
+    /// (vm-memory's `GuestMemoryBackend::get_host_address`).
     #[inline]
     final fn get_host_address(&self, addr: GuestAddress) -> Result<HostAddress, GuestMemoryError>
         ensures { result ≡ host_address_at (layout self.now) addr }

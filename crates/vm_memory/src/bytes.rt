@@ -1,4 +1,5 @@
-//! Bytes of guest memory and of regions by address (vm-memory's `Bytes` and `GuestMemoryRegionBytes`).
+//! Bytes of guest memory by address, and of regions by offset (vm-memory's `Bytes` and
+//! `GuestMemoryRegionBytes`).
 
 ghost use Rattle.std.specs.Prelude.{◌≡◌, ◌==◌, if◌then◌else◌, Result, Ok, Err};
 ghost use Rattle.vm_memory_core.specs.Host.{lengths};
@@ -15,8 +16,8 @@ use crate::error::GuestMemoryError;
 use crate::region::{GuestMemoryRegion, GuestRegionMmap};
 use vm_memory_core::{Bytes, GuestAddress, HostMemory, MemoryRegionAddress, NewBitmap};
 
-/// A guest's bytes by their address, where 0 comes after the greatest. Where not all are there the errors are
-/// InvalidGuestAddress, if none is, and PartialBuffer.
+/// A guest's bytes by physical address; 0 follows the greatest address. InvalidGuestAddress if the first
+/// address has no place. `read_slice` and `write_slice`: PartialBuffer if a later one has none.
 impl<R: GuestMemoryRegion> Bytes<GuestAddress> for GuestRegionCollection<R> {
     type E = GuestMemoryError;
 
@@ -68,7 +69,8 @@ impl<R: GuestMemoryRegion> Bytes<GuestAddress> for GuestRegionCollection<R> {
     }
 }
 
-// What a transfer of at most this many bytes at an address answers, of which this many were done.
+// The result of a transfer of at most `asked` bytes at an address, of which `completed` were
+// transferred.
 pub(crate) fn some_of(
     addr: GuestAddress,
     asked: usize,
@@ -87,13 +89,13 @@ pub(crate) fn some_of(
     }
 }
 
-/// Regions whose bytes are read and written by their offset (vm-memory's `GuestMemoryRegionBytes`).
+/// A region whose bytes are read and written by offset (vm-memory's `GuestMemoryRegionBytes`).
 pub trait GuestMemoryRegionBytes: GuestMemoryRegion + Bytes<MemoryRegionAddress> {}
 
 impl GuestMemoryRegionBytes for GuestRegionMmap {}
 
-/// A region's bytes by their offset from its first address: InvalidBackendAddress if the first isn't there,
-/// PartialBuffer if only some are.
+/// A region's bytes by their offset from its first address. InvalidBackendAddress if the region doesn't
+/// have the first byte. `read_slice` and `write_slice`: PartialBuffer if it doesn't have them all.
 impl Bytes<MemoryRegionAddress> for GuestRegionMmap {
     type E = GuestMemoryError;
 
@@ -155,7 +157,7 @@ impl Bytes<MemoryRegionAddress> for GuestRegionMmap {
     }
 }
 
-// Whether a transfer had all of its bytes.
+// The result of a transfer of `expected` bytes: PartialBuffer if it had fewer.
 fn in_full(expected: usize, completed: usize) -> Result<(), GuestMemoryError>
     ensures { result ≡ (if completed == expected then Ok tt else Err (PartialBuffer expected completed)) }
 {

@@ -1,4 +1,4 @@
-//! Regions that ascend and have no address in common (vm-memory's `GuestRegionCollection`).
+//! Regions in ascending order without a common address (vm-memory's `GuestRegionCollection`).
 
 ghost use Rattle.std.specs.Prelude.{◌≡◌, ◌+◌, ◌-◌, ◌<◌, ◌≤◌, [], length, map, option_map, slice_get, Some};
 ghost use Rattle.std.specs.Prelude.{None, IfOk, OnErr};
@@ -39,7 +39,7 @@ impl<R: GuestMemoryRegion> Model for GuestRegionCollection<R> {
 }
 
 impl<R: GuestMemoryRegion> GuestRegionCollection<R> {
-    /// No region.
+    /// A collection without a region.
     pub fn new(alloc: Global) -> GuestRegionCollection<R>
         ensures { result ≡ [] }
     {
@@ -49,9 +49,9 @@ impl<R: GuestMemoryRegion> GuestRegionCollection<R> {
         }
     }
 
-    /// Some regions, which have to ascend and to have no address in common: else NoMemoryRegion,
-    /// UnsortedMemoryRegions or MemoryRegionOverlap, or OutOfMemory (vm-memory's
-    /// `GuestRegionCollection::from_regions`).
+    /// A collection of regions (vm-memory's `GuestRegionCollection::from_regions`). Errors:
+    /// NoMemoryRegion if there are none, UnsortedMemoryRegions or MemoryRegionOverlap at the first
+    /// neighbours that don't ascend or have an address in common, OutOfMemory.
     pub fn from_regions(
         alloc: Global,
         regions: Vec<R>,
@@ -67,8 +67,8 @@ impl<R: GuestMemoryRegion> GuestRegionCollection<R> {
         }
     }
 
-    /// The same of regions that others may share: NoMemoryRegion, UnsortedMemoryRegions or
-    /// MemoryRegionOverlap. No memory is taken (vm-memory's `GuestRegionCollection::from_arc_regions`).
+    /// The same of shared regions, without an allocation: NoMemoryRegion, UnsortedMemoryRegions or
+    /// MemoryRegionOverlap (vm-memory's `GuestRegionCollection::from_arc_regions`).
     pub fn from_arc_regions(
         alloc: Global,
         regions: Vec<Arc<R>>,
@@ -82,8 +82,8 @@ impl<R: GuestMemoryRegion> GuestRegionCollection<R> {
         }
     }
 
-    /// The regions and one more, if it has no address in common with any that is there: else
-    /// MemoryRegionOverlap, or OutOfMemory (vm-memory's `GuestRegionCollection::insert_region`).
+    /// A collection with one more region (vm-memory's `GuestRegionCollection::insert_region`).
+    /// MemoryRegionOverlap if it has an address in common with another, OutOfMemory.
     pub fn insert_region(
         &self,
         region: Arc<R>,
@@ -109,8 +109,8 @@ impl<R: GuestMemoryRegion> GuestRegionCollection<R> {
         })
     }
 
-    // Whether one of the regions has an address from one to another; `at` of them begin at the first address
-    // or below it.
+    // Whether a region has an address from `start` to `last`, both included. The first `at` regions
+    // begin at `start` or below it.
     fn collides(&self, at: usize, start: u64, last: u64) -> bool
         requires order { start ≤ last }
         requires most { at ≤ length self.now }
@@ -125,7 +125,7 @@ impl<R: GuestMemoryRegion> GuestRegionCollection<R> {
         self.begins_by(at, last)
     }
 
-    // Whether the region before the `at`-th has an address or one above it.
+    // Whether the region before the `at`-th has an address or a greater one.
     fn ends_past(&self, at: usize, addr: u64) -> bool
         requires { at ≤ length self.now }
         ensures past { OnTrue result ((0 < at) × (addr < end_at self.now (at - 1))) }
@@ -149,8 +149,9 @@ impl<R: GuestMemoryRegion> GuestRegionCollection<R> {
         self.region(at).start_addr().0 <= addr
     }
 
-    /// The regions without the one that begins at an address and has a size in bytes, and that one: else
-    /// NoMemoryRegion, or OutOfMemory (vm-memory's `GuestRegionCollection::remove_region`).
+    /// A collection without the region of this first address and size in bytes, and that region
+    /// (vm-memory's `GuestRegionCollection::remove_region`). NoMemoryRegion if there is none,
+    /// OutOfMemory.
     pub fn remove_region(
         &self,
         base: GuestAddress,
@@ -182,7 +183,7 @@ impl<R: GuestMemoryRegion> GuestRegionCollection<R> {
         ))
     }
 
-    /// The same regions once more; AllocError only if the allocator refuses it.
+    /// A collection of the same regions. AllocError if the allocator refuses its memory.
     pub fn try_clone(&self) -> Result<GuestRegionCollection<R>, AllocError>
         ensures same { IfOk result (λ m. m ≡ self.now) }
         ensures refused { OnErr result MemoryWasRefused }
@@ -194,21 +195,21 @@ impl<R: GuestMemoryRegion> GuestRegionCollection<R> {
         })
     }
 
-    // The regions, in a list of its own.
+    // A new list of the same regions.
     fn copied(&self) -> Result<Vec<Arc<R>>, AllocError>
         ensures copy { IfOk result (λ v. regions_of R.region v.items ≡ self.now) }
         ensures refused { OnErr result MemoryWasRefused }
     {
         let mut all = list_with_room(self.alloc, self.regions.len())?;
         for region in &self.regions {
-            // There is room already, which no clause says here.
+            // The list has room already, but no clause of a contract here says so.
             reserve(&mut all, 1)?;
             all.push(held_again(region)?).unwrap();
         }
         Ok(all)
     }
 
-    // How many regions there are.
+    // The number of regions.
     #[inline]
     pub(crate) fn count(&self) -> usize
         ensures count { result ≡ length self.now }
@@ -224,7 +225,7 @@ impl<R: GuestMemoryRegion> GuestRegionCollection<R> {
         &self.regions
     }
 
-    // A region by its number.
+    // The region at an index.
     #[inline]
     pub(crate) fn region(&self, at: usize) -> &R
         requires { at < length self.now }
@@ -233,7 +234,7 @@ impl<R: GuestMemoryRegion> GuestRegionCollection<R> {
         &self.regions[at]
     }
 
-    // How many regions begin at an address or below it.
+    // The number of regions that begin at an address or below it, by binary search.
     #[inline(always)]
     fn begun(&self, addr: u64) -> usize
         ensures most { result ≤ length self.now }
@@ -254,7 +255,7 @@ impl<R: GuestMemoryRegion> GuestRegionCollection<R> {
         low
     }
 
-    // The region that has an address.
+    // The region that has an address, None if no region has it.
     #[inline(always)]
     pub(crate) fn find(&self, addr: u64) -> Option<&R>
         ensures found { option_map (λ r. R.region r.now) result ≡ region_at self.now addr }
@@ -273,14 +274,14 @@ impl<R: GuestMemoryRegion> GuestRegionCollection<R> {
     }
 }
 
-// Regions that others may share.
+// Puts each region into an `Arc`.
 fn share<R: GuestMemoryRegion>(alloc: Global, regions: Vec<R>) -> Result<Vec<Arc<R>>, AllocError>
     ensures shared { IfOk result (λ v. regions_of R.region v.items ≡ map R.region regions.items) }
     ensures refused { OnErr result (RegionsWereRefused (length regions.items)) }
 {
     let mut all = list_with_room(alloc, regions.len())?;
     for region in regions {
-        // There is room already, which no clause says here.
+        // The list has room already, but no clause of a contract here says so.
         reserve(&mut all, 1)?;
         match shared(alloc, region) {
             Ok(region) => all.push(region).unwrap(),
@@ -290,7 +291,7 @@ fn share<R: GuestMemoryRegion>(alloc: Global, regions: Vec<R>) -> Result<Vec<Arc
     Ok(all)
 }
 
-// What is wrong with two regions that stand one after the other.
+// The error of two consecutive regions, if they have one.
 fn fault_of_pair<R: GuestMemoryRegion>(first: &R, second: &R) -> Option<GuestRegionCollectionError>
     ensures fault { result ≡ fault_between (R.region first.now) (R.region second.now) }
     ensures lawful { IsLawful (R.region second.now) }
@@ -305,7 +306,7 @@ fn fault_of_pair<R: GuestMemoryRegion>(first: &R, second: &R) -> Option<GuestReg
     }
 }
 
-// What is wrong with some regions.
+// The first error of some regions, if they have one.
 fn fault_among<R: GuestMemoryRegion>(regions: &[R]) -> Option<GuestRegionCollectionError>
     ensures fault { result ≡ fault_of (map R.region regions.now) }
     ensures layout { result ≡ None → IsLayout (map R.region regions.now) }
@@ -314,7 +315,7 @@ fn fault_among<R: GuestMemoryRegion>(regions: &[R]) -> Option<GuestRegionCollect
     if count == 0 {
         return Some(GuestRegionCollectionError::NoMemoryRegion);
     }
-    // for the proof: the first region is lawful, as `fault_of_pair` says of each other one.
+    // For the proof: the first region is lawful, as `fault_of_pair` shows for each other one.
     let _ = regions[0].len();
     for at in 1..count {
         match fault_of_pair(&regions[at - 1], &regions[at]) {

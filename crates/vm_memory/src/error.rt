@@ -1,4 +1,4 @@
-//! Why guest memory is not made, or not reached.
+//! Errors of making and of reaching guest memory.
 
 ghost use Rattle.std.specs.Prelude.{◌≡◌};
 
@@ -9,7 +9,7 @@ use vm_values::GuestAddress;
 /// Why no block was made for a region (vm-memory's `MmapRegionError`).
 #[derive(Clone, Copy, Debug, PartialEq, Eq, Error)]
 pub enum MmapRegionError {
-    /// No byte was asked for.
+    /// The size is 0.
     #[error("a region has at least one byte")]
     Mmap,
     #[error("out of memory")]
@@ -19,7 +19,7 @@ pub enum MmapRegionError {
 impl MmapRegionError {
     ghost use Rattle.vm_memory.specs.Numbers.{mmap_number};
 
-    /// The number that tells the error apart.
+    /// The error's number, 1 or 2.
     pub fn number(&self) -> u8
         ensures { result ≡ mmap_number self.now }
     {
@@ -33,10 +33,10 @@ impl MmapRegionError {
 /// Why regions are no layout, or a layout could not change (vm-memory's `GuestRegionCollectionError`).
 #[derive(Clone, Copy, Debug, PartialEq, Eq, Error)]
 pub enum GuestRegionCollectionError {
-    /// No region was given, or none begins at the address and has the size.
+    /// The list has no region, or no region has this first address and size.
     #[error("there is no such region, or none at all")]
     NoMemoryRegion,
-    /// A region begins where another, which begins no later, hasn't ended.
+    /// Two regions have an address in common.
     #[error("two regions have an address in common")]
     MemoryRegionOverlap,
     /// A region begins below the one before it.
@@ -49,7 +49,7 @@ pub enum GuestRegionCollectionError {
 impl GuestRegionCollectionError {
     ghost use Rattle.vm_memory.specs.Numbers.{collection_number};
 
-    /// The number that tells the error apart.
+    /// The error's number, 1 to 4.
     pub fn number(&self) -> u8
         ensures { result ≡ collection_number self.now }
     {
@@ -62,16 +62,16 @@ impl GuestRegionCollectionError {
     }
 }
 
-/// Why ranges give no guest memory (vm-memory's `FromRangesError`).
+/// Why ranges can't be made guest memory (vm-memory's `FromRangesError`).
 #[derive(Clone, Copy, Debug, PartialEq, Eq, Error)]
 pub enum FromRangesError {
     /// The regions are no layout.
     #[error("{0}")]
     Collection(GuestRegionCollectionError),
-    /// A range has no address.
+    /// A range is empty.
     #[error("{0}")]
     MmapRegion(MmapRegionError),
-    /// A range doesn't end by 2^64.
+    /// A range ends past 2^64.
     #[error("a region's last address is past the greatest")]
     InvalidGuestRegion,
     #[error("out of memory")]
@@ -81,7 +81,7 @@ pub enum FromRangesError {
 impl FromRangesError {
     ghost use Rattle.vm_memory.specs.Numbers.{ranges_number};
 
-    /// The number that tells the error apart.
+    /// The error's number, 1 to 4.
     pub fn number(&self) -> u8
         ensures { result ≡ ranges_number self.now }
     {
@@ -94,25 +94,26 @@ impl FromRangesError {
     }
 }
 
-/// Why guest memory is not read or written (vm-memory's `GuestMemoryError`).
+/// Why guest memory isn't read or written (vm-memory's `GuestMemoryError`).
 #[derive(Clone, Copy, Debug, PartialEq, Eq, Error)]
 pub enum GuestMemoryError {
-    /// The first address that was asked for has no place.
+    /// The first address of the access has no place.
     #[error("no region has the address {}", .0.0)]
     InvalidGuestAddress(GuestAddress),
-    /// Of the bytes that were asked for only some, at least one, were there: these were read or written.
+    /// Only the first `completed` of the `expected` bytes have a place. These, at least one, were read
+    /// or written.
     #[error("{completed} of {expected} bytes were there")]
     PartialBuffer { expected: usize, completed: usize },
-    /// The bytes that were asked for run past their region.
+    /// The bytes of the access end past their region.
     #[error("past the end of the region")]
     InvalidBackendAddress,
-    /// Kept for its name: the last address of a region always fits.
+    /// Never returned, as a region's last address always fits. It is here for vm-memory's name.
     #[error("the address does not fit 64 bits")]
     GuestAddressOverflow,
-    /// I/O addresses aren't translated.
+    /// The I/O addresses can't be translated.
     #[error("{0}")]
     IommuError(IommuError),
-    /// Kept for its name: each region has its block.
+    /// Never returned, as each region has its block. It is here for vm-memory's name.
     #[error("no host address")]
     HostAddressNotAvailable,
     #[error("out of memory")]
@@ -122,7 +123,7 @@ pub enum GuestMemoryError {
 impl GuestMemoryError {
     ghost use Rattle.vm_memory.specs.Numbers.{memory_number};
 
-    /// The number that tells the error apart.
+    /// The error's number, 1 to 7.
     pub fn number(&self) -> u8
         ensures { result ≡ memory_number self.now }
     {

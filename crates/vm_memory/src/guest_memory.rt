@@ -1,4 +1,4 @@
-//! Guest memory by address: what is there, reads and writes (vm-memory's `GuestMemoryMmap`).
+//! Guest memory by physical address: checks, reads and writes (vm-memory's `GuestMemoryMmap`).
 
 ghost use Rattle.std.specs.Prelude.{◌≡◌, ◌<◌, ◌≤◌, ℕ, List, None, IfSome, IfOk, OnErr, length, min};
 ghost use Rattle.std.specs.List.{list_all};
@@ -24,9 +24,10 @@ use vm_memory_core::{GuestAddress, HostBlocks, HostMemory, NewBitmap, VolatileSl
 pub type GuestMemoryMmap = GuestRegionCollection<GuestRegionMmap>;
 
 impl GuestRegionCollection<GuestRegionMmap> {
-    /// Memory of the regions that begin at these addresses and have these sizes, each over a new block
-    /// (vm-memory's `GuestMemoryMmap::from_ranges`). Blocks that were made before a refusal stay in the host:
-    /// MmapRegion, InvalidGuestRegion, Collection or OutOfMemory.
+    /// Memory of regions with these first addresses and sizes in bytes, each over a new block
+    /// (vm-memory's `GuestMemoryMmap::from_ranges`). Errors: MmapRegion, InvalidGuestRegion or
+    /// OutOfMemory for the first bad range, then Collection. Blocks that were made before an error stay
+    /// in the host.
     pub fn from_ranges<B: NewBitmap>(
         alloc: Global,
         host: &mut HostMemory<B>,
@@ -45,7 +46,7 @@ impl GuestRegionCollection<GuestRegionMmap> {
     }
 }
 
-// Regions over new blocks, one for each range.
+// Makes a region over a new block for each range.
 fn regions_over<B: NewBitmap>(
     alloc: Global,
     host: &mut HostMemory<B>,
@@ -72,7 +73,7 @@ fn regions_over<B: NewBitmap>(
 }
 
 impl<R: GuestMemoryRegion> GuestRegionCollection<R> {
-    // The longest window of at most `most` bytes from an address on, if the address has a place.
+    // The longest window from an address on, of at most `most` bytes. None if the address has no place.
     #[inline]
     fn window_at(&self, addr: u64, most: usize) -> Option<VolatileSlice>
         requires { 0 < most }
@@ -84,7 +85,8 @@ impl<R: GuestMemoryRegion> GuestRegionCollection<R> {
         window_at(self, addr, most)
     }
 
-    // How many of `len` addresses from one on, where 0 comes after the greatest, have a place.
+    // The number of the `len` addresses from `addr` on before the first without a place; 0 follows the
+    // greatest.
     fn reached_len(&self, addr: u64, len: usize) -> usize
         ensures { result ≡ reached (place self.now) (circular addr len) }
     {
@@ -98,7 +100,7 @@ impl<R: GuestMemoryRegion> GuestRegionCollection<R> {
         done
     }
 
-    /// Whether each of `len` physical addresses from one on has a place, where 0 comes after the greatest
+    /// Whether each of the `len` physical addresses from `addr` on has a place; 0 follows the greatest
     /// address.
     pub fn has_range(&self, addr: GuestAddress, len: usize) -> bool
         ensures { result ≡ list_all (λ a. is_some (place self.now a)) (circular addr.0 len) }
@@ -106,8 +108,8 @@ impl<R: GuestMemoryRegion> GuestRegionCollection<R> {
         self.reached_len(addr.0, len) == len
     }
 
-    // Adds the windows of `len` physical addresses from one on, joined, or answers that one of them has no
-    // place, where 0 comes after the greatest address.
+    // Adds the windows of the `len` physical addresses from `addr` on; 0 follows the greatest address.
+    // False if one of them has no place.
     pub(crate) fn push_physical<const N: usize>(
         &self,
         addr: GuestAddress,
@@ -134,7 +136,7 @@ impl<R: GuestMemoryRegion> GuestRegionCollection<R> {
         Ok(true)
     }
 
-    // Reads as many bytes from an address on as are there, and says how many.
+    // Reads bytes from an address on, up to the first without a place, and returns their number.
     pub(crate) fn read_some<H: HostBlocks>(&self, host: &H, buffer: &mut [u8], addr: u64) -> usize
         requires { HostHolds (H.host host.now) self.now }
         ensures count { result ≡ reached (place self.now) (circular addr (length buffer.old)) }
@@ -153,7 +155,7 @@ impl<R: GuestMemoryRegion> GuestRegionCollection<R> {
         done
     }
 
-    // Writes as many bytes from an address on as have a place, and says how many.
+    // Writes bytes from an address on, up to the first without a place, and returns their number.
     pub(crate) fn write_some<B: NewBitmap>(
         &self,
         host: &mut HostMemory<B>,
@@ -178,9 +180,9 @@ impl<R: GuestMemoryRegion> GuestRegionCollection<R> {
         done
     }
 
-    /// Reads a buffer full of bytes from an address on, where 0 comes after the greatest address. Where fewer
-    /// are there, these are read: PartialBuffer, or InvalidGuestAddress if none is (vm-memory's
-    /// `Bytes::read_slice`).
+    /// Fills a buffer with the bytes from an address on; 0 follows the greatest address (vm-memory's
+    /// `Bytes::read_slice`). InvalidGuestAddress if the first has no place. PartialBuffer if a later one
+    /// has none: the bytes before it were read.
     pub fn read_slice<B: NewBitmap>(
         &self,
         host: &HostMemory<B>,
@@ -198,9 +200,9 @@ impl<R: GuestMemoryRegion> GuestRegionCollection<R> {
         outcome(addr, buffer.len(), completed)
     }
 
-    /// Writes bytes from an address on, where 0 comes after the greatest address, and marks their pages.
-    /// Where fewer have a place, these are written: PartialBuffer, or InvalidGuestAddress if none has
-    /// (vm-memory's `Bytes::write_slice`).
+    /// Writes bytes from an address on and marks their pages; 0 follows the greatest address
+    /// (vm-memory's `Bytes::write_slice`). InvalidGuestAddress if the first has no place. PartialBuffer
+    /// if a later one has none: the bytes before it were written.
     pub fn write_slice<B: NewBitmap>(
         &self,
         host: &mut HostMemory<B>,
@@ -220,7 +222,7 @@ impl<R: GuestMemoryRegion> GuestRegionCollection<R> {
     }
 }
 
-// What a transfer of this many bytes at an address answers, of which this many were done.
+// The result of a transfer of `expected` bytes at an address, of which `completed` were transferred.
 pub(crate) fn outcome(
     addr: GuestAddress,
     expected: usize,

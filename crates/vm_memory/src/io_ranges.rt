@@ -1,4 +1,4 @@
-//! Ranges of I/O addresses that are mapped throughout: what is there, reads, writes and windows.
+//! Checks, reads, writes and windows of I/O addresses that are mapped throughout.
 
 ghost use Rattle.std.specs.Prelude.{◌≡◌, ◌+◌, ◌<◌, ◌≤◌, ◌^◌, ℕ, List, None, IfSome, OnErr, length, min, true};
 ghost use Rattle.vm_iotlb.specs.AddressRuns.{may_all};
@@ -19,7 +19,7 @@ use vm_memory_core::{
     HostBlocks, HostMemory, IotlbIterator, NewBitmap, Permissions, VolatileSlice, Windows, put_at,
 };
 
-// The longest window of at most `most` bytes from an I/O address on, if what it is mapped to has a place.
+// The longest window from an I/O address on, of at most `most` bytes. None if the address has no place.
 #[inline]
 pub(crate) fn io_window<M: GuestMemoryBackend, B: NewBitmap>(
     backend: &M,
@@ -48,7 +48,7 @@ pub(crate) fn io_window<M: GuestMemoryBackend, B: NewBitmap>(
     translated_window(backend, table, set, access, addr, most)
 }
 
-// How many of `len` addresses from one on have a place.
+// The number of the `len` addresses from `addr` on before the first without a place.
 pub(crate) fn io_reached<M: GuestMemoryBackend, H: HostBlocks>(
     backend: &M,
     h: &H,
@@ -77,7 +77,7 @@ pub(crate) fn io_reached<M: GuestMemoryBackend, H: HostBlocks>(
     done
 }
 
-// Adds the windows of `len` addresses from one on, joined, or answers that one of them has no place.
+// Adds the windows of the `len` addresses from `addr` on. False if one of them has no place.
 pub(crate) fn push_io<M: GuestMemoryBackend, H: HostBlocks>(
     backend: &M,
     h: &H,
@@ -115,7 +115,7 @@ pub(crate) fn push_io<M: GuestMemoryBackend, H: HostBlocks>(
     Ok(true)
 }
 
-// Reads as many bytes from an address on as are there, and says how many.
+// Reads bytes from an address on, up to the first without a place, and returns their number.
 pub(crate) fn read_io<M: GuestMemoryBackend, H: HostBlocks>(
     backend: &M,
     h: &H,
@@ -145,7 +145,7 @@ pub(crate) fn read_io<M: GuestMemoryBackend, H: HostBlocks>(
     done
 }
 
-// Writes as many bytes from an address on as have a place, and says how many.
+// Writes bytes from an address on, up to the first without a place, and returns their number.
 pub(crate) fn write_io<M: GuestMemoryBackend, B: NewBitmap>(
     backend: &M,
     h: &mut HostMemory<B>,

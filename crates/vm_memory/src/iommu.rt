@@ -1,4 +1,4 @@
-//! What translates the addresses of a device (vm-memory's `Iommu`).
+//! The IOMMU that translates the addresses of a device (vm-memory's `Iommu`).
 
 ghost use Rattle.std.specs.Prelude.{◌≡◌, ℕ};
 ghost use Rattle.vm_memory.specs.Memory.{table_in};
@@ -8,7 +8,7 @@ use vm_memory_core::{
     GuestAddress, HostBlocks, IommuError, IotlbIterator, IovaRange, LookupError, Permissions,
 };
 
-/// What translates I/O addresses: a table of the host, by its number (vm-memory's `Iommu`).
+/// An IOMMU: it translates I/O addresses by a table of the host (vm-memory's `Iommu`).
 pub trait Iommu {
     // the number of its table
     ghost number: { Self → ℕ };
@@ -17,9 +17,9 @@ pub trait Iommu {
     fn table(&self) -> usize
         ensures { result ≡ number self.now };
 
-    /// What `length` I/O addresses are mapped to, as long pieces as can be (vm-memory's `Iommu::translate`);
-    /// CannotResolve with the asked range if not each is mapped with the permission, or if its end doesn't
-    /// fit. Only one that fails takes memory, and answers OutOfMemory if there is none.
+    /// The pieces, each as long as possible, to which `length` I/O addresses are mapped (vm-memory's
+    /// `Iommu::translate`). CannotResolve with the asked range unless each is mapped with the permission
+    /// and their end fits 64 bits. Only a call that fails allocates: OutOfMemory if it can't.
     fn translate<'a, H: HostBlocks>(
         &self,
         h: &'a H,
@@ -30,15 +30,14 @@ pub trait Iommu {
         ensures { Translates (table_in (H.host h.now) (number self.now)) iova.0 length access result };
 }
 
-/// The plain `Iommu`: all that it knows is the number of its table in the host. A table that isn't there maps
-/// nothing.
+/// The plain `Iommu`: it keeps only the number of its table in the host. A missing table maps nothing.
 #[derive(Clone, Copy, Debug, PartialEq, Eq)]
 pub struct TableIommu {
     table: usize,
 }
 
 impl TableIommu {
-    /// Translates by this table of the host.
+    /// The IOMMU of this table of the host.
     pub fn new(table: usize) -> TableIommu
         ensures { result.table ≡ table }
     {

@@ -26,7 +26,8 @@ use vm_memory_core::{
 };
 
 impl<R: GuestMemoryRegion, I: Iommu + Drop> IommuMemory<GuestRegionCollection<R>, I> {
-    // What addresses are mapped to while the IOMMU is on, if each of them is mapped with the permission.
+    // The pieces to which addresses are mapped, none while the IOMMU is off. An error unless each is
+    // mapped with the permission.
     fn translate<'a, B: NewBitmap>(
         &self,
         h: &'a HostMemory<B>,
@@ -51,7 +52,7 @@ impl<R: GuestMemoryRegion, I: Iommu + Drop> IommuMemory<GuestRegionCollection<R>
         }
     }
 
-    // Whether the IOMMU is off, or maps each of `count` addresses with the permission.
+    // Checks that the IOMMU is off, or that it maps each of `count` addresses with the permission.
     fn check_mapped<B: NewBitmap>(
         &self,
         h: &HostMemory<B>,
@@ -70,7 +71,8 @@ impl<R: GuestMemoryRegion, I: Iommu + Drop> IommuMemory<GuestRegionCollection<R>
         }
     }
 
-    // Reads as many bytes as are there from an address on that is mapped so far, and says how many.
+    // Reads bytes from an address on, up to the first without a place, and returns their number. The
+    // addresses are mapped to the pieces `mapped`.
     fn read_mapped<B: NewBitmap>(
         &self,
         h: &HostMemory<B>,
@@ -104,7 +106,8 @@ impl<R: GuestMemoryRegion, I: Iommu + Drop> IommuMemory<GuestRegionCollection<R>
         }
     }
 
-    // Writes as many bytes as have a place from an address on that is mapped so far, and says how many.
+    // Writes bytes that are mapped throughout, up to the first without a place, and returns their
+    // number.
     fn write_mapped<B: NewBitmap>(
         &self,
         h: &mut HostMemory<B>,
@@ -136,8 +139,8 @@ impl<R: GuestMemoryRegion, I: Iommu + Drop> IommuMemory<GuestRegionCollection<R>
     }
 }
 
-/// A guest's bytes by their address: while the IOMMU is on, a range that isn't mapped throughout is refused
-/// before any byte moves; while it is off, 0 comes after the greatest address.
+/// A guest's bytes by address. While the IOMMU is on, a range that isn't mapped throughout is refused
+/// before any byte moves. While it is off, 0 follows the greatest address.
 impl<R: GuestMemoryRegion, I: Iommu + Drop> Bytes<GuestAddress>
     for IommuMemory<GuestRegionCollection<R>, I> {
     type E = GuestMemoryError;

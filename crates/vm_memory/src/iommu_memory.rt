@@ -17,8 +17,8 @@ use crate::slice_iterator::GuestMemoryBackendSliceIterator;
 use std::alloc::{AllocError, Global};
 use vm_memory_core::{GuestAddress, HeldIn, HostBlocks, IommuError, Permissions, Windows};
 
-/// A backend behind an IOMMU, which a device uses by I/O addresses while the IOMMU is on, and by physical
-/// ones while it is off (vm-memory's `IommuMemory`).
+/// A backend behind an IOMMU: a device uses I/O addresses while the IOMMU is on, and physical addresses
+/// while it is off (vm-memory's `IommuMemory`).
 #[derive(Drop)]
 pub struct IommuMemory<M: GuestMemoryBackend + Drop, I: Iommu + Drop> {
     alloc: Global,
@@ -29,8 +29,8 @@ pub struct IommuMemory<M: GuestMemoryBackend + Drop, I: Iommu + Drop> {
 }
 
 impl<M: GuestMemoryBackend + Drop, I: Iommu + Drop> IommuMemory<M, I> {
-    /// A backend behind an IOMMU that is on or off, and the number of the set of I/O pages that writes mark
-    /// while it is on.
+    /// A backend behind an IOMMU that is on or off. `io_bitmap` is the number of the set of I/O pages
+    /// that writes mark while it is on.
     pub fn new(
         alloc: Global,
         backend: M,
@@ -81,14 +81,14 @@ impl<M: GuestMemoryBackend + Drop, I: Iommu + Drop> IommuMemory<M, I> {
         &self.iommu
     }
 
-    /// The memory by physical addresses, whether the IOMMU is on or off.
+    /// The backend: the memory by physical addresses, whether the IOMMU is on or off.
     pub fn get_backend(&self) -> &M
         ensures { result.now ≡ self.now.backend }
     {
         &self.backend
     }
 
-    /// Puts another backend behind the IOMMU, which stays as it is, as its set of I/O pages does.
+    /// Replaces the backend. The IOMMU and its set of I/O pages stay.
     pub fn set_backend(&mut self, backend: M)
         ensures { self.new ≡ record self.old { backend = backend } }
     {
@@ -98,7 +98,7 @@ impl<M: GuestMemoryBackend + Drop, I: Iommu + Drop> IommuMemory<M, I> {
 
 impl<M: GuestMemoryBackend + Drop, I: Iommu + Clone> IommuMemory<M, I> {
     /// Another backend behind a clone of the IOMMU, with the same set of I/O pages (vm-memory's
-    /// `IommuMemory::with_replaced_backend`); AllocError if the clone can't be allocated.
+    /// `IommuMemory::with_replaced_backend`). AllocError if the IOMMU can't be cloned.
     pub fn with_replaced_backend(&self, new_backend: M) -> Result<IommuMemory<M, I>, AllocError>
         ensures backend { IfOk result (λ m. m.backend ≡ new_backend) }
         ensures iommu { IfOk result (λ m. I.is_clone self.now.iommu m.iommu) }

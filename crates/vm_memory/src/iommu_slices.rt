@@ -14,8 +14,9 @@ use crate::translated::translated_window;
 use std::marker::Model;
 use vm_memory_core::{GuestAddress, HostBlocks, Iotlb, Permissions, VolatileSlice};
 
-/// The windows of I/O addresses that follow one another and are mapped throughout, up to the first that is
-/// mapped to an address without a place, whose error ends them (vm-memory's `IommuMemorySliceIterator`).
+/// The windows of consecutive I/O addresses that are mapped throughout (vm-memory's
+/// `IommuMemorySliceIterator`). The last item is an error if an address has no place:
+/// InvalidGuestAddress.
 #[derive(Drop)]
 pub struct IommuMemorySliceIterator<'a, M: GuestMemoryBackend> {
     backend: &'a M,
@@ -48,8 +49,8 @@ impl<'a, M: GuestMemoryBackend> Model for IommuMemorySliceIterator<'a, M> {
 }
 
 impl<'a, M: GuestMemoryBackend> IommuMemorySliceIterator<'a, M> {
-    // The windows of `count` addresses from one on, which a table of the host maps throughout; writes of them
-    // mark a set of I/O pages.
+    // The windows of the `count` addresses from `addr` on, which a table of the host maps throughout.
+    // Writes through them mark a set of I/O pages.
     pub(crate) fn new<H: HostBlocks>(
         backend: &'a M,
         h: &'a H,

@@ -1,12 +1,11 @@
-//! Laws of the definitions: each function's clause is a law.
+//! Theorems about the code, each the contract of a function.
 
 ghost use Rattle.std.specs.Prelude.{◌≡◌, MatchResult};
 
 use crate::iommu::TableIommu;
 use std::alloc::AllocError;
 
-/// A clone of a `TableIommu` translates by the same table, and none fails to allocate: there is no
-/// AllocError.
+/// A clone of a `TableIommu` has the same table, and cloning returns no AllocError.
 pub fn law_clone(iommu: &TableIommu) -> Result<TableIommu, AllocError>
     ensures { MatchResult result (λ other. other.table ≡ iommu.now.table) (λ _. ⊥) }
 {

@@ -1,4 +1,4 @@
-//! Guest memory: addresses over host blocks, each translated by itself.
+//! Guest memory: regions of addresses over blocks of the host. Each address is translated by itself.
 #![tactic(auto)]
 
 mod backend;

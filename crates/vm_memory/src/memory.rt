@@ -1,4 +1,4 @@
-//! Guest memory as a device reaches it (vm-memory's `GuestMemory`).
+//! Guest memory as a device uses it (vm-memory's `GuestMemory`).
 
 ghost use Rattle.std.specs.Prelude.{◌≡◌, ◌≤◌, ◌⊎◌, ℕ, List, length, false, true, option_map, IfOk, IfErr};
 ghost use Rattle.std.specs.Prelude.{OnErr, Result, refl};
@@ -24,13 +24,13 @@ use crate::slices::GuestMemorySliceIterator;
 use std::alloc::{AllocError, Global};
 use vm_memory_core::{GuestAddress, HeldIn, HostBlocks, Permissions, VolatileSlice, Windows};
 
-/// Windows of a range of guest memory, one after another. It stands for the unnamed type that vm-memory's
-/// `get_slices` answers.
+/// Windows of a range of guest memory, one after another: the unnamed type that vm-memory's `get_slices`
+/// returns.
 #[derive(Drop)]
 pub enum GuestMemorySlices<'a, M: GuestMemoryBackend> {
-    /// Of physical addresses.
+    /// Windows of physical addresses.
     Backend(GuestMemoryBackendSliceIterator<'a, M>),
-    /// Of I/O addresses.
+    /// Windows of I/O addresses.
     Iommu(IommuMemorySliceIterator<'a, M>),
 }
 
@@ -69,22 +69,22 @@ impl<'a, M: GuestMemoryBackend> GuestMemorySliceIterator for GuestMemorySlices<'
     }
 }
 
-/// Guest memory as a device reaches it (vm-memory's `GuestMemory`). Of addresses that aren't translated, 0
-/// comes after the greatest; translated ones have to be mapped throughout. Memory is taken only if a
-/// translation fails, or a list grows.
+/// Guest memory as a device uses it (vm-memory's `GuestMemory`). If addresses aren't translated, 0
+/// follows the greatest; translated ones have to be mapped throughout. A call allocates only if a
+/// translation fails or a list grows.
 pub trait GuestMemory: HeldIn {
     ghost use Rattle.vm_memory.specs.MemorySlices.{slices_of};
 
-    /// The memory by physical addresses.
+    /// The type of the memory by physical addresses.
     type PhysicalMemory: GuestMemoryBackend;
 
-    // what a device sees of a host
+    // the memory that a device sees over a host
     ghost memory: { Self → Host → Memory };
 
-    // how many addresses from one on a window has at most, for an access
+    // the greatest length of a window from an address on, for an access
     ghost longest: { Self → Host → Permissions → ℕ → ℕ };
 
-    /// Whether each of `count` addresses from one on has a place, for an access (vm-memory's
+    /// Whether each of the `count` addresses from `addr` on has a place, for an access (vm-memory's
     /// `GuestMemory::check_range`). AllocError only if they aren't mapped throughout.
     fn check_range<H: HostBlocks>(
         &self,
@@ -96,8 +96,9 @@ pub trait GuestMemory: HeldIn {
     ) -> Result<bool, AllocError>
         ensures { Checks (memory self.now (H.host h.now)) access addr.0 count result };
 
-    /// The windows of `count` addresses from one on, for an access (vm-memory's `GuestMemory::get_slices`);
-    /// IommuError of CannotResolve if they aren't mapped throughout, or OutOfMemory.
+    /// The windows of the `count` addresses from `addr` on, for an access (vm-memory's
+    /// `GuestMemory::get_slices`). IommuError of CannotResolve, or OutOfMemory, only if they aren't
+    /// mapped throughout.
     fn get_slices<'a, H: HostBlocks>(
         &'a self,
         alloc: Global,
@@ -117,14 +118,14 @@ pub trait GuestMemory: HeldIn {
             (λ s. is_mapped (memory self.now (H.host h.now)) access addr.0 count ≡ true) }
         ensures refused { IfErr result (CannotGive (memory self.now (H.host h.now)) access addr.0 count) };
 
-    /// The memory by physical addresses, if these are the addresses that a device uses (vm-memory's
+    /// The memory by physical addresses, if a device uses these (vm-memory's
     /// `GuestMemory::physical_memory`).
     fn physical_memory(&self) -> Option<&Self::PhysicalMemory>
         ensures { (h : Host)
             → option_map (λ m. Self.PhysicalMemory.layout m.now) result
             ≡ physical_layout (memory self.now h) };
 
-    /// Reads a buffer full of bytes from an address on, or answers false, if one of them isn't there.
+    /// Fills a buffer with the bytes from an address on. False if one of the addresses has no place.
     /// AllocError only if they aren't mapped throughout.
     fn read_range<H: HostBlocks>(
         &self,
@@ -138,8 +139,8 @@ pub trait GuestMemory: HeldIn {
         ensures bytes { ReadsRange (memory self.now (H.host h.now)) addr.0 (length buffer.old)
             buffer.new result };
 
-    /// Adds the windows of `count` addresses from one on, joined, for an access, or answers false, if one of
-    /// them has no place. AllocError only if they aren't mapped throughout, or if the list has no room left.
+    /// Adds the windows of the `count` addresses from `addr` on, for an access. False if one of them has
+    /// no place. AllocError only if they aren't mapped throughout, or if the list has no room left.
     fn push_windows<H: HostBlocks>(
         &self,
         alloc: Global,
@@ -159,14 +160,14 @@ pub trait GuestMemory: HeldIn {
             ((is_mapped (memory self.now (H.host h.now)) access addr.0 count ≡ false)
             ⊎ (windows.old.capacity ≤ length windows.new.items)) };
 
-    // what a device sees depends on the host by its bytes, tables and marks alone
+    // the memory over another host differs in its host alone
     ghost over: { (m : Self) (h g : Host) → memory m g ≡ record (memory m h) { host = g } };
 
-    // a window of addresses that aren't translated ends with its region
+    // the longest window of addresses that aren't translated ends with its region
     ghost by_layout: { (m : Self) (h : Host) (access : Permissions) (a : ℕ) → (memory m h).translates ≡ false
         → longest m h access a ≡ left_at (memory m h).layout a };
 
-    // whether a host has all that the memory names is told by the host's shape
+    // a host of the same shape also has all that a memory refers to
     ghost by_shape: { (m : Self) (h g : Host) → shape g ≡ shape h → Self.IsHeld m h → Self.IsHeld m g };
 }
 

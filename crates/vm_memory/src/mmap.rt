@@ -1,4 +1,4 @@
-//! A block of the host that stands behind a region (vm-memory's `MmapRegion`).
+//! A block of the host that a region maps (vm-memory's `MmapRegion`).
 
 ghost use Rattle.std.specs.Prelude.{◌≡◌, ◌<◌, ◌^◌};
 ghost use Rattle.vm_memory.specs.Making.{IsMapped, backing_at, backing_over};
@@ -29,8 +29,7 @@ impl Model for MmapRegion {
 }
 
 impl MmapRegion {
-    /// A new block of `size` zero bytes, none of whose pages is marked; Mmap if it would have none, or
-    /// OutOfMemory.
+    /// A new block of `size` zero bytes, without a mark. Mmap if the size is 0, OutOfMemory.
     pub fn new<B: NewBitmap>(
         _alloc: Global,
         h: &mut HostMemory<B>,
@@ -47,7 +46,7 @@ impl MmapRegion {
         }
     }
 
-    /// A block that the host has; None if it has no such block.
+    /// An existing block of the host, None if it has none of this number.
     pub fn of_block<B: NewBitmap>(h: &HostMemory<B>, b: usize) -> Option<MmapRegion>
         ensures { result ≡ backing_at h.now b }
     {
@@ -57,7 +56,7 @@ impl MmapRegion {
         }
     }
 
-    /// A block of host memory of any kind, if it has at least one byte; None if it has none, or isn't there.
+    /// An existing block of any kind of host, None if it has none of this number, or an empty one.
     pub fn over_block<H: HostBlocks>(h: &H, b: usize) -> Option<MmapRegion>
         ensures { result ≡ backing_over (H.host h.now) b }
     {
@@ -68,7 +67,7 @@ impl MmapRegion {
         }
     }
 
-    /// How many bytes it has.
+    /// The number of its bytes, at least 1.
     pub fn size(&self) -> usize
         ensures size { result ≡ self.now.size }
         ensures not_empty { 0 < self.now.size }

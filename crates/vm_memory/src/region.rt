@@ -18,22 +18,22 @@ use vm_memory_core::{
     GuestAddress, GuestUsize, HostMemory, MemoryRegionAddress, NewBitmap, VolatileSlice,
 };
 
-/// Where a byte is in the host: it stands for a host pointer.
+/// The block and the offset of a byte in the host, in place of vm-memory's host pointer.
 #[derive(Clone, Copy, Debug, PartialEq, Eq)]
 pub struct HostAddress {
     /// The number of its block.
     pub block: usize,
-    /// Where it stands in its block, in bytes.
+    /// The byte's offset in the block.
     pub offset: usize,
 }
 
-/// Guest addresses that follow one another and are the bytes of a block, from its first on (vm-memory's
+/// Consecutive guest addresses, which are the bytes of a block from its first on (vm-memory's
 /// `GuestMemoryRegion`). Offsets count bytes from the first address.
 pub trait GuestMemoryRegion: Drop {
-    // its addresses, and their block
+    // its addresses and their block
     ghost region: { Self → Region };
 
-    /// How many addresses it has.
+    /// The number of its addresses, at least 1.
     fn len(&self) -> GuestUsize
         ensures len { result ≡ (region self.now).size }
         ensures lawful { IsLawful (region self.now) };
@@ -43,8 +43,8 @@ pub trait GuestMemoryRegion: Drop {
         ensures start { result.0 ≡ (region self.now).start }
         ensures lawful { IsLawful (region self.now) };
 
-    /// The window of `count` bytes from an offset on, or InvalidBackendAddress (vm-memory's
-    /// `GuestMemoryRegion::get_slice`).
+    /// The window of `count` bytes from an offset on, InvalidBackendAddress if the region doesn't have
+    /// them all (vm-memory's `GuestMemoryRegion::get_slice`).
     fn get_slice(
         &self,
         offset: MemoryRegionAddress,
@@ -61,7 +61,7 @@ pub trait GuestMemoryRegion: Drop {
         GuestAddress(self.start_addr().0 + (self.len() - 1))
     }
 
-    /// Whether it has an offset.
+    /// Whether the region has this offset.
     #[inline]
     final fn address_in_range(&self, addr: MemoryRegionAddress) -> bool
         ensures { result ≡ nat_lt addr.0 (region self.now).size }
@@ -69,7 +69,7 @@ pub trait GuestMemoryRegion: Drop {
         addr.0 < self.len()
     }
 
-    /// An offset, if the region has it.
+    /// The offset, if the region has it.
     #[inline]
     final fn check_address(&self, addr: MemoryRegionAddress) -> Option<MemoryRegionAddress>
         ensures { result ≡ checked_in (region self.now) addr.0 }
@@ -81,7 +81,7 @@ pub trait GuestMemoryRegion: Drop {
         }
     }
 
-    /// The offset that lies `offset` bytes behind another, if the region has it.
+    /// The offset `offset` bytes after another, if the region has it.
     #[inline]
     final fn checked_offset(
         &self,
@@ -110,7 +110,7 @@ pub trait GuestMemoryRegion: Drop {
         }
     }
 
-    /// All of its bytes.
+    /// The window of all bytes of the region.
     #[inline]
     final fn as_volatile_slice(&self) -> Result<VolatileSlice, GuestMemoryError>
         ensures { result ≡ window_in (region self.now) 0 (region self.now).size }
@@ -118,8 +118,8 @@ pub trait GuestMemoryRegion: Drop {
         self.get_slice(MemoryRegionAddress(0), self.len() as usize)
     }
 
-    /// Where the byte at an offset is in the host, or InvalidBackendAddress (vm-memory's
-    /// `GuestMemoryRegion::get_host_address`).
+    /// The block of the byte at an offset, and its offset there, or InvalidBackendAddress if the region
+    /// doesn't have it (vm-memory's `GuestMemoryRegion::get_host_address`).
     #[inline]
     final fn get_host_address(
         &self,
@@ -137,7 +137,7 @@ pub trait GuestMemoryRegion: Drop {
     }
 }
 
-/// A region that others may share is one too.
+/// A shared region is a region too.
 impl<R: GuestMemoryRegion> GuestMemoryRegion for Arc<R> {
     ghost region = { λ r. R.region (arc_value r) };
 
@@ -161,7 +161,8 @@ impl<R: GuestMemoryRegion> GuestMemoryRegion for Arc<R> {
     }
 }
 
-/// Addresses from one on, which are the bytes of a block from its first on (vm-memory's `GuestRegionMmap`).
+/// The consecutive addresses from one on, which are the bytes of a block (vm-memory's
+/// `GuestRegionMmap`).
 #[derive(Clone, Copy, Debug)]
 pub struct GuestRegionMmap {
     start: u64,
@@ -182,7 +183,7 @@ impl Model for GuestRegionMmap {
 }
 
 impl GuestRegionMmap {
-    /// The region from an address on over all of a block, where its last address fits 64 bits.
+    /// The region from `base` on over a whole block, None if its last address doesn't fit 64 bits.
     pub fn new(region: MmapRegion, base: GuestAddress) -> Option<GuestRegionMmap>
         ensures { result ≡ region_over region base.0 }
     {
@@ -197,9 +198,9 @@ impl GuestRegionMmap {
         })
     }
 
-    /// The region of `size` addresses from one on, over a new block (vm-memory's
-    /// `GuestRegionMmap::from_range`): else MmapRegion if it would have none, OutOfMemory, or
-    /// InvalidGuestRegion if the last address does not fit 64 bits; the block stays in the host then.
+    /// The region of `size` addresses from `base` on, over a new block (vm-memory's
+    /// `GuestRegionMmap::from_range`). MmapRegion if the size is 0, OutOfMemory, InvalidGuestRegion if
+    /// the last address doesn't fit 64 bits; the block stays in the host then.
     pub fn from_range<B: NewBitmap>(
         alloc: Global,
         h: &mut HostMemory<B>,
@@ -222,7 +223,7 @@ impl GuestRegionMmap {
 }
 
 impl GuestRegionMmap {
-    // All of its bytes.
+    // The window of all bytes of the region.
     #[inline]
     pub(crate) fn whole(&self) -> VolatileSlice
         ensures { result ≡ whole_of self.now }

@@ -14,8 +14,9 @@ use crate::slices::GuestMemorySliceIterator;
 use std::marker::Model;
 use vm_memory_core::{GuestAddress, MemoryRegionAddress, VolatileSlice};
 
-/// The windows of some addresses that follow one another, where 0 comes after the greatest, up to the first
-/// address without a place, whose error ends them (vm-memory's `GuestMemoryBackendSliceIterator`).
+/// The windows of consecutive physical addresses; 0 follows the greatest (vm-memory's
+/// `GuestMemoryBackendSliceIterator`). The last item is an error if an address has no place:
+/// InvalidGuestAddress.
 #[derive(Drop)]
 pub struct GuestMemoryBackendSliceIterator<'a, M: GuestMemoryBackend> {
     memory: &'a M,
@@ -33,7 +34,7 @@ impl<'a, M: GuestMemoryBackend> Model for GuestMemoryBackendSliceIterator<'a, M>
 }
 
 impl<'a, M: GuestMemoryBackend> GuestMemoryBackendSliceIterator<'a, M> {
-    // The windows of `count` addresses from one on.
+    // The windows of the `count` addresses from `addr` on.
     pub(crate) fn new(
         memory: &'a M,
         addr: GuestAddress,
@@ -95,7 +96,7 @@ impl<'a, M: GuestMemoryBackend> GuestMemorySliceIterator
     }
 }
 
-// The longest window of at most `most` bytes from an address on, if the address has a place.
+// The longest window from an address on, of at most `most` bytes. None if the address has no place.
 #[inline(always)]
 pub(crate) fn window_at<M: GuestMemoryBackend>(
     memory: &M,

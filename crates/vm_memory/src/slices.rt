@@ -9,24 +9,24 @@ ghost use Rattle.vm_memory.specs.declared.error.GuestMemoryError.{GuestMemoryErr
 use crate::error::GuestMemoryError;
 use vm_memory_core::VolatileSlice;
 
-/// Windows of some addresses, one after another, or the error of the first address without a place
+/// Windows of some addresses, one after another. The last item is an error if an address has no place
 /// (vm-memory's `GuestMemorySliceIterator`).
 pub trait GuestMemorySliceIterator: Iterator<Item = Result<VolatileSlice, GuestMemoryError>> {
-    // where addresses are, and which are left
+    // the places of addresses, and the addresses that are left
     ghost slices: { Self → Slices };
 
-    /// The error that comes next, if one does.
+    /// The error that `next` returns, if it returns one.
     fn next_error(&self) -> Option<GuestMemoryError>
         ensures { result ≡ first_error (slices self.now) };
 
-    // the next window may always be asked for
+    // `next` may always be called
     ghost callable: { (s : Self) → Self.can_next s };
 
-    // what comes next is that of the addresses that are left
+    // `next` returns the window or the error of the first addresses that are left
     ghost by_address: { (s : Self) (r : Option (Result Window GuestMemoryError)) (t : Self)
         → Self.next_gives s r t → GivesSlice (slices s) r (slices t) };
 
-    /// The windows before the first error, or the error that comes first.
+    /// The windows before the first error; that error, if it is the first item.
     final fn stop_on_error(self) -> Result<SlicesBeforeError<Self>, GuestMemoryError>
     where
         Self: Sized,
@@ -44,7 +44,7 @@ pub trait GuestMemorySliceIterator: Iterator<Item = Result<VolatileSlice, GuestM
     }
 }
 
-/// Windows up to the first address without a place: what `stop_on_error` answers.
+/// Windows up to the first address without a place: the result of `stop_on_error`.
 #[derive(Drop)]
 pub struct SlicesBeforeError<I: GuestMemorySliceIterator> {
     slices: I,

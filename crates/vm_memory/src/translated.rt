@@ -1,4 +1,4 @@
-//! Windows of I/O addresses, by what a table maps them to.
+//! Windows of I/O addresses, by the pieces to which a table maps them.
 
 ghost use Rattle.std.specs.Prelude.{◌≡◌, ◌+◌, ◌-◌, ◌<◌, ◌^◌, ℕ, List, ◌∷◌, None, IfSome, MatchOption, min};
 ghost use Rattle.std.specs.Prelude.{true};
@@ -15,8 +15,8 @@ use crate::backend::GuestMemoryBackend;
 use crate::slice_iterator::window_at;
 use vm_memory_core::{GuestAddress, Iotlb, IotlbIterator, MappedRange, Permissions, VolatileSlice};
 
-// The longest window of at most `most` bytes from an I/O address on, if what it is mapped to has a place.
-// Writes of it mark a set of I/O pages. All `most` addresses are mapped with the permission.
+// The longest window from an I/O address on, of at most `most` bytes, which are all mapped with the
+// permission. None if the address has no place. Writes through it mark a set of I/O pages.
 #[inline]
 pub(crate) fn translated_window<M: GuestMemoryBackend>(
     backend: &M,
@@ -48,8 +48,8 @@ pub(crate) fn translated_window<M: GuestMemoryBackend>(
     }
 }
 
-// What is left of some I/O addresses, by what they are mapped to: the rest of a piece, and the pieces that
-// follow.
+// The pieces to which the addresses that are left are mapped: the rest of a piece, and the pieces after
+// it.
 #[derive(Drop)]
 pub(crate) struct PiecesLeft<'a> {
     piece: MappedRange,
@@ -57,7 +57,7 @@ pub(crate) struct PiecesLeft<'a> {
 }
 
 impl<'a> PiecesLeft<'a> {
-    // All of these pieces are left.
+    // Nothing of these pieces was used yet.
     #[inline]
     pub(crate) fn new(pieces: IotlbIterator<'a>) -> PiecesLeft<'a>
         ensures { result
@@ -73,7 +73,7 @@ impl<'a> PiecesLeft<'a> {
         }
     }
 
-    // The piece that they begin with.
+    // The first piece that is left.
     #[inline]
     fn first(&mut self) -> Option<MappedRange>
         requires fits { self.old.piece.base.0 + self.old.piece.length < 2 ^ 64 }
@@ -87,8 +87,8 @@ impl<'a> PiecesLeft<'a> {
         self.rest.next()
     }
 
-    // The longest window of them, which begin with `addr`, if what it is mapped to has a place; they are what
-    // comes after it then. Writes of it mark a set of I/O pages.
+    // The longest window from `addr` on, the first address that is left; its part is removed from the
+    // pieces. None if the address has no place. Writes through it mark a set of I/O pages.
     #[inline]
     pub(crate) fn next_window<M: GuestMemoryBackend>(
         &mut self,

@@ -10,20 +10,20 @@ pub record IoAddress : Type 0 where
   pub set : ℕ
   pub address : ℕ
 
--- where a byte is, a block and an offset in it; and which page a write of it marks: its own in the block, or
--- that of an I/O address
+-- the place of a byte: a block and an offset in it, and the page that a write there marks: its own in the
+-- block, or that of an I/O address
 pub record Place : Type 0 where
   pub block : ℕ
   pub offset : ℕ
   pub io : Option IoAddress
 
--- a block: its bytes, and whether each of its pages is marked
+-- a block: its bytes, and a mark for each of its pages
 pub record Block : Type 0 where
   pub bytes : List ℕ
   pub marks : List Bool
 
--- what a host has; a table is told by the ranges that keep it (`table_kept`), since a value that clauses see
--- holds no function
+-- a host: its blocks, its tables and its sets of I/O pages. A table is the list of its ranges (`table_kept`),
+-- since a value in a contract can't hold a function
 pub record Host : Type 0 where
   pub blocks : List Block
   pub tables : List (List IotlbRange)
@@ -39,7 +39,7 @@ changed_at [] i f = []
 changed_at (x ∷ xs) zero f = f x ∷ xs
 changed_at (x ∷ xs) (suc i) f = x ∷ changed_at xs i f
 
--- the byte at a place
+-- the byte at a place, or None if there is no such place
 abbrev pub byte_at : Host → Place → Option ℕ
 byte_at h p = option_and_then (λ b. slice_get b.bytes p.offset) (slice_get h.blocks p.block)
 
@@ -48,30 +48,30 @@ abbrev pub with_byte : Host → Place → ℕ → Host
 with_byte h p byte =
     with_blocks h (changed_at h.blocks p.block (λ b. record b { bytes = slice_set b.bytes p.offset byte }))
 
--- a page has 4096 bytes; the pages that n bytes take
+-- the number of pages, of 4096 bytes each, of n bytes
 abbrev pub page_count : ℕ → ℕ
 page_count n = (n + 4095) / 4096
 
--- the pages with the one of this offset marked; a page past the end is ignored
+-- the marks after the page of an offset was marked; a page past the end is ignored
 abbrev pub marked : List Bool → ℕ → List Bool
 marked marks offset = slice_set marks (offset / 4096) true
 
--- the host with the page of a place marked
+-- the host with the page of a place marked in its block
 abbrev pub with_block_mark : Host → Place → Host
 with_block_mark h p =
     with_blocks h (changed_at h.blocks p.block (λ b. record b { marks = marked b.marks p.offset }))
 
--- the host with the page of an I/O address marked in its set: no address lies at or past 2^64
+-- the host with the page of an I/O address marked in its set; addresses from 2^64 on are ignored
 abbrev pub with_io_mark : Host → IoAddress → Host
 with_io_mark h a =
     record h { io_marks = changed_at h.io_marks a.set (λ marks. marked_at 4096 marks a.address) }
 
--- the host with that page marked which belongs to a place
+-- the host with a place's page marked: the page of its I/O address, if it has one, or its page in the block
 abbrev pub with_mark_by : Option IoAddress → Place → Host → Host
 with_mark_by None p h = with_block_mark h p
 with_mark_by (Some a) p h = with_io_mark h a
 
--- a new block: zeros, no page marked
+-- a new block of n bytes, all zero, with no page marked
 abbrev pub new_block : ℕ → Block
 new_block n = record { bytes = replicate n 0; marks = replicate (page_count n) false }
 
@@ -79,7 +79,7 @@ new_block n = record { bytes = replicate n 0; marks = replicate (page_count n) f
 abbrev pub unmarked : Block → Block
 unmarked b = record b { marks = map (λ _. false) b.marks }
 
--- the host with no page of a block marked; the I/O pages stay
+-- the host with no page of any block marked; the marks of I/O pages stay
 abbrev pub cleared : Host → Host
 cleared h = with_blocks h (map unmarked h.blocks)
 
@@ -99,8 +99,8 @@ with_io_pages h marks = record h { io_marks = h.io_marks ++ marks ∷ [] }
 abbrev pub lengths : Host → List ℕ
 lengths h = map (λ b. length b.bytes) h.blocks
 
--- what no write changes of a host: the lengths of its blocks, how many tables it has, and how many pages each
--- set of I/O pages
+-- the parts of a host that no write changes: the lengths of its blocks, the number of its tables, and the
+-- number of pages of each set of I/O pages
 pub record Shape : Type 0 where
   pub block_lengths : List ℕ
   pub table_count : ℕ

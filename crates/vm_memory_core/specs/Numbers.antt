@@ -1,10 +1,10 @@
--- The numbers that tell errors apart.
+-- The numbers of errors.
 use Rattle.std.specs.Prelude.{ℕ}
 use Rattle.vm_memory_core.specs.declared.error.VolatileMemoryError.{VolatileMemoryError}
 use Rattle.vm_memory_core.specs.declared.error.VolatileMemoryError.TheVariants.{OutOfBounds, Overflow, TooBig}
 use Rattle.vm_memory_core.specs.declared.error.VolatileMemoryError.TheVariants.{Misaligned, PartialBuffer}
 
--- why a window refuses
+-- the number of a window's error
 abbrev pub volatile_memory_number : VolatileMemoryError → ℕ
 volatile_memory_number (OutOfBounds addr) = 1
 volatile_memory_number (Overflow base offset) = 2

@@ -1,4 +1,4 @@
--- An access reaches at most as many places as it asks for: proofs, of which nothing has to be believed.
+-- Proofs that an access reaches at most as many places as it asks for. Nothing here has to be believed.
 use Rattle.std.specs.Prelude.{◌≡◌, ℕ, zero, suc, ◌+◌, ◌-◌, ◌≤◌, ◌==◌, List, length, min, nat_lt}
 use Rattle.std.specs.Prelude.{if◌then◌else◌, true, false, Option, Result, Ok, Err, refl}
 use Rattle.std.proofs.Common.{ap, sym, subst, arith}
@@ -15,7 +15,7 @@ unfolding span
 count-span zero b o io = refl
 count-span (suc n) b o io = ap suc (count-span n b (o + 1) io)
 
--- no more than n places are reached
+-- at most n places are reached
 abbrev pub AtMost : {E : Type 0} → ℕ → Result (List Place) E → Type 0
 AtMost n (Ok ps) = length ps ≤ n
 AtMost n (Err e) = Unit {0}

@@ -1,4 +1,4 @@
--- A window is a list of places: what is read there, and what a write leaves.
+-- A window as a list of places, the bytes at them, and the host after a write there.
 use Rattle.std.specs.Prelude.{◌≡◌, ℕ, zero, suc, ◌+◌, ◌-◌, ◌<◌, ◌≤◌, nat_le, List, [], ◌∷◌, length, All}
 use Rattle.std.specs.Prelude.{Option, Some, None, option_map, slice_index_or, unwrap_or, if◌then◌else◌, refl}
 use Rattle.std.proofs.Common.{arith}
@@ -8,33 +8,33 @@ use Rattle.vm_memory_core.specs.declared.window.IoMarks.{IoMarks}
 use Rattle.vm_memory_core.specs.declared.window.Marking.{Marking}
 use Rattle.vm_memory_core.specs.declared.window.Marking.TheVariants.{InBlock, IoAbove, IoBelow}
 
--- len bytes of a block, from an offset on, and the I/O pages that writes of them mark, if not their own in
--- the block
+-- len bytes of a block, from an offset on, and the I/O pages that writes to them mark, if they don't mark the
+-- block's own
 pub record Window : Type 0 where
   pub block : ℕ
   pub offset : ℕ
   pub len : ℕ
   pub io : Option IoMarks
 
--- the I/O pages of a set, where the byte at an offset has the I/O address base
+-- the I/O pages of a set in which the byte at an offset has the I/O address base
 abbrev pub io_from : (set base offset : ℕ) → IoMarks
 io_from set base offset =
     if nat_le offset base then record { set = set; base = base - offset; from = 0 }
     else record { set = set; base = 0; from = offset - base }
 
--- the I/O pages that a window marks, if any
+-- the I/O pages that a window with these fields marks, if any
 abbrev pub io_of : Marking → (set by : ℕ) → Option IoMarks
 io_of InBlock set by = None
 io_of IoAbove set by = Some (record { set = set; base = by; from = 0 })
 io_of IoBelow set by = Some (record { set = set; base = 0; from = by })
 
--- no I/O address lies below 0, and what marks the same pages is told in one way
+-- no I/O address is below 0, and each marking has one representation
 abbrev pub BeginsBy : (offset : ℕ) → Marking → (set by : ℕ) → Type 0
 BeginsBy offset InBlock set by = (set ≡ 0) × (by ≡ 0)
 BeginsBy offset IoAbove set by = Unit {0}
 BeginsBy offset IoBelow set by = (0 < by) × (by ≤ offset)
 
--- the same told the other way round, with a proof that a ghost member needs, of which nothing has to be
+-- the fields of a window from its I/O pages, with a proof that a ghost member needs: nothing here has to be
 -- believed
 abbrev pub marking_from : (from : ℕ) → Marking
 marking_from zero = IoAbove
@@ -80,7 +80,7 @@ span block offset io (suc n) =
 abbrev pub places_of : Window → List Place
 places_of w = span w.block w.offset w.io w.len
 
--- these places, of which writes mark the I/O pages of addresses that follow one another, from one on
+-- the places with consecutive I/O addresses from one on, whose pages writes to them mark
 abbrev pub with_io : (set address : ℕ) → List Place → List Place
 with_io set address [] = []
 with_io set address (place ∷ more) =
@@ -90,23 +90,23 @@ with_io set address (place ∷ more) =
 abbrev pub places : List Window → List Place
 places ws = flat_map places_of ws
 
--- blocks of these lengths have all of a window
+-- a host with blocks of these lengths has all of a window
 abbrev pub LiesIn : List ℕ → Window → Type 0
 LiesIn lengths w = (w.block < length lengths) × (w.offset + w.len ≤ slice_index_or lengths w.block 0)
 
--- blocks of these lengths have all of each window
+-- a host with blocks of these lengths has all of each window
 unfoldable pub AllLieIn : List ℕ → List Window → Type 0
 AllLieIn lengths ws = All (LiesIn lengths) ws
 
--- the byte at a place that is there
+-- the byte at a place; 0 if there is no such place
 abbrev pub byte_in : Host → Place → ℕ
 byte_in h p = unwrap_or (byte_at h p) 0
 
--- the host after a byte was written at a place: it stands there and the place's page is marked
+-- the host after a byte was written at a place, and the place's page was marked
 abbrev pub put_byte : Host → Place → ℕ → Host
 put_byte h p byte = with_mark_by p.io p (with_byte h p byte)
 
--- the host after bytes were written at places, one after another, so that the last one at a place stands
+-- the host after bytes were written at places, one after another, so that the last one at a place remains
 unfoldable pub put_all : Host → List (Place × ℕ) → Host
 put_all h [] = h
 put_all h (write ∷ writes) = put_all (put_byte h write.0 write.1) writes

@@ -18,23 +18,23 @@ use vm_bitmaps::NewBitmap;
 use vm_iotlb::Permissions;
 use vm_values::ByteValued;
 
-/// Memory whose bytes are read and written by their address (vm-memory's `Bytes`). The host is lent to each
-/// call.
+/// Memory whose bytes are read and written by their address (vm-memory's `Bytes`). Each call borrows the
+/// host.
 pub trait Bytes<A> {
-    /// What a refused access answers (vm-memory's `Bytes::E`).
+    /// The error of a refused access (vm-memory's `Bytes::E`).
     type E;
 
     // whether a host has this memory
     ghost IsHeld: { Self → Host → Type 0 };
 
-    // whether an access of some bytes from an address on may reach these places, or be refused so
+    // an access of n bytes from an address on may reach these places, or be refused with this error
     ghost Reaches: { Self → Host → A → ℕ → Permissions → Result (List Place) Self.E → Type 0 };
 
-    // what refuses an access to so many bytes of which only some are there
+    // the error of an access to n bytes of which it reaches only k
     ghost partial: { ℕ → ℕ → Self.E };
 
-    /// Reads as many bytes as are there, at most as many as the buffer has: how many, or the error that
-    /// refuses them all (vm-memory's `Bytes::read`).
+    /// Reads as many bytes as the memory has there, at most the buffer's length, and returns their number
+    /// (vm-memory's `Bytes::read`). With an error it reads none.
     fn read<B: NewBitmap>(
         &self,
         h: &HostMemory<B>,
@@ -45,8 +45,8 @@ pub trait Bytes<A> {
         ensures { ReadsSome (Reaches self.now h.now addr (length buf.old) Permissions.Read) h.now buf.old
             buf.new result };
 
-    /// Writes as many bytes as are there, and marks their pages: how many, or the error that refuses them all
-    /// (vm-memory's `Bytes::write`).
+    /// Writes as many bytes as the memory has there, at most the buffer's length, marks their pages, and
+    /// returns their number (vm-memory's `Bytes::write`). With an error it writes none.
     fn write<B: NewBitmap>(
         &self,
         h: &mut HostMemory<B>,
@@ -59,8 +59,8 @@ pub trait Bytes<A> {
         ensures held { IsHeld self.now h.new }
         ensures shape { shape h.new ≡ shape h.old };
 
-    /// Fills a buffer. Where only some bytes are there, these are read, and the error is `partial`, as
-    /// PartialBuffer; one that refuses them all is that of `read` (vm-memory's `Bytes::read_slice`).
+    /// Fills a buffer (vm-memory's `Bytes::read_slice`). If the memory has only some of the bytes there, it
+    /// reads these, and the error is `partial`, such as PartialBuffer. Other errors are those of `read`.
     fn read_slice<B: NewBitmap>(
         &self,
         h: &HostMemory<B>,
@@ -71,9 +71,9 @@ pub trait Bytes<A> {
         ensures { ReadsAll (Reaches self.now h.now addr (length buf.old) Permissions.Read) partial h.now
             buf.old buf.new result };
 
-    /// Writes all of a buffer, and marks the pages. Where only some bytes are there, these are written, and
-    /// the error is `partial`, as PartialBuffer; one that refuses them all is that of `write` (vm-memory's
-    /// `Bytes::write_slice`).
+    /// Writes all of a buffer, and marks the pages (vm-memory's `Bytes::write_slice`). If the memory has only
+    /// some of the bytes there, it writes these, and the error is `partial`, such as PartialBuffer. Other
+    /// errors are those of `write`.
     fn write_slice<B: NewBitmap>(
         &self,
         h: &mut HostMemory<B>,
@@ -86,8 +86,8 @@ pub trait Bytes<A> {
         ensures held { IsHeld self.now h.new }
         ensures shape { shape h.new ≡ shape h.old };
 
-    /// The value that the bytes from an address on spell, as `ByteValued` has them; the errors are those of
-    /// `read_slice` (vm-memory's `Bytes::read_obj`).
+    /// Reads a value from its bytes at an address, by `ByteValued` (vm-memory's `Bytes::read_obj`). The
+    /// errors are those of `read_slice`.
     final fn read_obj<T: ByteValued, B: NewBitmap>(
         &self,
         h: &HostMemory<B>,
@@ -105,8 +105,8 @@ pub trait Bytes<A> {
         }
     }
 
-    /// Writes a value's bytes from an address on, and marks their pages. The errors are those of
-    /// `write_slice`: where only some bytes are there, these are written (vm-memory's `Bytes::write_obj`).
+    /// Writes a value's bytes at an address, and marks their pages (vm-memory's `Bytes::write_obj`). The
+    /// errors are those of `write_slice`: with `partial` some of the bytes are written.
     final fn write_obj<T: ByteValued, B: NewBitmap>(
         &self,
         h: &mut HostMemory<B>,
@@ -130,8 +130,8 @@ pub trait Bytes<A> {
         → length places ≤ n };
 }
 
-/// A window's bytes, addressed from its start. An access that begins past its end is refused with
-/// OutOfBounds, one that is asked to do all and can't with PartialBuffer.
+/// A window's bytes, addressed from its start. OutOfBounds if it has no byte at the start of an access that
+/// isn't empty. PartialBuffer if `read_slice`, `write_slice` or their like reach only some of the bytes.
 impl Bytes<usize> for VolatileSlice {
     type E = VolatileMemoryError;
 
@@ -198,7 +198,7 @@ impl Bytes<usize> for VolatileSlice {
     }
 }
 
-// Whether an access had all of its bytes.
+// Ok if an access reached all of its bytes, else PartialBuffer.
 fn in_full(expected: usize, completed: usize) -> Result<(), VolatileMemoryError>
     ensures { result ≡ if completed == expected then Ok tt else Err (PartialBuffer expected completed) }
 {

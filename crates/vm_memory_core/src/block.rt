@@ -16,7 +16,7 @@ use std::marker::Model;
 use vm_bitmaps::{NewBitmap, PageBitmap};
 use vm_values::ByteValued;
 
-// A block: its bytes, and their dirty pages.
+// A block: its bytes, and its dirty pages.
 #[derive(Drop)]
 pub(crate) struct Block<B: NewBitmap> {
     pub(crate) bytes: Vec<u8>,
@@ -36,7 +36,7 @@ impl<B: NewBitmap> Model for Block<B> {
 }
 
 impl<B: NewBitmap> Block<B> {
-    // Some of its bytes.
+    // Its `len` bytes from `offset` on.
     pub(crate) fn bytes(&self, offset: usize, len: usize) -> &[u8]
         requires { offset + len ≤ length self.now.bytes }
         ensures { result.now ≡ take len (drop offset self.now.bytes) }
@@ -60,8 +60,8 @@ impl<B: NewBitmap> Block<B> {
         }
     }
 
-    // Copies bytes from one offset to another, those that stood there before, and marks their pages if
-    // `mark`.
+    // Copies bytes from one offset to another, and marks the pages there if `mark`. If the two overlap, it
+    // copies the bytes from before.
     pub(crate) fn copy_within(&mut self, from: usize, to: usize, len: usize, mark: bool)
         requires source { from + len ≤ length self.old.bytes }
         requires dest { to + len ≤ length self.old.bytes }
@@ -102,7 +102,7 @@ impl<B: NewBitmap> Block<B> {
         }
     }
 
-    // Reads to some of its bytes, and marks the pages of those that came if `mark`.
+    // Reads from `source` to its `len` bytes from `offset` on, and marks the pages of those read if `mark`.
     pub(crate) fn read_volatile_from<S: ReadVolatile>(
         &mut self,
         offset: usize,
@@ -130,7 +130,7 @@ impl<B: NewBitmap> Block<B> {
 }
 
 impl Block<PageBitmap> {
-    // The same bytes and marks once more.
+    // A copy of its bytes and marks.
     fn try_clone(&self) -> Result<Block<PageBitmap>, AllocError>
         ensures { IfOk result (λ b. b ≡ self.now) }
     {
@@ -141,7 +141,7 @@ impl Block<PageBitmap> {
     }
 }
 
-// The same blocks once more.
+// A copy of the blocks.
 pub(crate) fn cloned_blocks(
     alloc: Global,
     blocks: &[Block<PageBitmap>],
@@ -155,8 +155,8 @@ pub(crate) fn cloned_blocks(
     Ok(copies)
 }
 
-// Copies a window of one block to one of the same length in another, and marks the pages there if none of a
-// set of I/O pages are marked instead.
+// Copies a window of one block to a window of the same length in another block. Marks the pages there unless
+// that window marks I/O pages.
 pub(crate) fn copy_across<B: NewBitmap>(
     blocks: &mut [Block<B>],
     source: VolatileSlice,

@@ -10,7 +10,7 @@ use crate::window::VolatileSlice;
 use vm_bitmaps::NewBitmap;
 use vm_values::ByteValued;
 
-/// Puts bytes in a buffer from `at` on.
+/// Copies bytes into a buffer from offset `at` on.
 pub fn put_at(buffer: &mut [u8], at: usize, bytes: &[u8])
     requires { at + length bytes.now ≤ length buffer.old }
     ensures stored { buffer.new ≡ take at buffer.old ++ bytes.now ++ drop (at + length bytes.now) buffer.old }
@@ -19,7 +19,7 @@ pub fn put_at(buffer: &mut [u8], at: usize, bytes: &[u8])
     buffer[at..at + bytes.len()].copy_from_slice(bytes);
 }
 
-// Reads the values that some bytes spell, one after another.
+// Reads values from their bytes, one after another.
 fn get_values<T: ByteValued>(bytes: &[u8], out: &mut [T])
     requires { length bytes.now ≡ length out.old * T.SIZE }
     ensures bytes { spelled_all T.fields out.new ≡ bytes.now }
@@ -32,7 +32,7 @@ fn get_values<T: ByteValued>(bytes: &[u8], out: &mut [T])
     }
 }
 
-// Puts the bytes of values, one after another, in a buffer from `at` on.
+// Writes the bytes of values, one after another, to a buffer from offset `at` on.
 pub(crate) fn put_values<T: ByteValued>(buffer: &mut [u8], at: usize, values: &[T])
     requires { at + length values.now * T.SIZE ≤ length buffer.old }
     ensures stored { buffer.new ≡ take at buffer.old ++ spelled_all T.fields values.now
@@ -47,7 +47,7 @@ pub(crate) fn put_values<T: ByteValued>(buffer: &mut [u8], at: usize, values: &[
     }
 }
 
-// How many whole values both `len` bytes and a list of `count` hold.
+// The smaller of `count` and the number of whole values in `len` bytes; 0 for values of 0 bytes.
 fn whole_values<T: ByteValued>(len: usize, count: usize) -> usize
     ensures whole { result ≡ whole_elements T.SIZE len count }
     ensures fits { result * T.SIZE ≤ len }
@@ -61,8 +61,8 @@ fn whole_values<T: ByteValued>(len: usize, count: usize) -> usize
 }
 
 impl VolatileSlice {
-    /// Reads as many whole values as both it and the list hold, none of no byte: how many (vm-memory's
-    /// `VolatileSlice::copy_to`).
+    /// Reads as many whole values as both it and `values` have, and returns their number (vm-memory's
+    /// `VolatileSlice::copy_to`). Values of 0 bytes aren't read.
     pub fn copy_to<T: ByteValued, B: NewBitmap>(&self, h: &HostMemory<B>, values: &mut [T]) -> usize
         requires { LiesIn (lengths h.now) self.now }
         ensures count { result ≡ whole_elements T.SIZE self.now.len (length values.old) }
@@ -77,8 +77,8 @@ impl VolatileSlice {
         count
     }
 
-    /// Writes as many whole values as both it and the list hold, none of no byte, and marks their pages
-    /// (vm-memory's `VolatileSlice::copy_from`).
+    /// Writes as many whole values as both it and `values` have, and marks their pages (vm-memory's
+    /// `VolatileSlice::copy_from`). Values of 0 bytes aren't written.
     pub fn copy_from<T: ByteValued, B: NewBitmap>(&self, h: &mut HostMemory<B>, values: &[T])
         requires { LiesIn (lengths h.old) self.now }
         ensures stored { Stores h.old h.new (places_of self.now)
@@ -90,9 +90,9 @@ impl VolatileSlice {
         h.write_values(*self, &values[..count]);
     }
 
-    /// Copies its first bytes, as many as both windows have, to another window and marks their pages: the
-    /// bytes that it had before, also if the two overlap (vm-memory's
-    /// `VolatileSlice::copy_to_volatile_slice`).
+    /// Copies its first bytes, as many as both windows have, to `dest`, and marks the pages there
+    /// (vm-memory's `VolatileSlice::copy_to_volatile_slice`). If the two overlap, it copies the bytes that
+    /// it had before.
     pub fn copy_to_volatile_slice<B: NewBitmap>(&self, h: &mut HostMemory<B>, dest: VolatileSlice)
         requires source { LiesIn (lengths h.old) self.now }
         requires dest { LiesIn (lengths h.old) dest }

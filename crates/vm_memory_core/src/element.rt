@@ -14,7 +14,7 @@ use std::marker::{Model, PhantomData};
 use vm_bitmaps::NewBitmap;
 use vm_values::ByteValued;
 
-// The greatest number of bytes, and of values, that an array has: what an `isize` counts.
+// The greatest number of bytes, and of values, of an array: the greatest `isize`.
 const MOST_BYTES: usize = 0x7fff_ffff_ffff_ffff;
 
 /// The place of a value in host memory: a window of its size (vm-memory's `VolatileRef`).
@@ -38,7 +38,7 @@ impl<T: ByteValued> Model for VolatileRef<T> {
 }
 
 impl<T: ByteValued> VolatileRef<T> {
-    /// The value that its bytes spell.
+    /// Reads the value from its bytes.
     pub fn load<B: NewBitmap>(&self, h: &HostMemory<B>) -> T
         requires { LiesIn (lengths h.now) self.now }
         ensures bytes { spelled (T.fields result) ≡ map (byte_in h.now) (places_of self.now) }
@@ -58,7 +58,7 @@ impl<T: ByteValued> VolatileRef<T> {
         h.write(self.place, &buffer[..T::SIZE]);
     }
 
-    /// How many bytes the value has.
+    /// The number of bytes of the value.
     pub fn len(&self) -> usize
         ensures size { result ≡ T.SIZE }
         ensures len { result ≡ self.now.len }
@@ -66,7 +66,7 @@ impl<T: ByteValued> VolatileRef<T> {
         self.place.len()
     }
 
-    /// The window that it is.
+    /// The window of the value's bytes.
     pub fn to_slice(&self) -> VolatileSlice
         ensures { result ≡ self.now }
     {
@@ -74,7 +74,7 @@ impl<T: ByteValued> VolatileRef<T> {
     }
 }
 
-/// The places of values that stand one after another in host memory (vm-memory's `VolatileArrayRef`).
+/// The places of consecutive values in host memory (vm-memory's `VolatileArrayRef`).
 #[derive(Clone, Copy, Debug)]
 pub struct VolatileArrayRef<T: ByteValued> {
     window: VolatileSlice,
@@ -96,7 +96,7 @@ impl<T: ByteValued> Model for VolatileArrayRef<T> {
 }
 
 impl<T: ByteValued> VolatileArrayRef<T> {
-    /// How many values there are.
+    /// The number of values.
     pub fn len(&self) -> usize
         ensures count { result ≡ self.now.count }
         ensures size { self.now.window.len ≡ self.now.count * T.SIZE }
@@ -104,21 +104,21 @@ impl<T: ByteValued> VolatileArrayRef<T> {
         self.count
     }
 
-    /// Whether there is no value.
+    /// Whether there are no values.
     pub fn is_empty(&self) -> bool
         ensures { result ≡ (self.now.count == 0) }
     {
         self.count == 0
     }
 
-    /// How many bytes a value has.
+    /// The number of bytes of a value.
     pub fn element_size(&self) -> usize
         ensures { result ≡ T.SIZE }
     {
         T::SIZE
     }
 
-    /// The place of one of the values.
+    /// The place of the value at `index`.
     #[tactic(auto, using(crate::proofs::ValueLemmas::below_end))]
     pub fn ref_at(&self, index: usize) -> VolatileRef<T>
         requires { index < self.now.count }
@@ -132,7 +132,7 @@ impl<T: ByteValued> VolatileArrayRef<T> {
         }
     }
 
-    /// The value at an index.
+    /// Reads the value at `index`.
     pub fn load<B: NewBitmap>(&self, h: &HostMemory<B>, index: usize) -> T
         requires lies { LiesIn (lengths h.now) self.now.window }
         requires some { index < self.now.count }
@@ -143,7 +143,7 @@ impl<T: ByteValued> VolatileArrayRef<T> {
         self.ref_at(index).load(h)
     }
 
-    /// Writes the bytes of a value at an index, and marks their pages.
+    /// Writes the bytes of the value at `index`, and marks their pages.
     pub fn store<B: NewBitmap>(&self, h: &mut HostMemory<B>, index: usize, value: T)
         requires lies { LiesIn (lengths h.old) self.now.window }
         requires some { index < self.now.count }
@@ -154,7 +154,8 @@ impl<T: ByteValued> VolatileArrayRef<T> {
         self.ref_at(index).store(h, value);
     }
 
-    /// Reads its first values, as many as both it and the list have, none of no byte: how many.
+    /// Reads its first values, as many as both it and `values` have, and returns their number. Values of 0
+    /// bytes aren't read.
     #[tactic(auto, using(crate::proofs::ValueLemmas::whole_elements_is))]
     pub fn copy_to<B: NewBitmap>(&self, h: &HostMemory<B>, values: &mut [T]) -> usize
         requires { LiesIn (lengths h.now) self.now.window }
@@ -167,7 +168,8 @@ impl<T: ByteValued> VolatileArrayRef<T> {
         self.window.copy_to(h, values)
     }
 
-    /// Writes the first values of a list, as many as both have, none of no byte, and marks their pages.
+    /// Writes its first values, as many as both it and `values` have, and marks their pages. Values of 0
+    /// bytes aren't written.
     #[tactic(auto, using(crate::proofs::ValueLemmas::whole_elements_is))]
     pub fn copy_from<B: NewBitmap>(&self, h: &mut HostMemory<B>, values: &[T])
         requires { LiesIn (lengths h.old) self.now.window }
@@ -179,8 +181,8 @@ impl<T: ByteValued> VolatileArrayRef<T> {
         self.window.copy_from(h, values);
     }
 
-    /// Copies its first bytes, as many as both have, to a window and marks their pages: the bytes that it had
-    /// before, also if the two overlap.
+    /// Copies its first bytes, as many as both have, to a window, and marks the pages there. If the two
+    /// overlap, it copies the bytes that it had before.
     pub fn copy_to_volatile_slice<B: NewBitmap>(&self, h: &mut HostMemory<B>, dest: VolatileSlice)
         requires source { LiesIn (lengths h.old) self.now.window }
         requires dest { LiesIn (lengths h.old) dest }
@@ -191,7 +193,7 @@ impl<T: ByteValued> VolatileArrayRef<T> {
         self.window.copy_to_volatile_slice(h, dest);
     }
 
-    /// The window that they fill.
+    /// The window that the values fill.
     pub fn to_slice(&self) -> VolatileSlice
         ensures { result ≡ self.now.window }
     {
@@ -200,8 +202,8 @@ impl<T: ByteValued> VolatileArrayRef<T> {
 }
 
 impl VolatileSlice {
-    /// The place of a value, from an offset on, or OutOfBounds or Overflow (vm-memory's
-    /// `VolatileSlice::get_ref`).
+    /// The place of a value at `offset` (vm-memory's `VolatileSlice::get_ref`). Overflow if its end doesn't
+    /// fit 64 bits. OutOfBounds if the window doesn't have all of it.
     pub fn get_ref<T: ByteValued>(
         &self,
         offset: usize,
@@ -217,8 +219,9 @@ impl VolatileSlice {
         }
     }
 
-    /// The places of `n` values, from an offset on, or TooBig, OutOfBounds or Overflow (vm-memory's
-    /// `VolatileSlice::get_array_ref`).
+    /// The places of `n` values from `offset` on (vm-memory's `VolatileSlice::get_array_ref`). TooBig if `n`
+    /// or their bytes are 2^63 or more. Overflow if their end doesn't fit 64 bits. OutOfBounds if the window
+    /// doesn't have all of them.
     pub fn get_array_ref<T: ByteValued>(
         &self,
         offset: usize,
@@ -244,7 +247,7 @@ impl VolatileSlice {
     }
 }
 
-/// The bytes of a window.
+/// The bytes of a window, as values.
 impl From<VolatileSlice> for VolatileArrayRef<u8> {
     ghost from_gives = { λ w a. a ≡ record { window = w; count = w.len } };
 

@@ -1,27 +1,27 @@
-//! What a call on a window refuses.
+//! The errors of calls on a window.
 
 ghost use Rattle.std.specs.Prelude.{◌≡◌};
 ghost use Rattle.vm_memory_core.specs.Parts.{end_of};
 
 use thiserror::Error;
 
-/// Why a part of a window, or an access to one, was refused (vm-memory's `VolatileMemoryError`). Addresses
+/// An error of a part of a window, or of an access to one (vm-memory's `VolatileMemoryError`). Addresses
 /// count bytes from the window's start.
 #[derive(Clone, Copy, Debug, PartialEq, Eq, Error)]
 pub enum VolatileMemoryError {
-    /// The end of a part, or the start of an access, lies past the window.
+    /// The end of a part is past the window, or the window has no byte at the start of an access.
     #[error("address {addr:#x} is out of bounds")]
     OutOfBounds { addr: usize },
-    /// The end does not fit 64 bits.
+    /// The end doesn't fit 64 bits.
     #[error("{base:#x} plus {offset:#x} does not fit 64 bits")]
     Overflow { base: usize, offset: usize },
-    /// The elements have more bytes than an `isize` counts.
+    /// The number of elements, or of their bytes, is 2^63 or more.
     #[error("{nelements} elements of {size} bytes are too many")]
     TooBig { nelements: usize, size: usize },
-    /// Kept for its name: nothing here has to be aligned.
+    /// Kept for vm-memory's name, but never returned: nothing has to be aligned.
     #[error("misaligned")]
     Misaligned,
-    /// Fewer bytes were there than the buffer has.
+    /// Only `completed` of the buffer's `expected` bytes could be read or written.
     #[error("{completed} of {expected} bytes were there")]
     PartialBuffer { expected: usize, completed: usize },
 }
@@ -29,7 +29,7 @@ pub enum VolatileMemoryError {
 impl VolatileMemoryError {
     ghost use Rattle.vm_memory_core.specs.Numbers.{volatile_memory_number};
 
-    /// The number that tells the error apart.
+    /// The error's number: 1 to 5, in the order above.
     pub fn number(&self) -> u8
         ensures { result ≡ volatile_memory_number self.now }
     {
@@ -43,7 +43,7 @@ impl VolatileMemoryError {
     }
 }
 
-/// The sum of a place and an offset, in bytes, or Overflow (vm-memory's `compute_offset`).
+/// `base` plus `offset`, in bytes (vm-memory's `compute_offset`). Overflow if it doesn't fit 64 bits.
 pub fn compute_offset(base: usize, offset: usize) -> Result<usize, VolatileMemoryError>
     ensures { result ≡ end_of base offset }
 {

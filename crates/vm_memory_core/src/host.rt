@@ -1,5 +1,5 @@
-//! Memory as numbered blocks, each with its dirty pages, with the tables of IOMMUs and their dirty pages
-//! beside them.
+//! Memory as numbered blocks, each with its dirty pages, and the tables of IOMMUs with their dirty I/O
+//! pages.
 
 ghost use Rattle.std.specs.Prelude.{[], IfOk, IfSome, IsSome, IsTrue, None, OnErr, false, ℕ, ◌≡◌, ◌↔◌, ◌<◌};
 ghost use Rattle.std.specs.Prelude.{◌≤◌, ◌*◌};
@@ -22,8 +22,8 @@ use vm_bitmaps::{NewBitmap, PageBitmap};
 use vm_iotlb::Iotlb;
 use vm_values::ByteValued;
 
-/// The memory that guests and devices share: blocks, each with a bitmap of its dirty pages; and what devices
-/// behind an IOMMU go by: tables, and sets of dirty I/O pages. Each of the three is numbered from 0.
+/// The memory that guests and devices share: blocks, each with a bitmap of its dirty pages. It has tables and
+/// sets of dirty I/O pages for devices behind an IOMMU. Each of the three is numbered from 0.
 #[derive(Drop)]
 pub struct HostMemory<B: NewBitmap> {
     alloc: Global,
@@ -57,8 +57,8 @@ impl<B: NewBitmap> HostMemory<B> {
         }
     }
 
-    /// A new block of `len` bytes, all zero, none of whose pages is marked: its number. AllocError if an
-    /// allocation fails; then nothing changes.
+    /// Adds a block of `len` bytes, all zero, with no page marked, and returns its number. AllocError if an
+    /// allocation fails: nothing changes.
     pub fn new_block(&mut self, len: usize) -> Result<usize, AllocError>
         requires { 0 < len }
         ensures number { IfOk result (λ b. b ≡ length self.old.blocks) }
@@ -73,8 +73,8 @@ impl<B: NewBitmap> HostMemory<B> {
         Ok(number)
     }
 
-    /// A new table, in which no I/O address is mapped: its number. AllocError if an allocation fails; then
-    /// nothing changes.
+    /// Adds a table without mappings, and returns its number. AllocError if an allocation fails: nothing
+    /// changes.
     pub fn new_table(&mut self) -> Result<usize, AllocError>
         ensures number { IfOk result (λ t. t ≡ length self.old.tables) }
         ensures ok { IfOk result (λ _. self.new ≡ with_table self.old []) }
@@ -85,8 +85,8 @@ impl<B: NewBitmap> HostMemory<B> {
         Ok(number)
     }
 
-    /// A new set of dirty I/O pages for the addresses below `byte_size`, none of which is marked: its number.
-    /// AllocError if an allocation fails; then nothing changes.
+    /// Adds a set of I/O pages for the addresses below `byte_size`, with no page marked, and returns its
+    /// number. AllocError if an allocation fails: nothing changes.
     pub fn new_io_bitmap(&mut self, byte_size: usize) -> Result<usize, AllocError>
         ensures number { IfOk result (λ i. i ≡ length self.old.io_marks) }
         ensures ok { IfOk result
@@ -99,14 +99,14 @@ impl<B: NewBitmap> HostMemory<B> {
         Ok(number)
     }
 
-    /// The table of this number; None if there is none.
+    /// The table with this number. None if there is none.
     pub fn table(&self, table: usize) -> Option<&Iotlb>
         ensures { option_map (λ t. t.now) result ≡ slice_get self.now.tables table }
     {
         self.tables.get(table)
     }
 
-    /// The table of this number, to be changed; None if there is none.
+    /// The table with this number, mutable. None if there is none.
     pub fn table_mut(&mut self, table: usize) -> Option<&mut Iotlb>
         ensures* writes_back { sem 𝓛 (LendsTable B.row B.NewBitmap self.entry table result) }
         ensures value { option_map (λ t. t.now) result ≡ slice_get self.old.tables table }
@@ -114,14 +114,14 @@ impl<B: NewBitmap> HostMemory<B> {
         self.tables.get_mut(table)
     }
 
-    /// The set of dirty I/O pages of this number, of 4096 addresses each; None if there is none.
+    /// The set of dirty I/O pages with this number, of 4096 addresses each. None if there is none.
     pub fn io_bitmap(&self, set: usize) -> Option<&IoPages<B>>
         ensures { option_map (λ p. p.now) result ≡ slice_get self.now.io_marks set }
     {
         self.io_pages.get(set)
     }
 
-    /// The set of dirty I/O pages of this number, to be changed; None if there is none.
+    /// The set of dirty I/O pages with this number, mutable. None if there is none.
     pub fn io_bitmap_mut(&mut self, set: usize) -> Option<&mut IoPages<B>>
         ensures* writes_back { sem 𝓛 (LendsIoPages B.row B.NewBitmap self.entry set result) }
         ensures value { option_map (λ p. p.now) result ≡ slice_get self.old.io_marks set }
@@ -129,14 +129,14 @@ impl<B: NewBitmap> HostMemory<B> {
         self.io_pages.get_mut(set)
     }
 
-    /// How many blocks there are.
+    /// The number of blocks.
     pub fn block_count(&self) -> usize
         ensures { result ≡ length self.now.blocks }
     {
         self.blocks.len()
     }
 
-    /// How many bytes a block has, which are never none; None if there is no such block.
+    /// The number of bytes of a block, which is never 0. None if there is no such block.
     pub fn block_len(&self, block: usize) -> Option<usize>
         ensures len { result ≡ option_map (λ b. length b.bytes) (slice_get self.now.blocks block) }
         ensures some { IfSome result (λ len. 0 < len) }
@@ -147,7 +147,7 @@ impl<B: NewBitmap> HostMemory<B> {
         }
     }
 
-    /// The byte at an offset of a block; None if there is none.
+    /// The byte at an offset of a block. None if there is none.
     pub fn byte_at(&self, block: usize, offset: usize) -> Option<u8>
         ensures { result ≡ byte_at self.now (record { block = block; offset = offset; io = None }) }
     {
@@ -176,8 +176,8 @@ impl<B: NewBitmap> HostMemory<B> {
         self.mark_io(window, bytes.len());
     }
 
-    /// Reads to the first places of a window, and marks the pages of the bytes that came. An error changes
-    /// nothing (vm-memory's `VolatileSlice::read_volatile_from`).
+    /// Reads bytes from `source` to the first places of a window, marks their pages, and returns their number
+    /// (vm-memory's `VolatileSlice::read_volatile_from`). An error, which is the source's, changes nothing.
     pub fn read_volatile_from<S: ReadVolatile>(
         &mut self,
         window: VolatileSlice,
@@ -199,7 +199,7 @@ impl<B: NewBitmap> HostMemory<B> {
         answer
     }
 
-    // Marks the I/O pages of the first bytes of a window that marks such pages.
+    // Marks the I/O pages of the first `count` bytes of a window, if the window marks I/O pages.
     #[inline]
     fn mark_io(&mut self, window: VolatileSlice, count: usize)
         ensures marked { self.new ≡ io_marked self.old window count }
@@ -223,7 +223,7 @@ impl<B: NewBitmap> HostMemory<B> {
         self.mark_io(window, values.len() * T::SIZE);
     }
 
-    // The same without a mark of I/O pages.
+    // Copies a window to one of the same length as `copy_window` does, but marks no I/O pages.
     fn copy_in_blocks(&mut self, source: VolatileSlice, dest: VolatileSlice)
         requires source { LiesIn (lengths self.old) source }
         requires dest { LiesIn (lengths self.old) dest }
@@ -243,7 +243,8 @@ impl<B: NewBitmap> HostMemory<B> {
         }
     }
 
-    // Copies a window to one of the same length: the bytes that stood there before.
+    // Copies a window to one of the same length, and marks the pages there. If the two overlap, it copies
+    // the bytes from before.
     pub(crate) fn copy_window(&mut self, source: VolatileSlice, dest: VolatileSlice)
         requires source { LiesIn (lengths self.old) source }
         requires dest { LiesIn (lengths self.old) dest }
@@ -256,7 +257,7 @@ impl<B: NewBitmap> HostMemory<B> {
         self.mark_io(dest, dest.len());
     }
 
-    /// The dirty pages of a block, of 4096 bytes each; None if there is no such block.
+    /// The dirty pages of a block, of 4096 bytes each. None if there is no such block.
     pub fn bitmap(&self, block: usize) -> Option<&B>
         ensures size { IfSome result (λ b. B.page_size b.now ≡ 4096) }
         ensures base { IfSome result (λ b. B.base b.now ≡ 0) }
@@ -269,7 +270,7 @@ impl<B: NewBitmap> HostMemory<B> {
         }
     }
 
-    /// The bytes of a block, and its dirty pages; None if there is no such block.
+    /// The bytes of a block, and its dirty pages. None if there is no such block.
     pub fn bytes_and_bitmap(&self, block: usize) -> Option<(&[u8], &B)>
         ensures bytes { option_map (λ p. p.0.now) result
             ≡ option_map (λ b. b.bytes) (slice_get self.now.blocks block) }
@@ -291,7 +292,7 @@ impl<B: NewBitmap> HostMemory<B> {
             .is_some()
     }
 
-    /// A window of a block, where the block has all of it.
+    /// The window of `len` bytes of a block from `offset` on. None if the block doesn't have all of it.
     pub fn window(&self, block: usize, offset: usize, len: usize) -> Option<VolatileSlice>
         ensures value { IfSome result
             (λ w. w ≡ record { block = block; offset = offset; len = len; io = None }) }
@@ -307,7 +308,7 @@ impl<B: NewBitmap> HostMemory<B> {
     }
 }
 
-/// Of how many blocks, tables and sets of I/O pages it is, without their bytes.
+/// The numbers of blocks, tables and sets of I/O pages, without their bytes.
 impl<B: NewBitmap> fmt::Debug for HostMemory<B> {
     fn fmt<W: fmt::Write>(&self, f: &mut fmt::Formatter<W>) -> fmt::Result {
         f.debug_struct("HostMemory")
@@ -318,7 +319,7 @@ impl<B: NewBitmap> fmt::Debug for HostMemory<B> {
     }
 }
 
-// The same tables once more.
+// A copy of the tables.
 fn cloned_tables(alloc: Global, tables: &[Iotlb]) -> Result<Vec<Iotlb>, AllocError>
     ensures { IfOk result (λ copies. copies.items ≡ tables.now) }
 {
@@ -332,8 +333,8 @@ fn cloned_tables(alloc: Global, tables: &[Iotlb]) -> Result<Vec<Iotlb>, AllocErr
 impl HostMemory<PageBitmap> {
     ghost use Rattle.vm_memory_core.specs.Host.{changed_at, unmarked, with_blocks};
 
-    /// The same memory once more: blocks with their bytes and marks, tables, and sets of I/O pages.
-    /// AllocError if an allocation fails.
+    /// A copy of the memory: blocks with their bytes and marks, tables, and sets of I/O pages. AllocError if
+    /// an allocation fails.
     pub fn try_clone(&self) -> Result<HostMemory<PageBitmap>, AllocError>
         ensures { IfOk result (λ h. h ≡ self.now) }
     {
@@ -345,7 +346,7 @@ impl HostMemory<PageBitmap> {
         })
     }
 
-    /// Clears the marks of a block, or changes nothing if there is no such block.
+    /// Clears the marks of a block. If there is no such block, returns false and changes nothing.
     pub fn reset_bitmap(&mut self, block: usize) -> bool
         ensures found { IsTrue result ↔ (block < length self.old.blocks) }
         ensures cleared { self.new ≡ with_blocks self.old (changed_at self.old.blocks block unmarked) }

@@ -14,12 +14,13 @@ use std::alloc::{AllocError, Global};
 use vm_bitmaps::NewBitmap;
 use vm_iotlb::Iotlb;
 
-/// Blocks of bytes with their dirty pages, and what devices behind an IOMMU go by. `HostMemory` is one.
+/// Blocks of bytes with their dirty pages, and tables and sets of dirty I/O pages for devices behind an
+/// IOMMU. `HostMemory` implements it.
 pub trait HostBlocks {
-    // what the memory holds
+    // the memory's blocks, tables and sets of I/O pages
     ghost host: { Self → Host };
 
-    /// How many bytes a block has; None if there is no such block.
+    /// The number of bytes of a block. None if there is no such block.
     fn block_len(&self, block: usize) -> Option<usize>
         ensures { result ≡ option_map (λ b. length b.bytes) (slice_get (host self.now).blocks block) };
 
@@ -36,8 +37,8 @@ pub trait HostBlocks {
         ensures stored { Stores (host self.old) (host self.new) (places_of window) bytes.now }
         ensures shape { shape (host self.new) ≡ shape (host self.old) };
 
-    /// Reads to the first places of a window, and marks the pages of the bytes that came. An error changes
-    /// nothing.
+    /// Reads bytes from `source` to the first places of a window, marks their pages, and returns their
+    /// number. An error, which is the source's, changes nothing.
     fn read_volatile_from<S: ReadVolatile>(
         &mut self,
         window: VolatileSlice,
@@ -52,15 +53,15 @@ pub trait HostBlocks {
             source.new }
         ensures shape { shape (host self.new) ≡ shape (host self.old) };
 
-    /// The table of an IOMMU with this number; None if there is none.
+    /// The table of an IOMMU with this number. None if there is none.
     fn table(&self, table: usize) -> Option<&Iotlb>
         ensures { option_map (λ t. t.now) result ≡ slice_get (host self.now).tables table };
 
-    /// Whether there is a set of dirty I/O pages of this number.
+    /// Whether there is a set of dirty I/O pages with this number.
     fn has_io_bitmap(&self, set: usize) -> bool
         ensures { IsTrue result ↔ (set < length (host self.now).io_marks) };
 
-    /// Whether there is a table of this number.
+    /// Whether there is a table with this number.
     final fn has_table(&self, table: usize) -> bool
         ensures { IsTrue result ↔ (table < length (host self.now).tables) }
     {
@@ -82,7 +83,7 @@ pub trait HostBlocks {
         }
     }
 
-    /// Writes bytes at the first places of the windows, joined, and marks their pages.
+    /// Writes bytes at the first places of the joined windows, and marks their pages.
     #[tactic(auto, unfolding(crate::specs::Window::AllLieIn))]
     #[inline(always)]
     final fn write_windows(&mut self, windows: &[VolatileSlice], bytes: &[u8])
@@ -99,7 +100,7 @@ pub trait HostBlocks {
         }
     }
 
-    /// Reads the windows, joined, into a buffer that they fill.
+    /// Reads the bytes of the joined windows into a buffer, which they fill.
     #[tactic(auto, unfolding(crate::specs::Window::AllLieIn))]
     final fn read_windows(&self, windows: &[VolatileSlice], buffer: &mut [u8])
         requires lie { AllLieIn (lengths (host self.now)) windows.now }
@@ -113,7 +114,7 @@ pub trait HostBlocks {
         }
     }
 
-    /// The bytes of the windows, joined; there are about `capacity` of them. AllocError if an allocation
+    /// The bytes of the joined windows. `capacity` is about their number. AllocError if an allocation
     /// fails.
     #[tactic(auto, unfolding(crate::specs::Window::AllLieIn))]
     #[inline(always)]
@@ -134,7 +135,7 @@ pub trait HostBlocks {
     }
 }
 
-/// It owns its blocks, which no call gives away.
+/// `HostMemory` owns its blocks, and no call moves them out.
 impl<B: NewBitmap> HostBlocks for HostMemory<B> {
     ghost host = { λ h. h };
 

@@ -9,8 +9,8 @@ use std::alloc::{AllocError, Global};
 use std::marker::Model;
 use vm_bitmaps::{Bitmap, NewBitmap, PageBitmap};
 
-/// The dirty pages of the addresses from 0 on, of 4096 bytes each: I/O addresses. Clauses see
-/// its marks.
+/// The dirty pages of the I/O addresses from 0 on, of 4096 bytes each. In contracts it is the list of its
+/// marks.
 #[derive(Drop)]
 pub struct IoPages<B: NewBitmap> {
     bitmap: B,
@@ -27,7 +27,8 @@ impl<B: NewBitmap> Model for IoPages<B> {
 }
 
 impl<B: NewBitmap> IoPages<B> {
-    /// No page, of 4096 addresses, of those below `byte_size` is marked. AllocError if an allocation fails.
+    /// Clear pages, of 4096 addresses each, for the addresses below `byte_size`. AllocError if an allocation
+    /// fails.
     pub fn with_len(alloc: Global, byte_size: usize) -> Result<IoPages<B>, AllocError>
         ensures { IfOk result (λ p. p ≡ replicate (B.count byte_size) false) }
     {
@@ -36,8 +37,8 @@ impl<B: NewBitmap> IoPages<B> {
     }
 }
 
-// Marks the I/O pages of `count` bytes from an offset of a block on. A set that isn't there has none, and no
-// address lies at or past 2^64.
+// Marks the I/O pages of `count` bytes from an offset of a block on. Ignores a set that doesn't exist, and
+// addresses from 2^64 on.
 pub(crate) fn mark_pages<B: NewBitmap>(
     sets: &mut [IoPages<B>],
     marks: IoMarks,
@@ -74,14 +75,14 @@ impl<B: NewBitmap> Bitmap for IoPages<B> {
 }
 
 impl IoPages<PageBitmap> {
-    /// How many pages there are.
+    /// The number of pages.
     pub fn len(&self) -> usize
         ensures { result ≡ length self.now }
     {
         self.bitmap.len()
     }
 
-    // The same marks once more.
+    // A copy of the marks.
     fn try_clone(&self) -> Result<IoPages<PageBitmap>, AllocError>
         ensures { IfOk result (λ p. p ≡ self.now) }
     {
@@ -99,7 +100,7 @@ impl IoPages<PageBitmap> {
     }
 }
 
-// The same sets once more.
+// A copy of the sets.
 pub(crate) fn cloned_sets(
     alloc: Global,
     sets: &[IoPages<PageBitmap>],

@@ -9,33 +9,33 @@ use crate::error::{VolatileMemoryError, compute_offset};
 use crate::window::VolatileSlice;
 use vm_values::ByteValued;
 
-/// Memory that is a window, and that hands out its parts (vm-memory's `VolatileMemory`).
+/// Memory that is a window, and returns its parts (vm-memory's `VolatileMemory`).
 pub trait VolatileMemory {
-    // the window that it is
+    // the window of the whole memory
     ghost window: { Self → Window };
 
-    /// How many bytes it has.
+    /// Its number of bytes.
     fn len(&self) -> usize
         ensures { result ≡ (window self.now).len };
 
-    /// Its `count` bytes from an offset on, or OutOfBounds or Overflow (vm-memory's
-    /// `VolatileMemory::get_slice`).
+    /// Its `count` bytes from `offset` on (vm-memory's `VolatileMemory::get_slice`). Overflow if their end
+    /// doesn't fit 64 bits. OutOfBounds if the memory doesn't have them.
     fn get_slice(&self, offset: usize, count: usize) -> Result<VolatileSlice, VolatileMemoryError>
         ensures { result ≡ sub_window (window self.now) offset count };
 
-    /// The window that it is.
+    /// The window of the whole memory.
     fn as_volatile_slice(&self) -> VolatileSlice
         ensures { result ≡ window self.now };
 
-    /// Whether it has no byte.
+    /// Whether it has no bytes.
     final fn is_empty(&self) -> bool
         ensures { result ≡ ((window self.now).len == 0) }
     {
         self.len() == 0
     }
 
-    /// The place of a value, from an offset on, or OutOfBounds or Overflow (vm-memory's
-    /// `VolatileMemory::get_ref`).
+    /// The place of a value at `offset` (vm-memory's `VolatileMemory::get_ref`). The errors are those of
+    /// `VolatileSlice::get_ref`: Overflow, OutOfBounds.
     final fn get_ref<T: ByteValued>(
         &self,
         offset: usize,
@@ -45,8 +45,8 @@ pub trait VolatileMemory {
         self.as_volatile_slice().get_ref(offset)
     }
 
-    /// The places of `n` values, from an offset on, or TooBig, OutOfBounds or Overflow (vm-memory's
-    /// `VolatileMemory::get_array_ref`).
+    /// The places of `n` values from `offset` on (vm-memory's `VolatileMemory::get_array_ref`). The errors
+    /// are those of `VolatileSlice::get_array_ref`: TooBig, Overflow, OutOfBounds.
     final fn get_array_ref<T: ByteValued>(
         &self,
         offset: usize,
@@ -57,8 +57,8 @@ pub trait VolatileMemory {
         self.as_volatile_slice().get_array_ref(offset, n)
     }
 
-    /// The end of `offset` bytes from `base` on, or OutOfBounds or Overflow (vm-memory's
-    /// `VolatileMemory::compute_end_offset`).
+    /// `base` plus `offset`, in bytes (vm-memory's `VolatileMemory::compute_end_offset`). Overflow if it
+    /// doesn't fit 64 bits. OutOfBounds if it is past the memory's end.
     final fn compute_end_offset(
         &self,
         base: usize,

@@ -1,4 +1,4 @@
-//! Reads and writes of a block by offset: writes that mark no page.
+//! Reads and writes of a block by offset. These writes mark no page.
 
 ghost use Rattle.std.specs.Prelude.{IsTrue, None, ◌≡◌, ◌↔◌, length, map};
 ghost use Rattle.std.specs.Bool.{OnFalse, OnTrue};
@@ -10,7 +10,7 @@ use crate::host::HostMemory;
 use vm_bitmaps::NewBitmap;
 
 impl<B: NewBitmap> HostMemory<B> {
-    /// Reads bytes of a block, if it has all of them; else the buffer stays as it was.
+    /// Reads bytes of a block. If it doesn't have all of them, returns false and leaves the buffer unchanged.
     pub fn read_block(&self, block: usize, offset: usize, buffer: &mut [u8]) -> bool
         ensures found { IsTrue result ↔ LiesIn (lengths self.now)
             (record { block = block; offset = offset; len = length buffer.old; io = None }) }
@@ -27,7 +27,8 @@ impl<B: NewBitmap> HostMemory<B> {
         }
     }
 
-    /// Sets bytes of a block, if it has all of their places, and marks no page; else nothing changes.
+    /// Sets bytes of a block, and marks no page. If it doesn't have all of them, returns false and changes
+    /// nothing.
     pub fn write_block(&mut self, block: usize, offset: usize, bytes: &[u8]) -> bool
         ensures found { IsTrue result ↔ LiesIn (lengths self.old)
             (record { block = block; offset = offset; len = length bytes.now; io = None }) }

@@ -1,27 +1,27 @@
-//! Where bytes come from that are read straight into host memory (vm-memory's `ReadVolatile`).
+//! Sources of bytes that are read straight into host memory (vm-memory's `ReadVolatile`).
 
 ghost use Rattle.std.specs.Prelude.{◌≡◌, ℕ, ◌+◌, ◌≤◌, List, ◌++◌, length, take, drop, Result};
 ghost use Rattle.vm_memory_core.specs.Volatile.{bytes_answer, moved, read_answer};
 
-/// Something that bytes are read from (vm-memory's `ReadVolatile`). Its errors are its own.
+/// A source of bytes (vm-memory's `ReadVolatile`).
 pub trait ReadVolatile {
-    /// Why nothing was read.
+    /// The source's own error: nothing was read.
     type Error;
 
-    // What one read may answer: before, the bytes that it is lent, answer, after. Of all memory it sees these
-    // alone.
+    // The relation of one read: the source before it, the bytes of its buffer, the result, and the source
+    // after it. The source sees no other memory.
     ghost gives: { Self → List ℕ → Result (List ℕ) Self.Error → Self → Type 0 };
 
-    /// Reads to the front of a buffer, and answers how many bytes. The buffer may hold bytes of a guest,
-    /// which are no input: what lies behind those that came stays as it was, and all of the buffer with an
-    /// error.
+    /// Reads bytes to the front of a buffer, and returns their number. The rest of the buffer must stay
+    /// unchanged, and all of it with an error. The buffer may hold bytes of a guest, which aren't an input
+    /// of the source.
     fn read_volatile(&mut self, buf: &mut [u8]) -> Result<usize, Self::Error>
         ensures within { moved result ≤ length buf.old }
         ensures rest { buf.new ≡ take (moved result) buf.new ++ drop (moved result) buf.old }
         ensures gives { gives self.old buf.old (bytes_answer result buf.new) self.new };
 }
 
-// How many bytes a read moved.
+// The number of bytes that a read moved; 0 with an error.
 pub(crate) fn moved<E>(answer: &Result<usize, E>) -> usize
     ensures { result ≡ moved answer.now }
 {
@@ -31,7 +31,7 @@ pub(crate) fn moved<E>(answer: &Result<usize, E>) -> usize
     }
 }
 
-// Reads to some bytes of a block.
+// Reads from `source` to the `len` bytes of a block from `offset` on.
 pub(crate) fn read_to<S: ReadVolatile>(
     block: &mut [u8],
     offset: usize,

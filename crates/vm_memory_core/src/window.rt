@@ -9,8 +9,8 @@ use crate::error::{VolatileMemoryError, compute_offset};
 use smallvec::SmallVec;
 use std::marker::Model;
 
-/// Some bytes of a block of host memory (vm-memory's `VolatileSlice`). It is a plain value: calls that touch
-/// bytes are lent the host.
+/// Consecutive bytes of a block of host memory (vm-memory's `VolatileSlice`). It is a plain value: calls that
+/// access the bytes borrow the host.
 #[derive(Clone, Copy, Debug, Default)]
 pub struct VolatileSlice {
     block: usize,
@@ -21,33 +21,33 @@ pub struct VolatileSlice {
     marks: Marking,
 }
 
-/// Which pages writes of a window mark: those of its block, or I/O pages of a set of the host's, whose
-/// addresses lie so far above or below the offsets in the block. So a part of a window marks as the window
-/// does.
+/// The pages that writes to a window mark: those of its block, or I/O pages of one of the host's sets. The
+/// I/O address of a byte is its offset in the block plus or minus the window's `by`. So a part of a window
+/// marks as the window does.
 #[derive(Clone, Copy, Debug, Default)]
 pub enum Marking {
     /// The pages of its block, of 4096 bytes each.
     #[default]
     InBlock,
-    /// I/O pages: an I/O address is an offset in the block and so much more.
+    /// I/O pages: an I/O address is the offset in the block plus `by`.
     IoAbove,
-    /// I/O pages: an I/O address is an offset in the block and so much less.
+    /// I/O pages: an I/O address is the offset in the block minus `by`.
     IoBelow,
 }
 
-/// The I/O pages that writes mark in place of a block's own: those of a set of the host's, in which the byte
-/// at offset `from` of the block has the I/O address `base`.
+/// The I/O pages that writes mark instead of the block's own: those of one of the host's sets. The byte at
+/// offset `from` of the block has the I/O address `base` there.
 #[derive(Clone, Copy, Debug)]
 pub struct IoMarks {
     /// The number of the set.
     pub set: usize,
-    /// An I/O address.
+    /// The I/O address of the byte at `from`.
     pub base: u64,
-    /// The offset of its byte in the block.
+    /// An offset in the block, in bytes.
     pub from: usize,
 }
 
-/// Windows in order, of which the first two take no memory.
+/// Windows in order. The first two need no allocation.
 pub type Windows = SmallVec<VolatileSlice, 2>;
 
 impl Model for VolatileSlice {
@@ -79,8 +79,8 @@ impl Model for VolatileSlice {
 }
 
 impl VolatileSlice {
-    /// The window of `len` bytes of a block, from `offset` on. Whether a host has it, `HostMemory::has`
-    /// tells.
+    /// The window of `len` bytes of a block from `offset` on. `HostMemory::has` returns whether a host has
+    /// it.
     pub fn new(block: usize, offset: usize, len: usize) -> VolatileSlice
         requires { offset + len < 2 ^ 64 }
         ensures { result ≡ record { block = block; offset = offset; len = len; io = None } }
@@ -95,8 +95,8 @@ impl VolatileSlice {
         }
     }
 
-    /// The same bytes, of which writes mark I/O pages: those of a set of the host's, where its first byte has
-    /// the I/O address `base` (vm-memory's `VolatileSlice::replace_bitmap`).
+    /// The same bytes, but writes mark I/O pages of the host's set `io`, where the first byte has the I/O
+    /// address `base` (vm-memory's `VolatileSlice::replace_bitmap`).
     pub fn replace_bitmap(&self, io: usize, base: u64) -> VolatileSlice
         ensures window { result ≡ record self.now { io = Some (io_from io base self.now.offset) } }
         ensures places { places_of result ≡ with_io io base (places_of self.now) }
@@ -119,7 +119,7 @@ impl VolatileSlice {
         }
     }
 
-    // Whether writes of it mark the pages of its block.
+    // Whether writes to it mark the pages of its block.
     pub(crate) fn marks_its_block(&self) -> bool
         ensures { result ≡ is_none self.now.io }
     {
@@ -130,7 +130,7 @@ impl VolatileSlice {
         }
     }
 
-    /// The I/O pages that writes of it mark; None if they mark those of its block.
+    /// The I/O pages that writes to it mark. None if they mark the pages of its block.
     pub fn io(&self) -> Option<IoMarks>
         ensures value { result ≡ self.now.io }
         ensures from { IfSome result (λ m. m.from ≤ self.now.offset) }
@@ -157,14 +157,14 @@ impl VolatileSlice {
         self.block
     }
 
-    /// Where it begins in its block, in bytes.
+    /// Its offset in its block, in bytes.
     pub fn block_offset(&self) -> usize
         ensures { result ≡ self.now.offset }
     {
         self.offset
     }
 
-    /// How many bytes it has.
+    /// Its number of bytes.
     pub fn len(&self) -> usize
         ensures len { result ≡ self.now.len }
         ensures fits { self.now.offset + self.now.len < 2 ^ 64 }
@@ -172,14 +172,15 @@ impl VolatileSlice {
         self.len
     }
 
-    /// Whether it has no byte.
+    /// Whether it has no bytes.
     pub fn is_empty(&self) -> bool
         ensures { result ≡ (self.now.len == 0) }
     {
         self.len == 0
     }
 
-    /// What follows its first `count` bytes, or OutOfBounds (vm-memory's `VolatileSlice::offset`).
+    /// The window without its first `count` bytes (vm-memory's `VolatileSlice::offset`). OutOfBounds if it
+    /// has fewer.
     pub fn offset(&self, count: usize) -> Result<VolatileSlice, VolatileMemoryError>
         ensures { result ≡ rest_of self.now count }
     {
@@ -189,8 +190,8 @@ impl VolatileSlice {
         Ok(self.part(count, self.len - count))
     }
 
-    /// Its `count` bytes from an offset on; OutOfBounds, or Overflow if their end doesn't fit 64 bits
-    /// (vm-memory's `VolatileSlice::subslice`).
+    /// Its `count` bytes from `offset` on (vm-memory's `VolatileSlice::subslice`). Overflow if their end
+    /// doesn't fit 64 bits. OutOfBounds if the window doesn't have them.
     pub fn subslice(
         &self,
         offset: usize,
@@ -205,7 +206,8 @@ impl VolatileSlice {
         }
     }
 
-    /// Its first `mid` bytes, and what follows them, or OutOfBounds (vm-memory's `VolatileSlice::split_at`).
+    /// Its first `mid` bytes, and the rest (vm-memory's `VolatileSlice::split_at`). OutOfBounds if it has
+    /// fewer.
     pub fn split_at(
         &self,
         mid: usize,
@@ -220,7 +222,7 @@ impl VolatileSlice {
         Ok((front, back))
     }
 
-    // Its `count` bytes from an offset on, which it has.
+    // Its `count` bytes from `offset` on. It must have them.
     pub(crate) fn part(&self, offset: usize, count: usize) -> VolatileSlice
         requires { offset + count ≤ self.now.len }
         ensures { result ≡ part_of self.now offset count }
@@ -232,7 +234,8 @@ impl VolatileSlice {
         }
     }
 
-    // The bytes that an access of `count` bytes from `addr` on reaches.
+    // The bytes that an access of `count` bytes from `addr` on reaches: as many of them as the window has.
+    // OutOfBounds if it has no byte at `addr` and `count` isn't 0.
     pub(crate) fn reached_part(
         &self,
         addr: usize,

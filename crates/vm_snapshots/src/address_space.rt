@@ -1,4 +1,4 @@
-//! Whatever lends guest memory to a call (vm-memory's `GuestAddressSpace`).
+//! Owners of guest memory that lend it for a call (vm-memory's `GuestAddressSpace`).
 
 ghost use Rattle.std.specs.Prelude.{◌≡◌};
 ghost use Rattle.std.specs.Fn.{FnOnceReturnsAt};
@@ -8,16 +8,16 @@ use std::rc::Rc;
 use std::sync::{Arc, Wait};
 use vm_memory::GuestMemory;
 
-/// What has guest memory to lend, for one call at a time (vm-memory's `GuestAddressSpace`, whose `memory`
-/// hands out a guard): a reference, an `Rc`, an `Arc`, or a `GuestMemoryAtomic`.
+/// A reference, an `Rc`, an `Arc` or a `GuestMemoryAtomic`, which lends guest memory for one call at a
+/// time (vm-memory's `GuestAddressSpace`, whose `memory` returns a guard).
 pub trait GuestAddressSpace {
-    /// The memory that it lends.
+    /// The type of the memory that it lends.
     type M: GuestMemory;
 
-    // which memory it lends
+    // the memory that it may lend
     ghost Lends: { Self → Self.M → Type 0 };
 
-    /// Lends the memory to `f`, which is called once, and answers what `f` answered. It may wait for whoever
+    /// Calls `f` once with the memory, and returns the result of `f`. It may wait for a thread that
     /// replaces the memory.
     fn memory<R: Wait, T, F: FnOnce(&Self::M) -> T>(&self, rt: &R, f: F) -> T
         requires { F.IsAlwaysCallable f }

@@ -1,4 +1,4 @@
-//! Guest memory that is replaced while others use it (vm-memory's `GuestMemoryAtomic`).
+//! Guest memory that one thread replaces while others use it (vm-memory's `GuestMemoryAtomic`).
 
 ghost use Rattle.std.specs.Prelude.{◌≡◌, true, IfErr, IfOk, OnErr};
 ghost use Rattle.std.specs.Arc.{arc_value};
@@ -15,7 +15,7 @@ use std::ops::Deref;
 use std::sync::{Arc, Mutex, MutexGuard, RwLock, RwLockWriteGuard, Wait};
 use vm_memory::GuestMemory;
 
-// The newest snapshot, which was put there.
+// The newest snapshot. The law allows its memory.
 #[derive(Drop)]
 struct Newest<M: Drop, L: MemoryLaw<M>> {
     snapshot: Arc<M, Global>,
@@ -23,22 +23,22 @@ struct Newest<M: Drop, L: MemoryLaw<M>> {
     ghost was_put: { L.allows (arc_value snapshot) ≡ true },
 }
 
-// The newest snapshot, and the turn of those who replace it.
+// The newest snapshot, and the mutex for replacing it.
 #[derive(Drop)]
 struct Snapshots<M: Drop, L: MemoryLaw<M>> {
     newest: RwLock<Newest<M, L>>,
     turn: Mutex<()>,
 }
 
-/// Guest memory that many hold, and that one at a time replaces (vm-memory's `GuestMemoryAtomic`). Whoever
-/// asks for it has the newest snapshot, and keeps that one. Whatever is said of each memory that is put there
-/// (`MemoryLaw`) is so of each that is lent.
+/// Guest memory that several threads share, and that one at a time replaces (vm-memory's
+/// `GuestMemoryAtomic`). `memory` returns the newest snapshot, which the caller keeps as it is. If a
+/// `MemoryLaw` allows each memory that is put there, it allows each that is lent.
 #[derive(Drop)]
 pub struct GuestMemoryAtomic<M: Drop, L: MemoryLaw<M>> {
     shared: Arc<Snapshots<M, L>, Global>,
 }
 
-/// A snapshot. It never changes, whatever replaces the memory meanwhile (vm-memory's `GuestMemoryLoadGuard`).
+/// A snapshot. It doesn't change if the memory is replaced (vm-memory's `GuestMemoryLoadGuard`).
 #[derive(Drop)]
 pub struct GuestMemoryLoadGuard<M: Drop> {
     snapshot: Arc<M, Global>,
@@ -52,15 +52,15 @@ impl<M: Drop> Model for GuestMemoryLoadGuard<M> {
     ghost view = { λ guard. arc_value guard.snapshot };
 }
 
-/// The right to replace the memory, which one at a time has (vm-memory's `GuestMemoryExclusiveGuard`).
+/// The exclusive right to replace the memory (vm-memory's `GuestMemoryExclusiveGuard`).
 #[derive(Drop)]
 pub struct GuestMemoryExclusiveGuard<'a, M: Drop, L: MemoryLaw<M>> {
     newest: &'a RwLock<Newest<M, L>>,
     turn: MutexGuard<'a, ()>,
 }
 
-/// The newest snapshot, as it was put there. Whoever asks for memory waits until this is dropped, and then
-/// finds it.
+/// The write lock with the new snapshot. A thread that asks for the memory waits until this guard is
+/// dropped, and then gets that snapshot.
 #[derive(Drop)]
 pub struct GuestMemoryReplaceGuard<'a, M: Drop, L: MemoryLaw<M>> {
     newest: RwLockWriteGuard<'a, Newest<M, L>>,
@@ -69,7 +69,7 @@ pub struct GuestMemoryReplaceGuard<'a, M: Drop, L: MemoryLaw<M>> {
 }
 
 impl<M: GuestMemory + Drop, L: MemoryLaw<M>> GuestMemoryAtomic<M, L> {
-    /// Memory that can be replaced, which is this one at first; AllocError only if the allocator refuses it.
+    /// Shared memory whose first snapshot is `memory`. AllocError if an allocation fails.
     pub fn new(alloc: Global, memory: M) -> Result<GuestMemoryAtomic<M, L>, AllocError>
         requires { L.allows memory ≡ true }
         ensures refused { OnErr result (RoomWasRefused 1) }
@@ -87,7 +87,8 @@ impl<M: GuestMemory + Drop, L: MemoryLaw<M>> GuestMemoryAtomic<M, L> {
         })
     }
 
-    /// The same memory, held once more: what replaces the one replaces the other (vm-memory's `clone`).
+    /// Another handle of the same shared memory (vm-memory's `clone`). AllocError if it can't be shared
+    /// again.
     pub fn try_clone(&self) -> Result<GuestMemoryAtomic<M, L>, AllocError>
         ensures same { IfOk result (λ other. arc_value other.shared ≡ arc_value self.now.shared) }
         ensures refused { OnErr result (RoomWasRefused 1) }
@@ -97,7 +98,7 @@ impl<M: GuestMemory + Drop, L: MemoryLaw<M>> GuestMemoryAtomic<M, L> {
         })
     }
 
-    /// The newest snapshot, once nobody is putting another in its place.
+    /// The newest snapshot, once no other thread replaces it. AllocError if it can't be shared again.
     pub fn memory<R: Wait>(&self, rt: &R) -> Result<GuestMemoryLoadGuard<M>, AllocError>
         ensures lent { IfOk result (λ guard. L.allows guard ≡ true) }
         ensures refused { OnErr result (RoomWasRefused 1) }
@@ -108,7 +109,8 @@ impl<M: GuestMemory + Drop, L: MemoryLaw<M>> GuestMemoryAtomic<M, L> {
         })
     }
 
-    /// The right to replace the memory, once nobody else has it.
+    /// The right to replace the memory, once no other thread has it (vm-memory's
+    /// `GuestMemoryAtomic::lock`).
     pub fn lock<R: Wait>(&self, rt: &R) -> GuestMemoryExclusiveGuard<'_, M, L>
         ensures { result.newest.now ≡ (arc_value self.now.shared).newest }
     {
@@ -120,7 +122,7 @@ impl<M: GuestMemory + Drop, L: MemoryLaw<M>> GuestMemoryAtomic<M, L> {
 }
 
 impl<M: Drop> GuestMemoryLoadGuard<M> {
-    /// The snapshot, shared with whoever holds it (vm-memory's `into_inner`).
+    /// The snapshot as an `Arc`, which others may share (vm-memory's `into_inner`).
     pub fn into_inner(self) -> Arc<M, Global>
         ensures { arc_value result ≡ self }
     {
@@ -128,7 +130,7 @@ impl<M: Drop> GuestMemoryLoadGuard<M> {
         snapshot
     }
 
-    /// The same snapshot, held once more (vm-memory's `clone`).
+    /// Another guard of the same snapshot (vm-memory's `clone`). AllocError if it can't be shared again.
     pub fn try_clone(&self) -> Result<GuestMemoryLoadGuard<M>, AllocError>
         ensures same { IfOk result (λ guard. guard ≡ self.now) }
         ensures refused { OnErr result (RoomWasRefused 1) }
@@ -147,9 +149,9 @@ impl<M: Drop> GuestMemoryLoadGuard<M> {
 }
 
 impl<'a, M: GuestMemory + Drop, L: MemoryLaw<M>> GuestMemoryExclusiveGuard<'a, M, L> {
-    /// Puts other memory in the place of the newest snapshot; older ones stay as they are with whoever holds
-    /// them. Whoever asks for memory waits until the answer is dropped, which is of this lock. An error is a
-    /// refused allocation: what was handed in comes back, and the newest snapshot stays.
+    /// Replaces the newest snapshot; guards of older ones keep them. A thread that asks for the memory
+    /// waits until the returned guard is dropped. If an allocation fails, the error is `memory` itself,
+    /// and the newest snapshot stays (vm-memory's `GuestMemoryExclusiveGuard::replace`).
     pub fn replace<R: Wait>(
         self,
         rt: &R,
@@ -178,7 +180,7 @@ impl<'a, M: GuestMemory + Drop, L: MemoryLaw<M>> GuestMemoryExclusiveGuard<'a, M
 }
 
 impl<M: Drop, L: MemoryLaw<M>> GuestMemoryReplaceGuard<'_, M, L> {
-    /// The memory that was put there.
+    /// The new snapshot's memory.
     pub fn get(&self) -> &M
         ensures { result.now ≡ arc_value (write_guard_value self.now.newest).snapshot }
     {

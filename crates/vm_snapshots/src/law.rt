@@ -1,16 +1,16 @@
-//! What a caller says of memory that it puts where others find it.
+//! Properties of memory that threads share.
 
 ghost use Rattle.std.specs.Prelude.{Bool, true};
 
-/// What is so of each memory that is put into a `GuestMemoryAtomic`, and so of each that it lends. Whoever
-/// makes one picks it: that the regions lie in a host of these blocks, say, or that the memory is one of
-/// some.
+/// A property of each memory that is put into a `GuestMemoryAtomic`, and so of each that it lends. The
+/// caller that makes one chooses it: that a host has the blocks of the regions, say, or that the memory
+/// is one of a few.
 pub trait MemoryLaw<M> {
-    // which memory may be put there
+    // whether this memory may be put there
     ghost allows: { M → Bool };
 }
 
-/// Nothing is said of the memory.
+/// The law that allows any memory.
 pub struct AnyMemory;
 
 impl<M> MemoryLaw<M> for AnyMemory {

@@ -1,4 +1,4 @@
-//! Snapshots of guest memory: memory that threads share, and that one of them at a time replaces (vm-memory's
+//! Snapshots of guest memory that threads share, and that one of them at a time replaces (vm-memory's
 //! `atomic`).
 #![tactic(auto)]
 

@@ -1,6 +1,6 @@
--- Fields of one shape that fit and are spelled alike are equal: a lemma with its proof, which the trait
--- `ByteValued` cites, so it stands beside the definitions. Nothing here has to be believed: all of it is
--- checked, and no contract speaks of it.
+-- Fields of one shape that fit and have the same bytes are equal: a lemma with its proof. It is among the
+-- definitions because the trait `ByteValued` cites it. Nothing here has to be believed: all of it is checked,
+-- and no contract uses it.
 use Rattle.std.proofs.Common.{◌≡◌, ℕ, zero, suc, ◌+◌, ◌<◌, ◌^◌, ◌/◌, ◌%◌, List, [], ◌∷◌, ◌++◌, length, map}
 use Rattle.std.proofs.Common.{reverse, take, drop, slice_index, refl, ap, sym, ◌∙◌, arith}
 use Rattle.std.proofs.Common.{length-append, append_assoc, append-nil}
@@ -25,7 +25,7 @@ length_low i (suc k) n = ap suc (length_low (suc i) k n)
 length-number : (v : Width) (n : ℕ) → length (to_le_bytes v n) ≡ byte_len v
 length-number v n = length_low 0 (byte_len v) n
 
--- a number of sixteen bytes is spelled as its low half, and then its high half
+-- the bytes of a sixteen-byte number are those of its low half, then those of its high half
 pub two_halves : (n : ℕ) → to_le_bytes w128 n ≡ to_le_bytes w64 (n % 2 ^ 64) ++ to_le_bytes w64 (n / 2 ^ 64)
 two_halves n =
     let low_0 : n % 256 ≡ n % 18446744073709551616 % 256 = omega arith in
@@ -57,7 +57,7 @@ two_halves n =
     λ i. low_0 i ∷ low_1 i ∷ low_2 i ∷ low_3 i ∷ low_4 i ∷ low_5 i ∷ low_6 i ∷ low_7 i ∷ high_0 i ∷ high_1 i
     ∷ high_2 i ∷ high_3 i ∷ high_4 i ∷ high_5 i ∷ high_6 i ∷ high_7 i ∷ []
 
--- of two appended pairs whose fronts are of one length
+-- if two appended pairs are equal and their first lists have one length, their parts are equal
 pub halves : (a b s t : List ℕ) → length a ≡ length b → a ++ s ≡ b ++ t → (a ≡ b) × (s ≡ t)
 halves a b s t l e = (
   sym (take_at a s (length b) l) ∙ ap (take (length b)) e ∙ take_at b t (length b) refl,
@@ -88,7 +88,7 @@ number_once w128 m n hm hn e =
     number_once_64 (m / 2 ^ 64) (n / 2 ^ 64) (omega arith) (omega arith) p.1 in
     omega (arith, a, b)
 
--- the highest byte first is the lowest first, reversed
+-- the big-endian bytes are the little-endian bytes, reversed
 be_is_reverse : (v : Width) (n : ℕ) → to_be_bytes v n ≡ reverse (to_le_bytes v n)
 be_is_reverse w8 n = refl
 be_is_reverse w16 n = refl
@@ -139,7 +139,7 @@ length-numbers v (x ∷ xs) (y ∷ ys) l = length-append (to_le_bytes v x) (flat
     ∙ ap (λ n. length (to_le_bytes v y) + n) (length-numbers v xs ys (omega (arith, l)))
     ∙ sym (length-append (to_le_bytes v y) (flat_map (to_le_bytes v) ys))
 
--- two fields of one shape have spellings of one length, and of two that fit the spellings tell
+-- two fields of one shape that fit have the same number of bytes
 same_length : (f g : Field) → zero_field f ≡ zero_field g → Fits f → Fits g →
     length (field_bytes f) ≡ length (field_bytes g)
 unfolding field_bytes Fits
@@ -167,6 +167,7 @@ same_length (array v m xs) (unsigned v' n) e p r = absurd (cc)
 same_length (array v m xs) (signed v' n) e p r = absurd (cc)
 same_length (array v m xs) (big_endian v' n) e p r = absurd (cc)
 
+-- two fields of one shape that fit and have the same bytes are equal
 field_once :
     (f g : Field) → zero_field f ≡ zero_field g → Fits f → Fits g → field_bytes f ≡ field_bytes g → f ≡ g
 unfolding field_bytes Fits
@@ -211,7 +212,7 @@ field_once (array v m xs) (big_endian v' n) e p r b = absurd (cc)
 spelled-cons : (f : Field) (fs : List Field) → spelled (f ∷ fs) ≡ field_bytes f ++ spelled fs
 spelled-cons f fs = then_is (field_bytes f) fs
 
--- fields of one shape that fit and are spelled alike are equal
+-- fields of one shape that fit and have the same bytes are equal
 pub fields_once : (fs gs : List Field) → map zero_field fs ≡ map zero_field gs → AllFit fs → AllFit gs →
     spelled fs ≡ spelled gs → fs ≡ gs
 fields_once [] [] e p r b = refl

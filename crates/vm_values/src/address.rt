@@ -8,12 +8,12 @@ use std::ops::{BitAnd, BitOr};
 /// A length or an offset in guest memory, in bytes (vm-memory's `GuestUsize`).
 pub type GuestUsize = u64;
 
-/// The numbers of a kind of address (vm-memory's `AddressValue`).
+/// The number type of a kind of address (vm-memory's `AddressValue`).
 pub trait AddressValue {
     /// The type of an address's number.
     type V;
 
-    // The number itself.
+    // The value as a natural number.
     ghost number: { Self.V → ℕ };
 
     /// The number 0.
@@ -25,7 +25,7 @@ pub trait AddressValue {
         ensures { number result ≡ 1 };
 }
 
-/// An address of 64 bits, each that of a byte (vm-memory's `Address`).
+/// A 64-bit address of a byte (vm-memory's `Address`).
 pub trait Address: AddressValue
     + Copy
     + Default
@@ -35,54 +35,54 @@ pub trait Address: AddressValue
     // The address as a number.
     ghost address: { Self → ℕ };
 
-    /// The address of this number.
+    /// The address with this number.
     fn new(number: Self::V) -> Self
         ensures { address result ≡ Self.number number };
 
-    /// Its number.
+    /// The address's number.
     fn raw_value(&self) -> Self::V
         ensures { Self.number result ≡ address self.now };
 
-    /// The bits of its number that the mask has too.
+    /// The bitwise AND of the address's number and `mask`.
     fn mask(&self, mask: Self::V) -> Self::V
         ensures { Self.number result ≡ bit_and (address self.now) (Self.number mask) };
 
-    /// How far it lies above a base; none if it lies below.
+    /// The number of bytes from `base` up to this address. None if this address is below `base`.
     fn checked_offset_from(&self, base: Self) -> Option<Self::V>
         ensures some { IsSome result ↔ (address base ≤ address self.now) }
         ensures value { IfSome result (λ n. Self.number n ≡ address self.now - address base) };
 
-    /// The address this far above; none if there is none.
+    /// The address `other` bytes above. None if it would be 2^64 or more.
     fn checked_add(&self, other: Self::V) -> Option<Self>
         ensures some { IsSome result ↔ (address self.now + Self.number other < 2 ^ 64) }
         ensures value { IfSome result (λ a. address a ≡ address self.now + Self.number other) };
 
-    /// The address this far below; none if there is none.
+    /// The address `other` bytes below. None if it would be negative.
     fn checked_sub(&self, other: Self::V) -> Option<Self>
         ensures some { IsSome result ↔ (Self.number other ≤ address self.now) }
         ensures value { IfSome result (λ a. address a ≡ address self.now - Self.number other) };
 
-    /// The address this far above, wrapped, and whether it was.
+    /// The address `other` bytes above modulo 2^64, and whether it wrapped.
     fn overflowing_add(&self, other: Self::V) -> (Self, bool)
         ensures value { address result.0 ≡ (address self.now + Self.number other) % 2 ^ 64 }
         ensures wrapped { IsFalse result.1 ↔ (address self.now + Self.number other < 2 ^ 64) };
 
-    /// The address this far below, wrapped, and whether it was.
+    /// The address `other` bytes below modulo 2^64, and whether it wrapped.
     fn overflowing_sub(&self, other: Self::V) -> (Self, bool)
         ensures value { address result.0 ≡ (address self.now + (2 ^ 64 - Self.number other)) % 2 ^ 64 }
         ensures wrapped { IsFalse result.1 ↔ (Self.number other ≤ address self.now) };
 
-    /// How far it lies above a base that does not lie above it.
+    /// The number of bytes from `base` up to this address. `base` must not be above it.
     fn unchecked_offset_from(&self, base: Self) -> Self::V
         requires { address base ≤ address self.now }
         ensures { Self.number result ≡ address self.now - address base };
 
-    /// The address this far above, if there is one.
+    /// The address `other` bytes above. It must be below 2^64.
     fn unchecked_add(&self, other: Self::V) -> Self
         requires { address self.now + Self.number other < 2 ^ 64 }
         ensures { address result ≡ address self.now + Self.number other };
 
-    /// The address this far below, if there is one.
+    /// The address `other` bytes below. It must not be negative.
     fn unchecked_sub(&self, other: Self::V) -> Self
         requires { Self.number other ≤ address self.now }
         ensures { address result ≡ address self.now - Self.number other };

@@ -1,4 +1,4 @@
-//! Values that are spelled by a fixed number of bytes.
+//! Values that are encoded in a fixed number of bytes.
 
 ghost use Rattle.std.specs.Prelude.{◌≡◌, ℕ, ◌+◌, ◌*◌, ◌≤◌, List, [], ◌∷◌, map, length, refl, replicate, ◌↔◌};
 ghost use Rattle.std.specs.Prelude.{IsSome, IfSome, IfOk, OnOk};
@@ -10,31 +10,30 @@ ghost use Rattle.vm_values.specs.UniqueProof.{fields_once};
 
 use std::io::{self, Read, Write};
 
-/// A value that is spelled by `SIZE` bytes (vm-memory's `ByteValued`). Rust's integers are spelled with the
-/// lowest byte first, signed ones in two's complement; a record is spelled by its fields, one after another
-/// without a gap.
+/// A value that is encoded in `SIZE` bytes (vm-memory's `ByteValued`). Rust's integers are little-endian,
+/// signed ones in two's complement. A record's bytes are those of its fields in order, without a gap.
 pub trait ByteValued: Copy {
     ghost SIZE: { ℕ };
 
-    /// How many bytes spell a value: at most 256.
+    /// The number of bytes of a value: at most 256.
     const SIZE: usize;
 
-    // The fields whose bytes spell a value.
+    // The fields of a value. Their bytes in order are the value's bytes.
     ghost fields: { Self → List Field };
 
-    /// Writes the value's bytes.
+    /// Writes the value's bytes over `out`, which has `SIZE` bytes.
     fn put_bytes(&self, out: &mut [u8])
         requires { length out.old ≡ SIZE }
         ensures bytes { out.new ≡ spelled (fields self.now) }
         ensures fits { AllFit (fields self.now) };
 
-    /// The value that these bytes spell.
+    /// The value with these bytes, of which there are `SIZE`.
     fn get_bytes(bytes: &[u8]) -> Self
         requires { length bytes.now ≡ SIZE }
         ensures bytes { bytes.now ≡ spelled (fields result) }
         ensures fits { AllFit (fields result) };
 
-    /// The value that is spelled by zeros.
+    /// The value whose bytes are all zero.
     final fn zeroed() -> Self
         ensures { spelled (fields result) ≡ replicate SIZE 0 }
     {
@@ -42,8 +41,8 @@ pub trait ByteValued: Copy {
         Self::get_bytes(&zeros[..Self::SIZE])
     }
 
-    /// The value that these bytes spell, if there are `SIZE` of them (vm-memory's `ByteValued::from_slice`,
-    /// by value).
+    /// The value with these bytes. None unless there are `SIZE` of them (vm-memory's
+    /// `ByteValued::from_slice`, by value).
     final fn from_slice(bytes: &[u8]) -> Option<Self>
         ensures whole { IsSome result ↔ (length bytes.now ≡ SIZE) }
         ensures bytes { IfSome result (λ x. (bytes.now ≡ spelled (fields x)) × AllFit (fields x)) }
@@ -55,8 +54,8 @@ pub trait ByteValued: Copy {
         }
     }
 
-    /// Writes the value's bytes to a stream; an error is the stream's, and some of the bytes may have gone
-    /// out then (vm-memory's `ByteValued::write_all_to`).
+    /// Writes the value's bytes to a stream (vm-memory's `ByteValued::write_all_to`). An error is the
+    /// stream's; some of the bytes may then be written.
     final fn write_all_to<W: Write>(&self, w: &mut W) -> io::Result<()>
         ensures bytes { OnOk result
             (Appends (W.contents w.old) (W.contents w.new) (spelled (fields self.now))) }
@@ -66,8 +65,8 @@ pub trait ByteValued: Copy {
         w.write_all(&buffer[..Self::SIZE])
     }
 
-    /// The value that a stream's next bytes spell; an error is the stream's, and some of the bytes may be
-    /// taken then (vm-memory's `ByteValued::read_exact_from`).
+    /// Reads a value's bytes from a stream (vm-memory's `ByteValued::read_exact_from`). An error is the
+    /// stream's; some of the bytes may then be consumed.
     final fn read_exact_from<R: Read>(r: &mut R) -> io::Result<Self>
         ensures bytes { IfOk result
             (λ x. Consumes (R.remaining r.old) (R.remaining r.new) (spelled (fields x))
@@ -78,7 +77,7 @@ pub trait ByteValued: Copy {
         Ok(Self::get_bytes(&buffer[..Self::SIZE]))
     }
 
-    // Values have fields of one zero_field, fields tell values apart, and a value has at most 256 bytes.
+    // All values have fields of one shape, equal fields mean equal values, and `SIZE` is at most 256.
     ghost lawful: { ((x y : Self) → map zero_field (fields x) ≡ map zero_field (fields y))
         × ((x y : Self) → fields x ≡ fields y → x ≡ y)
         × (SIZE ≤ 256) };

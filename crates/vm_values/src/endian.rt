@@ -1,4 +1,4 @@
-//! Numbers with their bytes in a set order.
+//! Numbers with a fixed byte order.
 
 ghost use Rattle.std.specs.Prelude.{◌≡◌, ◌==◌, [], ◌∷◌, refl};
 ghost use Rattle.std.specs.Int.{w16, w32, w64};
@@ -7,13 +7,13 @@ ghost use Rattle.vm_values.specs.Fields.{w, d, q, big_endian};
 
 use crate::byte_valued::ByteValued;
 
-/// A number of two bytes, the lowest first; the field is the number itself (vm-memory's `Le16`; VIRTIO
-/// 1.2, 1.4: le16).
+/// A little-endian number of two bytes. The field is the number itself (vm-memory's `Le16`; VIRTIO 1.2, 1.4:
+/// le16).
 #[derive(Clone, Copy, Debug, Default, PartialEq, Eq)]
 pub struct Le16(pub u16);
 
 impl Le16 {
-    /// The number.
+    /// The number itself, as Rust's integer.
     pub fn to_native(self) -> u16
         ensures { result ≡ self.0 }
     {
@@ -21,7 +21,7 @@ impl Le16 {
         native
     }
 
-    /// Whether it is this number.
+    /// Whether the number is `number`.
     pub fn eq_native(self, number: u16) -> bool
         ensures { result ≡ (self.0 == number) }
     {
@@ -63,13 +63,13 @@ impl ByteValued for Le16 {
     ghost lawful = { (λ x y. refl, λ x y h. Prim.search rules, Prim.search rules) };
 }
 
-/// A number of two bytes, the highest first; the field is the number itself (vm-memory's `Be16`; VIRTIO
-/// 1.2, 1.4: be16).
+/// A big-endian number of two bytes. The field is the number itself (vm-memory's `Be16`; VIRTIO 1.2, 1.4:
+/// be16).
 #[derive(Clone, Copy, Debug, Default, PartialEq, Eq)]
 pub struct Be16(pub u16);
 
 impl Be16 {
-    /// The number.
+    /// The number itself, as Rust's integer.
     pub fn to_native(self) -> u16
         ensures { result ≡ self.0 }
     {
@@ -77,7 +77,7 @@ impl Be16 {
         native
     }
 
-    /// Whether it is this number.
+    /// Whether the number is `number`.
     pub fn eq_native(self, number: u16) -> bool
         ensures { result ≡ (self.0 == number) }
     {
@@ -121,13 +121,13 @@ impl ByteValued for Be16 {
     ghost lawful = { (λ x y. refl, λ x y h. Prim.search rules, Prim.search rules) };
 }
 
-/// A number of four bytes, the lowest first; the field is the number itself (vm-memory's `Le32`; VIRTIO
-/// 1.2, 1.4: le32).
+/// A little-endian number of four bytes. The field is the number itself (vm-memory's `Le32`; VIRTIO 1.2, 1.4:
+/// le32).
 #[derive(Clone, Copy, Debug, Default, PartialEq, Eq)]
 pub struct Le32(pub u32);
 
 impl Le32 {
-    /// The number.
+    /// The number itself, as Rust's integer.
     pub fn to_native(self) -> u32
         ensures { result ≡ self.0 }
     {
@@ -135,7 +135,7 @@ impl Le32 {
         native
     }
 
-    /// Whether it is this number.
+    /// Whether the number is `number`.
     pub fn eq_native(self, number: u32) -> bool
         ensures { result ≡ (self.0 == number) }
     {
@@ -177,13 +177,13 @@ impl ByteValued for Le32 {
     ghost lawful = { (λ x y. refl, λ x y h. Prim.search rules, Prim.search rules) };
 }
 
-/// A number of four bytes, the highest first; the field is the number itself (vm-memory's `Be32`; VIRTIO
-/// 1.2, 1.4: be32).
+/// A big-endian number of four bytes. The field is the number itself (vm-memory's `Be32`; VIRTIO 1.2, 1.4:
+/// be32).
 #[derive(Clone, Copy, Debug, Default, PartialEq, Eq)]
 pub struct Be32(pub u32);
 
 impl Be32 {
-    /// The number.
+    /// The number itself, as Rust's integer.
     pub fn to_native(self) -> u32
         ensures { result ≡ self.0 }
     {
@@ -191,7 +191,7 @@ impl Be32 {
         native
     }
 
-    /// Whether it is this number.
+    /// Whether the number is `number`.
     pub fn eq_native(self, number: u32) -> bool
         ensures { result ≡ (self.0 == number) }
     {
@@ -235,13 +235,13 @@ impl ByteValued for Be32 {
     ghost lawful = { (λ x y. refl, λ x y h. Prim.search rules, Prim.search rules) };
 }
 
-/// A number of eight bytes, the lowest first; the field is the number itself (vm-memory's `Le64`; VIRTIO
-/// 1.2, 1.4: le64).
+/// A little-endian number of eight bytes. The field is the number itself (vm-memory's `Le64`; VIRTIO 1.2,
+/// 1.4: le64).
 #[derive(Clone, Copy, Debug, Default, PartialEq, Eq)]
 pub struct Le64(pub u64);
 
 impl Le64 {
-    /// The number.
+    /// The number itself, as Rust's integer.
     pub fn to_native(self) -> u64
         ensures { result ≡ self.0 }
     {
@@ -249,7 +249,7 @@ impl Le64 {
         native
     }
 
-    /// Whether it is this number.
+    /// Whether the number is `number`.
     pub fn eq_native(self, number: u64) -> bool
         ensures { result ≡ (self.0 == number) }
     {
@@ -291,13 +291,13 @@ impl ByteValued for Le64 {
     ghost lawful = { (λ x y. refl, λ x y h. Prim.search rules, Prim.search rules) };
 }
 
-/// A number of eight bytes, the highest first; the field is the number itself (vm-memory's `Be64`; VIRTIO
-/// 1.2, 1.4: be64).
+/// A big-endian number of eight bytes. The field is the number itself (vm-memory's `Be64`; VIRTIO 1.2, 1.4:
+/// be64).
 #[derive(Clone, Copy, Debug, Default, PartialEq, Eq)]
 pub struct Be64(pub u64);
 
 impl Be64 {
-    /// The number.
+    /// The number itself, as Rust's integer.
     pub fn to_native(self) -> u64
         ensures { result ≡ self.0 }
     {
@@ -305,7 +305,7 @@ impl Be64 {
         native
     }
 
-    /// Whether it is this number.
+    /// Whether the number is `number`.
     pub fn eq_native(self, number: u64) -> bool
         ensures { result ≡ (self.0 == number) }
     {

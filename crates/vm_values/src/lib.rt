@@ -1,4 +1,4 @@
-//! Values of guest memory: addresses, and values that are spelled by a fixed number of bytes.
+//! Values of guest memory: addresses, and values that are encoded in a fixed number of bytes.
 #![tactic(auto)]
 
 mod address;

@@ -1,4 +1,4 @@
-//! Values at a moving place, one after the other.
+//! Writing and reading of values one after another, at an offset that moves.
 
 ghost use Rattle.std.specs.Prelude.{◌≡◌, ◌+◌, ◌*◌, ◌≤◌, [], ◌∷◌, length, take, drop, refl};
 ghost use Rattle.std.proofs.Common.{rules};
@@ -6,7 +6,7 @@ ghost use Rattle.vm_values.specs.Fields.{ds, then_fields, AllFit};
 
 use crate::byte_valued::ByteValued;
 
-/// Writes a record's fields, in this order, over all of a slice.
+/// Writes a record's fields in this order. They must fill the slice.
 #[macro_export]
 macro_rules! put_fields {
     ($record:expr, $out:expr; $($field:ident)*) => {{
@@ -15,7 +15,7 @@ macro_rules! put_fields {
     }};
 }
 
-/// The record whose fields stand, in this order, in all of a slice.
+/// Reads a record's fields in this order. They must fill the slice.
 #[macro_export]
 macro_rules! get_fields {
     ($record:ident, $bytes:expr; $($field:ident)*) => {{
@@ -26,7 +26,7 @@ macro_rules! get_fields {
     }};
 }
 
-/// Writes a value at a place, and moves the place behind it.
+/// Writes a value at offset `at`, and adds its length to `at`.
 #[inline(always)]
 pub fn put<T: ByteValued>(out: &mut [u8], at: &mut usize, value: &T)
     requires { at.old + T.SIZE ≤ length out.old }
@@ -41,7 +41,7 @@ pub fn put<T: ByteValued>(out: &mut [u8], at: &mut usize, value: &T)
     *at += T::SIZE;
 }
 
-/// Reads a value at a place, and moves the place behind it.
+/// Reads a value at offset `at`, and adds its length to `at`.
 #[inline(always)]
 pub fn get<T: ByteValued>(bytes: &[u8], at: &mut usize) -> T
     requires { at.old + T.SIZE ≤ length bytes.now }
@@ -56,7 +56,7 @@ pub fn get<T: ByteValued>(bytes: &[u8], at: &mut usize) -> T
     value
 }
 
-// Writes numbers at a place, and moves the place behind them.
+// Writes `N` numbers at offset `at`, and adds their length to `at`.
 #[inline(always)]
 fn put_array<const N: usize>(out: &mut [u8], at: &mut usize, values: &[u32; N])
     requires { at.old + 4 * N ≤ length out.old }
@@ -72,7 +72,7 @@ fn put_array<const N: usize>(out: &mut [u8], at: &mut usize, values: &[u32; N])
     }
 }
 
-// Reads numbers at a place, and moves the place behind them.
+// Reads `N` numbers at offset `at`, and adds their length to `at`.
 #[inline(always)]
 fn get_array<const N: usize>(bytes: &[u8], at: &mut usize) -> [u32; N]
     requires { at.old + 4 * N ≤ length bytes.now }
@@ -149,7 +149,7 @@ impl ByteValued for [u32; 11] {
     ghost lawful = { (λ x y. refl, λ x y h. Prim.search rules, Prim.search rules) };
 }
 
-/// The value that is read where one was written.
+/// Writes a value to `buffer` and reads it again. The contract says that the result is the value.
 pub fn written_and_read<T: ByteValued>(value: &T, buffer: &mut [u8]) -> T
     requires { length buffer.old ≡ T.SIZE }
     ensures { result ≡ value.now }
@@ -158,7 +158,7 @@ pub fn written_and_read<T: ByteValued>(value: &T, buffer: &mut [u8]) -> T
     T::get_bytes(buffer)
 }
 
-/// The bytes that are written where they were read.
+/// Reads a value from `bytes` and writes it to `out`. The contract says that `out` is then `bytes`.
 pub fn read_and_written<T: ByteValued>(bytes: &[u8], out: &mut [u8])
     requires bytes { length bytes.now ≡ T.SIZE }
     requires out { length out.old ≡ T.SIZE }

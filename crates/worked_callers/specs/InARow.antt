@@ -24,19 +24,19 @@ with_both =
     put (put (put (put blank 0x1000 unknown) 0x3000 destroy) 0 table) 0x100
     (le16 0 ++ le16 2 ++ le16 0 ++ le16 2)
 
--- the first chain, once it was asked in the options 1: it makes no call
+-- the first chain, decoded with the options 1: it makes no call
 abbrev pub first_asked : OutChain
 first_asked = record first { phase = Asked unknown 1 [] }
 
--- the second one
+-- the second chain, decoded with the options 1
 abbrev pub second_asked : OutChain
 second_asked = record second { phase = Asked destroy 1 [] }
 
--- and once DESTROY was answered
+-- the second chain, after DESTROY was answered
 abbrev pub second_answered : OutChain
 second_answered = record second { phase = Asked destroy 1 ((Destroy, Done) ∷ []) }
 
--- ENOSYS
+-- the reply to the first chain: ENOSYS
 abbrev pub first_exchange : Exchange
 first_exchange =
     record {
@@ -46,11 +46,11 @@ first_exchange =
       fault = None;
     }
 
--- no reply to DESTROY
+-- DESTROY has no reply
 abbrev pub second_exchange : Exchange
 second_exchange = record { head = 2; request = destroy; reply = []; fault = None }
 
--- head, length and index: the used ring's first element, and its second one
+-- head, length and index in the used ring's first element, and in its second one
 abbrev pub first_used : List Store
 first_used =
     record { address = 0x204; bytes = le32 0 } ∷ record { address = 0x208; bytes = le32 16 }
@@ -61,7 +61,7 @@ second_used =
     record { address = 0x20c; bytes = le32 2 } ∷ record { address = 0x210; bytes = le32 0 }
     ∷ record { address = 0x202; bytes = le16 2 } ∷ []
 
--- the first chain from its walk to its return
+-- the first chain, from its pop to its return
 abbrev pub one : Single
 one = record {
   queue = 0;
@@ -78,7 +78,7 @@ one = record {
   seen = le16 0;
 }
 
--- the second one
+-- the second chain, from its pop to its return
 abbrev pub two : Single
 two = record {
   queue = 0;
@@ -95,7 +95,7 @@ two = record {
   seen = le16 0;
 }
 
--- the memory between both, and behind them
+-- the memory between both chains, and the memory after them
 abbrev pub after_one : Memory
 after_one = after_stores with_both (stores_among (acts_of (return_in one)))
 

@@ -1,4 +1,4 @@
-//! Pops in a run between whose calls others go on with the queue, or of which a call was refused.
+//! Pops in a run between whose calls other handles changed the queue, or a call of which was refused.
 
 ghost use Rattle.std.specs.Prelude.{◌≡◌, ℕ, List, None, Ok, Some, slice_get};
 ghost use Rattle.fs_queue.specs.declared.fault.QueueError.{QueueError};
@@ -16,9 +16,9 @@ use fs_live::law_handles;
 use fs_queue::QueueError;
 use fuse_fs::FileSystem;
 
-/// A pop whose index is given after other bytes were refused. If the queue has no available chain, that is an
-/// event, and the queue stays as it is. If the pop wants another load, that load is mapped. Fails with
-/// `BadArgument` if the other bytes weren't refused.
+/// A pop whose index is given after other bytes were refused. If no chain is available, it is an event,
+/// and the queue stays as it is. If the pop asks for another load, that load is mapped. `BadArgument`
+/// if the other bytes weren't refused.
 pub fn look_after_refusal<F: FileSystem>(
     handle: &mut ChainHandle,
     queue: &mut QueueState,

@@ -1,5 +1,5 @@
-//! Calls of a handle that answer nothing, as events of a run: chains that are given up, lost, or replied to
-//! with bytes of the caller's own; other regions; and a queue that is reset to its own position.
+//! Calls of a handle that answer no file call, as events of a run: giving a chain up, losing it,
+//! replying with the caller's own bytes, other regions, and the reset of a queue to its own position.
 
 ghost use Rattle.std.specs.Prelude.{◌≡◌, ◌≤◌, ◌^◌, ℕ, [], ◌∷◌, IfOk, is_some, List, None, OnOk, Some};
 ghost use Rattle.std.specs.Prelude.{slice_get};
@@ -24,8 +24,8 @@ use fs_queue::{Queue, QueueError};
 use fs_regions::GuestMap;
 use fuse_fs::FileSystem;
 
-/// Pops a chain and gives it up. The chains in flight are those of before, and the queue is as the call left
-/// it.
+/// Pops a chain and gives it up. The chains in flight are those of before, and the queue is as the
+/// call's contract says.
 pub fn drop_beside<F: FileSystem>(
     handle: &mut ChainHandle,
     queue: &mut QueueState,

@@ -42,7 +42,7 @@ pub fn give_back_by(
     }
 }
 
-/// A chain that is in flight alone, whose answer has no data and which lists nothing, is a step by the two
+/// A chain that is in flight alone, without data in its answer and not a listing, is a step by the two
 /// bytes seen. Returns whether the driver is notified, and the address of the two bytes.
 pub fn serve_by<F: FileSystem>(
     handle: &mut ChainHandle,
@@ -93,8 +93,8 @@ pub fn walk_faulty(
     }
 }
 
-/// A faulty chain that is in flight alone is such a step too. Returns whether the driver is notified, and the
-/// address of the two bytes.
+/// A faulty chain that is in flight alone is a step too. Returns whether the driver is notified, and
+/// the address of the two bytes.
 pub fn serve_faulty<F: FileSystem>(
     handle: &mut ChainHandle,
     queue: &mut QueueState,

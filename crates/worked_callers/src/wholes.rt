@@ -1,4 +1,4 @@
-//! The calls of a handle from a pop's beginning on are a step of the plain machine.
+//! The calls of a handle from the begin of a pop on are a step of the plain machine.
 
 ghost use Rattle.std.specs.Prelude.{◌≡◌, ℕ, List, [], length, None, Some, Ok, IfOk, OnOk, false, true};
 ghost use Rattle.fuse_fs.specs.Calls.{FileRun};
@@ -25,7 +25,7 @@ use fuse_fs::FileSystem;
 use fuse_values::FileAnswer;
 use server_phases::Session;
 
-/// Whether a call of `pop` wants bytes.
+/// Whether a call of `pop` asks for bytes.
 pub fn wants_bytes(told: &LoadOutcome) -> bool
     ensures { result ≡ true → WantsBytes told.now }
 {
@@ -35,7 +35,7 @@ pub fn wants_bytes(told: &LoadOutcome) -> bool
     )
 }
 
-/// A pop by these bytes, a call for each, as long as it wants some.
+/// A pop with these bytes, one call for each, as long as it asks for bytes.
 #[tactic(auto, using(fs_chain::proofs::WholeWalks::begins_by, fs_chain::proofs::WholeWalks::goes_on_by))]
 pub fn walk_by(
     handle: &mut ChainHandle,
@@ -55,9 +55,9 @@ pub fn walk_by(
     Ok(told)
 }
 
-/// A pop that finds no available chain is an idle step. A refused pop is a step that stops the queue, if its
-/// event index is mapped. If the event index isn't mapped, the pop is refused for that, also if a chain is
-/// available, and stops the queue too.
+/// A pop that finds no available chain is an idle step. A refused pop is a step that stops the queue,
+/// if used_event and avail_event are mapped. With the event index and one of them unmapped, the pop is
+/// refused, even if a chain is available, and the queue is stopped.
 pub fn look<F: FileSystem>(
     handle: &mut ChainHandle,
     queue: &mut QueueState,
@@ -148,8 +148,8 @@ pub fn give_back(handle: &mut ChainHandle, queue: &mut QueueState) -> Result<boo
     handle.pushed(queue, [0, 0])
 }
 
-/// A chain that is in flight alone from its pop to its return, whose answer has no data and which lists
-/// nothing, is a step.
+/// A chain without data in its answer, not a listing, is a step from its pop to its return, if it is in
+/// flight alone.
 pub fn serve<F: FileSystem>(
     handle: &mut ChainHandle,
     queue: &mut QueueState,
