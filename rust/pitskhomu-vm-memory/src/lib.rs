@@ -1,6 +1,6 @@
 //! [`pitskhomu::GuestMemory`] over `GuestMemoryMmap` of vm-memory.
 //!
-//! It is a package of its own, and no feature of `pitskhomu`: cargo wants even an optional
+//! It is a package of its own, not a feature of `pitskhomu`: cargo needs even an optional
 //! dependency in its index, and `pitskhomu` builds offline.
 use pitskhomu::{Device, GuestMemory, GuestRange, GuestSlice, Region, Status};
 use std::mem::size_of;
@@ -10,23 +10,23 @@ use vm_memory::{
     MemoryRegionAddress, VolatileSlice,
 };
 
-/// All numbers of a region are multiples of it.
+/// All numbers of a region are multiples of this.
 const PAGE: u64 = 4096;
 
-/// A region as it is looked up. (vm-memory's own look-up takes several times as long, some fifteen
-/// times a request.)
+/// A region, for a faster look-up. (vm-memory's own takes several times as long, and a request
+/// needs about fifteen.)
 #[derive(Debug)]
 struct Stretch {
     guest: u64,
     len: u64,
-    /// Where it is mapped, as long as the memory holds the region.
+    /// The address where it is mapped, as long as the memory has the region.
     host: usize,
 }
 
 /// The guest's memory, mapped by vm-memory. Workers know each byte by its guest address.
 ///
-/// The regions never change: make another for other regions, and keep this one while a chain that
-/// was taken from it is in flight. Written pages are marked in the bitmap `B`.
+/// The regions never change: make another `MappedMemory` for other regions, and keep this one while
+/// a chain that was taken from it is in flight. Written pages are marked in the bitmap `B`.
 ///
 /// # Examples
 /// ```
@@ -56,7 +56,7 @@ impl<B: Bitmap + 'static> MappedMemory<B> {
     ///
     /// # Errors
     /// `BadArgument`: there are more than `Device::MOST_REGIONS`, one isn't of whole pages of 4096
-    /// bytes, or one ends behind the greatest address of this host.
+    /// bytes, or one ends past the greatest address of this host.
     pub fn new(memory: GuestMemoryMmap<B>) -> Result<MappedMemory<B>, Status> {
         let stretch = |region: &GuestRegionMmap<B>| {
             let (guest, len) = (region.start_addr().raw_value(), region.len());
@@ -72,7 +72,7 @@ impl<B: Bitmap + 'static> MappedMemory<B> {
         Ok(MappedMemory { memory, stretches })
     }
 
-    /// vm-memory's own.
+    /// The memory of vm-memory.
     #[must_use]
     pub fn memory(&self) -> &GuestMemoryMmap<B> {
         &self.memory
@@ -84,13 +84,13 @@ impl<B: Bitmap + 'static> MappedMemory<B> {
         let region = |&Stretch { guest, len, .. }: &Stretch| Region {
             guest,
             len,
-            host: usize::try_from(guest).unwrap_or_default(), // `new` has tested it
+            host: usize::try_from(guest).unwrap_or_default(), // fits: `new` has checked it
         };
         self.stretches.iter().map(region).collect()
     }
 
-    /// The region that `len` bytes from a guest address on lie in, and at which of its bytes they
-    /// begin.
+    /// The index of the region that has the `len` bytes from a guest address on, and their offset
+    /// in it.
     fn find(&self, at: usize, len: usize) -> Option<(usize, usize)> {
         let offset_in = |stretch: &Stretch| {
             (at as u64).checked_sub(stretch.guest).filter(|offset| *offset < stretch.len)
@@ -103,8 +103,8 @@ impl<B: Bitmap + 'static> MappedMemory<B> {
         (len as u64 <= stretch.len - offset).then_some((region, usize::try_from(offset).ok()?))
     }
 
-    /// The bytes as vm-memory has them, if they lie in one region: it marks the pages that it
-    /// writes. For the windows of a READ or WRITE, whose `at` is a guest address.
+    /// The bytes as vm-memory's slice, if they lie in one region. vm-memory marks the pages that it
+    /// writes by it. For the windows of a READ or WRITE, whose `at` is a guest address.
     #[must_use]
     pub fn slice(&self, at: usize, len: usize) -> Option<VolatileSlice<'_, BS<'_, B>>> {
         let (region, offset) = self.find(at, len)?;
@@ -116,13 +116,13 @@ impl<B: Bitmap + 'static> GuestMemory for MappedMemory<B> {
     fn get_slice(&self, at: usize, len: usize) -> Option<GuestSlice<'_>> {
         let (region, offset) = self.find(at, len)?;
         let host = self.stretches[region].host as *mut u8;
-        // SAFETY: the bytes are a part of a region that `self.memory` has mapped as long as it
-        // lives, and so as long as the slice. vm-memory makes no reference to them, and gives out
-        // none but to atomic numbers.
+        // SAFETY: the bytes are in a region that `self.memory` keeps mapped as long as it lives, so
+        // as long as the slice. vm-memory makes no reference to them, and returns none but to
+        // atomic numbers.
         Some(unsafe { GuestSlice::new(host.add(offset), len) })
     }
 
-    /// Whether there is a bitmap to mark.
+    /// Whether `B` is a bitmap: `()` has size 0.
     fn is_logging(&self) -> bool {
         size_of::<B>() > 0
     }

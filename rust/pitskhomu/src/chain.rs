@@ -1,9 +1,10 @@
 //! The calls of the library, each behind a safe function.
 //!
-//! Each block owes the header's first rule and its THREADS, and Rust's borrows keep both. Handles,
-//! queues and records are borrowed, so they are valid and don't overlap. Slices are valid for their
-//! lengths, and their pointers aren't NULL. Anything that a call changes is borrowed mutably, so it
-//! is that call's alone. No call keeps a pointer or returns one.
+//! Each `unsafe` block must keep the header's first rule and its section THREADS. Rust's borrows
+//! keep both. Handles, queues and records are borrowed, so they are valid and don't overlap. Slices
+//! are valid for their lengths, and their pointers aren't NULL. Anything that a call changes is
+//! borrowed mutably, so no other code uses it during the call. No call keeps a pointer or returns
+//! one.
 #![allow(unsafe_code)]
 
 use crate::errno::Errno;
@@ -27,7 +28,7 @@ pub(crate) enum Popped {
 pub(crate) enum Decoded {
     /// A call, or none.
     Call,
-    /// It needs so many bytes of the request, from its start.
+    /// It needs this many bytes of the request, from its start.
     More(usize),
 }
 
@@ -38,7 +39,8 @@ pub(crate) enum Replied {
     Whole,
     /// The reply buffer is too small: the chain is returned without a reply.
     NoRoom,
-    /// A listing that failed is answered by the entries so far.
+    /// The listing failed, but the guest already holds nodes of its entries: the reply has the
+    /// entries so far.
     Entries,
     /// The file system has no answer yet: the library wasn't called.
     Later,
@@ -55,21 +57,21 @@ pub(crate) enum Added {
     NoRoom,
 }
 
-/// The one handle of the library (struct `pk_chain`), and the ticket of the chain that is out: each
-/// answer brings it. A worker answers before it takes another, so no answer comes late.
+/// The handle of the library (struct `pk_chain`), and the ticket of the chain in flight, which each
+/// answer passes. A worker answers a chain before it takes another, so no answer is late.
 #[derive(Debug)]
 pub(crate) struct Chain {
     handle: sys::Chain,
     ticket: u32,
 }
 
-// SAFETY: the handle's memory is malloc's, and the library keeps nothing of a thread's
+// SAFETY: the handle's memory is from malloc, and the library keeps no state of a thread
 // (pitskhomu.h, THREADS).
 unsafe impl Send for Chain {}
 
 impl Drop for Chain {
     fn drop(&mut self) {
-        // SAFETY: as the module says; of zeros it does nothing.
+        // SAFETY: as the module says; it does nothing to a handle of zeros.
         unsafe { sys::pk_chain_free(&mut self.handle) }
     }
 }
@@ -86,7 +88,7 @@ impl Chain {
         })
     }
 
-    /// `loaded` has the bytes of the load that the last call returned; at first none.
+    /// `loaded` has the bytes of the load that the last call asked for; none at the first call.
     pub fn pop(
         &mut self,
         queue: &mut Queue,
@@ -129,7 +131,7 @@ impl Chain {
         len: u64,
         windows: &'w mut [Window],
     ) -> &'w [Window] {
-        // SAFETY: as the module says; it fills no more than the slice has.
+        // SAFETY: as the module says; it fills at most the slice.
         let count = unsafe {
             sys::pk_request_windows(
                 &mut self.handle,
@@ -265,7 +267,8 @@ impl Chain {
         kind: u32,
     ) -> Result<Added, Status> {
         let (at, len) = (list.as_mut_ptr(), list.len());
-        // SAFETY: as the module says; list and name are apart, since the list is borrowed mutably.
+        // SAFETY: as the module says; list and name don't overlap, for the list is borrowed
+        // mutably.
         let number = unsafe {
             sys::pk_add_direntry(
                 &mut self.handle,
@@ -306,7 +309,7 @@ impl Chain {
         added(number)
     }
 
-    /// Returns the number of the list's bytes that are the data, too.
+    /// Returns also the length of the reply's data, which are the list's first bytes.
     pub fn reply_entries(&mut self) -> Result<(Replied, u64), Status> {
         let mut len = 0;
         // SAFETY: as the module says.
@@ -315,7 +318,7 @@ impl Chain {
         Ok((reply, len))
     }
 
-    /// The reply is `len` bytes of the caller's own.
+    /// The reply is the `len` bytes that the caller stored in the reply buffer.
     pub fn reply_bytes(&mut self, len: u64) -> Result<(), Status> {
         // SAFETY: as the module says.
         Status::check(unsafe { sys::pk_reply_bytes(&mut self.handle, self.ticket, len) })
@@ -336,7 +339,7 @@ impl Chain {
         Ok(stores)
     }
 
-    /// Whether the driver is to be notified.
+    /// Whether to notify the driver.
     pub fn pushed(&mut self, queue: &mut Queue, seen: u16) -> Result<bool, Status> {
         let mut notify = 0;
         // SAFETY: as the module says.
@@ -371,7 +374,7 @@ pub(crate) fn begin(queue: &mut sys::Queue, position: u16) -> Result<(), Status>
     Status::check(unsafe { sys::pk_queue_begin(queue, position) })
 }
 
-/// The header's number of the archive.
+/// The archive's `PK_VERSION`.
 pub(crate) fn version() -> u32 {
     // SAFETY: it takes nothing.
     unsafe { sys::pk_version() }

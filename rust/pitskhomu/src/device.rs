@@ -1,4 +1,4 @@
-//! The state that all queues share, and the record that carries it to another host.
+//! The state that all queues share, and the record that moves it to another host.
 use crate::chain;
 use crate::flags::Options;
 use crate::queue::{self, Queue};
@@ -7,8 +7,9 @@ use crate::sys;
 use alloc::vec::Vec;
 use core::sync::atomic::{AtomicU64, Ordering};
 
-/// What all queues of a device share (struct `pk_device`). The options that INIT agreed on are one
-/// atomic word, so workers of several threads share a device by reference, without a lock.
+/// The state that all queues of a device share (struct `pk_device`). The options that INIT agreed
+/// on are one atomic word, so workers of several threads share a device by reference, without a
+/// lock.
 ///
 /// # Examples
 /// ```
@@ -49,18 +50,18 @@ impl Device {
     /// The greatest limit, in bytes.
     pub const MOST_LIMIT: u32 = 1 << 31;
 
-    /// The most regions that the guest's memory may have.
+    /// The most regions of the guest's memory.
     pub const MOST_REGIONS: usize = sys::REGIONS_MAX;
 
-    /// The most queues that a record has.
+    /// The most queues of a record.
     pub const MOST_QUEUES: usize = sys::QUEUES_MAX;
 
-    /// A device. `page_size` is the guest's, in bytes: a power of two from 4096 to 65536. A request
-    /// or a reply buffer of more than `limit` bytes, from `LEAST_LIMIT` to `MOST_LIMIT`, makes a
-    /// chain faulty.
+    /// A device. `page_size` is the guest's, in bytes: a power of two from 4096 to 65536. `limit`
+    /// is from `LEAST_LIMIT` to `MOST_LIMIT`, in bytes. A chain with a longer request or reply
+    /// buffer is faulty.
     ///
     /// # Errors
-    /// `BadArgument`: the page size or the limit is another number.
+    /// `BadArgument`: the page size or the limit is out of range.
     pub const fn new(page_size: u32, limit: u32) -> Result<Device, Status> {
         let is_page = page_size.is_power_of_two() && page_size >= 4096 && page_size <= 65536;
         if is_page && limit >= Device::LEAST_LIMIT && limit <= Device::MOST_LIMIT {
@@ -92,18 +93,18 @@ impl Device {
         Options::from_bits(self.options.load(Ordering::Acquire))
     }
 
-    /// Sets the options that INIT agreed on: none when the device is reset, or those of another
-    /// host's session that goes on here.
+    /// Sets the options that INIT agreed on: none when the device is reset, or those of a session
+    /// that moves here from another host.
     pub fn set_options(&self, options: Options) {
         self.options.store(options.bits(), Ordering::Release);
     }
 
-    /// The record of the device and its queues, 1 to `MOST_QUEUES` of them: layouts, positions,
-    /// which queues are stopped, options, page size and limit.
+    /// The record of the device and its 1 to `MOST_QUEUES` queues. It has each queue's layout,
+    /// positions and whether it is stopped, and the device's options, page size and limit.
     ///
     /// # Errors
-    /// - `BadArgument`: the number of queues, a queue that isn't set up, unknown options.
-    /// - `ChainInFlight`: a queue has one.
+    /// - `BadArgument`: the number of queues, a queue that isn't set up, or unknown options.
+    /// - `ChainInFlight`: a chain of a queue is in flight.
     /// - `OutOfMemory`: an allocation failed.
     pub fn save(&self, queues: &[Queue]) -> Result<Vec<u8>, Status> {
         let numbers = self.numbers();
@@ -121,13 +122,13 @@ impl Device {
         saved.map(|()| record)
     }
 
-    /// Takes the options from a record of a device with the same page size and limit, and returns
+    /// Sets the options from a record of a device with the same page size and limit, and returns
     /// its queues. Other bytes may follow the record. A queue that was stopped is stopped here too
-    /// (`Status::Stopped`). One chain of each queue may be in flight, and no queue has an event
-    /// index: [`Queue::with_max_in_flight`] and [`Queue::with_event_index`] set these.
+    /// (`Status::Stopped`). The new queues may have one chain in flight and have no event index.
+    /// [`Queue::with_max_in_flight`] and [`Queue::with_event_index`] set these.
     ///
     /// # Errors
-    /// Those that begin with `Record`, and `OutOfMemory`. The options stay as they were.
+    /// Those that begin with `Record`, and `OutOfMemory`. An error leaves the options unchanged.
     pub fn restore(&self, record: &[u8]) -> Result<Vec<Queue>, Status> {
         let mut queues = Vec::new();
         queues.try_reserve_exact(Device::MOST_QUEUES).map_err(|_| Status::OutOfMemory)?;

@@ -1,4 +1,4 @@
-//! The errors of Linux.
+//! The error numbers of Linux.
 use core::fmt;
 use core::num::NonZeroU32;
 
@@ -24,9 +24,9 @@ impl Errno {
     /// The greatest number that a reply can have (linux/err.h, `MAX_ERRNO`).
     pub const MAX: u32 = 4095;
 
-    /// No errno, and never sent to the guest: the answer comes later. The worker keeps the chain,
-    /// and [`Worker::answer`](crate::Worker::answer) makes the same call again. A file system that
-    /// has several requests in work at a time answers it while another thread is busy with one.
+    /// Not an errno, and never sent to the guest: the file system will answer later. The worker
+    /// keeps the chain, and [`Worker::answer`](crate::Worker::answer) makes the same call again. A
+    /// file system returns it while another thread works on the request.
     pub const LATER: Errno = match NonZeroU32::new(Errno::MAX + 1) {
         Some(number) => Errno(number),
         None => panic!("not a number"),
@@ -41,13 +41,13 @@ impl Errno {
         }
     }
 
-    /// The errno of a number as a system call leaves it; EIO if there is none.
+    /// The errno of a system call's error number, and EIO if the number isn't one.
     #[must_use]
     pub fn of_system(number: i32) -> Errno {
         u32::try_from(number).ok().and_then(Errno::new).unwrap_or(Errno::EIO)
     }
 
-    /// Its number, from 1 to 4095; that of `LATER` is above.
+    /// Its number, from 1 to 4095. That of `LATER` is 4096.
     #[must_use]
     pub const fn number(self) -> u32 {
         self.0.get()
@@ -77,8 +77,8 @@ impl std::error::Error for Errno {}
 
 #[cfg(feature = "std")]
 impl From<std::io::Error> for Errno {
-    /// The errno of the system call that failed; of an error that no system call made, the errno
-    /// that comes next to its kind, or EIO.
+    /// The errno of the system call that failed. An error that isn't a system call's gets the errno
+    /// that is closest to its kind, or EIO.
     fn from(error: std::io::Error) -> Errno {
         use std::io::ErrorKind;
         match (error.raw_os_error(), error.kind()) {

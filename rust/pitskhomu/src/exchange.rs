@@ -1,4 +1,4 @@
-//! A chain by its bytes, for a FUSE server of one's own.
+//! A chain by its bytes, for a file system that is itself a FUSE server.
 use crate::chain::Chain;
 use crate::data::{at_most, load_request, store_room};
 use crate::errno::Errno;
@@ -17,7 +17,7 @@ pub struct Exchange<'a> {
     front: &'a [u8],
     request_len: u64,
     room_len: u64,
-    /// The reply buffer may have been written up to this byte.
+    /// The end of the bytes of the reply buffer that may have been written.
     written: u64,
 }
 
@@ -54,21 +54,22 @@ impl<'a> Exchange<'a> {
         self.room_len
     }
 
-    /// The request's opcode (struct `fuse_in_header`); 0 if it is too short to have one.
+    /// The request's opcode (struct `fuse_in_header`); 0 if the request is too short to have one.
     #[must_use]
     pub fn opcode(&self) -> u32 {
         opcode(self.front)
     }
 
-    /// The guest's number of the request (struct `fuse_in_header`); 0 if it is too short to have
-    /// one.
+    /// The request's `unique`, the guest's number of it (struct `fuse_in_header`); 0 if the request
+    /// is too short to have one.
     #[must_use]
     pub fn unique(&self) -> u64 {
         unique(self.front)
     }
 
-    /// Copies bytes of the request out, from one on, and returns their number. The guest may write
-    /// at the same time: load each byte once. The first bytes, which have the header, don't change.
+    /// Copies bytes of the request, from byte `from` on, and returns their number. The guest may
+    /// write to them at the same time, so load each byte once. The first bytes, which have the
+    /// header, don't change: the worker has loaded them.
     pub fn load(&mut self, from: u64, bytes: &mut [u8]) -> usize {
         let known = self.front.get(at_most(from, usize::MAX)..).unwrap_or_default();
         let len = known.len().min(bytes.len());
@@ -81,32 +82,32 @@ impl<'a> Exchange<'a> {
         )
     }
 
-    /// The windows of the request's bytes from one on, as many as the slice takes.
+    /// The windows of the request's bytes from byte `from` on, as many as the slice holds.
     pub fn request_windows<'w>(&mut self, from: u64, windows: &'w mut [Window]) -> &'w [Window] {
         self.chain.request_windows(from, u64::MAX - from, windows)
     }
 
-    /// Stores bytes in the reply buffer, from one of it on, and returns how many fit.
+    /// Stores bytes in the reply buffer, from its byte `from` on, and returns how many fit.
     pub fn store(&mut self, from: u64, bytes: &[u8]) -> usize {
         let stored = store_room(self.chain, self.memory, from, bytes);
         self.written_up_to(from.saturating_add(stored as u64));
         stored
     }
 
-    /// The windows of the reply buffer from one of its bytes on, as many as the slice takes. Report
+    /// The windows of the reply buffer from its byte `from` on, as many as the slice holds. Report
     /// the bytes that you store by them with `written_up_to`.
     pub fn reply_windows<'w>(&mut self, from: u64, windows: &'w mut [Window]) -> &'w [Window] {
         self.chain.reply_windows(from, u64::MAX - from, windows)
     }
 
-    /// Reports that the reply buffer was written up to this byte, by its windows: for a migration's
-    /// log, if the reply ends before.
+    /// Reports that the bytes of the reply buffer before `end` may have been written by its
+    /// windows. A migration's log needs this for bytes after the reply's end.
     pub fn written_up_to(&mut self, end: u64) {
         self.written = self.written.max(end.min(self.room_len));
     }
 
-    /// Stores the reply of an error, and returns its length: 0 if the request has no number, or the
-    /// reply buffer is too small.
+    /// Stores the reply of an error, and returns its length in bytes: 0 if the request has no
+    /// `unique`, or the reply buffer is too small.
     #[allow(clippy::cast_possible_truncation)] // the header's length is 16
     pub fn store_error(&mut self, error: Errno) -> u64 {
         if self.front.len() < HEADER_LEN || self.room_len < HEADER_LEN as u64 {
@@ -130,7 +131,7 @@ pub(crate) fn opcode(request: &[u8]) -> u32 {
     request.get(4..8).and_then(|bytes| bytes.try_into().ok()).map_or(0, u32::from_le_bytes)
 }
 
-/// The number of a request; 0 if it has none.
+/// The `unique` of a request; 0 if it has none.
 pub(crate) fn unique(request: &[u8]) -> u64 {
     request.get(8..16).and_then(|bytes| bytes.try_into().ok()).map_or(0, u64::from_le_bytes)
 }

@@ -14,20 +14,21 @@ use core::time::Duration;
 
 /// A file system. Workers of several threads share it by reference.
 ///
-/// It chooses the numbers of nodes and open files. A name is any bytes but zero: a server of a host
-/// directory refuses each name for which [`is_name`](crate::is_name) is false. A method that isn't
-/// implemented answers ENOSYS, or "done" where that is harmless. If the reply buffer is too small
-/// for an answer, the worker takes the answer back: an entry by `forget`, an open file by
-/// `release`.
+/// It chooses the numbers of nodes and open files. A name is any bytes but zero. A file system that
+/// serves a host directory must refuse each name for which [`is_name`](crate::is_name) is false. A
+/// method that isn't implemented answers ENOSYS, or "done" where that is harmless. If the reply
+/// buffer is too small for an answer, the worker undoes the answer: an entry by `forget`, an open
+/// file by `release`.
 ///
-/// A method that has no answer yet returns [`Errno::LATER`], and is called again with the same
-/// arguments and fresh data when [`Worker::answer`](crate::Worker::answer) is. So a file system may
-/// hand a request to another thread, and a thread may have several workers whose chains are in
-/// work: the example `later` does so. WRITE's data may have changed when the method is called
-/// again, so take it at the first call, and report it with [`WriteData::advance`] at the last.
+/// A method that has no answer yet returns [`Errno::LATER`]. The next call of
+/// [`Worker::answer`](crate::Worker::answer) calls it again, with the same arguments and fresh
+/// data. So a file system may pass a request to another thread, and a thread may have several
+/// workers with unanswered chains, as in the example `later`. WRITE's data may have changed when
+/// the method is called again. So take it at the first call, and report it with
+/// [`WriteData::advance`] at the last.
 ///
 /// # Errors
-/// Each method answers the errno with which the guest's system call is to fail.
+/// Each method returns the errno with which the guest's system call fails.
 ///
 /// # Examples
 /// ```
@@ -76,21 +77,21 @@ use core::time::Duration;
 #[allow(unused_variables)]
 #[allow(clippy::missing_errors_doc)] // each answers an errno, as the trait says
 pub trait FileSystem {
-    /// Any request, before the library decodes it. `Some` if this replies to it by bytes of its
-    /// own: the reply's length, header included (struct `fuse_out_header`), after it put the bytes
-    /// into the reply buffer; 0 is no reply. A length above the buffer's is answered EIO. `None`:
-    /// the library decodes it.
+    /// Any request, before the library decodes it. With `None` the library decodes it. With `Some`
+    /// the method has replied: it stored the reply in the reply buffer, and returns the reply's
+    /// length, header included (struct `fuse_out_header`), or 0 for no reply. A length above the
+    /// buffer's is answered EIO.
     ///
     /// So a file system can serve an opcode that the library doesn't know, or be any FUSE server.
-    /// The library doesn't see these replies: it takes nothing back, and after INIT you set the
-    /// device's options.
+    /// The library doesn't see these replies: it undoes none, and after INIT you set the device's
+    /// options.
     fn reply_by_bytes(&self, exchange: &mut Exchange<'_>) -> Option<u64> {
         None
     }
 
-    /// INIT: a session begins. The guest holds no node but the root, and no file is open. Answers
-    /// the options that the file system wants, out of the guest's own; some are agreed on in any
-    /// case. With an error there is no session.
+    /// INIT: a session begins. The guest holds no node but the root, and no file is open. The
+    /// answer is the options that the file system wants, of those that the guest has. Some are
+    /// agreed on in any case. With an error there is no session.
     fn init(&self, init: Init) -> Answer<Options> {
         Ok(Options::empty())
     }
@@ -98,20 +99,20 @@ pub trait FileSystem {
     /// DESTROY: the session ends.
     fn destroy(&self) {}
 
-    /// LOOKUP of a name in a directory: the guest holds its node once more. ENOENT, or an entry
-    /// with node 0, if it isn't there.
+    /// LOOKUP of a name in a directory: the guest then holds the node once more. ENOENT, or an
+    /// entry with node 0, if the name doesn't exist.
     fn lookup(&self, context: &Context, parent: Node, name: &CStr) -> Answer<Entry>;
 
-    /// FORGET: the guest holds a node so many times less.
+    /// FORGET: the guest holds a node `count` times less.
     fn forget(&self, node: Node, count: u64) {}
 
-    /// `BATCH_FORGET`: several at a time; each by `forget` unless this says otherwise.
+    /// `BATCH_FORGET`: several nodes at a time. The default calls `forget` for each.
     fn forget_all(&self, forgets: Forgets<'_>) {
         forgets.for_each(|(node, count)| self.forget(node, count));
     }
 
-    /// GETATTR: attributes, and how long they stay good. `handle` is of the open file that the
-    /// guest asks by.
+    /// GETATTR: attributes, and how long the guest may cache them. `handle` is that of the open
+    /// file in the request, if it has one.
     fn getattr(
         &self,
         context: &Context,
@@ -119,7 +120,7 @@ pub trait FileSystem {
         handle: Option<Handle>,
     ) -> Answer<(Attributes, Duration)>;
 
-    /// SETATTR: sets some attributes, and answers all, as `getattr` does.
+    /// SETATTR: sets some attributes, and returns all, as `getattr` does.
     fn setattr(
         &self,
         context: &Context,
@@ -129,8 +130,8 @@ pub trait FileSystem {
         Err(Errno::ENOSYS)
     }
 
-    /// READLINK: puts a link's target at the front of `target`, and answers its length. `target`
-    /// may hold any bytes before. A length above that of `target` is answered ERANGE.
+    /// READLINK: puts a link's target at the front of `target`, and returns its length. Before the
+    /// call `target` may hold any bytes. A length above that of `target` is answered ERANGE.
     fn readlink(&self, context: &Context, node: Node, target: &mut [u8]) -> Answer<usize> {
         Err(Errno::ENOSYS)
     }
@@ -150,17 +151,17 @@ pub trait FileSystem {
         Err(Errno::ENOSYS)
     }
 
-    /// UNLINK: takes a name away from what isn't a directory.
+    /// UNLINK: removes a name of a node that isn't a directory.
     fn unlink(&self, context: &Context, child: Child<'_>) -> Answer<()> {
         Err(Errno::ENOSYS)
     }
 
-    /// RMDIR: takes a name away from an empty directory.
+    /// RMDIR: removes an empty directory.
     fn rmdir(&self, context: &Context, child: Child<'_>) -> Answer<()> {
         Err(Errno::ENOSYS)
     }
 
-    /// RENAME and RENAME2: one name becomes the other.
+    /// RENAME and RENAME2: changes a name to another, as `flags` say.
     fn rename(
         &self,
         context: &Context,
@@ -171,12 +172,13 @@ pub trait FileSystem {
         Err(Errno::ENOSYS)
     }
 
-    /// LINK: a node gets a name more; the guest holds it once more.
+    /// LINK: adds a name to a node; the guest then holds the node once more.
     fn link(&self, context: &Context, node: Node, child: Child<'_>) -> Answer<Entry> {
         Err(Errno::ENOSYS)
     }
 
-    /// OPEN: the guest passes the handle that it answers with READ and the like, until RELEASE.
+    /// OPEN: opens a file. The guest passes the returned handle with READ and other calls, until
+    /// RELEASE.
     fn open(&self, context: &Context, node: Node, open: Open) -> Answer<Opened> {
         Ok(Opened::default())
     }
@@ -191,7 +193,7 @@ pub trait FileSystem {
         Err(Errno::ENOSYS)
     }
 
-    /// READ: puts data in. The data that was put in is the answer; none is the end of the file.
+    /// READ: puts data in. The answer is the data that was put in; none is the end of the file.
     fn read(
         &self,
         context: &Context,
@@ -202,7 +204,7 @@ pub trait FileSystem {
         Err(Errno::ENOSYS)
     }
 
-    /// WRITE: takes data out. The number of bytes that were taken out is the answer.
+    /// WRITE: takes data out. The answer is the number of bytes that were taken out.
     fn write(
         &self,
         context: &Context,
@@ -218,22 +220,22 @@ pub trait FileSystem {
         Ok(Statistics::default())
     }
 
-    /// RELEASE: the last of those who had a file open closed it. Linux takes no notice of an error.
+    /// RELEASE: the last file descriptor of an open file was closed. Linux ignores an error.
     fn release(&self, context: &Context, node: Node, release: Release) -> Answer<()> {
         Ok(())
     }
 
-    /// FSYNC: writes the file's data and attributes to the disk; `data_only` as of fdatasync.
+    /// FSYNC: writes the file's data and attributes to the disk; `data_only` is fdatasync.
     fn fsync(&self, context: &Context, node: Node, handle: Handle, data_only: bool) -> Answer<()> {
         Err(Errno::ENOSYS)
     }
 
-    /// FLUSH: one of those who have a file open closed it.
+    /// FLUSH: a file descriptor of an open file was closed.
     fn flush(&self, context: &Context, node: Node, handle: Handle, lock_owner: u64) -> Answer<()> {
         Err(Errno::ENOSYS)
     }
 
-    /// SETXATTR: sets an extended attribute; `flags` as of setxattr (`XATTR_CREATE` 1,
+    /// SETXATTR: sets an extended attribute; `flags` are those of setxattr (`XATTR_CREATE` 1,
     /// `XATTR_REPLACE` 2).
     fn setxattr(
         &self,
@@ -246,9 +248,9 @@ pub trait FileSystem {
         Err(Errno::ENOSYS)
     }
 
-    /// GETXATTR: puts the value at the front of `value`, and answers its length. An empty `value`
-    /// asks for the length alone. ERANGE if it doesn't fit, ENODATA if there is none. `value` may
-    /// hold any bytes before.
+    /// GETXATTR: puts the value at the front of `value`, and returns its length. With an empty
+    /// `value` the guest asks for the length alone. ENODATA if there is no such attribute, ERANGE
+    /// if the value doesn't fit. Before the call `value` may hold any bytes.
     fn getxattr(
         &self,
         context: &Context,
@@ -259,24 +261,24 @@ pub trait FileSystem {
         Err(Errno::ENOSYS)
     }
 
-    /// LISTXATTR: as `getxattr`, with the names one after another, each with a zero byte behind it.
+    /// LISTXATTR: as `getxattr`, with the names one after another, each with a zero byte after it.
     fn listxattr(&self, context: &Context, node: Node, names: &mut [u8]) -> Answer<usize> {
         Err(Errno::ENOSYS)
     }
 
-    /// REMOVEXATTR: takes an extended attribute away. ENODATA if there is none.
+    /// REMOVEXATTR: removes an extended attribute. ENODATA if there is no such attribute.
     fn removexattr(&self, context: &Context, node: Node, name: &CStr) -> Answer<()> {
         Err(Errno::ENOSYS)
     }
 
-    /// OPENDIR: the guest passes the handle that it answers with READDIR and the like, until
-    /// RELEASEDIR; `flags` as of `Open`.
+    /// OPENDIR: opens a directory. The guest passes the returned handle with READDIR and other
+    /// calls, until RELEASEDIR. `flags` are those of `Open`.
     fn opendir(&self, context: &Context, node: Node, flags: u32) -> Answer<Opened> {
         Ok(Opened::default())
     }
 
-    /// READDIR and READDIRPLUS: adds entries until none is left or none fits; none at all ends the
-    /// directory.
+    /// READDIR and READDIRPLUS: adds entries until none is left or the next one doesn't fit. No
+    /// entry at all is the directory's end.
     fn readdir(
         &self,
         context: &Context,
@@ -287,12 +289,13 @@ pub trait FileSystem {
         Err(Errno::ENOSYS)
     }
 
-    /// RELEASEDIR: the last of those who had a directory open closed it; `flags` as of `Open`.
+    /// RELEASEDIR: the last file descriptor of an open directory was closed; `flags` are those of
+    /// `Open`.
     fn releasedir(&self, context: &Context, node: Node, handle: Handle, flags: u32) -> Answer<()> {
         Ok(())
     }
 
-    /// FSYNCDIR: writes a directory's entries to the disk; as `fsync`.
+    /// FSYNCDIR: writes a directory's entries to the disk, as `fsync`.
     fn fsyncdir(
         &self,
         context: &Context,
@@ -303,22 +306,23 @@ pub trait FileSystem {
         Err(Errno::ENOSYS)
     }
 
-    /// ACCESS: EACCES if the caller may not. After ENOSYS the guest asks no more.
+    /// ACCESS: EACCES if the caller lacks a permission of `mask`. After ENOSYS the guest sends no
+    /// more ACCESS.
     fn access(&self, context: &Context, node: Node, mask: AccessMask) -> Answer<()> {
         Err(Errno::ENOSYS)
     }
 
-    /// FALLOCATE: has a stretch of a file take place, or give it back, as `mode` says.
+    /// FALLOCATE: allocates or frees the space of a range of a file, as `mode` says.
     fn fallocate(&self, context: &Context, node: Node, allocate: Allocate) -> Answer<()> {
         Err(Errno::ENOSYS)
     }
 
-    /// LSEEK: the new offset, in bytes from the file's beginning. ENXIO if there is none.
+    /// LSEEK: the new offset, in bytes from the file's start. ENXIO if there is none.
     fn lseek(&self, context: &Context, node: Node, seek: Seek) -> Answer<u64> {
         Err(Errno::ENOSYS)
     }
 
-    /// `COPY_FILE_RANGE`: how many bytes were copied, at most those that were asked for.
+    /// `COPY_FILE_RANGE`: copies bytes, and returns their number, at most `len`.
     fn copy_file_range(&self, context: &Context, copy: CopyFileRange) -> Answer<u64> {
         Err(Errno::ENOSYS)
     }

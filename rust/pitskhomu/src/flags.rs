@@ -1,9 +1,9 @@
-//! Sets of flags, and the kinds of files, by the names of the headers of Linux.
+//! Sets of flags, and the kinds of files, with the names of the headers of Linux.
 use core::fmt;
 use core::ops::{BitAnd, BitOr, BitOrAssign, Sub};
 
-/// A set of flags over an integer, with a constant for each flag. Bits without a name stay in a
-/// set.
+/// A set of flags over an integer, with a constant for each flag. A set may have bits without a
+/// name.
 macro_rules! flags {
     ($(#[$about:meta])* $type:ident: $bits:ident {
         $($(#[$doc:meta])* $name:ident = $value:expr;)*
@@ -68,7 +68,7 @@ macro_rules! flags {
 
         impl Sub for $type {
             type Output = $type;
-            /// The flags that the other hasn't.
+            /// The flags that the other doesn't have.
             fn sub(self, other: $type) -> $type {
                 $type(self.0 & !other.0)
             }
@@ -94,11 +94,11 @@ flags! {
     Options: u64 {
         /// Reads may be asynchronous.
         ASYNC_READ = 1 << 0;
-        /// Locks are the file system's. This crate passes no lock on.
+        /// The file system has POSIX locks. This crate passes no lock on.
         POSIX_LOCKS = 1 << 1;
         /// The file system wants the handle with attributes.
         FILE_OPS = 1 << 2;
-        /// OPEN itself truncates by `O_TRUNC`.
+        /// OPEN itself truncates the file with `O_TRUNC`.
         ATOMIC_O_TRUNC = 1 << 3;
         /// The file system answers LOOKUP of "." and "..".
         EXPORT_SUPPORT = 1 << 4;
@@ -112,13 +112,13 @@ flags! {
         SPLICE_MOVE = 1 << 8;
         /// Data may be spliced in.
         SPLICE_READ = 1 << 9;
-        /// flock's locks are the file system's. This crate passes no lock on.
+        /// The file system has flock's locks. This crate passes no lock on.
         FLOCK_LOCKS = 1 << 10;
         /// IOCTL of directories.
         HAS_IOCTL_DIR = 1 << 11;
         /// The guest drops cached data when attributes change.
         AUTO_INVAL_DATA = 1 << 12;
-        /// READDIRPLUS is wanted in place of READDIR.
+        /// The file system wants READDIRPLUS in place of READDIR.
         DO_READDIRPLUS = 1 << 13;
         /// The guest chooses between READDIRPLUS and READDIR.
         READDIRPLUS_AUTO = 1 << 14;
@@ -126,37 +126,39 @@ flags! {
         ASYNC_DIO = 1 << 15;
         /// The guest caches written data, and sends it later (`Write::delayed`).
         WRITEBACK_CACHE = 1 << 16;
-        /// OPEN isn't wanted at all, if it was answered by ENOSYS once.
+        /// The guest sends no more OPEN after one that was answered ENOSYS.
         NO_OPEN_SUPPORT = 1 << 17;
-        /// Directories may be read and looked up by several at a time.
+        /// Several look-ups and reads of a directory may run at a time.
         PARALLEL_DIROPS = 1 << 18;
         /// The file system clears set-user and set-group bits when a file is written.
         HANDLE_KILLPRIV = 1 << 19;
         /// POSIX access control lists.
         POSIX_ACL = 1 << 20;
-        /// Reads answer an error after the connection ended.
+        /// Reads return an error after the connection was aborted.
         ABORT_ERROR = 1 << 21;
-        /// More than 32 pages a request.
+        /// A request may have more than 32 pages.
         MAX_PAGES = 1 << 22;
         /// The guest caches the targets of links.
         CACHE_SYMLINKS = 1 << 23;
-        /// OPENDIR isn't wanted at all, if it was answered by ENOSYS once.
+        /// The guest sends no more OPENDIR after one that was answered ENOSYS.
         NO_OPENDIR_SUPPORT = 1 << 24;
-        /// Cached data is dropped by notices alone.
+        /// The guest drops cached data only when the file system notifies it.
         EXPLICIT_INVAL_DATA = 1 << 25;
-        /// Attributes may say that a directory is another mount (`Attributes::SUBMOUNT`).
+        /// Attributes may mark a directory as the root of another mount (`Attributes::SUBMOUNT`).
         SUBMOUNTS = 1 << 27;
-        /// The file system clears set-user and set-group bits where a call says so (`kill_priv`).
+        /// The file system clears set-user and set-group bits if a call has `kill_priv`.
         HANDLE_KILLPRIV_V2 = 1 << 28;
         /// SETXATTR has flags of its own. This crate doesn't pass them on, so don't want it.
         SETXATTR_EXT = 1 << 29;
         /// INIT has a second word of flags.
         INIT_EXT = 1 << 30;
-        /// Calls that make a node have its label. This crate doesn't pass it on, so don't want it.
+        /// Calls that make a node have its security label. This crate doesn't pass it on, so don't
+        /// want it.
         SECURITY_CTX = 1 << 32;
         /// Nodes may be mapped one by one. There is no shared memory window here.
         HAS_INODE_DAX = 1 << 33;
-        /// Calls that make a node have one of the caller's groups (`Context::supplementary_group`).
+        /// Calls that make a node have one of the caller's other groups
+        /// (`Context::supplementary_group`).
         CREATE_SUPP_GROUP = 1 << 34;
         /// Files that are opened for direct reads and writes may be mapped.
         DIRECT_IO_ALLOW_MMAP = 1 << 36;
@@ -168,7 +170,7 @@ flags! {
 flags! {
     /// The FOPEN_ flags of linux/fuse.h: how the guest treats a file that was opened.
     OpenOptions: u32 {
-        /// Reads and writes pass the guest's cache by.
+        /// Reads and writes bypass the guest's cache.
         DIRECT_IO = 1 << 0;
         /// The guest keeps its cached data of the file.
         KEEP_CACHE = 1 << 1;
@@ -178,9 +180,9 @@ flags! {
         CACHE_DIR = 1 << 3;
         /// The file is a stream.
         STREAM = 1 << 4;
-        /// FLUSH isn't wanted when it is closed.
+        /// The guest sends no FLUSH when the file is closed.
         NOFLUSH = 1 << 5;
-        /// Direct writes of several at a time.
+        /// Several direct writes may run at a time.
         PARALLEL_DIRECT_WRITES = 1 << 6;
     }
 }
@@ -200,13 +202,13 @@ flags! {
         ATIME = 1 << 4;
         /// `mtime`.
         MTIME = 1 << 5;
-        /// `atime` becomes the time as it is now.
+        /// Sets `atime` to the current time.
         ATIME_NOW = 1 << 7;
-        /// `mtime` becomes the time as it is now.
+        /// Sets `mtime` to the current time.
         MTIME_NOW = 1 << 8;
         /// `ctime`.
         CTIME = 1 << 10;
-        /// Set-user and set-group bits are to be cleared.
+        /// The file system clears set-user and set-group bits.
         KILL_SUIDGID = 1 << 11;
     }
 }
@@ -214,11 +216,11 @@ flags! {
 flags! {
     /// The RENAME_ flags of linux/fs.h.
     RenameFlags: u32 {
-        /// EEXIST if the new name is there.
+        /// EEXIST if the new name exists.
         NOREPLACE = 1 << 0;
-        /// The two names change places.
+        /// The two names are exchanged.
         EXCHANGE = 1 << 1;
-        /// A whiteout takes the old name.
+        /// The old name becomes a whiteout.
         WHITEOUT = 1 << 2;
     }
 }

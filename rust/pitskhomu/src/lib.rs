@@ -5,9 +5,9 @@
 //! touches no memory, no file and no clock. This crate has the loop around it:
 //!
 //! - [`GuestMemory`] finds the guest's memory. The worker copies it, since the guest runs at the
-//!   same time; only [`GuestSlice::new`], which makes a slice of a pointer, is `unsafe`.
-//! - [`FileSystem`] is mounted by the guest: a method for each call, with a default for all but
-//!   two.
+//!   same time. Only [`GuestSlice::new`], which makes a slice of a pointer, is `unsafe`.
+//! - [`FileSystem`] is the file system that the guest mounts: a method for each call, with a
+//!   default for all but two.
 //! - A [`Worker`] on each thread serves a [`Queue`] of its own, or one that several workers serve
 //!   ([`Worker::take`]); all share a [`Device`].
 //!
@@ -98,15 +98,15 @@ pub use worker::{Served, Worker};
 /// The version of pitskhomu.h that this crate follows (`PK_VERSION`).
 pub const VERSION: u32 = sys::VERSION;
 
-/// The version of the archive that is linked: compare it once with [`VERSION`], where the two may
-/// be of two releases.
+/// The version of the linked archive: compare it once with [`VERSION`] if the two may be of
+/// different releases.
 #[must_use]
 pub fn version() -> u32 {
     chain::version()
 }
 
 /// Whether a name is one component of a path. If not, it is empty, `.` or `..`, or has a slash or a
-/// zero byte. A link leads elsewhere still.
+/// zero byte. The name may still be that of a symbolic link, which leads elsewhere.
 #[must_use]
 pub fn is_name(name: &[u8]) -> bool {
     chain::is_name(name)

@@ -8,7 +8,7 @@ use core::fmt;
 /// The longest name (`NAME_MAX` of linux/limits.h).
 const NAME_MAX: usize = 255;
 
-/// The entries that READDIR or READDIRPLUS answers.
+/// The entries of the reply to READDIR or READDIRPLUS.
 pub struct Listing<'a> {
     chain: &'a mut Chain,
     list: &'a mut [u8],
@@ -34,7 +34,7 @@ impl fmt::Debug for Listing<'_> {
 }
 
 impl<'a> Listing<'a> {
-    /// `list` is as long as the entries may be; the guest asked for `asked` bytes.
+    /// `list` is as long as the entries may be. The guest asked for `asked` bytes.
     pub(crate) fn new(
         chain: &'a mut Chain,
         list: &'a mut [u8],
@@ -48,8 +48,8 @@ impl<'a> Listing<'a> {
         Listing { chain, list, file_system, context, directory, with_nodes, asked, used, ended }
     }
 
-    /// How many bytes of entries may be put in yet. One takes 24 and its name, with nodes 152 and
-    /// its name, rounded up to 8 (struct `fuse_dirent`, struct `fuse_direntplus`).
+    /// The number of bytes of entries that still fit. An entry takes 24 bytes and its name, with
+    /// nodes 152 and its name, rounded up to 8 (struct `fuse_dirent`, struct `fuse_direntplus`).
     #[must_use]
     pub fn left(&self) -> usize {
         if self.ended {
@@ -59,19 +59,19 @@ impl<'a> Listing<'a> {
         }
     }
 
-    /// Whether entries come with their nodes (READDIRPLUS): then `add` looks each up.
+    /// Whether entries have nodes (READDIRPLUS): then `add` looks each up.
     #[must_use]
     pub fn has_nodes(&self) -> bool {
         self.with_nodes
     }
 
-    /// Adds an entry behind those before it; `false` if it doesn't fit, which ends the list. With
+    /// Adds an entry after those before it; `false` if it doesn't fit, which ends the list. With
     /// nodes it calls `FileSystem::lookup` first, except for `.` and `..`, and `forget` if the
     /// entry doesn't fit.
     ///
     /// # Errors
     /// Return them from `readdir`.
-    /// - Those of the look-up. `LATER` is for the first entry alone.
+    /// - Those of the look-up. Only the first entry may return `LATER`.
     /// - `EINVAL`: the first entry doesn't fit. No entry at all would be the directory's end.
     /// - `ENAMETOOLONG`: the name is empty or longer than 255 bytes.
     /// - `EIO`: the entry fits the size that the guest asked for, but not the reply buffer; or the
@@ -109,7 +109,7 @@ impl<'a> Listing<'a> {
     }
 
     /// The error that `readdir` answers. It can't answer later once it has added an entry, since
-    /// the guest gets that.
+    /// the guest gets that entry.
     pub(crate) fn final_error(&self, error: Errno) -> Errno {
         if error == Errno::LATER && (self.used > 0 || self.ended) {
             Errno::EIO
@@ -143,7 +143,7 @@ impl<'a> Listing<'a> {
     }
 }
 
-/// How many bytes an entry takes.
+/// The bytes that an entry takes.
 fn entry_len(name_len: usize, with_node: bool) -> usize {
     let head = if with_node { 152 } else { 24 };
     (head + name_len + 7) & !7

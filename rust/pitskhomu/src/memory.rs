@@ -1,14 +1,14 @@
-//! The guest's memory, by numbers: the library touches none, and the worker asks the VMM for the
+//! The guest's memory, by numbers. The library touches no memory: the worker asks the VMM for the
 //! bytes.
 use crate::slice::GuestSlice;
 use core::sync::atomic::{AtomicUsize, Ordering};
 
-/// The guest's memory, by the numbers of `Region::host`.
+/// The guest's memory, addressed by the numbers of `Region::host`.
 ///
-/// It finds bytes, and the worker copies them. A worker asks for bytes of its regions alone; other
-/// code may call `get_slice` with any number, so each is checked. No `unsafe` is needed for memory
-/// that is a list of atomic bytes. Memory that is mapped has to make a slice of a pointer, and
-/// [`GuestSlice::new`] says what `unsafe` code owes for it.
+/// It finds bytes, and the worker copies them. A worker asks only for bytes of its regions. Other
+/// code may call `get_slice` with any number, so check each. Memory that is a list of atomic bytes
+/// needs no `unsafe`. Mapped memory makes a slice of a pointer, and the `unsafe` code for it has
+/// the duties of [`GuestSlice::new`].
 ///
 /// # Examples
 /// ```
@@ -43,18 +43,18 @@ pub trait GuestMemory {
     /// stretch.
     ///
     /// A worker that doesn't get bytes of its own regions loads zeros in their place, and stores
-    /// nothing: keep memory mapped while a worker has regions of it. A number of a ring is accessed
-    /// at once if its address is even, as it is in mapped pages.
+    /// nothing. So keep memory mapped while a worker has regions of it. The worker accesses a
+    /// ring's 16-bit number in one step if its address is even, as it is in mapped pages.
     fn get_slice(&self, at: usize, len: usize) -> Option<GuestSlice<'_>>;
 
-    /// Whether `mark` is called: while a migration's log is on.
+    /// Whether the worker calls `mark`: true while a migration's log is on.
     fn is_logging(&self) -> bool {
         false
     }
 
-    /// These bytes of the guest were written: mark their pages in the migration's log. It is called
-    /// after the stores and before the driver is notified. Bytes that a file system wrote by
-    /// windows are among them.
+    /// Marks the pages of these written bytes in the migration's log. The worker calls it after the
+    /// stores and before the driver is notified, also for bytes that a file system wrote by
+    /// windows.
     fn mark(&self, _written: GuestRange) {}
 }
 
@@ -71,13 +71,13 @@ pub(crate) fn store(memory: &dyn GuestMemory, at: usize, bytes: &[u8]) {
     }
 }
 
-/// A number of a ring, which is at an even place.
+/// Loads a 16-bit number of a ring, at an even address.
 pub(crate) fn load_u16(memory: &dyn GuestMemory, at: usize) -> u16 {
     debug_assert_eq!(at % 2, 0);
     memory.get_slice(at, 2).map_or(0, |slice| slice.load_u16())
 }
 
-/// Stores a number of a ring, which is at an even place.
+/// Stores a 16-bit number of a ring, at an even address.
 pub(crate) fn store_u16(memory: &dyn GuestMemory, at: usize, number: u16) {
     debug_assert_eq!(at % 2, 0);
     if let Some(slice) = memory.get_slice(at, 2) {
@@ -93,27 +93,28 @@ pub struct Region {
     pub guest: u64,
     /// Its length in bytes, not 0.
     pub len: u64,
-    /// The number that `GuestMemory` knows its first byte by: its address here, its guest address,
-    /// an offset.
+    /// The number of its first byte in `GuestMemory`, for example its address in this process, its
+    /// guest address, or an offset.
     pub host: usize,
 }
 
-/// How often regions were set, for any worker.
+/// How often any worker's regions were set.
 static SET: AtomicUsize = AtomicUsize::new(0);
 
-/// The number of a worker's new regions, above those of all before. The same regions may lie over
-/// other memory, so they say nothing by themselves.
+/// The number of a worker's new regions, greater than all before. Equal regions may lie over
+/// different memory, so only this number shows that the memory may have changed.
 pub(crate) fn next_regions() -> usize {
     SET.fetch_add(1, Ordering::Relaxed) + 1
 }
 
-/// `len` bytes of memory from the number `at` on (struct `pk_window`), laid out as struct iovec is.
+/// `len` bytes of memory from the number `at` on (struct `pk_window`), with the layout of struct
+/// iovec.
 #[repr(C)]
 #[derive(Clone, Copy, Debug, Default, PartialEq, Eq)]
 pub struct Window {
     /// The number of the first byte, by a region's `host`.
     pub at: usize,
-    /// How many bytes.
+    /// The length in bytes.
     pub len: usize,
 }
 
@@ -123,6 +124,6 @@ pub struct Window {
 pub struct GuestRange {
     /// The guest address of the first byte.
     pub guest: u64,
-    /// How many bytes.
+    /// The length in bytes.
     pub len: u64,
 }

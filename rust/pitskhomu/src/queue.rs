@@ -18,9 +18,9 @@ pub struct QueueLayout {
     pub used: u64,
 }
 
-/// The available index as it was loaded last (VIRTIO 1.2, 2.7.6), and which regions it was loaded
-/// with. All workers of a queue use the same memory, and each gets new regions after it has
-/// changed. So an index of newer regions than a worker's own is good for that worker too.
+/// The available index that was loaded last (VIRTIO 1.2, 2.7.6), and the regions that it was loaded
+/// with. All workers of a queue use the same memory, and each gets new regions after the memory has
+/// changed. So a worker may also use an index that was loaded with newer regions than its own.
 #[derive(Clone, Copy, Debug)]
 struct Seen {
     index: u16,
@@ -29,9 +29,10 @@ struct Seen {
 
 /// A virtqueue.
 ///
-/// Each call that takes it moves it on. Each of several workers has at most one chain of it in
-/// flight. The available index is loaded again once all chains up to it were taken, after
-/// [`Queue::begin`], and after a worker got new regions.
+/// [`Worker::take`](crate::Worker::take) advances `next_avail`, and
+/// [`Worker::give_back`](crate::Worker::give_back) advances `next_used`. Each of several workers
+/// has at most one chain of the queue in flight. A worker loads the available index again once all
+/// chains before it were taken, after [`Queue::begin`], and after it got new regions.
 ///
 /// `Queue::default()` isn't set up: each call refuses it with [`Status::BadArgument`].
 ///
@@ -66,14 +67,14 @@ impl Default for Queue {
     }
 }
 
-/// Where the resets of the next new queue are counted from. A chain knows its queue by that count
-/// and the addresses, and a guest may give two queues the same addresses.
+/// The first reset count of the next new queue. A chain identifies its queue by this count and the
+/// addresses, and a guest may give two queues the same addresses.
 static RESET_COUNT: AtomicU32 = AtomicU32::new(0);
 
-/// From one queue's count to the next one's: odd, so that all 2^32 counts are used.
+/// The distance between the counts of two new queues: odd, so that all 2^32 counts are used.
 const RESET_COUNTS_APART: u32 = (1 << 24) + 1;
 
-/// Zeros, but for a count of resets that no other queue has.
+/// Zeros, except for a reset count that no other queue has, and one chain in flight at most.
 pub(crate) fn fresh_numbers() -> sys::Queue {
     let reset_count = RESET_COUNT.fetch_add(RESET_COUNTS_APART, Ordering::Relaxed);
     sys::Queue { max_in_flight: 1, reset_count, ..sys::Queue::default() }
@@ -85,7 +86,7 @@ impl Queue {
     ///
     /// # Errors
     /// `BadArgument`: the size isn't a power of two up to 32768, an address isn't aligned, or a
-    /// part ends behind the greatest address.
+    /// part ends past the greatest address.
     pub fn new(layout: QueueLayout, next_avail: u16) -> Result<Queue, Status> {
         let QueueLayout { size, descriptors: desc, available: avail, used } = layout;
         let mut numbers = sys::Queue { desc, avail, used, size, ..fresh_numbers() };
@@ -107,23 +108,24 @@ impl Queue {
     }
 
     /// The available index that was loaded last with these regions or newer ones, if a chain before
-    /// it wasn't taken yet. That load acquired, and the queue's lock orders this behind it.
+    /// it wasn't taken yet. That load was followed by an acquire fence, and the queue's lock orders
+    /// this call after it.
     pub(crate) fn seen_index(&self, regions: usize) -> Option<u16> {
         self.seen
             .filter(|seen| seen.regions >= regions && seen.index != self.next_avail())
             .map(|seen| seen.index)
     }
 
-    /// A worker with these regions loaded the available index.
+    /// Keeps the available index that a worker with these regions loaded.
     pub(crate) fn see_index(&mut self, index: u16, regions: usize) {
         let regions = self.seen.map_or(regions, |seen| seen.regions.max(regions));
         self.seen = Some(Seen { index, regions });
     }
 
-    /// The same with up to `max_in_flight` chains in flight: as many as workers serve it.
+    /// The queue with up to `max_in_flight` chains in flight: one for each worker that serves it.
     ///
     /// # Errors
-    /// `BadArgument`: it isn't from 1 to the queue's size.
+    /// `BadArgument`: the number isn't from 1 to the queue's size.
     pub fn with_max_in_flight(mut self, max_in_flight: u16) -> Result<Queue, Status> {
         if max_in_flight == 0 || max_in_flight > self.numbers.size {
             return Err(Status::BadArgument);
@@ -132,20 +134,21 @@ impl Queue {
         Ok(self)
     }
 
-    /// The same for a driver that accepted `VIRTIO_F_EVENT_IDX`, or didn't. With it driver and
-    /// device say at which chain they want the next notification, and without it they set flags
-    /// (VIRTIO 1.2, 2.7.7 and 2.7.10).
+    /// The queue of a driver that accepted `VIRTIO_F_EVENT_IDX`, or didn't. With it driver and
+    /// device ask for the next notification by a chain's position, and without it by flags (VIRTIO
+    /// 1.2, 2.7.7 and 2.7.10).
     pub const fn with_event_index(mut self, is_accepted: bool) -> Queue {
         self.numbers.event_index = is_accepted as u8;
         self
     }
 
-    /// Resets the queue, which is `queue` from here on. Its chains in flight are refused then
-    /// (`Status::OtherQueue`): have each worker [`abandon`](crate::Worker::abandon) its own before.
+    /// Resets the queue: it becomes `queue`. Its chains in flight are then refused
+    /// (`Status::OtherQueue`), so first each worker must [`abandon`](crate::Worker::abandon) its
+    /// own.
     ///
     /// # Errors
     /// `BadArgument`: `queue` isn't set up. This one stays as it was.
-    #[allow(clippy::needless_pass_by_value)] // there is one of it, not two
+    #[allow(clippy::needless_pass_by_value)] // afterwards there is one queue, not two
     pub fn begin(&mut self, queue: Queue) -> Result<(), Status> {
         let next_avail = queue.next_avail();
         let mut numbers = sys::Queue { reset_count: self.numbers.reset_count, ..queue.numbers };
@@ -154,14 +157,14 @@ impl Queue {
         Ok(())
     }
 
-    /// Its size and addresses.
+    /// The queue's size and addresses.
     #[must_use]
     pub const fn layout(&self) -> QueueLayout {
         let sys::Queue { size, desc: descriptors, avail: available, used, .. } = self.numbers;
         QueueLayout { size, descriptors, available, used }
     }
 
-    /// The position of the next chain to take, modulo 2^16. While none is in flight it is the
+    /// The position of the next chain to take, modulo 2^16. While no chain is in flight it is the
     /// queue's state (`GET_VRING_BASE` of vhost-user).
     #[must_use]
     pub const fn next_avail(&self) -> u16 {
@@ -186,8 +189,8 @@ impl Queue {
         self.numbers.max_in_flight
     }
 
-    /// Whether a chain is available by the index that was loaded last. If none is, one may be
-    /// available all the same: load the index then.
+    /// Whether a chain is available by the index that was loaded last. If `false`, a chain may be
+    /// available all the same: [`Worker::take`](crate::Worker::take) loads the index then.
     #[must_use]
     pub fn knows_more(&self) -> bool {
         self.seen.map_or(false, |seen| seen.index != self.next_avail())
@@ -199,7 +202,8 @@ impl Queue {
         self.numbers.event_index != 0
     }
 
-    /// The refusal that stopped it, if any; `Status::Stopped` if [`Device::restore`] did.
+    /// The refusal that stopped the queue, if any; `Status::Stopped` if [`Device::restore`]
+    /// restored a stopped queue.
     ///
     /// [`Device::restore`]: crate::Device::restore
     #[must_use]
@@ -209,8 +213,8 @@ impl Queue {
             .map(|number| Status::of(number.into()))
     }
 
-    /// The guest address that says whether available buffer notifications are enabled:
-    /// `avail_event`, or the flags of the used ring (VIRTIO 1.2, 2.7.8 and 2.7.10).
+    /// The guest address of the field that enables available buffer notifications: `avail_event`,
+    /// or the flags of the used ring (VIRTIO 1.2, 2.7.8 and 2.7.10).
     pub(crate) const fn notification_address(&self) -> u64 {
         if self.has_event_index() {
             self.numbers.used + 4 + 8 * self.numbers.size as u64

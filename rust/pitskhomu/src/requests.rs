@@ -1,5 +1,5 @@
-//! The arguments of the longer calls, a structure each. Only this crate makes them, so fields may
-//! be added.
+//! The arguments of the longer calls, one structure for each. Only this crate makes them, so a
+//! later version may add fields.
 use crate::flags::{Options, SetAttributesValid};
 use crate::values::{Attributes, Handle, Node, Time};
 use crate::CStr;
@@ -10,10 +10,10 @@ use crate::CStr;
 pub struct MakeNode {
     /// Kind and permissions.
     pub mode: u32,
-    /// Of a device its number, packed as `Attributes::rdev` is.
+    /// The device number of a device, packed as `Attributes::rdev`.
     pub rdev: u32,
-    /// The permissions that `mode` loses, which it has lost already if `Options::DONT_MASK` wasn't
-    /// agreed on.
+    /// The permissions to take from `mode`. Without `Options::DONT_MASK` the guest has already
+    /// taken them.
     pub umask: u32,
 }
 
@@ -27,13 +27,13 @@ pub struct MakeDirectory {
     pub umask: u32,
 }
 
-/// How OPEN opens a file (struct `fuse_open_in`).
+/// The arguments of OPEN (struct `fuse_open_in`).
 #[derive(Clone, Copy, Debug)]
 #[non_exhaustive]
 pub struct Open {
     /// O_ flags of Linux x86 (fcntl.h).
     pub flags: u32,
-    /// `FUSE_OPEN_KILL_SUIDGID`: set-user and set-group bits are to be cleared (with `O_TRUNC`;
+    /// `FUSE_OPEN_KILL_SUIDGID`: clear set-user and set-group bits (with `O_TRUNC`;
     /// `Options::HANDLE_KILLPRIV_V2`).
     pub kill_priv: bool,
 }
@@ -52,67 +52,68 @@ pub struct Create {
     pub kill_priv: bool,
 }
 
-/// Which data READ wants (struct `fuse_read_in`).
+/// The arguments of READ (struct `fuse_read_in`).
 #[derive(Clone, Copy, Debug)]
 #[non_exhaustive]
 pub struct Read {
-    /// Of which open file.
+    /// The open file.
     pub handle: Handle,
-    /// From which byte on.
+    /// The offset of the first byte.
     pub offset: u64,
-    /// How many bytes. The reply buffer may have room for fewer: `ReadData::left`.
+    /// The number of bytes. The reply buffer may have room for fewer: `ReadData::left`.
     pub size: u64,
     /// The file's O_ flags.
     pub flags: u32,
-    /// Whose locks count, with `FUSE_READ_LOCKOWNER`.
+    /// The owner of the locks that apply, with `FUSE_READ_LOCKOWNER`.
     pub lock_owner: Option<u64>,
 }
 
-/// Where WRITE's data goes (struct `fuse_write_in`).
+/// The arguments of WRITE (struct `fuse_write_in`).
 #[derive(Clone, Copy, Debug)]
 #[non_exhaustive]
 pub struct Write {
-    /// Of which open file.
+    /// The open file.
     pub handle: Handle,
-    /// From which byte on.
+    /// The offset of the first byte.
     pub offset: u64,
-    /// How many bytes, as the guest says. The request may have another number: `WriteData::left`.
+    /// The number of bytes in the guest's record. The request may have another number:
+    /// `WriteData::left`.
     pub size: u64,
     /// The file's O_ flags.
     pub flags: u32,
-    /// Whose locks count, with `FUSE_WRITE_LOCKOWNER`.
+    /// The owner of the locks that apply, with `FUSE_WRITE_LOCKOWNER`.
     pub lock_owner: Option<u64>,
-    /// `FUSE_WRITE_CACHE`: it comes late, from the guest's cache, so the caller isn't the writer.
+    /// `FUSE_WRITE_CACHE`: a late write from the guest's cache, so the caller isn't the writer.
     pub delayed: bool,
-    /// `FUSE_WRITE_KILL_SUIDGID`: set-user and set-group bits are to be cleared.
+    /// `FUSE_WRITE_KILL_SUIDGID`: clear set-user and set-group bits.
     pub kill_priv: bool,
 }
 
-/// How RELEASE closes a file (struct `fuse_release_in`).
+/// The arguments of RELEASE (struct `fuse_release_in`).
 #[derive(Clone, Copy, Debug, Default)]
 #[non_exhaustive]
 pub struct Release {
-    /// Which open file.
+    /// The open file.
     pub handle: Handle,
     /// The file's O_ flags.
     pub flags: u32,
-    /// `FUSE_RELEASE_FLUSH`: as by FLUSH before.
+    /// `FUSE_RELEASE_FLUSH`: do as for FLUSH first.
     pub flush: bool,
-    /// `FUSE_RELEASE_FLOCK_UNLOCK`: flock's locks go.
+    /// `FUSE_RELEASE_FLOCK_UNLOCK`: release flock's locks.
     pub unlock: bool,
-    /// Whose locks, with one of these two.
+    /// The owner of the locks, with one of these two.
     pub lock_owner: Option<u64>,
 }
 
-/// Which entries READDIR or READDIRPLUS wants (struct `fuse_read_in`).
+/// The arguments of READDIR and READDIRPLUS (struct `fuse_read_in`).
 #[derive(Clone, Copy, Debug)]
 #[non_exhaustive]
 pub struct ReadDirectory {
-    /// Of which open directory.
+    /// The open directory.
     pub handle: Handle,
-    /// From where on: 0, or the `next_offset` of an entry before.
+    /// The offset of the first entry: 0, or the `next_offset` of an earlier entry.
     pub offset: u64,
-    /// How many bytes of entries, at most. The reply buffer may have room for fewer:
+    /// The greatest number of bytes of entries. The reply buffer may have room for fewer:
     /// `Listing::left`.
     pub size: u64,
 }
@@ -121,13 +122,13 @@ pub struct ReadDirectory {
 #[derive(Clone, Copy, Debug)]
 #[non_exhaustive]
 pub struct Allocate {
-    /// Of which open file.
+    /// The open file.
     pub handle: Handle,
     /// `FALLOC_FL`_ flags (linux/falloc.h).
     pub mode: u32,
-    /// From which byte on.
+    /// The offset of the first byte.
     pub offset: u64,
-    /// How many bytes.
+    /// The number of bytes.
     pub len: u64,
 }
 
@@ -135,9 +136,9 @@ pub struct Allocate {
 #[derive(Clone, Copy, Debug)]
 #[non_exhaustive]
 pub struct Seek {
-    /// Of which open file.
+    /// The open file.
     pub handle: Handle,
-    /// From which byte on.
+    /// The offset in bytes, by `whence`.
     pub offset: u64,
     /// SEEK_ of linux/fs.h: `SEEK_DATA` is 3, `SEEK_HOLE` 4.
     pub whence: u32,
@@ -150,7 +151,7 @@ pub struct FilePlace {
     pub node: Node,
     /// The open file.
     pub handle: Handle,
-    /// Which byte.
+    /// The offset in bytes.
     pub offset: u64,
 }
 
@@ -159,11 +160,11 @@ pub struct FilePlace {
 #[derive(Clone, Copy, Debug)]
 #[non_exhaustive]
 pub struct CopyFileRange {
-    /// From here.
+    /// The source.
     pub from: FilePlace,
-    /// To there.
+    /// The destination.
     pub to: FilePlace,
-    /// How many bytes.
+    /// The number of bytes.
     pub len: u64,
 }
 
@@ -180,7 +181,7 @@ pub struct Init {
 pub struct Child<'n> {
     /// The directory.
     pub parent: Node,
-    /// The name: the guest's bytes, so it may be empty, `.`, `..`, or have a slash.
+    /// The name, as the guest wrote it: it may be empty, `.`, `..`, or have a slash.
     pub name: &'n CStr,
 }
 
@@ -189,7 +190,7 @@ pub struct Child<'n> {
 pub enum SetTime {
     /// This one.
     To(Time),
-    /// The time as it is now.
+    /// The current time.
     Now,
 }
 
@@ -203,7 +204,7 @@ pub struct SetAttributes {
     pub attributes: Attributes,
     /// The open file, with `FATTR_FH`.
     pub handle: Option<Handle>,
-    /// Whose locks count, if the guest says so (`FATTR_LOCKOWNER`); otherwise Linux writes 0.
+    /// The owner of the locks that apply, with `FATTR_LOCKOWNER`. Without it Linux writes 0.
     pub lock_owner: u64,
 }
 
@@ -258,14 +259,15 @@ impl SetAttributes {
         self.if_valid(SetAttributesValid::CTIME, self.attributes.ctime)
     }
 
-    /// Whether set-user and set-group bits are to be cleared (`Options::HANDLE_KILLPRIV_V2`).
+    /// Whether to clear set-user and set-group bits (`Options::HANDLE_KILLPRIV_V2`).
     #[must_use]
     pub fn kills_priv(&self) -> bool {
         self.valid.contains(SetAttributesValid::KILL_SUIDGID)
     }
 }
 
-/// The nodes of FORGET or `BATCH_FORGET`: each with how many times less the guest holds it.
+/// The nodes of FORGET or `BATCH_FORGET`. With each, the number of times less that the guest holds
+/// it.
 #[derive(Clone, Debug)]
 pub struct Forgets<'r> {
     pairs: core::slice::ChunksExact<'r, u8>,

@@ -1,6 +1,6 @@
-//! Bytes of the guest's memory as the worker accesses them. With `chain` and `sys` the one place of
-//! the crate that is `unsafe`: the bytes change while they are copied, so no reference to them is
-//! made but to atomic numbers.
+//! The worker's access to bytes of the guest's memory. Only this module, `chain` and `sys` have
+//! `unsafe` code. The bytes change while they are copied, so the only references to them are to
+//! atomic numbers.
 #![allow(unsafe_code)]
 
 use core::fmt;
@@ -8,11 +8,11 @@ use core::marker::PhantomData;
 use core::mem::size_of;
 use core::sync::atomic::{AtomicU16, AtomicU8, AtomicUsize, Ordering};
 
-/// A stretch of the guest's memory, which the guest and other threads write at the same time. The
-/// worker copies out of it and into it, each byte once, by relaxed atomic accesses.
+/// Consecutive bytes of the guest's memory, which the guest and other threads may write at the same
+/// time. The worker copies out of them and into them, each byte once, by relaxed atomic accesses.
 ///
-/// Safe code makes one of atomic bytes. Only `unsafe` code makes one of a pointer
-/// ([`GuestSlice::new`]), and owes there that the bytes are mapped.
+/// Safe code makes a slice of atomic bytes. Only `unsafe` code makes one of a pointer
+/// ([`GuestSlice::new`]), and must ensure that the bytes are mapped.
 ///
 /// # Examples
 /// ```
@@ -31,8 +31,9 @@ use core::sync::atomic::{AtomicU16, AtomicU8, AtomicUsize, Ordering};
 pub struct GuestSlice<'m> {
     at: *mut u8,
     len: usize,
-    /// Whether two bytes or a word may be accessed at once: other code accesses atomic bytes one by
-    /// one, and accesses of different sizes that meet are a data race in Rust.
+    /// Whether two bytes or a word may be accessed in one step. Atomic bytes may not: other code
+    /// accesses them one by one, and overlapping accesses of different sizes are a data race in
+    /// Rust.
     is_wide: bool,
     memory: PhantomData<&'m [AtomicU8]>,
 }
@@ -44,8 +45,8 @@ impl fmt::Debug for GuestSlice<'_> {
 }
 
 impl<'m> From<&'m [AtomicU8]> for GuestSlice<'m> {
-    /// Memory in safe code. A number of two bytes is accessed in two steps here: fine for a guest
-    /// that doesn't run meanwhile, and not for one that does.
+    /// Memory in safe code. A number of two bytes is accessed in two steps here, which is right
+    /// only for a guest that doesn't run meanwhile.
     fn from(bytes: &'m [AtomicU8]) -> GuestSlice<'m> {
         let at = bytes.as_ptr() as *mut u8;
         GuestSlice { at, len: bytes.len(), is_wide: false, memory: PhantomData }
@@ -59,14 +60,14 @@ impl<'m> GuestSlice<'m> {
     /// As long as `'m` lasts:
     /// - the bytes are mapped, and may be read and written (`at` may be any pointer if `len` is 0);
     /// - no reference to one of them exists in this process, unless to an atomic number;
-    /// - other threads of this process access them by atomic or volatile operations alone. Accesses
-    ///   of the guest and of other processes are no matter.
+    /// - other threads of this process access them only by atomic or volatile operations. The guest
+    ///   and other processes may access them in any way.
     #[must_use]
     pub unsafe fn new(at: *mut u8, len: usize) -> GuestSlice<'m> {
         GuestSlice { at, len, is_wide: true, memory: PhantomData }
     }
 
-    /// How many bytes it has.
+    /// The number of bytes.
     #[must_use]
     pub const fn len(&self) -> usize {
         self.len
@@ -81,29 +82,30 @@ impl<'m> GuestSlice<'m> {
     /// The address of the byte `from`, which is below `len`.
     fn byte(&self, from: usize) -> *mut u8 {
         debug_assert!(from < self.len);
-        // SAFETY: the byte is one of these.
+        // SAFETY: `from` is below `len`, so the byte is in the slice.
         unsafe { self.at.add(from) }
     }
 
     fn atomic_byte(&self, from: usize) -> &'m AtomicU8 {
-        // SAFETY: the slice's maker vouches for its bytes, and each may be accessed alone.
+        // SAFETY: the bytes are valid by the contract of `new`, and each may be accessed alone.
         unsafe { &*self.byte(from).cast::<AtomicU8>() }
     }
 
     /// The word that begins at the byte `from`, if it ends before `end` and is aligned.
-    #[allow(clippy::cast_ptr_alignment)] // the test is before
+    #[allow(clippy::cast_ptr_alignment)] // the test comes before the cast
     fn word(&self, from: usize, end: usize) -> Option<&'m AtomicUsize> {
         let at = self.byte(from);
         if !self.is_wide || at as usize % size_of::<usize>() != 0 || end - from < size_of::<usize>()
         {
             return None;
         }
-        // SAFETY: the slice's maker vouches for its bytes; the word is aligned, and lies in it.
+        // SAFETY: the bytes are valid by the contract of `new`; the word is aligned, and lies in
+        // the slice.
         Some(unsafe { &*at.cast::<AtomicUsize>() })
     }
 
-    /// The number of two bytes that the slice begins with, if it is long enough and aligned.
-    #[allow(clippy::cast_ptr_alignment)] // the test is before
+    /// The first two bytes as a number, if the slice is long enough and aligned.
+    #[allow(clippy::cast_ptr_alignment)] // the test comes before the cast
     fn half(&self) -> Option<&'m AtomicU16> {
         if !self.is_wide || self.at as usize % size_of::<u16>() != 0 || self.len < size_of::<u16>()
         {
@@ -113,7 +115,8 @@ impl<'m> GuestSlice<'m> {
         Some(unsafe { &*self.at.cast::<AtomicU16>() })
     }
 
-    /// Copies bytes out, from the first on: as many as both have. Returns their number.
+    /// Copies bytes out of the slice, from the first on, as many as both have. Returns their
+    /// number.
     pub fn load(&self, bytes: &mut [u8]) -> usize {
         let (len, mut done) = (self.len.min(bytes.len()), 0);
         while done < len {
@@ -129,7 +132,7 @@ impl<'m> GuestSlice<'m> {
         len
     }
 
-    /// Copies bytes in, from the first on: as many as both have. Returns their number.
+    /// Copies bytes into the slice, from the first on, as many as both have. Returns their number.
     #[allow(clippy::must_use_candidate)] // a caller who knows the length needs no number
     pub fn store(&self, bytes: &[u8]) -> usize {
         let (len, mut done) = (self.len.min(bytes.len()), 0);
@@ -147,7 +150,7 @@ impl<'m> GuestSlice<'m> {
         len
     }
 
-    /// A little-endian number of a ring: by one load if it can be.
+    /// Loads a ring's le16, in one load if the slice is wide and aligned.
     pub(crate) fn load_u16(&self) -> u16 {
         if let Some(half) = self.half() {
             return u16::from_le(half.load(Ordering::Relaxed));
@@ -157,7 +160,7 @@ impl<'m> GuestSlice<'m> {
         u16::from_le_bytes(bytes)
     }
 
-    /// Stores a little-endian number in a ring: by one store if it can be.
+    /// Stores a ring's le16, in one store if the slice is wide and aligned.
     pub(crate) fn store_u16(&self, number: u16) {
         match self.half() {
             Some(half) => half.store(number.to_le(), Ordering::Relaxed),
@@ -174,7 +177,7 @@ mod tests {
     use alloc::vec::Vec;
     use core::cell::UnsafeCell;
 
-    /// Each place and length around two words, so that edges and words are met in each order.
+    /// Each start and length around two words, for all orders of bytes and words.
     #[test]
     fn bytes_are_copied_at_any_place() {
         let memory = [0usize; 4].map(UnsafeCell::new);

@@ -1,7 +1,7 @@
-//! The library's numbers: refusals of its calls, faults of chains, and faults of requests.
+//! The library's error numbers: refusals of its calls, faults of chains, and faults of requests.
 use core::fmt;
 
-/// An enum over numbers of the header: each with its number, and with a text.
+/// An enum over numbers of the header, each with its text.
 macro_rules! numbered {
     ($(#[$about:meta])* $type:ident,
         $header:literal { $($(#[$doc:meta])* $name:ident = $number:literal, $text:literal;)* }) => {
@@ -60,45 +60,45 @@ numbered! {
         Stopped = 1, "the queue stopped before";
         /// The available index lies in no region. It stops the queue.
         AvailIndexUnreachable = 2, "the available index is unreachable";
-        /// More chains wait than the queue holds (VIRTIO 1.2, 2.7.6). It stops the queue.
+        /// More chains are available than the queue holds (VIRTIO 1.2, 2.7.6). It stops the queue.
         AvailTooFar = 3, "more chains wait than the queue holds";
         /// An entry of the available ring lies in no region. It stops the queue.
         RingEntryUnreachable = 4, "an entry of the available ring is unreachable";
         /// The available ring names a descriptor that the table doesn't have. It stops the queue.
         HeadOutOfTable = 5, "a chain's head is out of the descriptor table";
-        /// The used ring lies in no region, or `avail_event` at its end. It stops the queue.
+        /// The used ring, or `avail_event` at its end, lies in no region. It stops the queue.
         UsedUnreachable = 6, "the used ring is unreachable";
-        /// The available flags lie in no region, or `used_event` of a queue with an event index. It
-        /// stops the queue.
+        /// The available flags, or `used_event` of a queue with an event index, lie in no region.
+        /// It stops the queue.
         AvailFlagsUnreachable = 7, "the available flags or used_event are unreachable";
         /// A descriptor of the table lies in no region. It stops the queue.
         DescriptorUnreachable = 8, "a descriptor is unreachable";
         /// An allocation failed; call again later. The driver doesn't notify again for a chain that
         /// is available.
         OutOfMemory = 9, "out of memory";
-        /// A number that isn't one of those that a call takes: of a queue, of a device, of regions.
+        /// A number that the call doesn't allow: of a queue, a device or regions.
         BadArgument = 66, "a number that the queue, the device or the regions can't have";
         /// The buffer is too short.
         ShortBuffer = 69, "the buffer is too short";
         /// 4 GiB of data or more, or more bytes than the reply buffer has.
         LongReply = 71, "the reply is too long";
-        /// The call doesn't come next for the chain; or no memory was set.
+        /// The chain's state doesn't allow the call, or no memory was set.
         WrongOrder = 73, "a call in a wrong order";
         /// The chain is of another queue, or its queue was reset.
         OtherQueue = 74, "the chain is of another queue";
         /// An answer of another kind than the call's.
         OtherKind = 75, "an answer of another kind than the call's";
-        /// As many chains of the queue are in flight as may be, or the worker has one.
+        /// `Queue::max_in_flight` chains of the queue are in flight, or the worker has one.
         ChainInFlight = 76, "a chain is in flight";
         /// Bytes of a ring aren't in the worker's regions.
         NotMapped = 77, "bytes of a ring aren't mapped";
         /// Another chain of the queue is being returned.
         Pushing = 78, "another chain of the queue is being returned";
-        /// The answer is of a call that is gone.
+        /// A late answer: it is to a call of an earlier chain.
         OtherCall = 79, "an answer of a call that is gone";
-        /// A record ends early.
+        /// A record that ends early.
         RecordTruncated = 81, "the record ends early";
-        /// It isn't a record.
+        /// Bytes that aren't a record.
         RecordBadMagic = 82, "it isn't a record";
         /// A record of a version that the library doesn't read.
         RecordBadVersion = 83, "the record's version isn't known";
@@ -106,9 +106,9 @@ numbered! {
         RecordBadCount = 84, "the record's number of queues is none that it may be";
         /// A record whose reserved bytes aren't zero.
         RecordBadReserved = 85, "the record's reserved bytes aren't zero";
-        /// A record with a queue whose numbers are none.
+        /// A record with a queue whose numbers no queue can have.
         RecordBadQueue = 86, "a queue of the record is none";
-        /// A record with options that aren't known.
+        /// A record with unknown options.
         RecordBadOptions = 87, "the record's options aren't known";
         /// An allocation failed; call again later.
         RecordOutOfMemory = 89, "out of memory for the record";
@@ -118,8 +118,8 @@ numbered! {
 }
 
 impl Status {
-    /// Whether the queue is stopped by it, or was before: set `DEVICE_NEEDS_RESET` (VIRTIO 1.2,
-    /// 2.1.2).
+    /// Whether the refusal stops the queue, or the queue was stopped before. Then set
+    /// `DEVICE_NEEDS_RESET` (VIRTIO 1.2, 2.1.2).
     #[must_use]
     pub fn stops_queue(self) -> bool {
         matches!(self.number(), 1..=8)
@@ -131,7 +131,7 @@ impl Status {
         matches!(self, Status::OutOfMemory | Status::RecordOutOfMemory)
     }
 
-    /// `Ok` of the number 0, and else the refusal.
+    /// `Ok` for the number 0, otherwise the refusal.
     pub(crate) fn check(number: u32) -> Result<(), Status> {
         match number {
             0 => Ok(()),
@@ -156,24 +156,24 @@ impl From<Status> for std::io::Error {
 }
 
 numbered! {
-    /// A fault of a chain of descriptors (enum `pk_fault`; VIRTIO 1.2, 2.7.5). It is returned
-    /// without a reply.
+    /// A fault of a chain of descriptors (enum `pk_fault`; VIRTIO 1.2, 2.7.5). The chain is
+    /// returned without a reply.
     Fault, "enum pk_fault" {
-        /// More descriptors than the table has.
+        /// The chain has more descriptors than the table.
         TooLong = 1, "the chain is longer than its table";
-        /// A descriptor names a next one that the table doesn't have.
+        /// A descriptor's `next` is out of the table.
         NextOutOfTable = 2, "a next descriptor is out of the table";
         /// A buffer ends past the last address.
         AddressOverflow = 3, "a buffer ends past the last address";
-        /// A descriptor of an indirect table that names a next one besides (2.7.5.3.1).
+        /// A descriptor with an indirect table has a `next` too (2.7.5.3.1).
         IndirectWithNext = 4, "an indirect descriptor has a next one";
-        /// An indirect table within an indirect table (2.7.5.3.1).
+        /// An indirect table has a descriptor with an indirect table (2.7.5.3.1).
         IndirectNested = 5, "an indirect table names another one";
-        /// An indirect table whose length isn't a number of descriptors (2.7.5.3).
+        /// An indirect table's length isn't that of a number of descriptors (2.7.5.3).
         IndirectLength = 6, "an indirect table has a wrong length";
         /// An indirect table lies in no region.
         TableUnreachable = 7, "an indirect table is unreachable";
-        /// A request or a reply buffer of more bytes than the device's limit.
+        /// The request or the reply buffer has more bytes than the device's limit.
         OverLimit = 8, "the request or the reply buffer is over the limit";
         /// Bytes of the request lie in no region.
         RequestUnreachable = 9, "the request is unreachable";

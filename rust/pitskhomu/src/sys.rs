@@ -14,7 +14,7 @@ pub const REQUEST_MAX: usize = 0x101000;
 pub const FRONT_MAX: usize = 160;
 pub const HEADER: u64 = 16;
 
-/// enum `pk_status`: how to go on. The refusals are `Status`.
+/// enum `pk_status`: the numbers that aren't refusals. The refusals are `Status`.
 pub mod status {
     pub const DONE: u32 = 0;
     pub const LOAD: u32 = 32;
@@ -68,7 +68,7 @@ pub mod kind {
     pub const SYNCFS: u32 = 50;
 }
 
-/// enum `pk_answer_kind`: the kinds that the wrapper treats apart.
+/// enum `pk_answer_kind`: the kinds that the wrapper distinguishes.
 pub mod answer {
     pub const NONE: u32 = 0;
     pub const XATTR: u32 = 7;

@@ -22,28 +22,28 @@ pub struct Handle(
     pub u64,
 );
 
-/// Who asks (struct `fuse_in_header`).
+/// The caller, and the request's number (struct `fuse_in_header`).
 #[derive(Clone, Copy, Debug, Default, PartialEq, Eq)]
 #[non_exhaustive]
 pub struct Context {
-    /// The guest's number of the request.
+    /// The request's `unique`, the guest's number of it.
     pub unique: u64,
     /// The user. With `Options::ALLOW_IDMAP` (Linux 6.12 and later) only calls that make a node
-    /// have it; in the others it is `u32::MAX`.
+    /// have it; in all others it is `u32::MAX`.
     pub uid: u32,
     /// The group; as `uid`.
     pub gid: u32,
     /// The process.
     pub pid: u32,
-    /// In a call that makes a node, if the guest sends it: one of the caller's groups besides
-    /// `gid`.
+    /// One of the caller's groups besides `gid`, in a call that makes a node, if the guest sends
+    /// it.
     pub supplementary_group: Option<u32>,
 }
 
 /// A time since 1970 (struct timespec).
 #[derive(Clone, Copy, Debug, Default, PartialEq, Eq, PartialOrd, Ord, Hash)]
 pub struct Time {
-    /// Seconds; before 1970 below 0.
+    /// Seconds; negative before 1970.
     pub seconds: i64,
     /// Nanoseconds after them, below 10^9.
     pub nanos: u32,
@@ -56,7 +56,7 @@ pub struct Attributes {
     pub inode: u64,
     /// Its length in bytes.
     pub size: u64,
-    /// How many blocks of 512 bytes it takes.
+    /// The number of blocks of 512 bytes that it takes.
     pub blocks: u64,
     /// When it was read last.
     pub atime: Time,
@@ -64,18 +64,18 @@ pub struct Attributes {
     pub mtime: Time,
     /// When it changed last.
     pub ctime: Time,
-    /// Kind and permissions (`S_IFMT` of sys/stat.h is among it).
+    /// Kind (`S_IFMT` of sys/stat.h) and permissions.
     pub mode: u32,
-    /// How many names it has.
+    /// The number of its names.
     pub links: u32,
     /// Its user.
     pub uid: u32,
     /// Its group.
     pub gid: u32,
-    /// Of a device its number, as Linux packs it in 32 bits: bits 8 to 19 are the major number, the
-    /// others the minor.
+    /// The device number of a device, as Linux packs it in 32 bits: bits 8 to 19 are the major
+    /// number, the others the minor.
     pub rdev: u32,
-    /// How many bytes are best read at a time.
+    /// The best number of bytes to read at a time.
     pub block_size: u32,
     /// `FUSE_ATTR`_ flags: `SUBMOUNT`, `DAX`.
     pub flags: u32,
@@ -87,7 +87,7 @@ impl Attributes {
     /// `FUSE_ATTR_DAX`: the file may be mapped. There is no shared memory window here.
     pub const DAX: u32 = 2;
 
-    /// Seconds are the same 64 bits, which Linux reads as signed.
+    /// The seconds stay the same 64 bits, which Linux reads as signed.
     #[allow(clippy::cast_sign_loss)]
     pub(crate) fn raw(&self) -> sys::Attr {
         sys::Attr {
@@ -135,15 +135,15 @@ impl Attributes {
 /// the guest may remember that.
 #[derive(Clone, Copy, Debug, Default, PartialEq, Eq)]
 pub struct Entry {
-    /// The node, which the guest holds once more; `Node(0)` if the name isn't there.
+    /// The node, which the guest then holds once more; `Node(0)` if the name doesn't exist.
     pub node: Node,
-    /// Which of the nodes that had this number one after another.
+    /// The generation: it differs between nodes that have had the same number.
     pub generation: u64,
     /// The node's attributes.
     pub attributes: Attributes,
-    /// How long the attributes stay good.
+    /// The time that the guest may cache the attributes.
     pub attributes_timeout: Duration,
-    /// How long the name stays good.
+    /// The time that the guest may cache the name.
     pub entry_timeout: Duration,
 }
 
@@ -164,35 +164,35 @@ impl Entry {
 /// A file or directory that was opened (struct `fuse_open_out`).
 #[derive(Clone, Copy, Debug, Default, PartialEq, Eq)]
 pub struct Opened {
-    /// The file system's number of it, which READ and its kin bring back.
+    /// The file system's number of it, which the guest passes with READ and other calls.
     pub handle: Handle,
-    /// How the guest treats it.
+    /// The `FOPEN_` flags for the guest.
     pub options: OpenOptions,
 }
 
 /// The file system as a whole (struct `fuse_kstatfs`).
 #[derive(Clone, Copy, Debug, PartialEq, Eq)]
 pub struct Statistics {
-    /// How many blocks of `fragment_size` bytes there are.
+    /// The number of blocks of `fragment_size` bytes.
     pub blocks: u64,
-    /// How many are free.
+    /// The number of free blocks.
     pub blocks_free: u64,
-    /// How many are free for all users.
+    /// The number of free blocks for all users.
     pub blocks_available: u64,
-    /// How many nodes there may be.
+    /// The greatest number of nodes.
     pub files: u64,
-    /// How many more there may be.
+    /// The number of free nodes.
     pub files_free: u64,
-    /// How many bytes are best moved at a time.
+    /// The best number of bytes to move at a time.
     pub block_size: u32,
     /// The longest name, in bytes.
     pub name_len: u32,
-    /// How many bytes a block has.
+    /// The bytes of a block.
     pub fragment_size: u32,
 }
 
 impl Default for Statistics {
-    /// Names of 255 bytes, blocks of 512, and nothing known of space.
+    /// Names of 255 bytes, blocks of 512, and zeros for the rest: unknown.
     fn default() -> Statistics {
         Statistics {
             blocks: 0,
@@ -229,7 +229,7 @@ pub struct DirectoryEntry<'n> {
     pub name: &'n crate::CStr,
     /// The number that getdents reports.
     pub inode: u64,
-    /// The offset that goes on behind this entry.
+    /// The offset with which READDIR continues after this entry.
     pub next_offset: u64,
     /// The file's kind.
     pub kind: FileKind,

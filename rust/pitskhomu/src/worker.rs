@@ -16,11 +16,11 @@ use core::fmt;
 use core::mem;
 use core::sync::atomic::{fence, Ordering};
 
-/// A chain that was returned to the driver, and how.
+/// A chain that was returned to the driver, with its reply's length, its fault and its notice.
 #[derive(Clone, Copy, Debug, PartialEq, Eq)]
 #[non_exhaustive]
 pub struct Served {
-    /// The index of the chain's first descriptor, by which the driver knows it.
+    /// The index of the chain's first descriptor, which is the used element's id.
     pub head: u16,
     /// The length of the request, in bytes; 0 with a fault.
     pub request_len: u64,
@@ -29,39 +29,39 @@ pub struct Served {
     /// The request's opcode, as the guest wrote it (enum `fuse_opcode` of linux/fuse.h). 0 if the
     /// request was too short to have one, or with a fault.
     pub opcode: u32,
-    /// The guest's number of the request.
+    /// The request's `unique`, the guest's number of it; 0 as for `opcode`.
     pub unique: u64,
     /// The length of the reply, in bytes; 0 if there is none.
     pub reply_len: u32,
-    /// The fault of the chain, if any. It got no reply.
+    /// The fault of the chain, if any. Then there is no reply.
     pub fault: Option<Fault>,
-    /// The fault of the request, if any. It got no reply, and no file call was made.
+    /// The fault of the request, if any. Then there is no reply, and no file call was made.
     pub request_fault: Option<RequestFault>,
     /// Whether the reply buffer was too small for the answer. Then there is no reply, and the
-    /// worker took the answer back: it forgot the entry, and released the file.
+    /// worker undid the answer: it forgot the entry, and released the file.
     pub had_no_room: bool,
-    /// Whether the driver is to be notified (VIRTIO 1.2, 2.7.7). One notification will do for
-    /// several chains.
+    /// Whether to notify the driver (VIRTIO 1.2, 2.7.7). One notification is enough for several
+    /// chains.
     pub notify: bool,
 }
 
-/// How far the worker's chain has come. The library keeps the order of the calls. This is beside it
-/// what a panic of the file system must not undo: which chains it has seen.
+/// The progress of the worker's chain. The library checks the order of its calls. This also keeps
+/// whether the file system has seen the request, so that a panic of it can't undo that.
 #[derive(Clone, Copy, Debug, PartialEq, Eq)]
 enum Progress {
-    /// It is popped, and the file system hasn't seen its request.
+    /// The chain is popped, and the file system hasn't seen its request.
     Popped,
-    /// The file system has seen its request, and owes the answer.
+    /// The file system has seen the request, and hasn't returned.
     Asked,
     /// The file system has no answer yet, and gets the same call again.
     Later,
-    /// Its reply is known, or it gets none.
+    /// The reply is known, or there is none.
     Answered,
 }
 
-/// Serves the chains of queues, one at a time. It has the library's handle and its buffers, which
-/// grow as needed, to some 2 MiB at most. Each thread has a worker of its own; a worker may move
-/// between threads.
+/// Serves the chains of queues, one at a time. It has the library's handle, and buffers that grow
+/// as needed, to about 2 MiB at most. Each thread has a worker of its own, which may move to
+/// another thread.
 ///
 /// # Examples
 /// ```
@@ -122,21 +122,22 @@ enum Progress {
 #[must_use]
 pub struct Worker {
     chain: Chain,
-    /// `None` if it has no chain.
+    /// `None` if the worker has no chain.
     progress: Option<Progress>,
-    /// The number of its regions.
+    /// The number of its regions, by `memory::next_regions`.
     regions: usize,
     /// The bytes of a pop's load.
     loaded: Vec<u8>,
     /// The request, as far as it was loaded.
     request: Vec<u8>,
-    /// The bytes that a listing, a link or an extended attribute answers.
+    /// The data of the reply to a listing, READLINK, GETXATTR or LISTXATTR.
     list: Vec<u8>,
     front: [u8; sys::FRONT_MAX],
     pop: sys::Pop,
     call: sys::Call,
     replied: Replied,
-    /// The file system may have written so many bytes of the reply buffer, from its front on.
+    /// The number of bytes of the reply buffer, from its front on, that the file system may have
+    /// written.
     written: u64,
 }
 
@@ -155,7 +156,7 @@ impl Default for Worker {
     }
 }
 
-/// Frees the handle unless it is forgotten: so a pop at whose loads the memory panics ends.
+/// Frees the handle unless it is forgotten. So a pop ends if the memory panics at one of its loads.
 struct Popping<'w>(&'w mut Worker);
 
 impl Drop for Popping<'_> {
@@ -164,8 +165,8 @@ impl Drop for Popping<'_> {
     }
 }
 
-/// Ends a push unless it is forgotten: so one at whose stores the memory panics doesn't block the
-/// queue's others.
+/// Ends a push unless it is forgotten. So a push doesn't block the queue's other chains if the
+/// memory panics at one of its stores.
 struct Pushing<'w>(&'w mut Worker, &'w mut Queue);
 
 impl Drop for Pushing<'_> {
@@ -194,12 +195,12 @@ impl Worker {
     }
 
     /// Sets the regions of the guest's memory for the next chains, and copies them: at most
-    /// `Device::MOST_REGIONS` in any order. They aren't empty and don't overlap. Call it first, and
-    /// after each change of the guest's memory.
+    /// `Device::MOST_REGIONS` in any order, not empty and without overlap. Call it first, and after
+    /// each change of the guest's memory.
     ///
     /// # Errors
-    /// The regions stay as they were.
-    /// - `BadArgument`: these are no regions.
+    /// An error leaves the regions unchanged.
+    /// - `BadArgument`: too many regions, or one that isn't allowed.
     /// - `ChainInFlight`: the worker has a chain.
     /// - `OutOfMemory`: an allocation failed.
     pub fn set_memory(&mut self, device: &Device, regions: &[Region]) -> Result<(), Status> {
@@ -209,21 +210,22 @@ impl Worker {
     }
 
     /// Serves the next chain of a queue, if one is available: takes it, calls the file system, and
-    /// gives it back with the reply. A chain that the worker has already comes first. `None` also
-    /// if the file system answers later: the worker has the chain then.
+    /// returns it to the driver with the reply. If the worker already has a chain, it serves that
+    /// one first. `None` if no chain is available, and if the file system answers later. Then the
+    /// worker keeps the chain.
     ///
     /// After a panic of the file system, pass the same queue again: the call is answered EIO, and
-    /// that chain is given back. A panic of the memory between the stores of a push may lose the
-    /// chain for the guest.
+    /// its chain is returned. A panic of the memory between the stores of a push may lose the chain
+    /// for the guest.
     ///
     /// # Errors
-    /// The worker has no chain then.
+    /// After an error the worker has no chain.
     /// - Those of `Status::stops_queue`: set `DEVICE_NEEDS_RESET`.
     /// - `OutOfMemory`: an allocation failed. The chain is still available, and the driver doesn't
     ///   notify again.
     /// - `BadArgument`: the queue isn't set up.
     /// - `WrongOrder`: no memory was set.
-    /// - `ChainInFlight`: other workers have as many chains of the queue as may be in flight.
+    /// - `ChainInFlight`: other workers have `Queue::max_in_flight` chains of the queue.
     /// - `OtherQueue`: the queue was reset while the worker had a chain of it.
     pub fn serve(
         &mut self,
@@ -242,13 +244,13 @@ impl Worker {
         self.give_back(queue, memory).map(Some)
     }
 
-    /// Takes the next chain of a queue, if one is available: then `answer` it and `give_back`, in
-    /// this order. Several workers may each have a chain of one queue, up to
-    /// `Queue::max_in_flight`. Keep the queue behind a lock, and hold that for `take` and for
-    /// `give_back`, but not for `answer`. Chains are returned in any order.
+    /// Takes the next chain of a queue, and returns `true` if one is available. Then call `answer`
+    /// and `give_back`, in this order. Several workers may each have a chain of one queue, up to
+    /// `Queue::max_in_flight`. Keep the queue behind a lock, and hold the lock for `take` and for
+    /// `give_back`, but not for `answer`. Chains may be returned in any order.
     ///
     /// # Errors
-    /// Those of `serve`, and `WrongOrder`: the worker has a chain already, and keeps it.
+    /// Those of `serve`, and `WrongOrder`: the worker already has a chain, and keeps it.
     pub fn take(&mut self, queue: &mut Queue, memory: &dyn GuestMemory) -> Result<bool, Status> {
         if self.has_chain() {
             return Err(Status::WrongOrder);
@@ -267,10 +269,10 @@ impl Worker {
         Ok(true)
     }
 
-    /// Calls the file system for the chain that was taken, and makes the reply. A chain that has
-    /// one, or gets none, stays as it is. If the file system answers later ([`Errno::LATER`]), the
-    /// chain isn't answered: call this again when the answer is known. After a panic of the file
-    /// system call it again too: then the answer is EIO.
+    /// Calls the file system for the chain that was taken, and makes the reply. It does nothing for
+    /// a chain that has a reply, or gets none. If the file system answers later ([`Errno::LATER`]),
+    /// the chain isn't answered: call this again when the answer is known. Call it again also after
+    /// a panic of the file system: then the answer is EIO.
     ///
     /// # Errors
     /// `WrongOrder`: the worker has no chain.
@@ -286,8 +288,8 @@ impl Worker {
             Some(Progress::Asked) => self.answer_error(memory),
             Some(Progress::Popped) => {
                 self.progress = Some(Progress::Asked);
-                // An answer that the library refuses: files may have changed, so the call isn't
-                // made again.
+                // If the library refuses the answer, the reply is EIO. Files may have changed, so
+                // the call isn't made again.
                 self.exchange(device, file_system, memory).or_else(|_| self.answer_error(memory))
             }
             Some(Progress::Later) => {
@@ -298,24 +300,25 @@ impl Worker {
         match answered {
             Ok(()) if self.replied == Replied::Later => self.progress = Some(Progress::Later),
             Ok(()) => self.progress = Some(Progress::Answered),
-            Err(_) => self.abandon(), // no library of this header refuses EIO
+            Err(_) => self.abandon(), // can't happen: the library never refuses EIO
         }
         answered
     }
 
-    /// Whether this worker has a chain: it took one, and hasn't given it back.
+    /// Whether this worker has a chain that it took and hasn't returned.
     #[must_use]
     pub fn has_chain(&self) -> bool {
         self.progress.is_some()
     }
 
-    /// Whether `give_back` may follow: the chain is answered, or gets no reply.
+    /// Whether `give_back` may be called: the chain is answered, or gets no reply.
     #[must_use]
     pub fn is_answered(&self) -> bool {
         self.progress == Some(Progress::Answered)
     }
 
-    /// Answers EIO: a call, or a request that isn't decoded. DESTROY, which can't fail, is done.
+    /// Answers EIO to a call, or to a request that isn't decoded. DESTROY can't fail, so its answer
+    /// is "done".
     fn answer_error(&mut self, memory: &dyn GuestMemory) -> Result<(), Status> {
         self.replied = match self.chain.reply_error(Errno::EIO) {
             Err(Status::OtherKind) => self.chain.reply_done()?,
@@ -328,14 +331,14 @@ impl Worker {
         Ok(())
     }
 
-    /// Forgets the worker's chain: its queue was reset ([`Queue::begin`]), or is gone. In a queue
-    /// that wasn't reset the chain stays in flight.
+    /// Forgets the worker's chain, whose queue is reset ([`Queue::begin`]) or dropped. In a queue
+    /// that isn't reset the chain stays in flight.
     pub fn abandon(&mut self) {
         self.chain.abandon();
         self.progress = None;
     }
 
-    /// From the request to the reply.
+    /// Makes the reply to a popped chain: loads and decodes the request, and calls the file system.
     fn exchange(
         &mut self,
         device: &Device,
@@ -348,12 +351,12 @@ impl Worker {
         }
         self.decode(front, device, memory)?;
         if self.call.answer == sys::answer::NONE {
-            self.progress = Some(Progress::Answered); // also if the call panics
+            self.progress = Some(Progress::Answered); // stays so if the call panics
         }
         self.call(device, file_system, memory)
     }
 
-    /// From the call to the reply.
+    /// Calls the file system for a decoded request, and makes the reply.
     fn call(
         &mut self,
         device: &Device,
@@ -365,7 +368,7 @@ impl Worker {
         Ok(())
     }
 
-    /// Whether a chain is in flight.
+    /// Pops a chain, and returns whether one is in flight.
     fn pop(&mut self, queue: &mut Queue, memory: &dyn GuestMemory) -> Result<bool, Status> {
         self.pop = sys::Pop::default();
         let mut is_first = true;
@@ -381,8 +384,8 @@ impl Worker {
         }
     }
 
-    /// The first load of a pop: the available index. The index that was loaded last will do while
-    /// chains before it weren't taken.
+    /// The first load of a pop: the available index. The index that was loaded last is used again
+    /// while a chain before it wasn't taken.
     fn load_index(&mut self, queue: &mut Queue, memory: &dyn GuestMemory) -> Result<(), Status> {
         grow(&mut self.loaded, 2)?;
         if let Some(index) = queue.seen_index(self.regions) {
@@ -394,8 +397,8 @@ impl Worker {
         Ok(())
     }
 
-    /// A load of a pop. Two bytes are a ring's index, entry or flags. Or they are the part of a
-    /// table's entry before the end of a region, and so at an even address too.
+    /// A load of a pop. Two bytes are a ring's index, entry or flags, or the part of a table's
+    /// entry before a region's end. In each case their address is even.
     fn load(&mut self, memory: &dyn GuestMemory) -> Result<(), Status> {
         let sys::Pop { load_at: at, load_len: len, .. } = self.pop;
         grow(&mut self.loaded, len)?;
@@ -419,7 +422,7 @@ impl Worker {
         len
     }
 
-    /// The chain by its bytes, of which the first are loaded.
+    /// The chain by its bytes. The first `front` bytes of the request are loaded.
     fn by_bytes<'a>(&'a mut self, front: usize, memory: &'a dyn GuestMemory) -> Exchange<'a> {
         let sys::Pop { request_len, reply_len: room_len, .. } = self.pop;
         self.call.opcode = exchange::opcode(&self.request[..front]);
@@ -427,7 +430,7 @@ impl Worker {
         Exchange::new(&mut self.chain, memory, &self.request[..front], request_len, room_len)
     }
 
-    /// Whether the file system replies by bytes of its own.
+    /// Whether the file system replies by bytes (`FileSystem::reply_by_bytes`).
     fn reply_by_bytes(
         &mut self,
         front: usize,
@@ -444,16 +447,16 @@ impl Worker {
         }
     }
 
-    /// Replies an error by bytes: for a request that isn't decoded.
+    /// Replies an error by bytes, to a request that isn't decoded.
     fn reply_error(&mut self, memory: &dyn GuestMemory, error: Errno) -> Result<(), Status> {
         let front = self.front_len();
         let len = self.by_bytes(front, memory).store_error(error);
         self.chain.reply_bytes(len)
     }
 
-    /// Decodes the request from as many of its bytes as the library needs. A request that is longer
-    /// than any driver makes (a limit above the least allows it), or whose buffer can't be
-    /// allocated, is answered ENOMEM: if it stayed available, it would block its queue.
+    /// Decodes the request from as many of its bytes as the library needs. The answer is ENOMEM if
+    /// the request is longer than any driver makes (a limit above the least allows it), or its
+    /// buffer can't be allocated. If the chain stayed available, it would block its queue.
     fn decode(
         &mut self,
         front: usize,
@@ -476,13 +479,13 @@ impl Worker {
         }
     }
 
-    /// Gives the chain back to the driver: stores the reply, the used element and the used index,
-    /// in this order (VIRTIO 1.2, 2.7.8), and returns how it was served.
+    /// Returns the chain to the driver: stores the reply, the used element and the used index, in
+    /// this order (VIRTIO 1.2, 2.7.8). The result is a summary of the chain.
     ///
     /// # Errors
-    /// `WrongOrder`: no chain, or one without an answer, which the worker keeps. After the others
-    /// it has no chain.
-    /// - `OtherQueue`: it isn't the chain's queue, or was reset.
+    /// - `WrongOrder`: the worker has no chain, or one without an answer, which it keeps. After the
+    ///   other errors it has no chain.
+    /// - `OtherQueue`: the chain is of another queue, or its queue was reset.
     /// - `NotMapped`: the worker got regions without the queue's rings. Reset the queue.
     pub fn give_back(
         &mut self,
@@ -500,7 +503,7 @@ impl Worker {
         Ok(self.served(stores.len, notify))
     }
 
-    /// Makes the stores of a push, and returns whether the driver is to be notified.
+    /// Makes the stores of a push, and returns whether to notify the driver.
     fn store(
         &mut self,
         queue: &mut Queue,
@@ -519,24 +522,26 @@ impl Worker {
         if memory.is_logging() {
             self.mark_written(memory, stores);
         }
-        // The driver's wish is loaded after the driver can see the index, or a notification is
-        // lost.
+        // The driver's flags or `used_event` must be loaded after the driver can see the index, or
+        // a notification is lost.
         fence(Ordering::SeqCst);
         self.chain.pushed(queue, memory::load_u16(memory, stores.seen_at))
     }
 
     /// Enables or disables available buffer notifications of the driver (VIRTIO 1.2, 2.7.10).
-    /// Enable them before you sleep; they may be disabled while a worker looks for chains. The
-    /// worker may have a chain. Returns whether something was stored. After enabling look once more
-    /// by `take`, since the driver may have offered a chain before it could see the store. If
-    /// several workers serve the queue, hold its lock from here to the end of that `take`.
+    /// Enable them before you sleep. They may be disabled while a worker looks for chains. The
+    /// worker may have a chain. Returns whether something was stored.
+    ///
+    /// After enabling, call `take` once more, since the driver may have made a chain available
+    /// before it could see the store. If several workers serve the queue, hold its lock from here
+    /// to the end of that `take`.
     ///
     /// A worker that takes a chain while another worker of the queue sleeps must enable
     /// notifications again before it releases the lock, with an event index and without one. Then
-    /// it loads the available index again; an index that was loaded before may show that a chain is
-    /// available, but never that none is. If one is, it wakes a worker that sleeps, or takes the
-    /// chain. The driver notifies once for several chains, and with an event index for the next
-    /// chain alone.
+    /// it must load the available index again: an index that was loaded before may show that a
+    /// chain is available, but never that none is. If one is available, it wakes a worker that
+    /// sleeps, or takes the chain. The driver notifies once for several chains, and with an event
+    /// index only for the next chain.
     ///
     /// # Errors
     /// - `WrongOrder`: no memory was set.
@@ -561,8 +566,8 @@ impl Worker {
         Ok(true)
     }
 
-    /// Reports the written bytes: the reply buffer as far as the reply goes and the file system may
-    /// have written, the used element and the used index.
+    /// Reports the written bytes: the reply buffer up to the end of the reply and of the bytes that
+    /// the file system may have written, the used element and the used index.
     fn mark_written(&mut self, memory: &dyn GuestMemory, stores: &sys::Stores) {
         let written = u64::from(stores.len).max(self.written);
         let mut ranges = [GuestRange::default(); 16];
@@ -599,7 +604,7 @@ impl Worker {
     }
 }
 
-/// Makes a buffer `len` bytes long at least.
+/// Makes a buffer at least `len` bytes long.
 fn grow(buffer: &mut Vec<u8>, len: usize) -> Result<(), Status> {
     if buffer.len() < len {
         buffer.try_reserve_exact(len - buffer.len()).map_err(|_| Status::OutOfMemory)?;

@@ -9,18 +9,18 @@ use std::time::Duration;
 
 const FILE: Node = Node(2);
 
-/// The most bytes that the file holds.
+/// The greatest length of the file in bytes.
 const FILE_MAX: usize = 4096;
 
-/// So many calls of a chain are printed.
+/// The most calls of a chain that are printed.
 const CALLS_MAX: usize = 64;
 
-/// So many bytes of a name are printed.
+/// The most bytes of a name that are printed.
 const NAME_MAX: usize = 16;
 
 const GOOD_FOR: Duration = Duration::from_secs(1);
 
-/// The calls for one chain: lines of the first, and how many came after them.
+/// The calls for one chain: the lines of the first ones, and the number of later ones.
 #[derive(Default)]
 pub struct Calls {
     pub lines: Vec<String>,
@@ -37,7 +37,7 @@ impl Files {
         Files { contents: RefCell::new(b"hello".to_vec()), calls: RefCell::default() }
     }
 
-    /// The calls since this was asked last.
+    /// The calls since this was last called.
     pub fn take_calls(&self) -> Calls {
         self.calls.take()
     }
@@ -67,9 +67,9 @@ impl Files {
         })
     }
 
-    /// Gives an entry's node back that isn't listed. The wrapper looks up no name that doesn't
-    /// fit. The script language has READDIRPLUS look up each name, and forget it if it doesn't fit
-    /// (`.` as node 0, without a look-up), so this file system makes both calls.
+    /// Looks up and forgets an entry that doesn't fit the list. The wrapper doesn't look up such a
+    /// name. In the script language READDIRPLUS looks up each name, and forgets it if it doesn't
+    /// fit (`.` as node 0, without a look-up). So this file system makes both calls.
     fn give_back(&self, context: &Context, parent: Node, name: &CStr) -> Answer<()> {
         let node = if name.to_bytes() == b"." {
             Node(0)
@@ -81,7 +81,7 @@ impl Files {
     }
 }
 
-/// How many bytes of a listing an entry takes.
+/// The bytes that an entry takes in a listing.
 fn entry_len(name: &CStr, plus: bool) -> usize {
     let head = if plus { 152 } else { 24 };
     (head + name.to_bytes().len() + 7) / 8 * 8
@@ -176,8 +176,8 @@ impl FileSystem for Files {
             }
             match list.add(DirectoryEntry { name: &name, inode: inode.0, next_offset, kind }) {
                 Ok(true) => {}
-                // A first entry that doesn't fit is an error of the wrapper's. Here the listing
-                // ends.
+                // The wrapper returns EINVAL for a first entry that doesn't fit. In the script
+                // language the listing ends there.
                 Ok(false) | Err(Errno::EINVAL) => break,
                 Err(error) => return Err(error),
             }

@@ -4,7 +4,7 @@ use pitskhomu::Status;
 use std::fmt;
 use std::io::{self, Write};
 
-/// Why a script ends early. The numbers are those of lines, from 1 on.
+/// Why a script ends early. The numbers are those of lines, from 1.
 #[derive(Debug)]
 pub enum Halt {
     TooLong,
@@ -14,7 +14,7 @@ pub enum Halt {
     /// The library refused a call that it should have taken: a bug.
     Refused(usize, Status),
     OutOfMemory,
-    /// The script can't be read, or a line can't be printed.
+    /// Reading the script or printing a line failed.
     Stream,
 }
 
@@ -37,7 +37,7 @@ pub enum Stuck {
 }
 
 impl Stuck {
-    /// The script's end at a line.
+    /// The halt for the line of this number.
     pub fn at(self, number: usize) -> Halt {
         match self {
             Stuck::Missing(missing) => Halt::NotOnTheHandle(number, missing),
@@ -74,7 +74,7 @@ impl fmt::Display for Missing {
 }
 
 impl Halt {
-    /// Prints the script's last line, unless a stream failed.
+    /// Prints the output's last line, unless a stream failed.
     pub fn print(&self, writer: &mut dyn Write) -> io::Result<()> {
         match self {
             Halt::TooLong => writeln!(writer, "script too long"),
@@ -98,7 +98,7 @@ impl Halt {
         }
     }
 
-    /// The program's status.
+    /// The program's exit status.
     pub fn status(&self) -> u8 {
         match self {
             Halt::TooLong | Halt::NotACommand(..) => 1,

@@ -1,4 +1,4 @@
-//! The commands of a script, and the reasons why a line is no command.
+//! The commands of a script, and the reasons that a line isn't a command.
 use pitskhomu::QueueLayout;
 use std::fmt;
 
@@ -41,7 +41,7 @@ pub enum Command {
     Harvest,
 }
 
-/// Why a line is no command, or no command that may stand there.
+/// Why a line isn't a command, or not one that is allowed there.
 #[derive(Clone, Copy, Debug, PartialEq, Eq)]
 pub enum WrongLine {
     UnknownCommand,
@@ -81,7 +81,7 @@ impl fmt::Display for WrongLine {
     }
 }
 
-/// The words of a line that are left; `None` after the last.
+/// The remaining words of a line; `None` after the last.
 struct Words<'a>(Option<&'a [u8]>);
 
 impl<'a> Words<'a> {
@@ -165,7 +165,7 @@ impl<'a> Words<'a> {
         }
     }
 
-    /// The rest of a `write` line. Its bytes are looked at once the line is seen to end there.
+    /// The rest of a `write` line. An extra word is reported before wrong bytes.
     fn write(&mut self) -> Result<Command, WrongLine> {
         let (address, word) = (self.number()?, self.word()?);
         self.end()?;
@@ -177,7 +177,7 @@ impl<'a> Words<'a> {
     }
 }
 
-/// The command of a line. A line without a byte and a comment are none.
+/// The command of a line; `None` for an empty line and a comment.
 pub fn parse(line: &[u8]) -> Result<Option<Command>, WrongLine> {
     if matches!(line.first(), None | Some(b'#')) {
         return Ok(None);

@@ -4,7 +4,7 @@ use crate::halt::{Missing, Stuck};
 use crate::memory::{Memory, Refusal};
 use pitskhomu::{Device, Fault, Queue, QueueLayout, RequestFault, Served, Status, Worker};
 
-/// How long a reply's header is (struct fuse_out_header).
+/// The bytes of a reply's header (struct fuse_out_header).
 const HEADER: usize = 16;
 
 /// The opcodes of READ, READDIR and READDIRPLUS, whose replies have data.
@@ -21,15 +21,15 @@ pub struct Machine {
     files: Files,
 }
 
-/// What a kick of one chain came to.
+/// The outcome of a kick for one chain.
 pub enum Step {
     Idle,
     Done(Calls, Served),
-    /// By the script language's number.
+    /// With the script language's number.
     Refused(u32),
 }
 
-/// The number of what is wrong with a queue's layout, if anything is.
+/// The script language's number of a layout's error, if it has one.
 pub fn bad_layout(layout: &QueueLayout) -> Option<u32> {
     let QueueLayout { size, descriptors, available, used } = *layout;
     let ends = |address: u64, len: u64| address.checked_add(len).is_some();
@@ -103,7 +103,7 @@ impl Machine {
         self.queues.len()
     }
 
-    /// `false` for a layout that no queue has, which a line of the script doesn't make.
+    /// Adds a queue; `false` if the layout isn't valid. The session has checked it (`bad_layout`).
     pub fn add_queue(&mut self, layout: QueueLayout) -> bool {
         Queue::new(layout, 0).map(|queue| self.queues.push(queue)).is_ok()
     }
@@ -112,7 +112,7 @@ impl Machine {
         queue < self.queues.len() as u64
     }
 
-    /// Begins a queue at position 0, not stopped.
+    /// Resets a queue: position 0, not stopped.
     pub fn reset(&mut self, queue: u64, layout: QueueLayout) -> Result<Result<(), Refusal>, Stuck> {
         match usize::try_from(queue).ok().and_then(|queue| self.queues.get_mut(queue)) {
             Some(queue) => Ok(Ok(queue.begin(Queue::new(layout, 0)?)?)),
@@ -120,9 +120,9 @@ impl Machine {
         }
     }
 
-    /// Hands the regions to the worker. That is done before each chain: the wrapper then loads the
-    /// available index again, as the script's device does, and not only once it has taken all
-    /// chains that it knows of.
+    /// Sets the worker's regions, before each chain. So the wrapper loads the available index again
+    /// for each chain, as the script's device does. Without this it would do so only once it has
+    /// taken all chains up to the last index.
     fn set_memory(&mut self) -> Result<(), Stuck> {
         let regions = self.memory.regions();
         if regions.len() > Device::MOST_REGIONS {
@@ -156,8 +156,8 @@ impl Machine {
         }
     }
 
-    /// Goes on with copies of the memory and of the device, as after a migration. Returns how long
-    /// the device's record is; `None` if an allocation fails.
+    /// Replaces memory and device by copies, as after a migration. Returns the length of the
+    /// device's record in bytes; `None` if an allocation fails.
     pub fn move_on(&mut self) -> Result<Option<usize>, Stuck> {
         let record = self.device.save(&self.queues)?;
         let device = Device::default();

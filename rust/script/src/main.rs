@@ -1,6 +1,7 @@
 //! Plays a script (docs/SCRIPT.md) on the handle: on the C library, through the crate `pitskhomu`.
-//! It prints the same lines as the script program, which is a device of its own. vectors/README.md
-//! lists the few commands that the handle can't play; there the script ends with status 4.
+//! It prints the same lines as the script program, which runs the other device (`fs_device`).
+//! vectors/README.md lists the few commands that the handle can't play. There the script ends with
+//! status 4.
 //!
 //! This program is the VMM and the guest. It keeps the guest's memory, marks the pages that are
 //! written, and has the small file system of the script language. The library reads the queues
@@ -22,7 +23,7 @@ use std::process::ExitCode;
 /// The most bytes of a script.
 const SCRIPT_MAX: usize = 1 << 20;
 
-/// Reads a whole script, if it isn't too long.
+/// Reads a whole script. `TooLong` if it has more than `SCRIPT_MAX` bytes.
 fn read_script(reader: &mut dyn Read) -> Result<Vec<u8>, Halt> {
     let mut script = Vec::new();
     let mut buffer = [0; 4096];
@@ -44,7 +45,7 @@ fn play(reader: &mut dyn Read, writer: &mut dyn Write) -> Result<(), Halt> {
     Ok(())
 }
 
-/// Plays the script, and prints why it ended early, if it did. Returns the program's status.
+/// Plays the script, and prints why it ended early, if it did. Returns the program's exit status.
 fn play_and_report(reader: &mut dyn Read, writer: &mut dyn Write) -> u8 {
     let mut writer = BufWriter::new(writer);
     let ended = match play(reader, &mut writer) {

@@ -5,7 +5,7 @@ use std::collections::{BTreeMap, BTreeSet};
 use std::ops::Range;
 use std::sync::atomic::{AtomicU8, Ordering};
 
-/// How many bytes a page has.
+/// The bytes of a page.
 const PAGE: usize = 4096;
 
 /// Why a command is refused, by the script language's number.
@@ -21,7 +21,7 @@ pub enum Refusal {
     OutOfMemory = 9,
 }
 
-/// Bytes that a guest may see as its memory. The library knows byte k by the number `host` + k.
+/// Bytes for regions of the guest's memory. The library's number of byte k is `host` + k.
 struct Block {
     host: usize,
     bytes: Vec<AtomicU8>,
@@ -29,7 +29,7 @@ struct Block {
 }
 
 impl Block {
-    /// Zeros, with no page marked; `None` if the allocation fails.
+    /// A block of zeros, with no page marked; `None` if the allocation fails.
     fn new(host: usize, len: u64) -> Option<Block> {
         let mut bytes = Vec::new();
         let len = usize::try_from(len).ok()?;
@@ -38,7 +38,7 @@ impl Block {
         Some(Block { host, bytes, marked: RefCell::default() })
     }
 
-    /// The first page's number behind the block, for the next one.
+    /// The library's number of the first page after the block, for the next block.
     fn end(&self) -> usize {
         self.host + (self.bytes.len() + PAGE - 1) / PAGE * PAGE
     }
@@ -80,8 +80,8 @@ struct Part {
 pub struct Memory {
     blocks: Vec<Block>,
     regions: BTreeMap<u64, Mapping>,
-    /// The bytes that the device reported as written since `begin_step`, as ranges of the library's
-    /// numbers: first those of the reply, in its order.
+    /// The bytes that the wrapper reported as written since `begin_step`, as ranges of the
+    /// library's numbers. Those of the reply come first, in its order.
     stored: RefCell<Vec<Range<usize>>>,
 }
 
@@ -145,7 +145,7 @@ impl Memory {
         Ok(parts)
     }
 
-    /// The guest writes.
+    /// Writes bytes for the guest. `NoPlace` if not all are mapped.
     pub fn guest_write(&self, address: u64, bytes: &[u8]) -> Result<(), Refusal> {
         let mut rest = bytes;
         for part in self.parts(address, bytes.len() as u64)? {
@@ -156,7 +156,7 @@ impl Memory {
         Ok(())
     }
 
-    /// The guest reads.
+    /// Reads bytes for the guest. `NoPlace` if not all are mapped.
     pub fn guest_read(&self, address: u64, len: u64) -> Result<Vec<u8>, Refusal> {
         let parts = self.parts(address, len)?;
         let mut bytes = vec![0; parts.iter().map(|part| part.len).sum()];
@@ -169,7 +169,8 @@ impl Memory {
         Ok(bytes)
     }
 
-    /// The marked pages, each as its block's number and its own. Their marks are cleared.
+    /// Returns the marked pages, each as a block and the page's number in it, and clears their
+    /// marks.
     pub fn harvest(&mut self) -> Vec<(usize, usize)> {
         let pages = |(number, block): (usize, &mut Block)| -> Vec<_> {
             block.marked.take().into_iter().map(|page| (number, page)).collect()
@@ -191,7 +192,7 @@ impl Memory {
         Some(moved)
     }
 
-    /// From here on the bytes that the device writes are kept.
+    /// Begins a new list of the bytes that the device writes.
     pub fn begin_step(&self) {
         self.stored.borrow_mut().clear();
     }
@@ -212,7 +213,7 @@ impl Memory {
         header.iter().any(|a| data.iter().any(|b| meets(a, b)))
     }
 
-    /// The block of a number of the library, and the offset there.
+    /// The block of a library's number, and the offset in it.
     fn place(&self, at: usize) -> Option<(&Block, usize)> {
         let number = self.blocks.partition_point(|block| block.host <= at).checked_sub(1)?;
         let block = &self.blocks[number];

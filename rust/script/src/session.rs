@@ -1,4 +1,4 @@
-//! Runs a script's commands one after another, and prints what each returns.
+//! Runs a script's commands one after another, and prints their outcomes.
 use crate::halt::{Halt, Missing};
 use crate::line::{self, Command, WrongLine};
 use crate::machine::{bad_layout, fault_name, Machine, Step, QUEUES_MAX};
@@ -6,7 +6,7 @@ use crate::memory::Refusal;
 use pitskhomu::QueueLayout;
 use std::io::{self, Write};
 
-/// A kick's refusal: there is no such queue.
+/// The number of a kick's refusal: there is no such queue.
 const NO_SUCH_QUEUE: u32 = 10;
 
 pub struct Session {
@@ -60,7 +60,7 @@ impl Session {
         Ok(())
     }
 
-    /// Whether a command may stand here: 1 to 64 queues come first.
+    /// Checks that a command is allowed here: 1 to 64 queues come first.
     fn admit(&mut self, command: &Command) -> Result<(), WrongLine> {
         match command {
             Command::Queue(_) if self.began => Err(WrongLine::LateQueue),

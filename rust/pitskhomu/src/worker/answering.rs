@@ -22,19 +22,19 @@ use core::time::Duration;
 /// linux/fuse.h).
 const ENOSYS_AT_ONCE: [u32; 8] = [31, 32, 33, 37, 39, 40, 41, 51];
 
-/// The name or value at a place of a request.
+/// The name or value at a span of a request.
 fn bytes(request: &[u8], span: sys::Span) -> Answer<&[u8]> {
     let from = span.at as usize;
     request.get(from..from + span.len as usize).ok_or(Errno::EINVAL)
 }
 
-/// The name at a place of a request, where a zero byte follows it.
+/// The name at a span of a request. A zero byte follows it.
 fn name(request: &[u8], span: sys::Span) -> Answer<&CStr> {
     let with_zero = sys::Span { at: span.at, len: span.len.saturating_add(1) };
     CStr::from_bytes_with_nul(bytes(request, with_zero)?).map_err(|_| Errno::EINVAL)
 }
 
-/// A number of a reply's 32 bits.
+/// A count as a reply's 32 bits, at most `u32::MAX`.
 fn number(count: u64) -> u32 {
     u32::try_from(count).unwrap_or(u32::MAX)
 }
@@ -45,7 +45,7 @@ fn optional<T>(is_there: u8, value: T) -> Option<T> {
 }
 
 impl Worker {
-    /// Makes the call, if there is one, and answers it.
+    /// Makes the file call, if there is one, and answers it.
     pub(super) fn answer_call(
         &mut self,
         device: &Device,
@@ -93,7 +93,8 @@ impl Worker {
         }
     }
 
-    /// Answers a value by the function, or an error; nothing if the answer comes later.
+    /// Answers a value with `answer`, or an error, or doesn't answer if the file system answers
+    /// later.
     fn reply<T>(
         &mut self,
         answer: Answer<T>,
@@ -196,7 +197,7 @@ impl Worker {
             let Opened { handle, options } = opened;
             let replied = worker.chain.reply_create(&entry.raw(), handle.0, options.bits());
             if replied != Ok(Replied::Whole) {
-                // The guest never had it open, and so it never closes it.
+                // The guest never gets the handle, so it never sends RELEASE.
                 let _ = file_system.release(
                     &context,
                     entry.node,
@@ -289,7 +290,7 @@ impl Worker {
         }
     }
 
-    /// The calls that are done or fail.
+    /// The calls whose answer is "done" or an error.
     fn done(&self, file_system: &dyn FileSystem) -> Answer<()> {
         let (context, call, node, handle) =
             (&self.context(), &self.call, self.node(), self.handle());
@@ -373,7 +374,7 @@ impl Worker {
         self.reply(answer, |worker, ()| worker.chain.reply_write(done))
     }
 
-    /// Makes the list's buffer as long as the reply's data may be.
+    /// Makes the list's buffer as long as the reply's data may be, and returns this length.
     fn list_len(&mut self) -> Answer<usize> {
         // A longer reply buffer changes nothing: a link or a value has at most 64 KiB in Linux, a
         // listing 1 MiB here.
@@ -382,7 +383,8 @@ impl Worker {
         Ok(len)
     }
 
-    /// READLINK, GETXATTR, LISTXATTR: the bytes, or their number if the guest asked for it alone.
+    /// READLINK, GETXATTR and LISTXATTR: the bytes, or only their number if the guest asked for
+    /// that.
     fn value(
         &mut self,
         file_system: &dyn FileSystem,
