@@ -188,7 +188,7 @@ impl<M: Drop, L: MemoryLaw<M>> GuestMemoryReplaceGuard<'_, M, L> {
     }
 }
 
-// The lock is held for reading while `f` runs: a thread that replaces this memory inside `f` waits for itself.
+// The lock is held for reading while `f` runs: a replacement inside `f` never returns.
 impl<M: GuestMemory + Drop, L: MemoryLaw<M>> GuestAddressSpace for GuestMemoryAtomic<M, L> {
     type M = M;
 

@@ -1,22 +1,24 @@
-//! Of root's capabilities the daemon keeps those that file calls want.
+//! The daemon keeps only those of root's capabilities that file calls need.
 use crate::options::{CapabilityChanges, Handles, Options};
 use capng::{Action, Set, Type};
 use log::debug;
 
-/// To make files as other users, with any bits, and to change them as root does.
+/// The default capabilities: to make files as other users, with any mode bits, and to change them
+/// as root does.
 const KEPT: [&str; 8] =
     ["chown", "dac_override", "fowner", "fsetid", "mknod", "setfcap", "setgid", "setuid"];
 /// To open inodes by their handles.
 const FOR_HANDLES: &str = "dac_read_search";
 
-/// What is wanted against the habit.
+/// The changes to the default capabilities.
 pub struct Changes {
     changes: CapabilityChanges,
     for_handles: bool,
 }
 
 impl Changes {
-    /// By --modcaps and --inode-file-handles; or why these don't go together.
+    /// The changes of --modcaps and --inode-file-handles, or an error message if these contradict
+    /// each other.
     pub fn new(options: &Options) -> Result<Changes, String> {
         let changes =
             options.modcaps.as_deref().map_or(Ok(CapabilityChanges::default()), str::parse)?;
@@ -35,7 +37,7 @@ impl Changes {
         Ok(Changes { changes, for_handles })
     }
 
-    /// The names that are wanted, each once.
+    /// The names of the capabilities to keep, each once.
     fn wanted(&self) -> Vec<String> {
         let by_habit = KEPT.iter().copied().chain(self.for_handles.then_some(FOR_HANDLES));
         let mut names: Vec<String> = by_habit.map(String::from).collect();
@@ -49,7 +51,8 @@ impl Changes {
     }
 }
 
-/// Gives up all but what is wanted. What isn't had can't be kept; a user who isn't root has none.
+/// Drops all capabilities except those to keep. A capability that the process lacks isn't kept; a
+/// user other than root has none.
 pub fn give_up(changes: &Changes) -> capng::Result<()> {
     let names = changes.wanted();
     let named = names

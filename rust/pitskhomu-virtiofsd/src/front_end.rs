@@ -1,10 +1,9 @@
-//! The front-end's messages (vhost-user), over crate vhost, which reads and checks them. It is
-//! written here rather than taken from vhost-user-backend, since that one tells 509 slots of memory
-//! where the library takes 64, marks pages after the log is gone, and tells nobody of err
-//! descriptors.
+//! The front-end's messages (vhost-user), over crate vhost, which reads and checks them. Crate
+//! vhost-user-backend isn't used: it reports 509 memory slots where the library takes 64, marks
+//! pages after the log is gone, and doesn't pass err descriptors on.
 //!
-//! An error of kind `ReqHandlerError` is told to the front-end, if it asked, and the share goes on;
-//! after any other the connection ends.
+//! An error of kind `ReqHandlerError` is reported to the front-end, if it asked for a reply, and
+//! the daemon continues. After any other error the connection ends.
 use crate::marks::Log;
 use crate::memory::Table;
 use crate::migration::Migration;
@@ -22,26 +21,26 @@ use virtio_bindings::bindings::virtio_ring::{
 };
 use virtiofsd::vhost_user::MAX_TAG_LEN;
 
-/// The bit that a guest takes whose device accesses memory as the platform says. QEMU keeps it for
-/// itself unless the guest has a vIOMMU in front of the device: only then it is in SET_FEATURES,
-/// and ring addresses are IOVAs.
+/// VIRTIO_F_ACCESS_PLATFORM: the device accesses memory with the platform's translation. QEMU
+/// passes the bit in SET_FEATURES only if the guest has a vIOMMU in front of the device. Then ring
+/// addresses are IOVAs.
 const ACCESS_PLATFORM: u64 = 1 << VIRTIO_F_ACCESS_PLATFORM;
 const NO_IOMMU: &str =
     "the guest has a vIOMMU in front of this device (VIRTIO_F_ACCESS_PLATFORM in SET_FEATURES), \
                         and no translation is served yet: leave the vIOMMU out, or this device \
                         out of it";
 
-/// What the daemon does on behalf of one front-end.
+/// The state of the connection to one front-end.
 pub struct FrontEnd<F> {
     core: Arc<Core<F>>,
     tag: Option<String>,
     features: u64,
     log: Option<Arc<Log>>,
     migration: Migration<F>,
-    /// What rings are told with that stop.
+    /// Enables the kicks of a ring that is stopped, enabled or disabled.
     worker: QueueWorker<F>,
-    /// The back-end's own channel. QEMU offers VIRTIO_F_ACCESS_PLATFORM to the guest only if there
-    /// is one.
+    /// The back-end's own channel (SET_BACKEND_REQ_FD). QEMU offers VIRTIO_F_ACCESS_PLATFORM to the
+    /// guest only if there is one.
     channel: Option<Backend>,
 }
 
@@ -58,7 +57,7 @@ fn no_queue() -> Error {
 }
 
 impl<F: ServedFs> FrontEnd<F> {
-    /// `scratch` is state::scratch's.
+    /// `scratch` is the file of `state::scratch`.
     pub fn new(core: Arc<Core<F>>, tag: Option<String>, scratch: File) -> FrontEnd<F> {
         let (migration, worker) =
             (Migration::new(core.clone(), scratch), QueueWorker::new(core.clone(), 0));
@@ -69,7 +68,7 @@ impl<F: ServedFs> FrontEnd<F> {
         self.core.rings.get(index.into() as usize).ok_or_else(no_queue)
     }
 
-    /// Chains of all rings are served, or wait.
+    /// Enables or disables all rings.
     fn enable_all(&mut self, enabled: bool) {
         let memory = self.core.memory();
         self.core.rings.iter().for_each(|ring| ring.enable(enabled, &mut self.worker, &memory));
@@ -79,7 +78,8 @@ impl<F: ServedFs> FrontEnd<F> {
         self.features & VhostUserVirtioFeatures::LOG_ALL.bits() != 0
     }
 
-    /// Pages are marked in the log, if there is one and the features say so.
+    /// Sets the log in which pages are marked: the front-end's, if it has sent one and
+    /// VHOST_F_LOG_ALL is set.
     fn set_log(&self) {
         self.core.memory().logging().set(self.log.clone().filter(|_| self.logs()));
     }
@@ -128,7 +128,7 @@ impl<F: ServedFs> VhostUserBackendReqHandlerMut for FrontEnd<F> {
             return Err(told(io::Error::other("features that weren't offered")));
         }
         if features & ACCESS_PLATFORM != 0 {
-            // it ends the connection, since QEMU wants no answer
+            // end the connection: QEMU doesn't ask for a reply here
             return Err(Error::InvalidOperation(NO_IOMMU));
         }
         self.features = features;
@@ -200,7 +200,7 @@ impl<F: ServedFs> VhostUserBackendReqHandlerMut for FrontEnd<F> {
     }
 
     fn get_vring_base(&mut self, index: u32) -> Result<VhostUserVringState> {
-        // It is answered by the base alone, so there is no telling of an error.
+        // The reply has only the base, so it can't report an error.
         let ring = self.core.rings.get(index as usize).ok_or(Error::InvalidParam)?;
         let next_avail = ring.stop(&mut self.worker, &self.core.memory());
         Ok(VhostUserVringState::new(index, next_avail.into()))
@@ -270,7 +270,7 @@ impl<F: ServedFs> VhostUserBackendReqHandlerMut for FrontEnd<F> {
         size: u32,
         _flags: VhostUserConfigFlags,
     ) -> Result<Vec<u8>> {
-        // What is behind the device's own configuration is zeros.
+        // Zeros follow the device's own configuration.
         let config = self.config();
         Ok(config
             .into_iter()
@@ -328,7 +328,7 @@ impl<F: ServedFs> VhostUserBackendReqHandlerMut for FrontEnd<F> {
     }
 
     fn set_log_base(&mut self, log: &VhostUserLog, file: File) -> Result<()> {
-        // It is answered by its own words, so there is no telling of an error.
+        // The reply is the message's own, so it can't report an error.
         let log = Log::new(file, log.mmap_offset, log.mmap_size).map_err(|e| {
             error!("the migration's log: {e}");
             Error::InvalidParam

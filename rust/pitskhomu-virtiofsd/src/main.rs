@@ -1,5 +1,5 @@
-//! The daemon: from the command line to a served directory. What has to be done outside the sandbox
-//! is done before it is entered: log, limit, socket, and a file in memory for migrations.
+//! The daemon: from the command line to a served directory. It sets up the log, the limit of
+//! descriptors, the socket and a file in memory for migrations before it enters the sandbox.
 mod adapter;
 mod capabilities;
 mod front_end;
@@ -19,7 +19,7 @@ use clap::Parser;
 use options::Options;
 use std::process::ExitCode;
 
-/// As vhost-user.json of QEMU's interop documents wants it.
+/// The output of --print-capabilities (vhost-user.json of QEMU's interop documents).
 const CAPABILITIES: &str = r#"{
   "type": "fs",
   "features": [

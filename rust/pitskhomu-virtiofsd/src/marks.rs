@@ -1,6 +1,6 @@
 //! A migration's log: a bit for each page of the guest's memory, which the front-end reads.
-//! vm-memory marks the pages of a file's data where it writes them (its `Bitmap`); the worker
-//! reports each reply and each store in a ring before the driver is notified.
+//! vm-memory marks the pages of a file's data when it writes them (its `Bitmap`). The worker
+//! reports each reply and each store in a ring before it notifies the driver.
 use std::fs::File;
 use std::io;
 use std::sync::atomic::{AtomicBool, AtomicU8, Ordering};
@@ -9,7 +9,7 @@ use vm_memory::bitmap::{Bitmap, BitmapSlice, WithBitmapSlice};
 use vm_memory::mmap::NewBitmap;
 use vm_memory::{FileOffset, MmapRegion, VolatileMemory};
 
-/// The log's page, whatever the guest's is (VHOST_LOG_PAGE).
+/// The log's page size in bytes, for any page size of the guest (VHOST_LOG_PAGE).
 const PAGE: u64 = 4096;
 
 /// The front-end's log, mapped.
@@ -32,26 +32,26 @@ impl Log {
         let pages = 8 * self.map.size() as u64;
         for page in first / PAGE..(last / PAGE + 1).min(pages) {
             if let Ok(byte) = bits.get_atomic_ref::<AtomicU8>((page / 8) as usize) {
-                // who sees the mark sees what was written
+                // Release: a front-end that sees the mark also sees the written bytes.
                 byte.fetch_or(1 << (page % 8), Ordering::Release);
             }
         }
     }
 }
 
-/// Whether pages are logged, and where. All tables of the memory share it. So a chain in flight
-/// over a table that another has replaced marks its pages in the log that the front-end reads when
-/// they are written.
+/// The log that pages are marked in, if any. All tables of the memory share it. So a chain in
+/// flight over a table that was replaced marks its pages in the log that the front-end reads at the
+/// time of the write.
 #[derive(Debug, Default)]
 pub struct Logging {
-    /// Spares the lock while nothing is logged.
+    /// Whether there is a log: without one no thread takes the lock.
     is_on: AtomicBool,
     log: RwLock<Option<Arc<Log>>>,
 }
 
 impl Logging {
-    /// From here on pages are marked in this log, or in none. When this returns, no thread marks in
-    /// the old one any more.
+    /// Sets the log in which pages are marked from now on, or none. When this returns, no thread
+    /// marks in the old one any more.
     pub fn set(&self, log: Option<Arc<Log>>) {
         let is_on = log.is_some();
         *self.log.write().unwrap_or_else(PoisonError::into_inner) = log;
@@ -74,7 +74,7 @@ impl Logging {
     }
 }
 
-/// The log of a region, and the guest address where the region begins.
+/// The log of a region, and the region's first guest address.
 type RegionLog = OnceLock<(Arc<Logging>, u64)>;
 
 /// vm-memory reports each write to a region here.
@@ -84,7 +84,7 @@ pub struct Marks {
 }
 
 impl Marks {
-    /// Where the region's pages are marked. `guest` is where the region begins.
+    /// Sets the log of the region, and its first guest address.
     pub fn tie(&self, logging: &Arc<Logging>, guest: u64) {
         let _ = self.region.set((logging.clone(), guest));
     }
@@ -112,7 +112,7 @@ impl Bitmap for Marks {
         mark(&self.region, offset, len)
     }
     fn dirty_at(&self, _offset: usize) -> bool {
-        false // the front-end alone reads the log
+        false // only the front-end reads the log
     }
     fn slice_at(&self, offset: usize) -> MarksFrom<'_> {
         MarksFrom { region: &self.region, offset }

@@ -1,6 +1,6 @@
 //! The guest's memory as the front-end reports it. A table never changes: another replaces it, and
-//! the old one stays mapped while a chain in flight was taken over it. Workers know each byte by
-//! its guest address, which pitskhomu-vm-memory looks up and checks.
+//! the old one stays mapped while a chain that was taken over it is in flight. Workers address each
+//! byte by its guest address, which pitskhomu-vm-memory looks up and checks.
 use crate::marks::{Logging, Marks, MarksFrom};
 use pitskhomu::{GuestRange, GuestSlice, QueueLayout};
 use pitskhomu_vm_memory::MappedMemory;
@@ -13,13 +13,14 @@ use vm_memory::{
     Bytes, GuestAddress, GuestMemoryMmap, GuestMemoryRegion, GuestRegionMmap, VolatileSlice,
 };
 
-/// All of a region's numbers are multiples of it.
+/// All numbers of a region are multiples of this.
 const PAGE: u64 = 4096;
 
-/// A stretch of the memory within one region, which marks the log when it is written.
+/// Consecutive bytes of one region. Writes to them mark the log.
 pub type Slice<'m> = VolatileSlice<'m, MarksFrom<'m>>;
 
-/// Where a region stands in the front-end's own address space: rings are told by these addresses.
+/// A region's place in the front-end's own address space. The front-end sets rings with these
+/// addresses.
 #[derive(Debug, Clone, Copy)]
 struct Place {
     front_end: u64,
@@ -36,7 +37,7 @@ pub struct Table {
     logging: Arc<Logging>,
 }
 
-/// Each table has a number of its own, but the one without memory has 0.
+/// The next table's number. Each table has a number of its own, and the one without memory has 0.
 static NUMBER: AtomicU64 = AtomicU64::new(1);
 
 fn invalid(why: &str) -> io::Error {
@@ -62,7 +63,7 @@ fn map(region: &VhostUserMemoryRegion, file: File, logging: &Arc<Logging>) -> io
 }
 
 impl Table {
-    /// A table of these regions, which has this one's log.
+    /// A table of these regions, with this one's log.
     pub fn replaced(
         &self,
         regions: &[VhostUserMemoryRegion],
@@ -75,14 +76,14 @@ impl Table {
         self.over(GuestMemoryMmap::from_arc_regions(regions).map_err(io::Error::other)?, places)
     }
 
-    /// One region more.
+    /// A table with one more region.
     pub fn with(&self, region: &VhostUserMemoryRegion, file: File) -> io::Result<Table> {
         let (mapped, place) = map(region, file, &self.logging)?;
         let guest = self.mapped.memory().insert_region(mapped).map_err(io::Error::other)?;
         self.over(guest, self.places.iter().copied().chain([place]).collect())
     }
 
-    /// One region less.
+    /// A table without this region.
     pub fn without(&self, guest: u64, len: u64) -> io::Result<Table> {
         let removed = self.mapped.memory().remove_region(GuestAddress(guest), len);
         let (memory, _) = removed.map_err(io::Error::other)?;
@@ -97,12 +98,12 @@ impl Table {
         Ok(Table { mapped, places, number, logging: self.logging.clone() })
     }
 
-    /// What tells it from all others.
+    /// The table's number, which no other table has.
     pub fn number(&self) -> u64 {
         self.number
     }
 
-    /// The guest's address for one of the front-end's.
+    /// The guest address for an address of the front-end.
     pub fn guest_address(&self, front_end: u64) -> io::Result<u64> {
         let offset_in = |place: &Place| {
             front_end.checked_sub(place.front_end).filter(|offset| *offset < place.len)
@@ -113,23 +114,23 @@ impl Table {
             .ok_or_else(|| invalid("an address outside the memory"))
     }
 
-    /// Where its pages are marked, and those of all tables that come of it.
+    /// The log of this table, and of all tables made from it.
     pub fn logging(&self) -> &Logging {
         &self.logging
     }
 
-    /// The regions as the library takes them.
+    /// The regions for the library.
     pub fn regions(&self) -> Vec<pitskhomu::Region> {
         self.mapped.regions()
     }
 
-    /// A stretch within one region, if it is one.
+    /// The `len` bytes from a guest address on, if they lie in one region.
     pub fn slice(&self, at: usize, len: usize) -> Option<Slice<'_>> {
         self.mapped.slice(at, len)
     }
 
-    /// Whether the parts of a queue that a return loads and stores are mapped in both tables or in
-    /// neither, page by page.
+    /// Whether each page of the queue's parts that a return loads and stores is mapped in both
+    /// tables or in neither.
     pub fn agrees(&self, other: &Table, layout: &QueueLayout) -> bool {
         let size = u64::from(layout.size);
         let parts = [(layout.available, 6 + 2 * size), (layout.used, 6 + 8 * size)];
@@ -143,7 +144,7 @@ impl Table {
         self.slice(page.wrapping_mul(PAGE) as usize, 1).is_some()
     }
 
-    /// The index of an available ring (VIRTIO 1.2, 2.7.6), if it has a place.
+    /// The index of an available ring (VIRTIO 1.2, 2.7.6), if it is mapped.
     pub fn available_index(&self, available: u64) -> Option<u16> {
         let index = self.slice(available.checked_add(2)? as usize, 2)?;
         index.load(0, Ordering::Acquire).ok().map(u16::from_le)

@@ -1,5 +1,5 @@
-//! A migration, from the daemon's side: virtiofsd's file system prepares while the guest runs, and
-//! its state comes or goes by a thread while the rings stand.
+//! A migration, on the daemon's side. virtiofsd's file system prepares its state while the guest
+//! runs, and a thread sends or receives the state while the rings are stopped.
 use crate::serve::{Core, ServedFs};
 use crate::state;
 use log::warn;
@@ -9,13 +9,13 @@ use std::sync::atomic::{AtomicBool, Ordering};
 use std::sync::Arc;
 use std::thread::{self, JoinHandle};
 
-/// File system and what it prepares, on a thread of its own.
+/// The file system's preparation, on a thread of its own.
 struct Preparation {
     thread: JoinHandle<()>,
     is_cancelled: Arc<AtomicBool>,
 }
 
-/// What goes on between two daemons.
+/// A migration to or from another daemon, if one is under way.
 pub struct Migration<F> {
     core: Arc<Core<F>>,
     scratch: Arc<File>,
@@ -28,12 +28,12 @@ fn joined<T>(thread: JoinHandle<T>) -> io::Result<T> {
 }
 
 impl<F: ServedFs> Migration<F> {
-    /// None goes on.
+    /// No migration.
     pub fn new(core: Arc<Core<F>>, scratch: File) -> Migration<F> {
         Migration { core, scratch: Arc::new(scratch), preparation: None, transfer: None }
     }
 
-    /// The guest will go, and runs yet.
+    /// Begins to prepare the state. The guest will move, and still runs.
     pub fn prepare(&mut self) {
         if self.preparation.is_none() {
             let is_cancelled = Arc::new(AtomicBool::new(false));
@@ -43,7 +43,7 @@ impl<F: ServedFs> Migration<F> {
         }
     }
 
-    /// The guest stays. Whether it was to go.
+    /// Cancels the preparation, since the guest stays. Returns whether there was one.
     pub fn cancel(&mut self) -> bool {
         let Some(preparation) = self.preparation.take() else { return false };
         preparation.is_cancelled.store(true, Ordering::Relaxed);
@@ -53,7 +53,7 @@ impl<F: ServedFs> Migration<F> {
         true
     }
 
-    /// The state goes out by this pipe.
+    /// Sends the state by this pipe.
     pub fn save(&mut self, pipe: File) {
         let (core, scratch, preparation) =
             (self.core.clone(), self.scratch.clone(), self.preparation.take());
@@ -66,7 +66,7 @@ impl<F: ServedFs> Migration<F> {
         }));
     }
 
-    /// The state comes by this pipe.
+    /// Receives the state by this pipe.
     pub fn load(&mut self, pipe: File) {
         if self.cancel() {
             warn!("a state comes in, so what was prepared to go out is given up");
@@ -75,7 +75,7 @@ impl<F: ServedFs> Migration<F> {
         self.transfer = Some(thread::spawn(move || state::load(&core, &scratch, pipe)));
     }
 
-    /// Waits for the transfer, and says how it ended.
+    /// Waits for the transfer, and returns its result.
     pub fn finish(&mut self) -> io::Result<()> {
         let transfer =
             self.transfer.take().ok_or_else(|| io::Error::other("no state was transferred"))?;

@@ -1,27 +1,28 @@
-//! The flags that the guest's files are opened with on the host. virtiofsd changes some at OPEN,
-//! fewer at CREATE, and puts the guest's own into the state that it sends to another host, which
-//! opens the files by these. So they are changed before it sees them, and set right on files that
-//! came with a state of a daemon that didn't do so.
+//! The flags with which the guest's files are opened on the host. virtiofsd changes some at OPEN,
+//! and fewer at CREATE. It sends the guest's own to another host, which opens the files with them.
+//! So the daemon changes the flags before virtiofsd sees them, and corrects those of files from a
+//! state of a daemon that didn't do so.
 use std::collections::BTreeSet;
 use std::fs::File;
 use std::io;
 use std::os::fd::{AsRawFd, FromRawFd, IntoRawFd, RawFd};
 
-/// Which of the guest's flags don't hold on the host.
+/// Which of the guest's flags apply on the host.
 #[derive(Debug, Clone, Copy, Default)]
 pub struct OpenFlags {
-    /// O_DIRECT holds.
+    /// O_DIRECT applies.
     pub allow_direct_io: bool,
-    /// O_NOATIME holds.
+    /// O_NOATIME applies.
     pub preserve_noatime: bool,
-    /// The guest's kernel may read what the guest opened for writing alone: a page that it writes a
-    /// part of.
+    /// Files that the guest opens only for writing are opened for reading too. The guest's kernel
+    /// reads a page of which it writes a part.
     pub writeback: bool,
 }
 
 impl OpenFlags {
-    /// Status flags that the host's file isn't to have. O_APPEND never: the guest's kernel has it
-    /// with each write, and a mapped page, or a write after F_SETFL, has an offset of its own.
+    /// The status flags that the host's file must not have. O_APPEND is always among them: the
+    /// guest's kernel applies it to each write, and a mapped page, or a write after F_SETFL, has an
+    /// offset of its own.
     fn dropped(self) -> i32 {
         let mut dropped = libc::O_APPEND;
         if !self.allow_direct_io {
@@ -33,7 +34,7 @@ impl OpenFlags {
         dropped
     }
 
-    /// The flags for the host, for what the guest opens or creates with these.
+    /// The flags on the host for a file that the guest opens or creates with these flags.
     pub fn for_host(self, flags: u32) -> u32 {
         let flags = flags as i32;
         let is_for_writing = flags & libc::O_ACCMODE == libc::O_WRONLY && flags & libc::O_PATH == 0;
@@ -42,11 +43,9 @@ impl OpenFlags {
         ((flags ^ access) & !self.dropped()) as u32
     }
 
-    /// Takes flags that don't hold off a file that is open already. Which access it has can't be
-    /// changed.
+    /// Removes flags that don't apply from an open file. Its access mode can't be changed.
     fn mend(self, fd: RawFd) -> io::Result<()> {
-        // SAFETY: no memory is touched; of a descriptor that was closed meanwhile nothing is
-        // changed.
+        // SAFETY: no memory is touched; on a descriptor that was closed meanwhile the call fails.
         let flags = unsafe { libc::fcntl(fd, libc::F_GETFL) };
         if flags < 0 || flags & libc::O_PATH != 0 || flags & self.dropped() == 0 {
             return Ok(());
@@ -59,17 +58,17 @@ impl OpenFlags {
     }
 }
 
-/// The daemon's own descriptors, by `/proc/self/fd`.
+/// The daemon's own descriptors, as `/proc/self/fd` lists them.
 #[derive(Debug)]
 pub struct Descriptors(File);
 
 impl Descriptors {
-    /// By a descriptor of that directory, or by its path where it can be reached.
+    /// Uses a descriptor of that directory if there is one, or its path.
     pub fn new(directory: Option<&File>) -> io::Result<Descriptors> {
         directory.map_or_else(|| File::open("/proc/self/fd"), File::try_clone).map(Descriptors)
     }
 
-    /// Those that are open now.
+    /// The descriptors that are open now.
     pub fn open(&self) -> io::Result<BTreeSet<RawFd>> {
         let flags = libc::O_RDONLY | libc::O_DIRECTORY | libc::O_CLOEXEC;
         // SAFETY: the name is a C string.
@@ -77,26 +76,26 @@ impl Descriptors {
         if fd < 0 {
             return Err(io::Error::last_os_error());
         }
-        // SAFETY: the descriptor is new, and nobody else's.
+        // SAFETY: the descriptor is new, and nothing else owns it.
         let directory = unsafe { File::from_raw_fd(fd) };
-        // SAFETY: it is given up here, and closed with the stream.
+        // SAFETY: the stream owns the descriptor from here on, and closes it.
         let stream = unsafe { libc::fdopendir(directory.into_raw_fd()) };
         if stream.is_null() {
             return Err(io::Error::last_os_error());
         }
         let mut open = BTreeSet::new();
-        // SAFETY: the stream is open, and each name is a C string until the next is read.
+        // SAFETY: the stream is open, and each name is a C string until the next one is read.
         while let Some(entry) = unsafe { libc::readdir(stream).as_ref() } {
             let name = unsafe { std::ffi::CStr::from_ptr(entry.d_name.as_ptr()) };
             open.extend(name.to_str().ok().and_then(|name| name.parse::<RawFd>().ok()));
         }
-        // SAFETY: it is closed once.
+        // SAFETY: the stream is closed once.
         unsafe { libc::closedir(stream) };
         open.remove(&fd);
         Ok(open)
     }
 
-    /// Takes flags that don't hold off the files that were opened since.
+    /// Removes flags that don't apply from the files that were opened since.
     pub fn mend_since(&self, before: &BTreeSet<RawFd>, flags: OpenFlags) -> io::Result<()> {
         self.open()?.difference(before).try_for_each(|fd| flags.mend(*fd))
     }
@@ -155,7 +154,7 @@ mod tests {
         let before = descriptors.open().expect("descriptors");
         assert!(before.contains(&old.as_raw_fd()));
         let mut new = open();
-        // Other tests open files meanwhile: none of theirs has such a flag.
+        // Other tests open files meanwhile, but with none of these flags.
         descriptors.mend_since(&before, OpenFlags::default()).expect("mended");
         let flags_of = |file: &File| unsafe { libc::fcntl(file.as_raw_fd(), libc::F_GETFL) };
         assert_eq!(flags_of(&old) & libc::O_APPEND, libc::O_APPEND);

@@ -1,5 +1,5 @@
-//! The command line: virtiofsd's, where its options mean something here. One that is known and
-//! isn't served is refused with the reason.
+//! The command line: virtiofsd's options, as far as they mean something here. A known option that
+//! isn't supported is refused with the reason.
 mod compat;
 mod values;
 
@@ -174,7 +174,7 @@ struct Refused {
 }
 
 impl Options {
-    /// Why these options can't be served, if they can't.
+    /// The reason that these options are refused, if they are.
     pub fn refusal(&self) -> Option<String> {
         let asked = &self.refused;
         let refusals = [
@@ -191,7 +191,7 @@ impl Options {
         refusals.into_iter().find_map(|(is_asked, why)| is_asked.then(|| why.into()))
     }
 
-    /// What virtiofsd says of options that are served, and that its next version may not have.
+    /// virtiofsd's warnings about supported options that its next version may not have.
     pub fn warnings(&self) -> Vec<&'static str> {
         let warnings = [
             (
@@ -221,7 +221,7 @@ impl Options {
         warnings.into_iter().filter_map(|(is_used, warning)| is_used.then_some(warning)).collect()
     }
 
-    /// Why these options don't go together, if they don't.
+    /// The contradictions between these options, as messages.
     pub fn contradictions(&self) -> Vec<&'static str> {
         let by_handles = self.migration_mode == MigrationMode::FileHandles;
         let contradictions = [
@@ -248,7 +248,7 @@ impl Options {
         }
     }
 
-    /// Whether there are extended attributes.
+    /// Whether extended attributes are supported.
     pub fn has_xattr(&self) -> bool {
         self.xattr || self.xattrmap.is_some()
     }
@@ -306,7 +306,7 @@ mod tests {
         assert!(options(all).expect("options").warnings().is_empty());
     }
 
-    /// What virtiofsd 1.13.2 says of the same words, up to the end of the line.
+    /// The messages of virtiofsd 1.13.2 for the same words, up to the end of the line.
     #[test]
     fn what_is_wrong_is_refused_in_virtiofsds_words() {
         for (words, wanted) in [

@@ -1,9 +1,9 @@
-//! A queue: its numbers, its descriptors, and the threads that serve it. Chains are taken and
-//! returned under its lock, and answered without it; each thread has one at a time. A message that
-//! changes a ring takes the lock alone: chains in flight go on, over the memory that they were
-//! taken from, and new ones have the new numbers. Only a message that ends something
-//! (GET_VRING_BASE, a ring that is disabled) waits until none of its chains is in flight, so that
-//! its answer is true.
+//! A queue: its numbers, its descriptors, and the threads that serve it. A thread takes and returns
+//! chains under the queue's lock, and answers them without it. Each thread has one chain at a time.
+//! A message that changes a ring only takes the lock: chains in flight continue over the memory
+//! that they were taken from, and new ones use the new numbers. Only a message that ends something
+//! waits until none of the ring's chains is in flight, so that its answer is true: GET_VRING_BASE,
+//! a ring that is disabled, and memory that maps or unmaps the ring's parts.
 mod waits;
 
 use crate::in_flight::Doing;
@@ -18,68 +18,69 @@ use vmm_sys_util::epoll::{ControlOperation, Epoll, EpollEvent, EventSet};
 use vmm_sys_util::eventfd::EventFd;
 pub use waits::LAST_CHAINS;
 
-/// The library takes queues of at most so many chains.
+/// The greatest queue size that the library allows.
 pub const SIZE_MAX: u32 = 32768;
-/// How long a chain waits for which memory was wanting.
+/// The time until the next try after an allocation failed.
 const AGAIN_MILLISECONDS: i32 = 100;
 
-/// What an event comes from.
+/// The source of an event.
 #[derive(Debug, Clone, Copy, PartialEq, Eq)]
 enum Source {
     /// The driver.
     Kick = 0,
-    /// The front-end's thread: something changed. Or another of the ring's threads: a chain waits.
+    /// The front-end's thread, after a change. Or another of the ring's threads, for an available
+    /// chain.
     Wake = 1,
 }
 
-/// What the front-end tells of a ring.
+/// A ring's numbers, as the front-end sets them.
 #[derive(Debug, Clone, Copy, Default, PartialEq, Eq)]
 pub struct Numbers {
-    /// Its size, and where its parts stand in the guest.
+    /// Its size, and the guest addresses of its parts.
     pub layout: QueueLayout,
-    /// Where the next chain is taken. While none is out, it is where the ring stands.
+    /// The position of the next chain to take. While no chain is in flight it is the ring's state.
     pub next_avail: u16,
-    /// The driver took VIRTIO_F_EVENT_IDX.
+    /// The driver accepted VIRTIO_F_EVENT_IDX.
     pub has_event_index: bool,
 }
 
-/// A ring, as its threads and the front-end's see it under its lock.
+/// A ring's state under its lock, for its threads and the front-end's.
 #[derive(Debug, Default)]
 pub struct State {
     numbers: Numbers,
-    /// The queue as the library has it; it isn't begun yet with these numbers if they are new.
+    /// The library's queue. While `is_new` it isn't reset with these numbers yet.
     queue: Queue,
     is_new: bool,
     /// From SET_VRING_KICK to GET_VRING_BASE.
     is_started: bool,
-    /// By SET_VRING_ENABLE.
+    /// Set by SET_VRING_ENABLE.
     is_enabled: bool,
-    /// It was refused, and isn't served until it begins anew.
+    /// The library refused it. It isn't served until it is reset.
     is_refused: bool,
-    /// What the driver was told of kicks, and at which position with an event index; of a ring that
-    /// begins, nothing is known.
+    /// Whether kicks are enabled in the driver, and with an event index at which position. Unknown
+    /// for a ring that begins.
     told: Option<(bool, u16)>,
-    /// How many threads sleep until something happens.
+    /// The number of threads that sleep until an event.
     sleeping: u16,
-    /// How many chains were taken since the daemon began.
+    /// The number of chains taken since the daemon began.
     taken: u64,
-    /// How many threads serve the ring.
+    /// The number of threads that serve the ring.
     served_by: usize,
-    /// No chain is taken while the front-end's thread looks for a moment with none in flight.
+    /// No chain is taken while the front-end's thread waits for a moment without chains in flight.
     is_held: bool,
     /// The front-end's thread waits until chains are taken or returned.
     is_awaited: bool,
     kick: Option<File>,
     call: Option<File>,
-    /// The driver was to be interrupted while nobody had said where: QEMU says so after it has
-    /// started a ring that chains wait in.
+    /// The driver wasn't interrupted, since there was no call descriptor. QEMU sets it after it has
+    /// started a ring with available chains.
     owes_call: bool,
     err: Option<File>,
 }
 
 impl State {
-    /// The front-end says numbers. If they are others, as is returned, the queue begins with them
-    /// as soon as none of its chains is in flight.
+    /// Sets numbers for the front-end, and returns whether they differ. If so, the queue is reset
+    /// with them as soon as none of its chains is in flight.
     fn tell(&mut self, change: impl FnOnce(&mut Numbers)) -> bool {
         let before = self.numbers;
         change(&mut self.numbers);
@@ -87,13 +88,13 @@ impl State {
         self.numbers != before
     }
 
-    /// The queue for a record, if the front-end ever told its numbers.
+    /// The queue for a record, if the front-end has set its numbers.
     pub fn queue_if_begun(&self) -> Option<Result<Queue, Status>> {
         let Numbers { layout, next_avail, .. } = self.numbers;
         (layout.size != 0 && layout.descriptors != 0).then(|| Queue::new(layout, next_avail))
     }
 
-    /// Whatever it was, its queue begins anew, by the numbers that it has then.
+    /// Has the queue reset, also after a refusal, with the numbers that it has then.
     pub fn reset(&mut self) {
         (self.is_new, self.is_refused) = (true, false);
     }
@@ -108,8 +109,8 @@ impl State {
         Ok(())
     }
 
-    /// Says to the driver whether its kicks are wanted, if it doesn't know. Whether it had to be
-    /// told: then a chain may have come before. After an error it knows what it knew.
+    /// Enables or disables kicks, unless `told` has this setting already. Returns whether something
+    /// was stored: then a chain may have become available before. An error leaves `told` unchanged.
     fn want_kicks(
         &mut self,
         wanted: bool,
@@ -130,26 +131,26 @@ impl State {
         self.is_started && self.is_enabled && !self.is_refused
     }
 
-    /// Whether the driver has offered a chain that isn't taken: by the ring's own word, so it is a
-    /// hint. The ring is asked only if its index, as it was loaded last, tells of none.
+    /// Whether a chain is available, as a hint: the driver may write to the ring at any time. The
+    /// ring's index is loaded only if the last one shows no available chain.
     fn has_more(&self, memory: &Table) -> bool {
         self.queue.knows_more()
             || memory.available_index(self.numbers.layout.available)
                 != Some(self.numbers.next_avail)
     }
 
-    /// Interrupts the driver, as soon as it is known where.
+    /// Interrupts the driver, as soon as there is a call descriptor.
     pub fn notify(&mut self) {
         self.owes_call = self.call.is_none();
         if let Some(Err(e)) = self.call.as_mut().map(|call| call.write(&1u64.to_ne_bytes())) {
-            // An event that is full already is seen all the same.
+            // If the event's counter is full, the driver gets the interrupt all the same.
             if e.kind() != ErrorKind::WouldBlock {
                 warn!("the driver isn't notified: {e}");
             }
         }
     }
 
-    /// The ring is refused: the front-end is told by its err descriptor.
+    /// Marks the ring as refused, and notifies the front-end by its err descriptor.
     fn refuse(&mut self) {
         self.is_refused = true;
         if let Some(Err(e)) = self.err.as_mut().map(|err| err.write(&1u64.to_ne_bytes())) {
@@ -158,31 +159,30 @@ impl State {
     }
 }
 
-/// What came of looking for a chain.
+/// The outcome of looking for a chain.
 #[derive(Debug, Clone, Copy, PartialEq, Eq)]
 pub enum Looked {
-    /// One was taken.
+    /// A chain was taken.
     Taken,
-    /// None waits, or as many are out as may be.
+    /// No chain is available, or the greatest number is in flight.
     Idle,
-    /// The same is to be tried again later.
+    /// Try again later.
     Again,
 }
 
-/// Who serves chains, on a ring's thread.
+/// Serves chains, on a ring's thread.
 pub trait Server {
-    /// Takes the next chain over this memory, if one waits.
+    /// Takes the next chain over this memory, and returns whether one was available.
     fn take(&mut self, queue: &mut Queue, memory: &Arc<Table>) -> Result<bool, Status>;
 
-    /// Makes the reply of the chain that was taken, and says meanwhile what it asks for. The ring
-    /// isn't locked.
+    /// Makes the reply to the chain that was taken. `doing` gets the request's opcode and number
+    /// meanwhile. The ring isn't locked.
     fn answer(&mut self, doing: &Doing);
 
-    /// Gives the chain back, and says whether the driver wants to be told.
+    /// Returns the chain to the driver. The result is whether to notify the driver.
     fn give_back(&mut self, queue: &mut Queue) -> Result<bool, Status>;
 
-    /// Says to the driver whether its kicks are wanted. Whether something had to be stored for
-    /// that.
+    /// Enables or disables the driver's kicks. Returns whether something was stored for that.
     fn set_notification(
         &mut self,
         queue: &Queue,
@@ -195,10 +195,10 @@ pub trait Server {
 #[derive(Debug)]
 pub struct Ring {
     index: usize,
-    /// How many threads serve it.
+    /// The number of threads that serve it.
     pub threads: u16,
     state: Mutex<State>,
-    /// A chain was taken or returned, or nobody waits for that any more.
+    /// Notified when a chain is taken or returned, or `is_held` ends.
     changed: Condvar,
     events: Epoll,
     wake: EventFd,
@@ -206,7 +206,7 @@ pub struct Ring {
 }
 
 impl Ring {
-    /// A ring that isn't started, for so many threads.
+    /// A ring that isn't started, for `threads` threads.
     pub fn new(index: usize, threads: u16) -> io::Result<Ring> {
         let (events, wake) = (Epoll::new()?, EventFd::new(libc::EFD_NONBLOCK | libc::EFD_CLOEXEC)?);
         let doing = (0..threads).map(|_| Doing::default()).collect();
@@ -223,14 +223,14 @@ impl Ring {
         Ok(ring)
     }
 
-    /// Each event wakes one thread, and nobody reads it: so none waits in a read for what another
-    /// has read.
+    /// Adds an event source. Each event wakes one thread, and no thread reads its counter. So no
+    /// thread blocks in a read of a counter that another has read.
     fn listen(&self, fd: i32, source: Source) -> io::Result<()> {
         let event = EpollEvent::new(EventSet::IN | EventSet::EDGE_TRIGGERED, source as u64);
         self.events.ctl(ControlOperation::Add, fd, event)
     }
 
-    /// The ring as it is: chains may be in flight.
+    /// Locks the ring. Chains may be in flight.
     pub fn lock(&self) -> MutexGuard<'_, State> {
         self.state.lock().unwrap_or_else(PoisonError::into_inner)
     }
@@ -243,8 +243,8 @@ impl Ring {
         self.changed.wait_while(state, condition).unwrap_or_else(PoisonError::into_inner)
     }
 
-    /// The front-end says numbers. With others a thread looks for chains: the driver may not know
-    /// yet that kicks are wanted.
+    /// Sets numbers for the front-end. If they differ, a thread looks for chains: kicks may not be
+    /// enabled yet.
     pub fn tell(&self, change: impl FnOnce(&mut Numbers)) {
         let mut state = self.lock();
         if state.tell(change) && state.is_live() {
@@ -252,26 +252,26 @@ impl Ring {
         }
     }
 
-    /// Whether both memories have its parts, or neither: so a chain may be in flight while one
-    /// replaces the other.
+    /// Whether both memories have the ring's parts, or neither has. Then a chain may be in flight
+    /// while one replaces the other.
     pub fn agrees_on(&self, old: &Table, new: &Table) -> bool {
         old.agrees(new, &self.lock().queue.layout())
     }
 
     /// Has a thread look for chains.
     pub fn look(&self) {
-        let _ = self.wake.write(1); // full is as good
+        let _ = self.wake.write(1); // a full counter wakes too
     }
 
     fn forget_kick(&self, state: &mut State) {
         if let Some(kick) = state.kick.take() {
-            // What was taken out already, because it ended, can't be taken out again.
+            // This fails if the descriptor was removed already, because it ended.
             let _ =
                 self.events.ctl(ControlOperation::Delete, kick.as_raw_fd(), EpollEvent::default());
         }
     }
 
-    /// The driver kicks here from now on. A ring that wasn't started begins.
+    /// Sets the kick descriptor. A ring that wasn't started begins.
     pub fn start(&self, kick: File) -> io::Result<()> {
         let mut state = self.lock();
         self.forget_kick(&mut state);
@@ -280,12 +280,12 @@ impl Ring {
         if !state.is_started {
             (state.is_started, state.is_refused, state.is_new) = (true, false, true);
         }
-        self.look(); // chains may wait since before
+        self.look(); // chains may be available already
         Ok(())
     }
 
-    /// The ring ends, and says where it stood. Who goes on with it may not know that kicks can be
-    /// unwanted.
+    /// Ends the ring, and returns its position. Kicks are enabled first: the back-end that
+    /// continues the ring may not do so.
     pub fn stop(&self, server: &mut impl Server, memory: &Arc<Table>) -> u16 {
         self.take_last(memory, "GET_VRING_BASE");
         let mut state = self.quiet("GET_VRING_BASE");
@@ -301,12 +301,12 @@ impl Ring {
         state.numbers.next_avail
     }
 
-    /// The driver isn't listened to any more.
+    /// Removes the kick descriptor.
     pub fn stop_kicks(&self) {
         self.forget_kick(&mut self.lock());
     }
 
-    /// Where the driver is interrupted from now on, for chains in flight too.
+    /// Sets the call descriptor, by which the driver is interrupted, also for chains in flight.
     pub fn set_call(&self, call: Option<File>) {
         let mut state = self.lock();
         state.call = call;
@@ -315,12 +315,12 @@ impl Ring {
         }
     }
 
-    /// Where the front-end hears of a refusal.
+    /// Sets the err descriptor, by which the front-end is notified of a refusal.
     pub fn set_err(&self, err: Option<File>) {
         self.lock().err = err;
     }
 
-    /// Chains are served or wait.
+    /// Enables or disables the ring: while it is disabled no chain is taken.
     pub fn enable(&self, enabled: bool, server: &mut impl Server, memory: &Arc<Table>) {
         let mut state = if enabled {
             self.lock()
@@ -328,19 +328,19 @@ impl Ring {
             self.take_last(memory, "SET_VRING_ENABLE");
             self.quiet("SET_VRING_ENABLE")
         };
-        let _ = state.want_kicks(true, server, memory); // a thread says it before it sleeps
+        let _ = state.want_kicks(true, server, memory); // a thread repeats it before it sleeps
         state.is_enabled = enabled;
         drop(state);
         self.look();
     }
 
-    /// Where kicks came from has ended.
+    /// Removes a kick descriptor that has ended.
     fn lose_kick(&self) {
         warn!("queue {}: kicks aren't heard any more", self.index);
         self.forget_kick(&mut self.lock());
     }
 
-    /// Waits until something happens.
+    /// Waits for an event.
     fn wait(&self, milliseconds: i32) -> io::Result<()> {
         let mut events = [EpollEvent::default(); 2];
         let count = match self.events.wait(milliseconds, &mut events) {
@@ -357,8 +357,8 @@ impl Ring {
         Ok(())
     }
 
-    /// Takes the next chain, if one waits. With new numbers none is taken until those in flight are
-    /// returned, by the old.
+    /// Takes the next chain, if one is available. With new numbers none is taken until the chains
+    /// in flight are returned with the old ones.
     fn take(&self, state: &mut State, server: &mut impl Server, memory: &Arc<Table>) -> Looked {
         if !state.is_live() || (state.is_new && state.queue.in_flight() > 0) {
             return Looked::Idle;
@@ -373,7 +373,7 @@ impl Ring {
                     Looked::Idle
                 }
             }
-            Err(Status::ChainInFlight) => Looked::Idle, // who gives one back looks again
+            Err(Status::ChainInFlight) => Looked::Idle, // the thread that returns one looks again
             Err(status) if status.is_out_of_memory() => {
                 warn!("queue {}: memory is wanting, and a chain waits", self.index);
                 Looked::Again
@@ -389,8 +389,9 @@ impl Ring {
         }
     }
 
-    /// What comes while the chain that was taken is answered is for a thread that sleeps, and else
-    /// for this one. If the driver can't be told so, a thread that sleeps goes on to try.
+    /// While this thread answers its chain, a sleeping thread serves the next ones, so kicks are
+    /// enabled. Without a sleeping thread kicks are disabled, and this thread looks again later. If
+    /// kicks can't be enabled, or a chain is available, a sleeping thread is woken.
     fn hand_on(&self, state: &mut State, server: &mut impl Server, memory: &Arc<Table>) {
         let is_for_another = state.sleeping > 0;
         let told = state.want_kicks(is_for_another, server, memory);
@@ -406,7 +407,7 @@ impl Ring {
             Err(status) => {
                 error!("queue {} is refused, since a chain can't go back: {status}", self.index);
                 state.refuse();
-                let _ = state.begin(self.threads); // so none is out
+                let _ = state.begin(self.threads); // so no chain is in flight
             }
         }
         if state.is_held || state.is_awaited {
@@ -414,8 +415,8 @@ impl Ring {
         }
     }
 
-    /// Serves chains until none waits. A chain that comes while kicks aren't wanted is met by the
-    /// look after they are.
+    /// Serves chains until none is available. A chain that becomes available while kicks are
+    /// disabled is found by the look after they are enabled.
     fn serve_all(
         &self,
         server: &mut impl Server,
@@ -426,7 +427,8 @@ impl Ring {
         state.sleeping -= 1;
         loop {
             state = self.wait_while(state, |state| state.is_held);
-            // The memory is asked for under the lock: whoever changes it has the lock meanwhile.
+            // Get the memory under the lock: the front-end's thread has the lock while it changes
+            // it.
             let table = memory();
             let looked = self.take(&mut state, server, &table);
             if looked == Looked::Taken {
@@ -458,9 +460,8 @@ impl Ring {
         }
     }
 
-    /// What each of the ring's threads does; it ends with the process. It begins with a look:
-    /// another that began before and has a chain may have said that kicks aren't wanted, since none
-    /// slept.
+    /// The loop of each of the ring's threads, until the process ends. It begins with a look for
+    /// chains: an earlier thread that has a chain may have disabled kicks, since none slept.
     pub fn run(&self, server: &mut impl Server, memory: impl Fn() -> Arc<Table>) {
         let mut state = self.lock();
         (state.sleeping, state.served_by) = (state.sleeping + 1, state.served_by + 1);
@@ -494,7 +495,7 @@ mod tests {
         // SAFETY: no memory is touched.
         let fd = unsafe { libc::eventfd(0, libc::EFD_NONBLOCK | libc::EFD_CLOEXEC) };
         assert!(fd >= 0);
-        // SAFETY: the descriptor is new, and nobody else's.
+        // SAFETY: the descriptor is new, and nothing else owns it.
         unsafe { File::from_raw_fd(fd) }
     }
 
@@ -503,7 +504,7 @@ mod tests {
         event.read(&mut [0; 8]).is_ok()
     }
 
-    /// Has no chain, and what is said of kicks fails so many times.
+    /// Has no chain, and `set_notification` fails this many times.
     struct Failing(usize);
 
     impl Server for Failing {
@@ -551,7 +552,7 @@ mod tests {
         assert_eq!(ring.lock().told, Some((true, 0)));
     }
 
-    /// Has no chain, and says each time that it was asked for one.
+    /// Has no chain, and sends a message for each `take`.
     struct Asked(Sender<()>);
 
     impl Server for Asked {
@@ -593,7 +594,7 @@ mod tests {
         ring.set_call(None);
         ring.set_call(call());
         assert!(is_called(&event));
-        ring.set_call(call()); // nothing is owed any more
+        ring.set_call(call()); // no interrupt is owed any more
         assert!(!is_called(&event));
         ring.lock().notify();
         assert!(is_called(&event));

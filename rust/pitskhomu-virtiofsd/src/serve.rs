@@ -1,5 +1,4 @@
-//! What the queues' threads and the front-end's share, and what a queue's thread serves chains
-//! with.
+//! The state that the queues' threads and the front-end's share, and a queue thread's worker.
 use crate::adapter::Adapter;
 use crate::in_flight::Doing;
 use crate::memory::Table;
@@ -14,42 +13,42 @@ use std::thread;
 use std::time::{Duration, Instant};
 use virtiofsd::filesystem::{FileSystem, SerializableFileSystem};
 
-/// The file system's side, as all that is done here wants it.
+/// A file system with all traits that the daemon needs.
 pub trait ServedFs: FileSystem + SerializableFileSystem + Send + Sync + 'static {}
 impl<F: FileSystem + SerializableFileSystem + Send + Sync + 'static> ServedFs for F {}
 
-/// What all threads share.
+/// The state that all threads share.
 pub struct Core<F> {
     /// virtiofsd's file system.
     pub fs: F,
-    /// What INIT agreed on.
+    /// The library's device, with the options that INIT agreed on.
     pub device: pitskhomu::Device,
-    /// The high-priority queue, and behind it the request queues.
+    /// The high-priority queue, and after it the request queues.
     pub rings: Vec<Ring>,
-    /// Which flags of the guest's hold on the host.
+    /// Which of the guest's open flags apply on the host.
     pub flags: OpenFlags,
     /// The daemon's own descriptors.
     pub descriptors: Descriptors,
     memory: RwLock<Arc<Table>>,
 }
 
-/// What a core is made with.
+/// The arguments of `Core::new`.
 pub struct Parts<F> {
     /// virtiofsd's file system.
     pub fs: F,
-    /// How many request queues there are.
+    /// The number of request queues.
     pub request_queues: usize,
-    /// How many threads serve each.
+    /// The number of threads for each request queue.
     pub threads: u16,
-    /// Which flags of the guest's hold on the host.
+    /// Which of the guest's open flags apply on the host.
     pub flags: OpenFlags,
     /// The daemon's own descriptors.
     pub descriptors: Descriptors,
 }
 
 impl<F: ServedFs> Core<F> {
-    /// A device without memory whose rings aren't started. Each request queue is served by so many
-    /// threads.
+    /// A device without memory whose rings aren't started. `threads` threads serve each request
+    /// queue, and one the high-priority queue.
     pub fn new(parts: Parts<F>) -> io::Result<Core<F>> {
         let Parts { fs, request_queues, threads, flags, descriptors } = parts;
         if pitskhomu::version() != pitskhomu::VERSION {
@@ -67,14 +66,14 @@ impl<F: ServedFs> Core<F> {
         })
     }
 
-    /// The memory as it is.
+    /// The current memory.
     pub fn memory(&self) -> Arc<Table> {
         self.memory.read().unwrap_or_else(PoisonError::into_inner).clone()
     }
 
-    /// Has another memory from here on. Chains in flight go on over the one that they were taken
-    /// from, and return over it. A ring that only one of the two has the parts of has none in
-    /// flight then.
+    /// Replaces the memory. Chains in flight are served and returned over the memory that they were
+    /// taken from. If only one of the two memories has a ring's parts, this waits until none of the
+    /// ring's chains is in flight.
     pub fn set_memory(&self, table: Table) {
         let (old, new) = (self.memory(), Arc::new(table));
         let (agree, differ): (Vec<&Ring>, Vec<&Ring>) =
@@ -86,8 +85,8 @@ impl<F: ServedFs> Core<F> {
         drop((quiet, locked));
     }
 
-    /// Waits until no chain is in flight, for a connection that has ended: for a few seconds, since
-    /// a request may never end.
+    /// Waits until no chain is in flight, after the connection has ended. It waits at most
+    /// `LAST_CHAINS`, since a request may never end.
     pub fn wait_for_chains(&self) {
         let end = Instant::now() + LAST_CHAINS;
         for ring in &self.rings {
@@ -101,34 +100,35 @@ impl<F: ServedFs> Core<F> {
         }
     }
 
-    /// The session ends without DESTROY: nothing is held or open, no option is agreed on.
+    /// Ends the session without DESTROY: then no node is held, no file is open, and no options are
+    /// agreed on.
     pub fn end_session(&self) {
         self.fs.destroy();
         self.device.set_options(pitskhomu::Options::empty());
     }
 }
 
-/// What a queue's thread works with.
+/// The worker of a queue's thread.
 pub struct QueueWorker<F> {
     core: Arc<Core<F>>,
     index: usize,
     worker: pitskhomu::Worker,
-    /// The number of the memory whose regions the worker was told.
+    /// The number of the memory whose regions the worker has.
     told: Option<u64>,
-    /// The memory that the chain is out over; held no longer, so that what the front-end takes back
-    /// isn't mapped any more.
+    /// The memory of the chain in flight. It is dropped with the chain, so that memory which the
+    /// front-end removes doesn't stay mapped.
     memory: Option<Arc<Table>>,
 }
 
 impl<F: ServedFs> QueueWorker<F> {
-    /// A bench for the ring with this index.
+    /// A worker for the ring with this index.
     pub fn new(core: Arc<Core<F>>, index: usize) -> QueueWorker<F> {
         QueueWorker { core, index, worker: pitskhomu::Worker::new(), told: None, memory: None }
     }
 
     fn work_over(&mut self, memory: &Table) -> Result<(), Status> {
         if self.told != Some(memory.number()) {
-            self.told = None; // if it is refused, the worker has what it had, and is told anew
+            self.told = None; // if this is refused, the next call sets the regions again
             self.worker.set_memory(&self.core.device, &memory.regions())?;
             self.told = Some(memory.number());
         }
@@ -156,13 +156,13 @@ impl<F: ServedFs> Server for QueueWorker<F> {
         Ok(taken)
     }
 
-    /// What a guest makes the file system panic at is answered EIO, and costs it no more.
+    /// A call at which the file system panics is answered EIO, and the thread continues.
     fn answer(&mut self, doing: &Doing) {
         let (core, Some(memory)) = (&self.core, &self.memory) else { return };
         let adapter = Adapter { fs: &core.fs, memory, doing, flags: core.flags };
         let mut answer = || self.worker.answer(&core.device, &adapter, &**memory);
         let answered = catch_unwind(AssertUnwindSafe(&mut answer)).or_else(|_| {
-            // start::log tells the panic
+            // the hook of start::log logs the panic
             debug!("queue {}: a call panicked, and is answered EIO", self.index);
             catch_unwind(AssertUnwindSafe(&mut answer))
         });
@@ -174,7 +174,7 @@ impl<F: ServedFs> Server for QueueWorker<F> {
     fn give_back(&mut self, queue: &mut Queue) -> Result<bool, Status> {
         let memory = self.memory.take().ok_or(Status::WrongOrder)?;
         let served = self.worker.give_back(queue, &*memory);
-        self.worker.abandon(); // it has one only if this is refused
+        self.worker.abandon(); // it still has a chain only if this was refused
         served.map(|served| {
             self.log(&served);
             served.notify

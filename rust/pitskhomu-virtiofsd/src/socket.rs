@@ -1,4 +1,4 @@
-//! The socket that the front-end connects to, and the file beside it that has the daemon's number.
+//! The socket that the front-end connects to, and the PID file next to it.
 use crate::options::Options;
 use std::ffi::CString;
 use std::fs::{self, File, OpenOptions};
@@ -11,27 +11,28 @@ use std::thread;
 use std::time::Duration;
 use vhost::vhost_user::Listener;
 
-/// How often, and how far apart, a lock is tried that another daemon holds.
+/// The number of tries for a lock that another daemon has, and the time between them.
 const LOCK_TRIES: u32 = 40;
 const LOCK_PAUSE: Duration = Duration::from_millis(50);
 
-/// The listener, and the file with the daemon's number, whose lock lasts as long as it is open.
+/// The listener, and the PID file, which stays locked as long as it is open.
 pub struct Socket {
-    /// What the front-end connects to.
+    /// The socket that the front-end connects to.
     pub listener: Listener,
-    /// The lock of the file beside the socket, if one is made.
+    /// The locked PID file next to the socket, if the daemon makes the socket.
     pub number: Option<File>,
 }
 
 fn group_number(name: &str) -> Result<u32, String> {
     let unknown = || String::from("Couldn't resolve the group name specified for the socket path");
     let name = CString::new(name).map_err(|_| unknown())?;
-    // SAFETY: the name is a C string, and nothing else runs yet that asks for groups.
+    // SAFETY: the name is a C string, and no other thread runs yet.
     let group = unsafe { libc::getgrnam(name.as_ptr()).as_ref() };
     group.map(|group| group.gr_gid).ok_or_else(unknown)
 }
 
-/// Whether the file could be locked. A daemon that is ending holds its lock for a moment yet.
+/// Locks the file, and returns whether that succeeded. A daemon that ends has its lock for a moment
+/// longer.
 fn lock(file: &File) -> bool {
     (0..LOCK_TRIES).any(|attempt| {
         if attempt > 0 {
@@ -43,7 +44,7 @@ fn lock(file: &File) -> bool {
 }
 
 /// Locks `PATH.pid`, so that no second daemon takes the socket of one that runs, and writes the
-/// daemon's number there.
+/// daemon's PID to it.
 fn number_file(path: &Path) -> io::Result<File> {
     let mut options = OpenOptions::new();
     options.write(true).create(true).truncate(false).mode(0o644).custom_flags(libc::O_NOFOLLOW);
@@ -56,13 +57,13 @@ fn number_file(path: &Path) -> io::Result<File> {
     Ok(file)
 }
 
-/// Binds the socket in place of one that is left there.
+/// Binds the socket, and first removes one that an earlier daemon left there.
 fn bind(path: &Path, group: Option<u32>) -> io::Result<UnixListener> {
     if fs::symlink_metadata(path).is_ok_and(|metadata| metadata.file_type().is_socket()) {
         fs::remove_file(path)?;
     }
-    // Nobody else connects before the group is set.
-    // SAFETY: no memory is touched, and nothing else runs yet.
+    // No other user connects before the group is set.
+    // SAFETY: no memory is touched, and no other thread runs yet.
     let umask = unsafe { libc::umask(0o077) };
     let listener = UnixListener::bind(path);
     // SAFETY: as above.
@@ -75,20 +76,21 @@ fn bind(path: &Path, group: Option<u32>) -> io::Result<UnixListener> {
 }
 
 impl Socket {
-    /// Makes the socket, or takes the one that is handed in. Once it is there, a front-end may
-    /// connect. Errors are in words.
+    /// Makes the socket, or takes the one of --fd. From then on a front-end may connect. An error
+    /// is a message.
     pub fn open(options: &Options) -> Result<Socket, String> {
         let path = options.socket_path.as_ref().or(options.socket.as_ref());
         let (listener, number) = match (path, options.fd) {
             (Some(path), _) => Socket::made(path, options.socket_group.as_deref())?,
-            // SAFETY: whoever started the daemon handed the descriptor in, for this one use.
+            // SAFETY: the process that started the daemon passed the descriptor for this one use.
             (None, Some(fd)) => (unsafe { UnixListener::from_raw_fd(fd) }, None),
             (None, None) => return Err("neither --socket-path nor --fd".into()),
         };
-        // Whoever made it may want no waiting.
+        // The process that made the socket may have set O_NONBLOCK.
         listener.set_nonblocking(false).map_err(|e| format!("Error creating listener: {e}"))?;
-        // Crate vhost's own would remove the path when it is dropped, which in the sandbox is a
-        // path of the guest's. SAFETY: the descriptor is open, and is given up here.
+        // `Listener::new` of crate vhost removes the path when it is dropped, which in the sandbox
+        // is a path of the guest. SAFETY: the descriptor is open, and the listener owns it from
+        // here on.
         Ok(Socket { listener: unsafe { Listener::from_raw_fd(listener.into_raw_fd()) }, number })
     }
 

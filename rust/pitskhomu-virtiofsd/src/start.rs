@@ -1,4 +1,4 @@
-//! From options to a served directory.
+//! The start of the daemon, from its options to a served directory.
 use crate::capabilities;
 use crate::front_end::FrontEnd;
 use crate::open_flags::{Descriptors, OpenFlags};
@@ -25,18 +25,18 @@ use virtiofsd::passthrough::{CachePolicy, Config, PassthroughFs};
 use virtiofsd::sandbox::{self, Sandbox};
 use virtiofsd::seccomp::enable_seccomp;
 
-/// What goes wrong before the directory is served.
+/// An error before the directory is served.
 type Failure = Box<dyn Error>;
 
-/// Descriptors that aren't the guest's: memory, rings, a migration, virtiofsd's own for a while.
-/// Each thread opens one before it counts it.
+/// The daemon's own descriptors: memory, rings, a migration, and virtiofsd's temporary ones. Each
+/// thread needs one more: it opens a descriptor before it counts it.
 const OWN_DESCRIPTORS: u64 = 609;
-/// With fewer for the guest there is a warning.
+/// With fewer descriptors for the guest there is a warning.
 const FEW_DESCRIPTORS: u64 = 128;
 const DAY: Duration = Duration::from_secs(24 * 60 * 60);
 
-/// So many panics are told: a guest that finds one may have it as often as it likes, and is to fill
-/// no log.
+/// The most panics that are logged. A guest that can cause a panic may repeat it, and must not fill
+/// the log.
 const PANICS_TOLD: u32 = 100;
 
 fn tell_panic(panic: &PanicHookInfo<'_>) {
@@ -48,8 +48,8 @@ fn tell_panic(panic: &PanicHookInfo<'_>) {
     }
 }
 
-/// Has messages go where the options say, a panic's too: a backtrace would want system calls that
-/// the filter refuses.
+/// Sends messages, also those of panics, to the log of the options. A panic's backtrace would need
+/// system calls that the filter refuses.
 pub fn log(options: &Options) -> Result<(), Failure> {
     std::panic::set_hook(Box::new(tell_panic));
     if options.syslog {
@@ -74,25 +74,25 @@ pub fn log(options: &Options) -> Result<(), Failure> {
 }
 
 extern "C" fn end(_signal: libc::c_int) {
-    // SAFETY: _exit may be called by a signal's handler, and touches no memory.
+    // SAFETY: a signal handler may call _exit, which touches no memory.
     unsafe { libc::_exit(0) }
 }
 
-/// A page of lent memory isn't there any more (or the host's own is faulty): no thread can go on
-/// that looks at it, and whoever lent it is the only one that is served.
+/// The handler of SIGBUS: a page of the front-end's memory is gone, or the host's memory is faulty.
+/// A thread that accesses the page can't continue, and the daemon serves no other front-end.
 extern "C" fn end_for_lost_memory(_signal: libc::c_int) {
     const WHY: &[u8] =
         b"pitskhomu-virtiofsd: memory that the front-end lent is gone (SIGBUS), so nothing more \
          can be served\n";
-    // SAFETY: both may be called by a signal's handler, and the bytes are static.
+    // SAFETY: a signal handler may call both, and the bytes are static.
     unsafe {
         libc::write(libc::STDERR_FILENO, WHY.as_ptr().cast(), WHY.len());
         libc::_exit(1)
     }
 }
 
-/// As the first process of its namespace the daemon would be deaf to the first three signals
-/// without a handler. A guest that writes more than a file may have (RLIMIT_FSIZE) is answered
+/// The daemon is the first process of its namespace, so without a handler it wouldn't receive
+/// SIGHUP, SIGINT and SIGTERM. SIGXFSZ is ignored, so that a write past RLIMIT_FSIZE is answered
 /// EFBIG.
 fn handle_signals() {
     let end = end as *const () as libc::sighandler_t;
@@ -101,12 +101,12 @@ fn handle_signals() {
     for (signal, handler) in
         ended.into_iter().chain([(libc::SIGBUS, lost), (libc::SIGXFSZ, libc::SIG_IGN)])
     {
-        // SAFETY: the handlers do nothing but what a handler may.
+        // SAFETY: the handlers call only functions that a signal handler may call.
         unsafe { libc::signal(signal, handler) };
     }
 }
 
-/// How long the guest may keep names and attributes.
+/// The time that the guest may cache names and attributes.
 fn timeout(cache: &CachePolicy) -> Duration {
     match cache {
         CachePolicy::Never => Duration::ZERO,
@@ -151,7 +151,7 @@ fn config(
     }
 }
 
-/// How many descriptors the guest may have.
+/// The number of descriptors for the guest.
 fn guest_descriptors(options: &Options) -> Result<u64, Failure> {
     let limit = setup_rlimit_nofile(options.rlimit_nofile)
         .map_err(|why| format!("Error increasing number of open files: {why}"))?;
@@ -173,7 +173,7 @@ fn guest_descriptors(options: &Options) -> Result<u64, Failure> {
     Ok(left)
 }
 
-/// The error of a step of the sandbox, in words.
+/// The message for an error of the sandbox.
 fn sandbox_error(e: sandbox::Error) -> String {
     use sandbox::Error::*;
     let (step, e) = match e {
@@ -206,7 +206,7 @@ fn no_file_system(e: io::Error) -> String {
     format!("Failed to create internal filesystem representation: {e}")
 }
 
-/// Does all that these options say, and returns when the front-end is gone.
+/// Serves the directory with these options, and returns when the front-end has disconnected.
 pub fn run(mut options: Options) -> Result<(), Failure> {
     handle_signals();
     let shared_dir =
@@ -245,14 +245,14 @@ pub fn run(mut options: Options) -> Result<(), Failure> {
     }
 }
 
-/// What was made before the sandbox was entered, or as it was.
+/// The objects that are made before or while the daemon enters the sandbox.
 struct Kept {
     capabilities: capabilities::Changes,
     scratch: File,
     descriptors: Descriptors,
 }
 
-/// What is left of the options once there is a file system.
+/// The options and objects that serving needs besides the file system.
 struct Serving {
     listener: Listener,
     scratch: File,
@@ -292,7 +292,7 @@ impl Serving {
         let core = Arc::new(Core::new(Parts { fs, request_queues, threads, flags, descriptors })?);
         capabilities::give_up(&self.capabilities)?;
         if let Some(action) = self.seccomp.action() {
-            enable_seccomp(action, self.syslog)?; // threads have it from this one
+            enable_seccomp(action, self.syslog)?; // new threads inherit it
         }
         for (index, ring) in core.rings.iter().enumerate() {
             for _ in 0..ring.threads {
@@ -307,7 +307,7 @@ impl Serving {
                 break handler;
             }
         };
-        drop(listener); // a second front-end is turned away
+        drop(listener); // a second front-end can't connect
         info!("Client connected, servicing requests");
         let ended = answer(handler);
         core.wait_for_chains();
@@ -319,7 +319,7 @@ impl Serving {
 fn start_thread<F: ServedFs>(core: Arc<Core<F>>, index: usize) -> Result<(), Failure> {
     let mut worker = QueueWorker::new(core.clone(), index);
     thread::Builder::new().name(format!("queue {index}")).spawn(move || {
-        // virtiofsd changes a thread's working directory for extended attributes.
+        // virtiofsd changes the thread's working directory for extended attributes.
         // SAFETY: no memory is touched.
         if unsafe { libc::unshare(libc::CLONE_FS) } != 0 {
             error!("queue {index} isn't served: unshare(CLONE_FS): {}", io::Error::last_os_error());
@@ -330,7 +330,7 @@ fn start_thread<F: ServedFs>(core: Arc<Core<F>>, index: usize) -> Result<(), Fai
     Ok(())
 }
 
-/// Answers the front-end's messages until it is gone.
+/// Answers the front-end's messages until it disconnects.
 fn answer<F: ServedFs>(mut handler: BackendReqHandler<Mutex<FrontEnd<F>>>) -> Result<(), Failure> {
     loop {
         match handler.handle_request() {

@@ -1,13 +1,14 @@
-//! The device's state on its way to another host: virtiofsd's own, and behind it the library's
-//! record (options, positions):
+//! The device's state for a migration: virtiofsd's own, and after it the library's record (options,
+//! positions):
 //!
 //!     virtiofsd's bytes (postcard) | record | its length (4 bytes, little-endian) | MARK
 //!
-//! virtiofsd's reader takes what it knows and leaves the rest, so a plain virtiofsd goes on from
-//! this. Its first byte, the version of the state, is written in two: postcard's numbers may be
-//! longer than need be, and virtiofsd writes none so. A state that begins so is ours, and is taken
-//! only if it ends with the mark: so none that was cut short is. One that begins otherwise and has
-//! no mark is a plain virtiofsd's: then no options are known, as none are there.
+//! virtiofsd's reader ignores bytes after its own, so a plain virtiofsd can continue from this
+//! state. virtiofsd's first byte, the version of the state, is written as two bytes: postcard
+//! allows numbers that are longer than needed, and virtiofsd never writes one. A state that begins
+//! with two such bytes is this daemon's. It is accepted only if it ends with the mark, so one that
+//! was cut short is refused. A state with neither is a plain virtiofsd's: its options are unknown,
+//! and taken as none.
 use crate::serve::{Core, ServedFs};
 use pitskhomu as p;
 use std::fs::File;
@@ -16,20 +17,20 @@ use std::os::fd::FromRawFd;
 use virtiofsd::filesystem::SerializableFileSystem;
 
 const MARK: &[u8; 8] = b"pitskhmu";
-/// A byte of a number in postcard that isn't its last has this bit.
+/// The bit of each byte of a postcard number except the last.
 const GOES_ON: u8 = 0x80;
-/// No state is longer; one that is would fill the host's memory.
+/// The greatest length of a state in bytes. A longer one could fill the host's memory.
 const STATE_MAX: u64 = 1 << 30;
 
-/// A file in memory, to be made before seccomp forbids it: virtiofsd's reader wants a file that
-/// ends where its bytes end.
+/// A file in memory, for virtiofsd's reader, which needs a file that ends with its bytes. Make it
+/// before seccomp forbids that.
 pub fn scratch() -> io::Result<File> {
     // SAFETY: the name is a C string.
     let fd = unsafe { libc::memfd_create(c"pitskhomu-state".as_ptr(), libc::MFD_CLOEXEC) };
     if fd < 0 {
         return Err(io::Error::last_os_error());
     }
-    // SAFETY: the descriptor is new, and nobody else's.
+    // SAFETY: the descriptor is new, and nothing else owns it.
     Ok(unsafe { File::from_raw_fd(fd) })
 }
 
@@ -37,9 +38,9 @@ fn invalid(why: &str) -> io::Error {
     io::Error::new(io::ErrorKind::InvalidData, why)
 }
 
-/// Sends the state of a core whose rings stand.
+/// Sends the state of a core whose rings are stopped.
 pub fn save<F: ServedFs>(core: &Core<F>, scratch: &File, pipe: File) -> io::Result<()> {
-    // A ring that was never begun has no numbers to save.
+    // A ring whose numbers were never set has none to save.
     let queues = core.rings.iter().filter_map(|ring| ring.lock().queue_if_begun());
     let queues = queues.collect::<Result<Vec<_>, _>>()?;
     send(&core.fs, &core.device, &queues, scratch, pipe)
@@ -59,23 +60,22 @@ fn send(
         .ok_or_else(|| invalid("virtiofsd's state has another form than that of 1.13.2"))?;
     pipe.write_all(&[version | GOES_ON, 0])?;
     pipe.write_all(rest)?;
-    // A record has a queue at least; a device none of whose queues was ever used has no options
-    // either.
+    // A record has at least one queue. If no queue was ever used, there are no options either.
     let mut record = if queues.is_empty() { Vec::new() } else { device.save(queues)? };
     record.extend((record.len() as u32).to_le_bytes());
     record.extend(MARK);
     pipe.write_all(&record)
 }
 
-/// Takes a state over, from a daemon as this one or from virtiofsd.
+/// Receives a state from this daemon on another host, or from virtiofsd.
 pub fn load<F: ServedFs>(core: &Core<F>, scratch: &File, pipe: File) -> io::Result<()> {
     let before = core.descriptors.open()?;
     receive(&core.fs, &core.device, scratch, pipe)?;
-    // virtiofsd's own has the flags that the guest asked for
+    // a state of virtiofsd has the guest's own flags
     core.descriptors.mend_since(&before, core.flags)
 }
 
-/// A state in its two parts: virtiofsd's own, as it wrote it, and the library's record, if it has
+/// Splits a state into virtiofsd's own, as virtiofsd wrote it, and the library's record, if it has
 /// one.
 fn split(mut bytes: Vec<u8>) -> io::Result<(Vec<u8>, Option<Vec<u8>>)> {
     let cut = || invalid("the state is cut short");
@@ -98,15 +98,15 @@ fn split(mut bytes: Vec<u8>) -> io::Result<(Vec<u8>, Option<Vec<u8>>)> {
     Ok((bytes, Some(record)))
 }
 
-/// Which way bytes go by a file in memory.
+/// The direction of bytes through the file in memory.
 enum Scratch<'b> {
-    /// The file is handed out empty, and read.
+    /// virtiofsd gets an empty file and writes to it, and the daemon reads it.
     Read,
-    /// The file is handed out with these bytes, and ends where they end.
+    /// virtiofsd gets a file with exactly these bytes.
     Write(&'b [u8]),
 }
 
-/// Hands a file in memory to virtiofsd, and empties it afterwards.
+/// Passes the file in memory to virtiofsd, and empties it afterwards.
 fn over(
     mut scratch: &File,
     call: impl FnOnce(File) -> io::Result<()>,
@@ -142,7 +142,7 @@ fn receive(
     over(scratch, |file| fs.deserialize_and_apply(file), Scratch::Write(&state))?;
     device.set_options(p::Options::empty());
     match record {
-        // Positions come by SET_VRING_BASE; those of the record aren't wanted.
+        // The front-end sets positions with SET_VRING_BASE, so those of the record aren't used.
         Some(record) if !record.is_empty() => {
             device.restore(&record)?;
         }
@@ -202,7 +202,7 @@ mod tests {
             for cut in 0..sent.len() {
                 assert!(receive(&target, &device, &room, file(&sent[..cut])).is_err(), "{cut}");
             }
-            assert_eq!(*target.0.lock().unwrap(), b"\x01virtiofsd's"); // none of them was handed on
+            assert_eq!(*target.0.lock().unwrap(), b"\x01virtiofsd's"); // none of them was passed on
         }
     }
 
@@ -214,7 +214,7 @@ mod tests {
         assert_eq!(*target.0.lock().unwrap(), b"\x01virtiofsd's");
     }
 
-    /// virtiofsd's own reader takes a version in two bytes.
+    /// virtiofsd's own reader accepts a version of two bytes.
     #[test]
     fn virtiofsds_reader_takes_ours() {
         use virtiofsd::filesystem::FileSystem as _;

@@ -1,5 +1,5 @@
-//! `-o`: options as the C virtiofsd took them, in one word with commas. libvirt before 9.1 starts
-//! its daemon so. The names, the values and the refusals are virtiofsd 1.13.2's.
+//! `-o`: options in the form of the C virtiofsd, in one word with commas. libvirt before 9.1 uses
+//! this form. The names, the values and the refusals are those of virtiofsd 1.13.2.
 use super::values::xattr_map;
 use super::Options;
 use clap::error::ErrorKind;
@@ -19,7 +19,7 @@ fn wrong(name: &str, value: &str) -> Error {
 }
 
 impl Options {
-    /// These options with those behind `-o`, which come last.
+    /// These options with those of `-o`, which are applied last.
     pub fn with_compat(mut self) -> Result<Options, Error> {
         for words in std::mem::take(&mut self.compat_options) {
             self.is_compat = true;
@@ -51,7 +51,7 @@ impl Options {
             "no_posix_acl" => self.refused.posix_acl = false,
             "security_label" => self.refused.security_label = true,
             "no_security_label" => self.refused.security_label = false,
-            // there are no locks that the guest's kernel doesn't keep itself
+            // the guest's kernel keeps all locks itself
             "no_posix_lock" | "no_flock" => {}
             _ => return Err(unknown(name)),
         }

@@ -1,11 +1,11 @@
-//! The values of options, with virtiofsd's words for those that are wrong.
+//! The values of options, with virtiofsd's messages for wrong ones.
 use std::str::FromStr;
 use virtiofsd::passthrough::xattrmap::XattrMap;
 use virtiofsd::passthrough::InodeFileHandlesMode;
 use virtiofsd::seccomp::SeccompAction;
 use virtiofsd::vhost_user::MAX_TAG_LEN;
 
-/// When inodes are held by handles rather than by open descriptors.
+/// Whether inodes are held by file handles or by open descriptors.
 #[derive(Debug, Clone, Copy, PartialEq, Eq)]
 pub enum Handles {
     /// By descriptors.
@@ -14,7 +14,7 @@ pub enum Handles {
     Fallback,
     /// By handles where the host's file system has them.
     Prefer,
-    /// By handles alone.
+    /// Only by handles.
     Mandatory,
 }
 
@@ -41,14 +41,14 @@ impl From<Handles> for InodeFileHandlesMode {
     }
 }
 
-/// What becomes of a system call that the daemon has no use for.
+/// The seccomp filter's action for a system call that the daemon doesn't need.
 #[derive(Debug, Clone, Copy, PartialEq, Eq)]
 pub enum Seccomp {
-    /// It is let through: there is no filter.
+    /// The call is allowed: there is no filter.
     None,
     /// The daemon is killed.
     Kill,
-    /// It is let through and logged.
+    /// The call is allowed and logged.
     Log,
     /// The daemon gets SIGSYS.
     Trap,
@@ -79,7 +79,7 @@ impl Seccomp {
     }
 }
 
-/// A capability that is kept or given up against the habit.
+/// A change to the default capabilities: one that is kept or dropped.
 #[derive(Debug, Clone, PartialEq, Eq)]
 pub struct CapabilityChange {
     /// Its name, without `cap_`.
@@ -88,7 +88,7 @@ pub struct CapabilityChange {
     pub keep: bool,
 }
 
-/// `+sys_admin:-chown`.
+/// The value of --modcaps, as `+sys_admin:-chown`.
 #[derive(Debug, Clone, Default, PartialEq, Eq)]
 pub struct CapabilityChanges(pub Vec<CapabilityChange>);
 

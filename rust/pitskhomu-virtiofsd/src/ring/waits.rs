@@ -1,5 +1,5 @@
-//! Messages that end something wait for the ring's chains. Its threads, and other rings, go on
-//! meanwhile.
+//! The waits of messages that end something for a ring's chains. The ring's threads and other rings
+//! continue meanwhile.
 use super::{Numbers, Ring, State};
 use crate::in_flight::Doing;
 use crate::memory::Table;
@@ -7,17 +7,17 @@ use log::warn;
 use std::sync::{MutexGuard, PoisonError};
 use std::time::Duration;
 
-/// How long a ring that is to end waits for threads that have no chain to take what was offered
-/// before.
+/// The time that a ring which ends waits, without a chain in flight, for its threads to take the
+/// chains that are available.
 pub const LAST_CHAINS: Duration = Duration::from_secs(5);
-/// How long a message waits for chains in flight before the log says so.
+/// The time that a message waits for chains in flight before it logs that.
 const SILENT: Duration = Duration::from_secs(1);
-/// How long none is taken meanwhile, at first. If one is in flight for longer, the ring's other
-/// threads go on until it is returned.
+/// The first time for which no chain is taken meanwhile. If a chain is in flight for longer, the
+/// ring's other threads continue until it is returned.
 const HOLD: Duration = Duration::from_millis(20);
 
 impl Ring {
-    /// The same for so long; whether the condition still holds.
+    /// As `wait_while`, at most for this time. Returns whether the condition still holds.
     fn wait_a_while<'a>(
         &self,
         state: MutexGuard<'a, State>,
@@ -29,9 +29,9 @@ impl Ring {
         (state, timeout.timed_out())
     }
 
-    /// The ring with no chain in flight, for a message. Its threads are held for a moment only: if
-    /// a chain takes long, they go on until it is returned. Each moment is twice as long as the one
-    /// before, so that chains which take as long one after another don't keep the message waiting.
+    /// Locks the ring with no chain in flight, for a message. Its threads are held only for a short
+    /// time: if a chain takes longer, they continue until it is returned. Each time is twice as
+    /// long as the one before, so that a series of long chains doesn't keep the message waiting.
     pub fn quiet(&self, message: &str) -> MutexGuard<'_, State> {
         let (mut state, mut hold) = (self.lock(), HOLD);
         loop {
@@ -74,7 +74,7 @@ impl Ring {
         self.lock().queue.in_flight() > 0
     }
 
-    /// The log says which chains are in flight.
+    /// Logs which chains are in flight.
     pub fn say_what_is_awaited(&self, message: &str) {
         self.say(&self.lock(), message);
     }
@@ -85,11 +85,11 @@ impl Ring {
         warn!("queue {}: {message} waits for chains in flight: {}", self.index, out.join(", "));
     }
 
-    /// The ring is to end: waits until what the driver has offered is taken, for the kicks for it
-    /// came here. Who goes on with the ring may not look: virtiofsd does so when it is kicked, and
-    /// throws QEMU's one kick at the start away if it reads that before the ring is enabled. Chains
-    /// that no thread takes in time stay in the ring. While one is in flight the time doesn't
-    /// count: it is waited for anyway.
+    /// Waits until the available chains of a ring that ends are taken, since their kicks came to
+    /// this daemon. The back-end that continues the ring may not look for them. virtiofsd looks
+    /// only after a kick, and drops QEMU's one kick at the start if it reads that before the ring
+    /// is enabled. Chains that no thread takes in time (`LAST_CHAINS`) stay in the ring. Time with
+    /// a chain in flight doesn't count: the message waits for that chain anyway.
     pub(super) fn take_last(&self, memory: &Table, message: &str) {
         let mut state = self.lock();
         let Numbers { layout, next_avail: first, .. } = state.numbers;
