@@ -30,6 +30,8 @@ pub struct Core<F> {
     pub flags: OpenFlags,
     /// The daemon's own descriptors.
     pub descriptors: Descriptors,
+    /// What each session agrees on.
+    pub always_agreed: pitskhomu::Options,
     memory: RwLock<Arc<Table>>,
 }
 
@@ -45,13 +47,15 @@ pub struct Parts<F> {
     pub flags: OpenFlags,
     /// The daemon's own descriptors.
     pub descriptors: Descriptors,
+    /// What each session agrees on.
+    pub always_agreed: pitskhomu::Options,
 }
 
 impl<F: ServedFs> Core<F> {
     /// A device without memory whose rings aren't started. Each request queue is served by so many
     /// threads.
     pub fn new(parts: Parts<F>) -> io::Result<Core<F>> {
-        let Parts { fs, request_queues, threads, flags, descriptors } = parts;
+        let Parts { fs, request_queues, threads, flags, descriptors, always_agreed } = parts;
         if pitskhomu::version() != pitskhomu::VERSION {
             return Err(io::Error::other("the archive is of another version than the wrapper"));
         }
@@ -63,6 +67,7 @@ impl<F: ServedFs> Core<F> {
             rings,
             flags,
             descriptors,
+            always_agreed,
             memory: RwLock::default(),
         })
     }
