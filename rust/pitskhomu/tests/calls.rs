@@ -113,9 +113,11 @@ fn label() -> Bytes {
     args().d(40).d(1).d(5).d(0).bytes(b"security.x\0").bytes(b"a\0b:c").bytes(&[0; 8])
 }
 
-/// The calls that make a node: the opcode, the arguments before the label, and how the call is
-/// printed with the name and its label, and with the caller's group.
-fn makers() -> [(u32, Bytes, fn(&str, &str) -> String); 4] {
+/// How a call is printed with a name and its label, and with the caller's group.
+type Printed = fn(&str, &str) -> String;
+
+/// The calls that make a node: the opcode, the arguments before the label, and the call.
+fn makers() -> [(u32, Bytes, Printed); 4] {
     [
         (6, args().bytes(b"name\0to\0"), |name, group| {
             format!("symlink ({name}, \"to\", {group})")
