@@ -85,8 +85,7 @@
  *     without its data) over its first bytes; store the two halves of the used element; store the
  *     used index, atomically and with release order; issue a full barrier
  *     (atomic_thread_fence(memory_order_seq_cst)); load the 2 bytes at `seen_at`.
- *  5. Use a chain's windows only until pk_pushed, pk_drop or pk_abandon. Store only into those of
- *     the reply buffer.
+ *  5. Use windows only until pk_pushed, pk_drop or pk_abandon. Store only into reply windows.
  *  6. A chain keeps the regions that it was popped with: leave that memory mapped while the chain
  *     is in flight. Meanwhile new regions must map the queue's rings as the old ones did.
  *  7. In a migration log each page that you stored into, after the store and before pk_pushed. Also
@@ -103,8 +102,7 @@
  * pk_pushed, and from pk_set_notification to the end of the pop that follows.
  *
  * NOTIFICATIONS. None is lost, of the driver or the device, under these rules and VIRTIO's for the
- * driver (2.7.13, 2.7.14). Names in brackets are those of crate notify, whose model loses one
- * without.
+ * driver (2.7.13, 2.7.14). Without a rule in brackets the model of crate notify loses one.
  *   - Before a thread sleeps, after its last pop: pk_set_notification(1), the store, a full
  *     barrier, and one more pop. That pop uses no earlier load of the available index (taker_waits,
  *     late). Sleep if it returns PK_IDLE, or if `max_in_flight` are in flight.
@@ -158,7 +156,7 @@ extern "C" {
 #endif
 
 /* ---------------------------------------------------------------- numbers */
-#define PK_VERSION 8u            /* of this header; pk_version() is the archive's */
+#define PK_VERSION 9u            /* of this header; pk_version() is the archive's */
 #define PK_REGIONS_MAX 64u       /* regions of the guest's memory */
 #define PK_QUEUES_MAX 64u        /* queues in a saved record */
 #define PK_LOAD_MAX 4096u        /* bytes of the longest load of a pop */
@@ -231,7 +229,7 @@ enum pk_request_fault {
  * have `unique`; all but INIT, DESTROY and BATCH_FORGET have `node`; all but INIT and DESTROY have
  * `uid`, `gid` and `pid`. With FUSE_ALLOW_IDMAP (Linux 6.12 and later; always agreed on) uid and
  * gid are 0xffffffff, except in calls that make a node. These also have `group`, a supplementary
- * group, if `has_group`. */
+ * group, if `has_group`, and `label_name` and `label`, if `has_label` (FUSE_SECURITY_CTX). */
 enum pk_call_kind {
     PK_CALL_NONE = 0,         /* -> none: the reply is known (ENOSYS of locks), or none is sent */
     PK_CALL_LOOKUP = 1,       /* name -> entry */
@@ -239,9 +237,9 @@ enum pk_call_kind {
     PK_CALL_GETATTR = 3,      /* handle, if has_handle -> attr */
     PK_CALL_SETATTR = 4,      /* valid (FATTR_), attr, owner, handle, if has_handle -> attr */
     PK_CALL_READLINK = 5,     /* data_len -> data */
-    PK_CALL_SYMLINK = 6,      /* name, value: where it leads; group -> entry */
-    PK_CALL_MKNOD = 8,        /* name, mode, rdev, umask, group -> entry */
-    PK_CALL_MKDIR = 9,        /* name, mode, umask, group -> entry */
+    PK_CALL_SYMLINK = 6,      /* name, value: where it leads; group, label -> entry */
+    PK_CALL_MKNOD = 8,        /* name, mode, rdev, umask, group, label -> entry */
+    PK_CALL_MKDIR = 9,        /* name, mode, umask, group, label -> entry */
     PK_CALL_UNLINK = 10,      /* name -> done */
     PK_CALL_RMDIR = 11,       /* name -> done */
     PK_CALL_RENAME = 12,      /* name in node becomes name2 in node2; flags (RENAME_) -> done */
@@ -253,7 +251,7 @@ enum pk_call_kind {
     PK_CALL_STATFS = 17,      /* -> statfs */
     PK_CALL_RELEASE = 18,     /* handle, flags, flush, unlock, owner -> done */
     PK_CALL_FSYNC = 20,       /* handle, data_only -> done */
-    PK_CALL_SETXATTR = 21,    /* name, value, flags -> done */
+    PK_CALL_SETXATTR = 21,    /* name, value, flags, setxattr_flags -> done */
     PK_CALL_GETXATTR = 22,    /* name, size, data_len -> xattr if size is 0, else data */
     PK_CALL_LISTXATTR = 23,   /* size, data_len -> xattr if size is 0, else data */
     PK_CALL_REMOVEXATTR = 24, /* name -> done */
@@ -264,7 +262,7 @@ enum pk_call_kind {
     PK_CALL_RELEASEDIR = 29,  /* handle, flags -> done */
     PK_CALL_FSYNCDIR = 30,    /* handle, data_only -> done */
     PK_CALL_ACCESS = 34,      /* mode: R_OK, W_OK, X_OK -> done */
-    PK_CALL_CREATE = 35,      /* name, mode, flags, umask, kill_priv, group -> create */
+    PK_CALL_CREATE = 35,      /* name, mode, flags, umask, kill_priv, group, label -> create */
     PK_CALL_DESTROY = 38,     /* set the device's options to 0 -> done. No reply is sent */
     PK_CALL_BATCH_FORGET = 42, /* value: count pairs, read by pk_pair -> none */
     PK_CALL_FALLOCATE = 43,   /* handle, mode, offset, size -> done */
@@ -274,8 +272,7 @@ enum pk_call_kind {
     PK_CALL_COPY_FILE_RANGE = 47, /* handle, offset, size; to node2, handle2, offset2 -> write */
     PK_CALL_SYNCFS = 50,      /* -> done */
 };
-/* Not passed on: FATTR_LOCKOWNER, the flags of COPY_FILE_RANGE, a new node's label, the flags of
- * FUSE_SETXATTR_EXT. So don't agree on FUSE_SECURITY_CTX and FUSE_SETXATTR_EXT. */
+/* Not passed on: FATTR_LOCKOWNER, and the flags of COPY_FILE_RANGE. */
 
 /* The kinds of good answers: reply PK_ANSWER_X with pk_reply_x, DONE with pk_reply_err(.., 0).
  * NONE: make the call, if there is one, then pk_push. pk_reply_err is allowed for each call that
@@ -454,6 +451,9 @@ struct pk_call {
     struct pk_attr attr;
     uint32_t group;
     uint32_t ticket; /* pass it with each answer */
+    struct pk_span label_name, label; /* an extended attribute: its name, and its value */
+    uint32_t setxattr_flags; /* FUSE_SETXATTR_ bits; 0 unless FUSE_SETXATTR_EXT was agreed on */
+    uint8_t has_label;
 };
 
 /* Decodes a request from its first PK_FIRST bytes, or from all if it is shorter. After PK_MORE load

@@ -60,7 +60,7 @@ compile() {
 alone() {
     local threads
     SECONDS_EACH=${SECONDS_EACH:-60}
-    compile checks checks.c escape.c held.c platform.c wild.c front.c
+    compile checks checks.c escape.c held.c labels.c platform.c wild.c front.c
     compile hostile hostile.c front.c
     compile state state.c moved.c front.c
     rm -rf "$work/starts"
@@ -69,6 +69,8 @@ alone() {
     timeout 300 python3 "$here/testing/options.py" "$DAEMON" || failure "options"
     try checks escape
     try checks groups
+    try checks labels
+    try checks lists
     try checks wild "$SECONDS_EACH"
     try checks readonly
     diff <(echo file) "$work/yard/share/file" || failure "readonly: a file changed"

@@ -507,6 +507,10 @@ static void run(const char *what, const char *dir, unsigned count) {
         held(dir, count);
     else if (!strcmp(what, "groups"))
         groups(dir);
+    else if (!strcmp(what, "labels"))
+        labels(dir);
+    else if (!strcmp(what, "lists"))
+        access_lists(dir);
     else if (!strcmp(what, "platform"))
         platform();
     else if (!strcmp(what, "wild"))
@@ -522,7 +526,11 @@ static const char *const *options_for(const char *what) {
     /* Where the daemon isn't the first process of a namespace, a signal that nobody thought of ends
      * it. */
     static const char *const chroot[] = {"--sandbox", "chroot", NULL};
+    static const char *const labelled[] = {"--security-label", NULL};
+    static const char *const listed[] = {"--posix-acl", NULL};
     if (!strcmp(what, "readonly")) return only_read;
+    if (!strcmp(what, "labels")) return labelled;
+    if (!strcmp(what, "lists")) return listed;
     if (!strcmp(what, "wild")) return chroot;
     return strcmp(what, "config") ? NULL : tagged;
 }
@@ -531,14 +539,14 @@ int main(int argc, char **argv) {
     if (argc < 4)
         die("usage: checks DAEMON DIR "
             "escape|readonly|sleeps|pauses|log|rings|config|memory|two|slow|pool|held|groups|"
-            "platform|wild [N]");
+            "labels|lists|platform|wild [N]");
     const char *what = argv[3], *dir = argv[2];
     front_begin(&front, argv[1], dir, options_for(what));
     if (!strcmp(what, "log")) front.features |= 1ull << 26;
     front_set_up(&front);
     front_start_ring(&front, 0, 0);
     front_start_ring(&front, 1, 0);
-    begin_session(&front);
+    if (strcmp(what, "labels")) begin_session(&front); /* it offers no labels */
     run(what, dir, argc > 4 ? (unsigned)strtoul(argv[4], NULL, 10) : 0);
     front_leave(&front);
     return failed;

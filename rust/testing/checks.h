@@ -35,6 +35,10 @@ _Noreturn void platform(void);
 void escape(const char *dir);
 void readonly(void);
 
+/* In labels.c: a new file's label, and access control lists. Each begins sessions of its own. */
+void labels(const char *dir);
+void access_lists(const char *dir);
+
 /* In wild.c: a guest's root that asks for anything. */
 void wild(unsigned seconds);
 

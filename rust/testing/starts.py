@@ -49,7 +49,7 @@ def listener(path, kind):
 
 
 os.makedirs(SHARED, exist_ok=True)
-for word in ("--posix-acl", "--security-label", "--no-such-option"):
+for word in ("--no-such-option", "--posix-acl=yes"):
     status, told = ended(start("--socket-path", PATH, word))
     check(f"{word} is refused by name: {told}", status == 2 and word.split("=")[0] in told)
 told = subprocess.run([DAEMON, "--print-capabilities"], stdout=subprocess.PIPE, check=True).stdout

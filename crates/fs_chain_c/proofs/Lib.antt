@@ -1,5 +1,6 @@
 mod ChainValues
 pub mod HandleLemmas
+pub mod LabelPlaces
 pub mod MemoryLemmas
 pub mod NamePlaces
 pub mod NotifyLemmas

@@ -9,14 +9,12 @@ use Rattle.std.proofs.lemmas.List.Elements.{All-cons, All-nil}
 use Rattle.fuse_in.specs.Shapes.{RecordShape, size, made}
 use Rattle.fuse_wire.specs.declared.others.ForgetOne.{ForgetOne}
 use Rattle.fuse_wire.specs.Records.{forget_one}
-use Rattle.fuse_fs.specs.Calls.{Extra, NewLink}
 use Rattle.fuse_values.specs.Values.{pair_in, pairs_in, pairs_of}
 use Rattle.server_segments.specs.declared.error.Error.{Error}
 use Rattle.server_segments.specs.declared.error.Error.TheVariants.{DecodeMessage, InvalidCString, InvalidHeaderLength, InvalidXattrSize}
 use Rattle.server_segments.specs.declared.error.Error.TheVariants.{MissingParameter}
 use Rattle.server_requests.specs.Reading.{Read, ReadFailure, Faults, and_then, at_zero, before_zero, ended_or, exactly, front_name}
 use Rattle.server_requests.specs.Reading.{last_name, many, name_and_value, name_by, name_or, needs, reading_of, two_names}
-use Rattle.server_requests.specs.Extras.{extra, new_link, new_name}
 use Rattle.server_requests.specs.Fronts.{counted, forget_pair, with_bytes}
 use Rattle.fs_chain_c.specs.Spans.{IsNotZero}
 
@@ -73,7 +71,7 @@ exactly_by : (test : Bool) (n : ℕ) (bytes : List ℕ) → nat_lt (length bytes
 exactly_by true n bytes is = tt
 exactly_by false n bytes is = (refl, refl, ltb-false (length bytes) n is)
 
-exactly_read : (n : ℕ) (bytes : List ℕ) → IfRead (AreFirst n bytes) (exactly n bytes)
+pub exactly_read : (n : ℕ) (bytes : List ℕ) → IfRead (AreFirst n bytes) (exactly n bytes)
 exactly_read n bytes = exactly_by (nat_lt (length bytes) n) n bytes refl
 
 -- a record that was read, and the bytes behind it
@@ -214,7 +212,7 @@ ended_read : (e : Error) (bytes : List ℕ) (split : Option (List ℕ × List �
 ended_read e bytes None h = tt
 ended_read e bytes (Some s) h = h
 
-name_read : (e : Error) (bytes : List ℕ) → IfRead (Ends bytes) (name_or e bytes)
+pub name_read : (e : Error) (bytes : List ℕ) → IfRead (Ends bytes) (name_or e bytes)
 name_read e bytes = ended_read e bytes (at_zero bytes) (is_split bytes)
 
 pub last_read : (bytes : List ℕ) → IfRead (λ (name more : List ℕ). IsName bytes name) (last_name bytes)
@@ -263,50 +261,19 @@ front_by : (test : Bool) (bytes : List ℕ) (r : Read (List ℕ × Bool)) → If
 front_by true bytes r h = tt
 front_by false bytes r h = h
 
-front_read : (bytes : List ℕ) → IfRead (EndsIf bytes) (front_name bytes)
+pub front_read : (bytes : List ℕ) → IfRead (EndsIf bytes) (front_name bytes)
 unfolding front_name
 front_read bytes = front_by (length bytes == 0) bytes (name_by bytes (at_zero bytes)) (by_split bytes (at_zero bytes) (is_split bytes))
 
 -- the end of a reading, if a test holds
-if_needed : {A : Type 0} (Q : A → Type 0) (test : Bool) (r : ReadFailure) (bytes : List ℕ) (a : A) → (test ≡ true → Q a)
+pub if_needed : {A : Type 0} (Q : A → Type 0) (test : Bool) (r : ReadFailure) (bytes : List ℕ) (a : A) → (test ≡ true → Q a)
     → IfRead (λ (a : A) (more : List ℕ). Q a) (and_then (needs test r bytes) (λ z. Ok (a, z.1)))
 if_needed Q true r bytes a h = h refl
 if_needed Q false r bytes a h = tt
 
--- the name of a node that is made
-pub new_read : (options : ℕ) (bytes : List ℕ) → IfRead (λ (x : List ℕ × Extra) (more : List ℕ). IsName bytes x.0) (new_name options bytes)
-unfolding new_name
-new_read options bytes =
-    let New : List ℕ × Extra → List ℕ → Type 0 = λ x more. IsName bytes x.0 in
-    then_read (EndsIf bytes) New (front_name bytes)
-    (λ x. and_then (extra options x.1) (λ y. and_then (needs x.0.1 (Faults InvalidCString) y.1) (λ z. Ok ((x.0.0, y.0), z.1))))
-    (front_read bytes)
-    (λ x h. then_read (λ (more : Extra) (left : List ℕ). Unit {0}) New (extra options x.1)
-    (λ y. and_then (needs x.0.1 (Faults InvalidCString) y.1) (λ z. Ok ((x.0.0, y.0), z.1)))
-    (quiet (extra options x.1))
-    (λ y k. if_needed (λ (n : List ℕ × Extra). IsName bytes n.0) x.0.1 (Faults InvalidCString) y.1 (x.0.0, y.0) (λ yes. (h yes).0)))
-
 pub both : (a b : Bool) → (a && b) ≡ true → (a ≡ true) × (b ≡ true)
 both true b h = (refl, h)
 both false b h = absurd (cc)
-
--- the name of a link, and what it leads to
-pub link_read :
-    (options : ℕ) (bytes : List ℕ) → IfRead (λ (x : NewLink) (more : List ℕ). AreTwo bytes x.name x.link) (new_link options bytes)
-unfolding new_link
-link_read options bytes =
-    let New : NewLink → List ℕ → Type 0 = λ x more. AreTwo bytes x.name x.link in
-    let last : (List ℕ × Bool) → (List ℕ × Bool) → Extra × List ℕ → Read NewLink =
-    λ x y e. and_then (needs (x.1 && y.1) (Faults InvalidCString) e.1) (λ z. Ok (record { name = x.0; link = y.0; extra = e.0 }, z.1)) in
-    then_read (EndsIf bytes) New (front_name bytes)
-    (λ x. and_then (front_name x.1) (λ y. and_then (extra options y.1) (λ e. last x.0 y.0 e))) (front_read bytes)
-    (λ x h. then_read (EndsIf x.1) New (front_name x.1) (λ y. and_then (extra options y.1) (λ e. last x.0 y.0 e)) (front_read x.1)
-    (λ y k. then_read (λ (more : Extra) (left : List ℕ). Unit {0}) New (extra options y.1) (λ e. last x.0 y.0 e) (quiet (extra options y.1))
-    (λ e u. if_needed (λ (n : NewLink). AreTwo bytes n.name n.link) (x.0.1 && y.0.1) (Faults InvalidCString) e.1
-    (record { name = x.0.0; link = y.0.0; extra = e.0 })
-    (λ yes. let each = both x.0.1 y.0.1 yes in
-    let one = h each.0 in
-    (one.0, subst (λ (b : List ℕ). IsName b y.0.0) (sym one.1) (k each.1).0)))))
 
 -- ---- bytes that are cut short
 
@@ -330,7 +297,7 @@ none_in (b ∷ name) zero h bytes = absurd (cc)
 none_in (b ∷ name) (suc k) h bytes = absurd (cc)
 
 -- and so at a place
-place_kept : (name bytes : List ℕ) (n k : ℕ) → Begins (drop k (take n bytes)) name → Begins (drop k bytes) name
+pub place_kept : (name bytes : List ℕ) (n k : ℕ) → Begins (drop k (take n bytes)) name → Begins (drop k bytes) name
 place_kept name bytes n zero h = front_kept name bytes n h
 place_kept name [] zero (suc k) h = h
 place_kept name [] (suc n) (suc k) h = h
@@ -338,14 +305,14 @@ place_kept name (x ∷ bytes) zero (suc k) h = none_in name (suc k) h (drop k by
 place_kept name (x ∷ bytes) (suc n) (suc k) h = place_kept name bytes n k h
 
 -- a byte of the first ones is one of all, and so is one behind some
-get_take : (bytes : List ℕ) (n i b : ℕ) → slice_get (take n bytes) i ≡ Some b → slice_get bytes i ≡ Some b
+pub get_take : (bytes : List ℕ) (n i b : ℕ) → slice_get (take n bytes) i ≡ Some b → slice_get bytes i ≡ Some b
 get_take [] zero i b h = h
 get_take [] (suc n) i b h = h
 get_take (x ∷ bytes) zero i b h = absurd (cc)
 get_take (x ∷ bytes) (suc n) zero b h = h
 get_take (x ∷ bytes) (suc n) (suc i) b h = get_take bytes n i b h
 
-get_drop : (bytes : List ℕ) (k i : ℕ) → slice_get (drop k bytes) i ≡ slice_get bytes (k + i)
+pub get_drop : (bytes : List ℕ) (k i : ℕ) → slice_get (drop k bytes) i ≡ slice_get bytes (k + i)
 get_drop bytes zero i = let same : i ≡ zero + i = omega arith in ap (slice_get bytes) same
 get_drop [] (suc k) i = refl
 get_drop (x ∷ bytes) (suc k) i = let same : suc (k + i) ≡ suc k + i = omega arith in get_drop bytes k i ∙ ap (slice_get (x ∷ bytes)) same

@@ -36,8 +36,8 @@ use Rattle.fs_chain.specs.Decoding.{IfUndecoded, KeepsCall, wanted_after, wanted
 use Rattle.fs_chain.specs.Orders.{ask_error, room_len}
 use Rattle.fs_chain_c.specs.declared.call.FsCall.{FsCall}
 use Rattle.fs_chain_c.specs.Decoding as asking
-use Rattle.fs_chain_c.specs.Decoding.{TellsAsked}
-use Rattle.fs_chain_c.specs.Calls.{call_fields, opcode_in, told_call}
+use Rattle.fs_chain_c.specs.Decoding.{TellsAsked, fault_after}
+use Rattle.fs_chain_c.specs.Calls.{call_fields, opcode_in}
 use Rattle.fs_chain_c.specs.Spans.{AskedSpansHoldNames, HasNames, IfCall}
 use Rattle.fs_chain_c.proofs.NamePlaces.{IfRead, both, quiet, then_read}
 use Rattle.fs_chain_c.proofs.SpanLemmas.{header_in, header_opcode, header_read, meaning_is, names_hold}
@@ -73,7 +73,7 @@ write_means options room all =
 
 -- it has no names
 write_has : (request bytes : List ℕ) (made : values.FileCall) (call : FsCall) → IsWrite (call_of bytes made) → HasNames request made call
-write_has request bytes (value.Write context node handle len size offset owner delayed kill flags) call is = tt
+write_has request bytes (value.Write context node handle len size offset owner delayed kill flags) call is = (tt, tt)
 write_has request bytes _ call is = absurd is
 
 -- ---- a request that begins as one
@@ -129,7 +129,7 @@ by_front : (b : Bool) (out : InFlight) (kept : state.ChainState) (s : Session) (
     → (length request == out.request_len) ≡ b
     → length request < 2 ^ 32 → length request ≤ out.request_len
     → (b || (nat_le 80 (length request) && nat_le (length request) out.request_len && begins_a_write request)) ≡ true
-    → Keeps out kept s request made → HasNames request made (told_call (opcode_in request) s.options.0 other made)
+    → Keeps out kept s request made → HasNames request made (call_fields request s.options.0 other made)
 by_front true out kept s request made other is small fits tells keeps =
     let m = meaning s.options.0 request out.room_len in
     let told = asks_of (setting s.page_size s.options.0 out.room_len) m (drop 80 request) made out kept
@@ -151,7 +151,7 @@ by_front false out kept s request made other is small fits tells keeps =
     let write : is_write (opcode_of (opcode_in all)) ≡ true =
     ap (λ (o : ℕ). is_write (opcode_of o)) (opcode_more request more long) ∙ write_begins request tests.1 in
     let writes : IsWrite (first_call told.0) = subst MeansWrite told.1 (write_means s.options.0 out.room_len all write) in
-    write_has request (drop 80 all) made (told_call (opcode_in request) s.options.0 other made) (subst IsWrite (sym told.2) writes)
+    write_has request (drop 80 all) made (call_fields request s.options.0 other made) (subst IsWrite (sym told.2) writes)
 
 fits_by : (test : Bool) → ◌≡◌ {A = Option ChainError} (if test then Some BadArgument else None) None → test ≡ false
 fits_by true e = absurd (cc)
@@ -165,7 +165,7 @@ call_named :
     (before kept : state.ChainState) (s : Session) (request : List ℕ) (made : values.FileCall) (other : ℕ) → length request < 2 ^ 32
     → ask_error before (length request) ≡ None → IfUndecoded before (λ out. Keeps out kept s request made)
     → IfUndecoded before (λ out. wanted_by (tells.Call made) ≡ wanted_after request out.request_len)
-    → HasNames request made (told_call (opcode_in request) s.options.0 other made)
+    → HasNames request made (call_fields request s.options.0 other made)
 call_named (at.Taken out) kept s request made other small can keeps wanted =
     by_front (length request == out.request_len) out kept s request made other refl small
     (ltb-false out.request_len (length request) (fits_by (nat_lt out.request_len (length request)) can))
@@ -180,8 +180,10 @@ told_named b asked b' s request (tells.Call made) fields call status ticket smal
     let room = room_len asked.state in
     let named = call_named b.state asked.state s request made room small asks.can asks.tells asks.wanted in
     let same : asked.session.options.0 ≡ s.options.0 = ap (λ (x : Session). x.options.0) asks.session in
-    let here : call ≡ record (call_fields request s.options.0 room made) { ticket = ticket } =
-    is ∙ ap (λ (f : FsCall). record f { ticket = ticket }) (tells.1 ∙ ap (λ (o : ℕ). call_fields request o room made) same) in
+    let fault = fault_after tells.1 in
+    let here : call ≡ record (call_fields request s.options.0 room made) { fault = fault; ticket = ticket } =
+    is ∙ ap (λ (f : FsCall). record f { ticket = ticket })
+    (tells.3 ∙ ap (λ (o : ℕ). record (call_fields request o room made) { fault = fault }) same) in
     subst (λ (x : FsCall). HasNames request made x) (sym here) named
 told_named b asked b' s request _ fields call status ticket small asks tells is = tt
 

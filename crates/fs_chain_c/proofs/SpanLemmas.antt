@@ -1,7 +1,7 @@
 -- The names of a request stand where its call is told that they do.
 use Rattle.std.proofs.Common.{◌≡◌, ◌∙◌, ℕ, zero, suc, ◌+◌, ◌-◌, ◌*◌, ◌/◌, ◌<◌, ◌≤◌, ◌^◌, min, Bool, true, false, ◌&&◌}
 use Rattle.std.proofs.Common.{List, [], ◌∷◌, length, take, drop, Option, Some, None, Ok, Err, refl, ap, sym, subst, arith, true≢false}
-use Rattle.std.specs.Prelude.{◌==◌, nat_lt, nat_le, not, bit_and, slice_get, if◌then◌else◌}
+use Rattle.std.specs.Prelude.{◌==◌, nat_lt, nat_le, not, bit_and, option_map, slice_get, if◌then◌else◌}
 use Rattle.std.specs.Int.{w32, from_le_bytes}
 use Rattle.std.proofs.lemmas.Bool.{eq-eqb, eqb-true, le-ltb, ltb-false}
 use Rattle.std.proofs.lemmas.List.{drop-drop, drop-take, length-drop, length-take, take-take}
@@ -17,7 +17,8 @@ use Rattle.fuse_fs.specs.Calls.{FileCall, Extra, NewLink, BatchForget, Lookup, S
 use Rattle.fuse_fs.specs.Calls.{Getxattr, Removexattr, Create}
 use Rattle.fuse_values.specs.declared.call.FileCall as values
 use Rattle.fuse_values.specs.declared.call.FileCall.TheVariants as value
-use Rattle.fuse_values.specs.Values.{call_of}
+use Rattle.fuse_values.specs.declared.received.Label.{Label}
+use Rattle.fuse_values.specs.Values.{call_of, label_of}
 use Rattle.server_segments.specs.declared.error.Error.{Error}
 use Rattle.server_segments.specs.declared.error.Error.TheVariants.{DecodeMessage, EncodeMessage}
 use Rattle.server_requests.specs.Reading.{Read, ReadFailure, Reading, Faults, Sends, ◌>>=◌, ◌>>◌, and_then, give, last_name, many}
@@ -31,10 +32,13 @@ use Rattle.virtiofsd_fuse.specs.Grammar as grammar
 use Rattle.virtiofsd_fuse.specs.Grammar.{Asks, FileCommand, Given, IsFault, Lists, Meaning, Replies, ended, given, meaning, meant, one, row}
 use Rattle.virtiofsd_fuse.specs.Grammar.{row_of, with_header}
 use Rattle.virtiofsd_fuse.specs.Listings.{listing_of}
-use Rattle.fs_chain_c.specs.Calls.{at_rename, at_setxattr, behind, low, opcode_in, span, told_call}
-use Rattle.fs_chain_c.specs.Spans.{HasNames, IsNameAt, SpansHoldNames, bytes_at}
+use Rattle.fs_chain_c.specs.declared.call.FsCall.{FsCall}
+use Rattle.fs_chain_c.specs.Calls.{at_rename, at_setxattr, behind, behind_names, call_fields, label_in, label_name_at, labelled, low}
+use Rattle.fs_chain_c.specs.Calls.{numbered, opcode_in, past, span, told_call, word_at}
+use Rattle.fs_chain_c.specs.Spans.{AreNames, HasNames, IsLabelAt, IsNameAt, SpansHoldNames, bytes_at}
+use Rattle.fs_chain_c.proofs.LabelPlaces.{IsNew, IsNewLink, LabelAt, label_place, link_kept, link_read, new_kept, new_read, word}
 use Rattle.fs_chain_c.proofs.NamePlaces.{ArePairs, AreNameAndValue, AreTwo, IfRead, IsName, IsRecord, NameStandsAt, StandBehind, StandsAt}
-use Rattle.fs_chain_c.proofs.NamePlaces.{both, counted_read, get_within, last_read, link_read, name_kept, needed, new_read, pairs_held}
+use Rattle.fs_chain_c.proofs.NamePlaces.{both, counted_read, get_within, last_read, name_kept, needed, pairs_held}
 use Rattle.fs_chain_c.proofs.NamePlaces.{pairs_read, record_read, then_read, two_kept, two_read, value_kept, value_read, with_bytes_read}
 
 -- where the first name of RENAME or RENAME2 stands, by the request
@@ -48,8 +52,11 @@ NamesStand bytes o options (Lookup context node name) = NameStandsAt 40 bytes na
 NamesStand bytes o options (BatchForget context counts) = (n : ℕ) × ArePairs n (drop 48 bytes) counts
 NamesStand bytes o options (Symlink context link node name extra) =
     NameStandsAt 40 bytes name × NameStandsAt (40 + (length name + 1)) bytes link
-NamesStand bytes o options (Mknod context node name mode rdev umask extra) = NameStandsAt 56 bytes name
-NamesStand bytes o options (Mkdir context node name mode umask extra) = NameStandsAt 48 bytes name
+    × LabelAt bytes (40 + (length name + 1) + (length link + 1)) extra.security
+NamesStand bytes o options (Mknod context node name mode rdev umask extra) =
+    NameStandsAt 56 bytes name × LabelAt bytes (56 + (length name + 1)) extra.security
+NamesStand bytes o options (Mkdir context node name mode umask extra) =
+    NameStandsAt 48 bytes name × LabelAt bytes (48 + (length name + 1)) extra.security
 NamesStand bytes o options (Unlink context node name) = NameStandsAt 40 bytes name
 NamesStand bytes o options (Rmdir context node name) = NameStandsAt 40 bytes name
 NamesStand bytes o options (Rename context node old new_dir new flags) =
@@ -59,7 +66,8 @@ NamesStand bytes o options (Setxattr context node name content flags further) =
     NameStandsAt (at_setxattr options) bytes name × StandsAt (at_setxattr options + (length name + 1)) bytes content
 NamesStand bytes o options (Getxattr context node name size) = NameStandsAt 48 bytes name
 NamesStand bytes o options (Removexattr context node name) = NameStandsAt 40 bytes name
-NamesStand bytes o options (Create context node name mode kill flags umask extra) = NameStandsAt 56 bytes name
+NamesStand bytes o options (Create context node name mode kill flags umask extra) =
+    NameStandsAt 56 bytes name × LabelAt bytes (56 + (length name + 1)) extra.security
 NamesStand bytes o options _ = Unit {0}
 
 -- and so of the call that a request means
@@ -141,12 +149,12 @@ module _ (all : List ℕ) (o : Option Opcode) (g : Given) where
       (λ x h. inside (parts g x.0.0) (c g.header x.0.0) Is x.0.1 x.1 k h.0 h.1 (reads x.0.0 x.0.1) (λ a i. has x.0.0 a h.0 i))
 
   new_stands : {R : Type 0} (s : RecordShape R) (k : ℕ) (c : InHeader → R → List ℕ × Extra → FileCall) → size s.parts ≡ k
-      → ((r : R) (x : List ℕ × Extra) → NameStandsAt (40 + k) all x.0 → Has (c g.header r x))
+      → ((r : R) (x : List ℕ × Extra) → NameStandsAt (40 + k) all x.0 × LabelAt all (40 + k + (length x.0 + 1)) x.1.security
+      → Has (c g.header r x))
       → Stands (grammar.new_name_row s k c g (drop 40 all))
   new_stands {R} s k c is has =
-      bytes_stands (λ g. with_bytes s k g.header.len) (λ g r. new_name g.options) c (40 + k)
-      (λ (bytes : List ℕ) (x : List ℕ × Extra). IsName bytes x.0)
-      (with_bytes_read s k g.header.len all is) (λ r bytes. new_read g.options bytes) (λ r x n h. has r x (name_kept all x.0 (40 + k) n h))
+      bytes_stands (λ g. with_bytes s k g.header.len) (λ g r. new_name g.options) c (40 + k) IsNew
+      (with_bytes_read s k g.header.len all is) (λ r bytes. new_read g.options bytes) (λ r x n h. has r x (new_kept all x (40 + k) n h))
 
   record_name_stands : {R : Type 0} (s : RecordShape R) (k : ℕ) (c : InHeader → R → List ℕ → FileCall) → size s.parts ≡ k
       → ((r : R) (name : List ℕ) → NameStandsAt (40 + k) all name → Has (c g.header r name))
@@ -168,12 +176,12 @@ module _ (all : List ℕ) (o : Option Opcode) (g : Given) where
 
   symlink_stands :
       ((x : NewLink) → NameStandsAt 40 all x.name × NameStandsAt (40 + (length x.name + 1)) all x.link
+      × LabelAt all (40 + (length x.name + 1) + (length x.link + 1)) x.extra.security
       → Has (request.symlink_call g.header x))
       → Stands (grammar.symlink_row g (drop 40 all))
   symlink_stands has =
-      counted_stands (new_link g.options) (request.symlink_call g.header) (λ (bytes : List ℕ) (x : NewLink). AreTwo bytes x.name x.link)
-      (λ bytes. link_read g.options bytes)
-      (λ x n h. has x (two_kept all x.name x.link 40 n h))
+      counted_stands (new_link g.options) (request.symlink_call g.header) IsNewLink (λ bytes. link_read g.options bytes)
+      (λ x n h. has x (link_kept all x 40 n h))
 
   -- a test, and then a name
   tested_read :
@@ -475,18 +483,22 @@ setxattr_low : (b : Bool) → low (if b then 48 else 56) ≡ (if b then 48 else 
 setxattr_low true = refl
 setxattr_low false = refl
 
+-- the spans of a call's names
+abbrev Named : (request : List ℕ) → values.FileCall → FsCall → Type 0
+Named all made told = AreNames all made told.name told.name2 told.value
+
 told_holds : (all bytes : List ℕ) (opcode options room : ℕ) (made : values.FileCall) → length all < 2 ^ 32
-    → NamesStand all (opcode_of opcode) options (call_of bytes made) → HasNames all made (told_call opcode options room made)
+    → NamesStand all (opcode_of opcode) options (call_of bytes made) → Named all made (told_call opcode options room made)
 told_holds all bytes opcode options room (value.Lookup context node name) small h = name_held all name.now 40 40 small (λ l. refl) h
 told_holds all bytes opcode options room (value.BatchForget context counts) small h =
     let left : length (drop 48 all) ≡ length all - 48 = length-drop 48 all in
     pairs_held counts.now (drop 48 all) h.0 (low (16 * (length counts.now / 16))) h.1 (λ fits. omega (arith, left, small, fits))
 told_holds all bytes opcode options room (value.Symlink context link node name extra) small h =
-    two_held all name.now link.now 40 small refl h
+    two_held all name.now link.now 40 small refl (h.0, h.1)
 told_holds all bytes opcode options room (value.Mknod context node name mode rdev umask extra) small h =
-    name_held all name.now 56 56 small (λ l. refl) h
+    name_held all name.now 56 56 small (λ l. refl) h.0
 told_holds all bytes opcode options room (value.Mkdir context node name mode umask extra) small h =
-    name_held all name.now 48 48 small (λ l. refl) h
+    name_held all name.now 48 48 small (λ l. refl) h.0
 told_holds all bytes opcode options room (value.Unlink context node name) small h = name_held all name.now 40 40 small (λ l. refl) h
 told_holds all bytes opcode options room (value.Rmdir context node name) small h = name_held all name.now 40 40 small (λ l. refl) h
 told_holds all bytes opcode options room (value.Rename context node old new_dir new flags) small h =
@@ -499,18 +511,86 @@ told_holds all bytes opcode options room (value.Setxattr context node name conte
 told_holds all bytes opcode options room (value.Getxattr context node name size) small h = name_held all name.now 48 48 small (λ l. refl) h
 told_holds all bytes opcode options room (value.Removexattr context node name) small h = name_held all name.now 40 40 small (λ l. refl) h
 told_holds all bytes opcode options room (value.Create context node name mode kill flags umask extra) small h =
-    name_held all name.now 56 56 small (λ l. refl) h
+    name_held all name.now 56 56 small (λ l. refl) h.0
 told_holds all bytes opcode options room _ small h = tt
 
--- the names of the call that a request means stand where they are told to
+-- ---- what is told of a label
+
+-- the spans of a label hold it
+abbrev LabelHeld : (request : List ℕ) → (at : ℕ) → Option Label → Type 0
+LabelHeld all at None = Unit {0}
+LabelHeld all at (Some l) =
+    let name = label_name_at all at in
+    IsLabelAt all (Some l) (span name (length l.name.now)) (span (behind name (length l.name.now)) (length l.secctx.now))
+
+word_told : (all : List ℕ) (at : ℕ) → at + 4 ≤ length all → word_at all at ≡ word 0 (drop at all)
+word_told all at long =
+    let test : nat_lt (length all - at) 4 ≡ false = le-ltb (length all - at) 4 (omega (arith, long)) in
+    rw test refl
+
+-- where the name stands, by a test of the first extension's kind
+place_by : (first : Bool) (at size len : ℕ) → len < 2 ^ 32 → at + (if first then 16 else size + 16) < len
+    → past (if first then at else past at size) 16 ≡ at + (if first then 16 else size + 16)
+place_by true at size len small within = omega (arith, small, within)
+place_by false at size len small within = omega (arith, small, within)
+
+place_told : (all : List ℕ) (at : ℕ) → length all < 2 ^ 32 → at + 8 ≤ length all → at + label_place (drop at all) < length all
+    → label_name_at all at ≡ at + label_place (drop at all)
+place_told all at small long within =
+    let size : word_at all at ≡ word 0 (drop at all) = word_told all at (omega (arith, long)) in
+    let next : past at 4 ≡ at + 4 = omega (arith, small, long) in
+    let kind : word_at all (past at 4) ≡ word 4 (drop at all) =
+    ap (word_at all) next ∙ word_told all (at + 4) (omega (arith, long))
+    ∙ ap (λ (b : List ℕ). from_le_bytes w32 (take 4 b)) (sym (drop-drop 4 at all)) in
+    ap (λ (n : ℕ). past (if n == 1 then at else past at (word_at all at)) 16) kind
+    ∙ ap (λ (n : ℕ). past (if word 4 (drop at all) == 1 then at else past at n) 16) size
+    ∙ place_by (word 4 (drop at all) == 1) at (word 0 (drop at all)) (length all) small within
+
+label_held : (all : List ℕ) (at k : ℕ) (o : Option Label) → length all < 2 ^ 32 → (k < length all → at ≡ k)
+    → LabelAt all k (option_map label_of o)
+    → LabelHeld all at o
+label_held all at k None small is h = tt
+label_held all at k (Some l) small is h =
+    let long = h.0 in
+    let name = l.name.now in
+    let p = k + label_place (drop k all) in
+    let within : p + length name < length all = get_within all (p + length name) 0 h.1.0.2 in
+    let here : at ≡ k = is (omega (arith, long)) in
+    let there : label_name_at all at ≡ p = ap (label_name_at all) here ∙ place_told all k small long (omega (arith, within)) in
+    let whole : low p ≡ p = omega (arith, within, small) in
+    subst (λ (n : ℕ). IsLabelAt all (Some l) (span n (length name)) (span (behind n (length name)) (length l.secctx.now))) (sym there)
+    (value_held all name l.secctx.now p small whole h.1)
+
+label_told : (all bytes : List ℕ) (o : Option Opcode) (options : ℕ) (made : values.FileCall) → length all < 2 ^ 32
+    → NamesStand all o options (call_of bytes made) → LabelHeld all (behind_names made) (label_in made)
+label_told all bytes o options (value.Symlink context link node name extra) small h =
+    label_held all (behind (behind 40 (length name.now)) (length link.now)) (40 + (length name.now + 1) + (length link.now + 1))
+    extra.secctx small (λ l. omega (arith, small, l)) h.2
+label_told all bytes o options (value.Mknod context node name mode rdev umask extra) small h =
+    label_held all (behind 56 (length name.now)) (56 + (length name.now + 1)) extra.secctx small (λ l. omega (arith, small, l)) h.1
+label_told all bytes o options (value.Mkdir context node name mode umask extra) small h =
+    label_held all (behind 48 (length name.now)) (48 + (length name.now + 1)) extra.secctx small (λ l. omega (arith, small, l)) h.1
+label_told all bytes o options (value.Create context node name mode kill flags umask extra) small h =
+    label_held all (behind 56 (length name.now)) (56 + (length name.now + 1)) extra.secctx small (λ l. omega (arith, small, l)) h.1
+label_told all bytes o options _ small h = tt
+
+-- with the spans of a label a call's spans hold its names as before
+with_label : (all : List ℕ) (made : values.FileCall) (at : ℕ) (o : Option Label) (told : FsCall) → Named all made told → LabelHeld all at o
+    → Named all made (labelled all at o told) × IsLabelAt all o (labelled all at o told).label_name (labelled all at o told).label
+with_label all made at None told h k = (h, tt)
+with_label all made at (Some l) told h k = (h, k)
+
+-- the names and the label of the call that a request means stand where they are told to
 pub names_hold : (all bytes : List ℕ) (options room other : ℕ) (command : FileCommand) (made : values.FileCall) → length all < 2 ^ 32
     → meaning options all room ≡ Asks command → call_of bytes made ≡ first_call command
-    → HasNames all made (told_call (opcode_in all) options other made)
+    → HasNames all made (call_fields all options other made)
 names_hold all bytes options room other command made small means calls =
     let o = opcode_of (opcode_in all) in
     let stand : NamesStand all o options (first_call command) =
     subst (λ (m : Meaning). MeansNames all o options m) means (meaning_stands options room all) in
-    told_holds all bytes (opcode_in all) options other made small (subst (λ (c : FileCall). NamesStand all o options c) (sym calls) stand)
+    let here : NamesStand all o options (call_of bytes made) = subst (λ (c : FileCall). NamesStand all o options c) (sym calls) stand in
+    with_label all made (behind_names made) (label_in made) (numbered all (told_call (opcode_in all) options other made))
+    (told_holds all bytes (opcode_in all) options other made small here) (label_told all bytes o options made small here)
 
 pub spans_hold_names : SpansHoldNames
 spans_hold_names request bytes options room command made = names_hold request bytes options room room command made

@@ -1,11 +1,12 @@
 -- The fields of a request's file call, as the library returns them to C.
 use Rattle.std.specs.Prelude.{◌==◌, ◌+◌, ◌-◌, ◌*◌, ◌/◌, ◌^◌, ℕ, Bool, true, false, List, length, take, drop}
-use Rattle.std.specs.Prelude.{min, nat_lt, bit_and, is_some, unwrap_or, if◌then◌else◌}
+use Rattle.std.specs.Prelude.{Option, Some, None, min, nat_lt, bit_and, is_some, unwrap_or, if◌then◌else◌}
 use Rattle.std.specs.Int.{w32, w64, cast_unsigned, from_le_bytes}
 use Rattle.fuse_fs.specs.declared.answers.Context.{Context}
 use Rattle.fuse_in.specs.declared.nodes.SetattrIn.{SetattrIn}
 use Rattle.fuse_values.specs.declared.call.FileCall.{FileCall}
 use Rattle.fuse_values.specs.declared.call.FileCall.TheVariants as value
+use Rattle.fuse_values.specs.declared.received.Label.{Label}
 use Rattle.fuse_wire.specs.declared.opcodes.Opcode.{Opcode}
 use Rattle.fuse_wire.specs.declared.opcodes.Opcode.TheVariants as op
 use Rattle.fs_chain_c.specs.declared.answer_kind.AnswerKind.{AnswerKind}
@@ -83,6 +84,10 @@ no_call = record {
   attr = no_attr;
   group = 0;
   ticket = 0;
+  label_name = nowhere;
+  label = nowhere;
+  setxattr_flags = 0;
+  has_label = 0;
 }
 
 -- a number as a 32-bit field: the greatest, if it doesn't fit
@@ -284,6 +289,7 @@ told_call opcode options room (value.Setxattr context node name value flags extr
       name = span (at_setxattr options) (length name.now);
       value = span (behind (at_setxattr options) (length name.now)) (length value.now);
       flags = flags;
+      setxattr_flags = extra.0;
     }
 told_call opcode options room (value.Getxattr context node name size) =
     record (made_by op.Getxattr awaits.Data context node) {
@@ -370,6 +376,56 @@ unique_in request = if nat_lt (length request) 16 then 0 else from_le_bytes w64 
 abbrev pub numbered : List ℕ → FsCall → FsCall
 numbered request call = record call { opcode = opcode_in request; unique = unique_in request }
 
+-- ---- a new node's label
+
+-- the label that comes with a request, if it makes a node and has one
+abbrev pub label_in : FileCall → Option Label
+label_in (value.Symlink context link node name extra) = extra.secctx
+label_in (value.Mknod context node name mode rdev umask extra) = extra.secctx
+label_in (value.Mkdir context node name mode umask extra) = extra.secctx
+label_in (value.Create context node name mode kill flags umask extra) = extra.secctx
+label_in _ = None
+
+-- the offset behind the names of a request that makes a node: that of its first extension
+abbrev pub behind_names : FileCall → ℕ
+behind_names (value.Symlink context link node name extra) =
+    behind (behind 40 (length name.now)) (length link.now)
+behind_names (value.Mknod context node name mode rdev umask extra) = behind 56 (length name.now)
+behind_names (value.Mkdir context node name mode umask extra) = behind 48 (length name.now)
+behind_names (value.Create context node name mode kill flags umask extra) = behind 56 (length name.now)
+behind_names _ = 0
+
+-- the offset that is n bytes behind another
+abbrev pub past : (at n : ℕ) → ℕ
+past at n = min (at + n) (2 ^ 64 - 1)
+
+-- four bytes of a request as a number; 0 if it ends before
+abbrev pub word_at : (request : List ℕ) → (at : ℕ) → ℕ
+word_at request at =
+    if nat_lt (length request - at) 4 then 0 else from_le_bytes w32 (take 4 (drop at request))
+
+-- the offset of a label's name, by that of the first extension. An extension begins with its length and its
+-- kind (struct fuse_ext_header), and a label's is of kind 1: it is the first one, or follows the group's.
+-- Its name is behind that header and struct fuse_secctx, of 8 bytes each
+abbrev pub label_name_at : (request : List ℕ) → (at : ℕ) → ℕ
+label_name_at request at =
+    past (if word_at request (past at 4) == 1 then at else past at (word_at request at)) 16
+
+-- a call's fields with the offsets of a label and its name: the label is behind the name's zero byte
+abbrev pub labelled : (request : List ℕ) → (at : ℕ) → Option Label → FsCall → FsCall
+labelled request at None call = call
+labelled request at (Some l) call =
+    let name = label_name_at request at in
+    record call {
+      has_label = 1;
+      label_name = span name (length l.name.now);
+      label = span (behind name (length l.name.now)) (length l.secctx.now);
+    }
+
+-- ---- the fields of a call
+
 -- the fields of a call, by its request, the agreed options and the length of the reply buffer
 abbrev pub call_fields : (request : List ℕ) → (options room : ℕ) → FileCall → FsCall
-call_fields request options room call = numbered request (told_call (opcode_in request) options room call)
+call_fields request options room call =
+    labelled request (behind_names call) (label_in call)
+    (numbered request (told_call (opcode_in request) options room call))

@@ -1,12 +1,13 @@
 -- The result of decoding a request, as C gets it, and the result of an answer.
-use Rattle.std.specs.Prelude.{◌≡◌, ◌⊎◌, ℕ, List, length, drop, bit_and, Option, Some, None, Result, Ok, Err}
-use Rattle.std.specs.Prelude.{IfOk, IfErr, OnOk, OnErr, if◌then◌else◌}
+use Rattle.std.specs.Prelude.{◌≡◌, ◌==◌, ◌⊎◌, ℕ, List, length, drop, bit_and, Option, Some, None}
+use Rattle.std.specs.Prelude.{Result, Ok, Err, IfOk, IfErr, OnOk, OnErr, if◌then◌else◌}
 use Rattle.fuse_values.specs.declared.answer.FileAnswer.{FileAnswer}
 use Rattle.fuse_values.specs.declared.answer.FileAnswer.TheVariants as answer
 use Rattle.fuse_values.specs.declared.call.FileCall.{FileCall}
 use Rattle.fuse_values.specs.declared.call.FileCall.TheVariants as value
 use Rattle.server_phases.specs.Asking.{IsRequestFront}
 use Rattle.server_phases.specs.declared.session.Session.{Session}
+use Rattle.server_segments.specs.declared.error.Error.TheVariants.{EncodeMessage}
 use Rattle.server_segments.specs.Errors.{error_number}
 use Rattle.virtiofsd_fuse.specs.Grammar.{known_options, meaning}
 use Rattle.virtiofsd_fuse.specs.Serving.{setting}
@@ -68,10 +69,14 @@ answer_unasked value.NotifyReply = Some (answer.Failed 38)
 answer_unasked value.TmpFile = Some (answer.Failed 38)
 answer_unasked _ = None
 
--- such a call is answered at once; another call waits for C's answer
-abbrev pub AnswersAtOnce : ChainHandle → Option FileAnswer → ChainHandle → Type 0
-AnswersAtOnce b None b' = b' ≡ b
-AnswersAtOnce b (Some a) b' = (status : ℕ) × AnswersHandle b b.serial a status b'
+-- such a call is answered at once, with this status; another call waits for C's answer
+abbrev pub AnswersAtOnce : ChainHandle → Option FileAnswer → (status : ℕ) → ChainHandle → Type 0
+AnswersAtOnce b None status b' = (status ≡ 0) × (b' ≡ b)
+AnswersAtOnce b (Some a) status b' = AnswersHandle b b.serial a status b'
+
+-- the fault of a call that was answered at once: `EncodeMessage`, if the reply buffer is too small
+abbrev pub fault_after : (status : ℕ) → ℕ
+fault_after status = if status == 35 then error_number EncodeMessage else 0
 
 -- a `ChainHandle` decodes the first bytes of a request in a session, which it keeps. The result is the
 -- meaning of each request that begins with these bytes and is as long as the chain's
@@ -97,14 +102,16 @@ pub record CannotAsk (w : ChainHandle) (request : List ℕ) (e : ChainError) (w'
 abbrev pub IsDeviceSession : FsDevice → Session → Type 0
 IsDeviceSession d s = (s.page_size ≡ d.page_size) × (s.options.0 ≡ bit_and d.options known_options)
 
--- the result of decoding, as C gets it: the call; how many bytes decoding needs (34); nothing, if there is no
--- call; or the fault
+-- the result of decoding, as C gets it: the call, or the fault of its reply; how many bytes decoding needs
+-- (34); nothing, if there is no call; or the fault
 abbrev pub TellsAsked :
     ChainHandle → (request : List ℕ) → told.Decoded → FsCall → (status : ℕ) → ChainHandle → Type 0
 TellsAsked b request (tells.Call made) call status b' =
     (status ≡ 0)
-    × (call ≡ call_fields request b.session.options.0 (room_len b.state) made)
-    × AnswersAtOnce b (answer_unasked made) b'
+    × (answered : ℕ) × AnswersAtOnce b (answer_unasked made) answered b'
+    × (call ≡ record (call_fields request b.session.options.0 (room_len b.state) made) {
+      fault = fault_after answered;
+    })
 TellsAsked b request (tells.More n) call status b' =
     (status ≡ 34) × (call ≡ numbered request (record no_call { needed = low n })) × (b' ≡ b)
 TellsAsked b request tells.Nothing call status b' =

@@ -1,7 +1,9 @@
 -- The bytes of a request at the spans that C gets.
-use Rattle.std.specs.Prelude.{◌≡◌, ◌+◌, ◌<◌, ◌^◌, ℕ, All, List, Some, length, take, drop, slice_get}
+use Rattle.std.specs.Prelude.{◌≡◌, ◌+◌, ◌<◌, ◌^◌, ℕ, All, List, Option, Some, None}
+use Rattle.std.specs.Prelude.{length, take, drop, slice_get}
 use Rattle.fuse_values.specs.declared.call.FileCall.{FileCall}
 use Rattle.fuse_values.specs.declared.call.FileCall.TheVariants as value
+use Rattle.fuse_values.specs.declared.received.Label.{Label}
 use Rattle.fuse_values.specs.Values.{call_of, pairs_in}
 use Rattle.server_phases.specs.Waiting.{first_call}
 use Rattle.virtiofsd_fuse.specs.Grammar.{Asks, FileCommand, meaning}
@@ -12,7 +14,7 @@ use Rattle.fs_chain_c.specs.declared.call.FsCall.{FsCall}
 use Rattle.fs_chain_c.specs.declared.call.FsSpan.{FsSpan}
 use Rattle.fs_chain_c.specs.declared.device.FsDevice.{FsDevice}
 use Rattle.fs_chain_c.specs.Decoding.{DecodesSo}
-use Rattle.fs_chain_c.specs.Calls.{opcode_in, told_call}
+use Rattle.fs_chain_c.specs.Calls.{call_fields, label_in}
 
 -- the bytes of a span of a request
 abbrev pub bytes_at : List ℕ → FsSpan → List ℕ
@@ -50,19 +52,26 @@ AreNames request (value.Create context node name mode kill flags umask extra) at
     IsNameAt request at name.now
 AreNames request _ at at2 other = Unit {0}
 
--- the spans in a call's fields do
+-- these spans hold a new node's label: its name, and its value
+abbrev pub IsLabelAt : (request : List ℕ) → Option Label → (name other : FsSpan) → Type 0
+IsLabelAt request None at other = Unit {0}
+IsLabelAt request (Some l) at other = IsNameAt request at l.name.now × (bytes_at request other ≡ l.secctx.now)
+
+-- the spans in a call's fields hold the call's names, and its label
 abbrev pub HasNames : (request : List ℕ) → FileCall → FsCall → Type 0
-HasNames request made told = AreNames request made told.name told.name2 told.value
+HasNames request made told =
+    AreNames request made told.name told.name2 told.value
+    × IsLabelAt request (label_in made) told.label_name told.label
 
 -- for each request of less than 2^32 bytes, with any agreed options: the spans in its call's fields hold the
--- call's names
+-- call's names and its label
 abbrev pub SpansHoldNames : Type 0
 SpansHoldNames =
     (request bytes : List ℕ) (options room : ℕ) (command : FileCommand) (made : FileCall)
     → length request < 2 ^ 32
     → meaning options request room ≡ Asks command
     → call_of bytes made ≡ first_call command
-    → HasNames request made (told_call (opcode_in request) options room made)
+    → HasNames request made (call_fields request options room made)
 
 -- a property of the call, if decoding returned one
 abbrev pub IfCall : told.Decoded → (FileCall → Type 0) → Type 0
@@ -70,7 +79,7 @@ IfCall (tells.Call made) P = P made
 IfCall _ P = Unit {0}
 
 -- the spans that pk_decode returns, from all of a request's bytes or a WRITE's first ones, hold the names
--- within the bytes that C passed
+-- and the label within the bytes that C passed
 abbrev pub AskedSpansHoldNames : Type 0
 AskedSpansHoldNames =
     (b : ChainHandle) (d : FsDevice) (request : List ℕ) (call : FsCall) (status : ℕ) (b' : ChainHandle)

@@ -142,6 +142,14 @@ pub struct FsCall {
     pub group: u32,
     /// The ticket by which an answer names the call.
     pub ticket: u32,
+    /// The name of a new node's label.
+    pub label_name: FsSpan,
+    /// A new node's label.
+    pub label: FsSpan,
+    /// The flags of SETXATTR's longer record (FUSE_SETXATTR_).
+    pub setxattr_flags: u32,
+    /// Whether a new node has a label.
+    pub has_label: u8,
 }
 
 // An empty span.
@@ -209,6 +217,10 @@ const NO_CALL: FsCall = FsCall {
     attr: NO_ATTR,
     group: 0,
     ticket: 0,
+    label_name: NOWHERE,
+    label: NOWHERE,
+    setxattr_flags: 0,
+    has_label: 0,
 };
 
 impl FsCall {

@@ -89,9 +89,10 @@ fn named_call(opcode: u32, options: u64, room: usize, call: &FileCall<'_>) -> Fs
         Rename { old, new_dir, new, flags } Done,
             name: span(at_rename(opcode), old.len()),
             name2: span(behind(at_rename(opcode), old.len()), new.len()), node2: *new_dir, flags: *flags;
-        Setxattr { name, value, flags, .. } Done,
+        Setxattr { name, value, flags, extra } Done,
             name: span(at_setxattr(options), name.len()),
-            value: span(behind(at_setxattr(options), name.len()), value.len()), flags: *flags;
+            value: span(behind(at_setxattr(options), name.len()), value.len()), flags: *flags,
+            setxattr_flags: extra.bits();
         Getxattr { name, size } Data,
             answer: sized(*size).number(), name: span(AT_8, name.len()), size: u64::from(*size),
             data_at: HEADER, data_len: data_len(*size, room);

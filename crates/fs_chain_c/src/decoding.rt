@@ -2,7 +2,7 @@
 
 ghost use Rattle.std.specs.Prelude.{◌≡◌};
 ghost use Rattle.fs_chain_c.specs.Decoding.{AnswersHandle, DecodesHandle, AnswersAtOnce, TellsAsked};
-ghost use Rattle.fs_chain_c.specs.Decoding.{answer_unasked};
+ghost use Rattle.fs_chain_c.specs.Decoding.{answer_unasked, fault_after};
 
 use crate::call::FsCall;
 use crate::device::FsDevice;
@@ -12,6 +12,7 @@ use fs_chain::{ChainError, ChainHandle, Decoded};
 use fuse_base::{Errno, FsOptions};
 use fuse_values::{FileAnswer, FileCall};
 use server_phases::Session;
+use server_segments::Error;
 
 /// Decoding needs more of the request.
 const MORE: u32 = 34;
@@ -47,16 +48,27 @@ fn answer_unasked(call: &FileCall<'_>) -> Option<FileAnswer>
     }
 }
 
-// Answers a call at once, if there is an answer.
-fn settle(handle: &mut ChainHandle, answer: Option<FileAnswer>)
-    ensures { AnswersAtOnce handle.old answer handle.new }
+// Answers a call at once, if there is an answer, and returns a status.
+fn settle(handle: &mut ChainHandle, answer: Option<FileAnswer>) -> u32
+    ensures { AnswersAtOnce handle.old answer result handle.new }
 {
     match answer {
         Some(answer) => {
             let ticket = handle.serial();
-            let _status = answer_handle(handle, ticket, answer);
+            answer_handle(handle, ticket, answer)
         }
-        None => {}
+        None => 0,
+    }
+}
+
+// The fault of a call that was answered at once, with this status.
+fn fault_after(status: u32) -> u32
+    ensures { result ≡ fault_after status }
+{
+    if status == NO_ROOM {
+        u32::from(Error::EncodeMessage.number())
+    } else {
+        0
     }
 }
 
@@ -68,7 +80,8 @@ fn tell(handle: &mut ChainHandle, request: &[u8], told: Decoded<'_>, call: &mut 
         Decoded::Call(made) => {
             let options = handle.session().options().bits();
             *call = call_fields(request, options, handle.room_len(), &made);
-            settle(handle, answer_unasked(&made));
+            let answered = settle(handle, answer_unasked(&made));
+            call.fault = fault_after(answered);
             0
         }
         Decoded::More(needed) => {

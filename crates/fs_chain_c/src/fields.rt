@@ -6,6 +6,7 @@ ghost use Rattle.fs_chain_c.specs.Calls.{call_fields, numbered, opcode_in, uniqu
 
 use crate::call::FsCall;
 use crate::call_table::told_call;
+use crate::labels::add_label;
 use fuse_values::FileCall;
 
 // Four bytes of a request as a number.
@@ -56,5 +57,6 @@ pub fn call_fields(request: &[u8], options: u64, room: usize, call: &FileCall<'_
 {
     let mut told = told_call(opcode_in(request), options, room, call);
     number(request, &mut told);
+    add_label(request, call, &mut told);
     told
 }

@@ -11,6 +11,7 @@ mod device;
 mod exports;
 mod fields;
 mod handle;
+mod labels;
 pub mod laws;
 mod listing;
 mod memory;

@@ -144,7 +144,7 @@ static const struct {
     FIELD(step.ticket),
     FIELDS(call.kind, call.fault),
     FIELDS(call.unique, call.has_group),
-    FIELDS(call.attr, call.ticket),
+    FIELDS(call.attr, call.has_label),
     FIELDS(stores.front_len, stores.index),
     FIELDS(stores.seen_at, stores.index_guest),
     FIELD(listed),

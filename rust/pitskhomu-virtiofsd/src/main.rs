@@ -34,10 +34,6 @@ fn main() -> ExitCode {
         println!("{CAPABILITIES}");
         return ExitCode::SUCCESS;
     }
-    if let Some(why) = options.refusal() {
-        eprintln!("pitskhomu-virtiofsd: {why}");
-        return ExitCode::from(2);
-    }
     if let Err(why) = start::log(&options) {
         eprintln!("pitskhomu-virtiofsd: {why}");
         return ExitCode::FAILURE;

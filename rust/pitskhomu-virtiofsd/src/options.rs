@@ -94,6 +94,13 @@ pub struct Options {
     /// Rules for names of extended attributes, as :map::user.virtiofs.:; implies --xattr
     #[arg(long, value_parser = xattr_map)]
     pub xattrmap: Option<XattrMap>,
+    /// POSIX access control lists; implies --xattr. The guest's kernel must support them
+    #[arg(long)]
+    pub posix_acl: bool,
+    /// A new file gets the security label that the guest sends with it, as SELinux does; implies
+    /// --xattr. The guest's kernel must support it
+    #[arg(long)]
+    pub security_label: bool,
     /// The host, not the guest, clears set-user-ID and set-group-ID
     #[arg(long, overrides_with = "no_killpriv_v2")]
     pub killpriv_v2: bool,
@@ -158,39 +165,9 @@ pub struct Options {
     /// Whether there were such options.
     #[arg(skip)]
     pub is_compat: bool,
-    #[command(flatten)]
-    refused: Refused,
-}
-
-/// Options of virtiofsd that aren't served.
-#[derive(Debug, clap::Args)]
-struct Refused {
-    /// Refused: the core doesn't tell the flags of FUSE_SETXATTR_EXT
-    #[arg(long)]
-    posix_acl: bool,
-    /// Refused: the core doesn't tell the label of a new file
-    #[arg(long)]
-    security_label: bool,
 }
 
 impl Options {
-    /// The reason that these options are refused, if they are.
-    pub fn refusal(&self) -> Option<String> {
-        let asked = &self.refused;
-        let refusals = [
-            (
-                asked.posix_acl,
-                "--posix-acl: the core doesn't tell the flags of FUSE_SETXATTR_EXT, \
-                which these want",
-            ),
-            (
-                asked.security_label,
-                "--security-label: the core doesn't tell the label of a new file",
-            ),
-        ];
-        refusals.into_iter().find_map(|(is_asked, why)| is_asked.then(|| why.into()))
-    }
-
     /// virtiofsd's warnings about supported options that its next version may not have.
     pub fn warnings(&self) -> Vec<&'static str> {
         let warnings = [
@@ -250,7 +227,15 @@ impl Options {
 
     /// Whether extended attributes are supported.
     pub fn has_xattr(&self) -> bool {
-        self.xattr || self.xattrmap.is_some()
+        self.xattr || self.xattrmap.is_some() || self.posix_acl || self.security_label
+    }
+
+    /// What each session with these options agrees on: INIT fails where the guest lacks it.
+    pub fn always_agreed(&self) -> pitskhomu::Options {
+        use pitskhomu::Options as O;
+        let acl = O::POSIX_ACL | O::DONT_MASK | O::SETXATTR_EXT;
+        let if_asked = |asked, options| if asked { options } else { O::empty() };
+        if_asked(self.posix_acl, acl) | if_asked(self.security_label, O::SECURITY_CTX)
     }
 }
 
@@ -268,12 +253,20 @@ mod tests {
     }
 
     #[test]
-    fn what_is_not_served_is_refused_by_name() {
-        for name in ["--posix-acl", "--security-label"] {
-            assert!(options(name).expect(name).refusal().expect(name).starts_with(name));
+    fn lists_and_labels_imply_xattr_and_what_init_agrees_on() {
+        let (acl, label) = (1 << 20 | 1 << 6 | 1 << 29, 1 << 32);
+        for (words, agreed) in [
+            ("--posix-acl", acl),
+            ("--security-label", label),
+            ("-o posix_acl,security_label", acl | label),
+            ("-o posix_acl,no_posix_acl,security_label", label),
+        ] {
+            let options = options(words).expect(words);
+            assert!(options.has_xattr(), "{words}");
+            assert_eq!(options.always_agreed().bits(), agreed, "{words}");
         }
-        assert_eq!(options("--xattr").expect("options").refusal(), None);
-        assert!(options("-o posix_acl").expect("options").refusal().is_some());
+        assert_eq!(options("--xattr").expect("options").always_agreed().bits(), 0);
+        assert!(!options("").expect("options").has_xattr());
     }
 
     #[test]
@@ -294,7 +287,7 @@ mod tests {
                    --inode-file-handles=mandatory --rlimit-nofile=0 --modcaps=+sys_admin:-chown \
                    --translate-uid=map:0:1000:1 --migration-mode=file-handles --log-level=debug \
                    --syslog --tag=shared --thread-pool-size=64";
-        assert_eq!(options(all).expect("options").refusal(), None);
+        assert!(options(all).is_ok());
         let old = parsed("daemon --socket /s --shared-dir /d -f -d --inode-file-handles=fallback")
             .expect("options");
         assert_eq!(

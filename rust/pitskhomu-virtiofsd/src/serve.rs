@@ -29,6 +29,8 @@ pub struct Core<F> {
     pub flags: OpenFlags,
     /// The daemon's own descriptors.
     pub descriptors: Descriptors,
+    /// What each session agrees on.
+    pub always_agreed: pitskhomu::Options,
     memory: RwLock<Arc<Table>>,
 }
 
@@ -44,13 +46,15 @@ pub struct Parts<F> {
     pub flags: OpenFlags,
     /// The daemon's own descriptors.
     pub descriptors: Descriptors,
+    /// What each session agrees on.
+    pub always_agreed: pitskhomu::Options,
 }
 
 impl<F: ServedFs> Core<F> {
     /// A device without memory whose rings aren't started. `threads` threads serve each request
     /// queue, and one the high-priority queue.
     pub fn new(parts: Parts<F>) -> io::Result<Core<F>> {
-        let Parts { fs, request_queues, threads, flags, descriptors } = parts;
+        let Parts { fs, request_queues, threads, flags, descriptors, always_agreed } = parts;
         if pitskhomu::version() != pitskhomu::VERSION {
             return Err(io::Error::other("the archive is of another version than the wrapper"));
         }
@@ -62,6 +66,7 @@ impl<F: ServedFs> Core<F> {
             rings,
             flags,
             descriptors,
+            always_agreed,
             memory: RwLock::default(),
         })
     }

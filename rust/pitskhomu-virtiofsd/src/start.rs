@@ -133,6 +133,8 @@ fn config(
         writeback: options.writeback,
         xattr: options.has_xattr(),
         xattrmap: options.xattrmap,
+        posix_acl: options.posix_acl,
+        security_label: options.security_label,
         announce_submounts: !options.no_announce_submounts,
         inode_file_handles: options.inode_file_handles.into(),
         readdirplus: !options.no_readdirplus && !matches!(options.cache, CachePolicy::Never),
@@ -264,6 +266,7 @@ struct Serving {
     syslog: bool,
     flags: OpenFlags,
     descriptors: Descriptors,
+    always_agreed: pitskhomu::Options,
 }
 
 impl Serving {
@@ -284,12 +287,20 @@ impl Serving {
                 writeback: options.writeback,
             },
             descriptors,
+            always_agreed: options.always_agreed(),
         }
     }
 
     fn serve<F: ServedFs>(self, fs: F) -> Result<(), Failure> {
-        let Serving { request_queues, threads, flags, descriptors, .. } = self;
-        let core = Arc::new(Core::new(Parts { fs, request_queues, threads, flags, descriptors })?);
+        let Serving { request_queues, threads, flags, descriptors, always_agreed, .. } = self;
+        let core = Arc::new(Core::new(Parts {
+            fs,
+            request_queues,
+            threads,
+            flags,
+            descriptors,
+            always_agreed,
+        })?);
         capabilities::give_up(&self.capabilities)?;
         if let Some(action) = self.seccomp.action() {
             enable_seccomp(action, self.syslog)?; // new threads inherit it

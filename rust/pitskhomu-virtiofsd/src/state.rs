@@ -7,8 +7,8 @@
 //! state. virtiofsd's first byte, the version of the state, is written as two bytes: postcard
 //! allows numbers that are longer than needed, and virtiofsd never writes one. A state that begins
 //! with two such bytes is this daemon's. It is accepted only if it ends with the mark, so one that
-//! was cut short is refused. A state with neither is a plain virtiofsd's: its options are unknown,
-//! and taken as none.
+//! was cut short is refused. A state with neither is a plain virtiofsd's, which has no options: the
+//! options that every session with this command line agrees on are taken as agreed.
 use crate::serve::{Core, ServedFs};
 use pitskhomu as p;
 use std::fs::File;
@@ -70,7 +70,7 @@ fn send(
 /// Receives a state from this daemon on another host, or from virtiofsd.
 pub fn load<F: ServedFs>(core: &Core<F>, scratch: &File, pipe: File) -> io::Result<()> {
     let before = core.descriptors.open()?;
-    receive(&core.fs, &core.device, scratch, pipe)?;
+    receive(&core.fs, &core.device, core.always_agreed, scratch, pipe)?;
     // a state of virtiofsd has the guest's own flags
     core.descriptors.mend_since(&before, core.flags)
 }
@@ -131,6 +131,7 @@ fn over(
 fn receive(
     fs: &impl SerializableFileSystem,
     device: &p::Device,
+    always_agreed: p::Options,
     scratch: &File,
     pipe: File,
 ) -> io::Result<()> {
@@ -148,9 +149,10 @@ fn receive(
         }
         Some(_) => {}
         None => {
+            device.set_options(always_agreed);
             log::warn!(
-                "the state is virtiofsd's, which doesn't say what INIT agreed on: nothing \
-                is taken as agreed"
+                "the state is virtiofsd's, which doesn't say what INIT agreed on: only what \
+                --posix-acl and --security-label need is taken as agreed"
             )
         }
     }
@@ -161,6 +163,8 @@ fn receive(
 mod tests {
     use super::*;
     use std::sync::Mutex;
+
+    const NONE: p::Options = p::Options::empty();
 
     struct Fs(Mutex<Vec<u8>>);
     impl SerializableFileSystem for Fs {
@@ -197,10 +201,13 @@ mod tests {
             let sent = bytes(&pipe);
             assert!(sent.starts_with(b"\x81\0virtiofsd's") && sent.ends_with(MARK));
             let target = Fs(Mutex::default());
-            receive(&target, &device, &room, file(&sent)).unwrap();
+            receive(&target, &device, NONE, &room, file(&sent)).unwrap();
             assert_eq!(*target.0.lock().unwrap(), b"\x01virtiofsd's");
             for cut in 0..sent.len() {
-                assert!(receive(&target, &device, &room, file(&sent[..cut])).is_err(), "{cut}");
+                assert!(
+                    receive(&target, &device, NONE, &room, file(&sent[..cut])).is_err(),
+                    "{cut}"
+                );
             }
             assert_eq!(*target.0.lock().unwrap(), b"\x01virtiofsd's"); // none of them was passed on
         }
@@ -210,8 +217,12 @@ mod tests {
     fn a_plain_virtiofsds_comes() {
         let (target, room, device) =
             (Fs(Mutex::default()), scratch().unwrap(), p::Device::default());
-        receive(&target, &device, &room, file(b"\x01virtiofsd's")).unwrap();
-        assert_eq!(*target.0.lock().unwrap(), b"\x01virtiofsd's");
+        let agreed = p::Options::SETXATTR_EXT | p::Options::SECURITY_CTX;
+        for agreed in [NONE, agreed] {
+            receive(&target, &device, agreed, &room, file(b"\x01virtiofsd's")).unwrap();
+            assert_eq!(*target.0.lock().unwrap(), b"\x01virtiofsd's");
+            assert_eq!(device.options(), agreed);
+        }
     }
 
     /// virtiofsd's own reader accepts a version of two bytes.
@@ -242,7 +253,7 @@ mod tests {
             (Fs(Mutex::default()), scratch().unwrap(), p::Device::default());
         for (len, record) in [(5u32, &b""[..]), (u32::MAX, b"xx"), (3, b"abc"), (32, &[0; 32])] {
             let sent = [b"bytes", record, &len.to_le_bytes(), &MARK[..]].concat();
-            let loaded = receive(&target, &device, &room, file(&sent));
+            let loaded = receive(&target, &device, NONE, &room, file(&sent));
             // 5: the length reaches into virtiofsd's own bytes
             assert!(loaded.is_err() || len == 5, "{len}");
         }

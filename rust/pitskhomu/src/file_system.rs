@@ -6,7 +6,7 @@ use crate::flags::{AccessMask, Options, RenameFlags};
 use crate::listing::Listing;
 use crate::requests::{
     Allocate, Child, CopyFileRange, Create, Forgets, Init, MakeDirectory, MakeNode, Open, Read,
-    ReadDirectory, Release, Seek, SetAttributes, Write,
+    ReadDirectory, Release, Seek, SetAttributes, SetXattr, Write,
 };
 use crate::values::{Attributes, Context, Entry, Handle, Node, Opened, Statistics};
 use crate::CStr;
@@ -235,15 +235,14 @@ pub trait FileSystem {
         Err(Errno::ENOSYS)
     }
 
-    /// SETXATTR: sets an extended attribute; `flags` are those of setxattr (`XATTR_CREATE` 1,
-    /// `XATTR_REPLACE` 2).
+    /// SETXATTR: sets an extended attribute.
     fn setxattr(
         &self,
         context: &Context,
         node: Node,
         name: &CStr,
         value: &[u8],
-        flags: u32,
+        set: SetXattr,
     ) -> Answer<()> {
         Err(Errno::ENOSYS)
     }

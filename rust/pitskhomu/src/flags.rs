@@ -148,12 +148,11 @@ flags! {
         SUBMOUNTS = 1 << 27;
         /// The file system clears set-user and set-group bits if a call has `kill_priv`.
         HANDLE_KILLPRIV_V2 = 1 << 28;
-        /// SETXATTR has flags of its own. This crate doesn't pass them on, so don't want it.
+        /// SETXATTR has flags of its own (`SetXattr::kill_sgid`).
         SETXATTR_EXT = 1 << 29;
         /// INIT has a second word of flags.
         INIT_EXT = 1 << 30;
-        /// Calls that make a node have its security label. This crate doesn't pass it on, so don't
-        /// want it.
+        /// Calls that create a node have its security label (`Child::label`).
         SECURITY_CTX = 1 << 32;
         /// Nodes may be mapped one by one. There is no shared memory window here.
         HAS_INODE_DAX = 1 << 33;

@@ -85,8 +85,8 @@ pub use listing::Listing;
 pub use memory::{GuestMemory, GuestRange, Region, Window};
 pub use queue::{Queue, QueueLayout};
 pub use requests::{
-    Allocate, Child, CopyFileRange, Create, FilePlace, Forgets, Init, MakeDirectory, MakeNode,
-    Open, Read, ReadDirectory, Release, Seek, SetAttributes, SetTime, Write,
+    Allocate, Child, CopyFileRange, Create, FilePlace, Forgets, Init, Label, MakeDirectory,
+    MakeNode, Open, Read, ReadDirectory, Release, Seek, SetAttributes, SetTime, SetXattr, Write,
 };
 pub use slice::GuestSlice;
 pub use status::{Fault, RequestFault, Status};

@@ -176,6 +176,15 @@ pub struct Init {
     pub capable: Options,
 }
 
+/// The security label of a new node (struct `fuse_secctx`).
+#[derive(Clone, Copy, Debug, PartialEq, Eq)]
+pub struct Label<'n> {
+    /// The extended attribute that holds it, such as `security.selinux`.
+    pub name: &'n CStr,
+    /// Its value: the guest's bytes.
+    pub value: &'n [u8],
+}
+
 /// A name in a directory.
 #[derive(Clone, Copy, Debug)]
 pub struct Child<'n> {
@@ -183,6 +192,19 @@ pub struct Child<'n> {
     pub parent: Node,
     /// The name, as the guest wrote it: it may be empty, `.`, `..`, or have a slash.
     pub name: &'n CStr,
+    /// Of a node that is made, its label, with `Options::SECURITY_CTX`; otherwise none.
+    pub label: Option<Label<'n>>,
+}
+
+/// How SETXATTR sets an attribute (struct `fuse_setxattr_in`).
+#[derive(Clone, Copy, Debug)]
+#[non_exhaustive]
+pub struct SetXattr {
+    /// As of setxattr: `XATTR_CREATE` is 1, `XATTR_REPLACE` 2.
+    pub flags: u32,
+    /// `FUSE_SETXATTR_ACL_KILL_SGID`: with an access control list the set-group bit is to be
+    /// cleared (`Options::SETXATTR_EXT`).
+    pub kill_sgid: bool,
 }
 
 /// A time that SETATTR sets.

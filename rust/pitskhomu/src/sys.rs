@@ -6,7 +6,7 @@
 use crate::memory::{GuestRange as Range, Region, Window};
 use core::ffi::c_void;
 
-pub const VERSION: u32 = 8;
+pub const VERSION: u32 = 9;
 pub const REGIONS_MAX: usize = 64;
 pub const QUEUES_MAX: usize = 64;
 pub const FIRST: usize = 80;
@@ -190,6 +190,10 @@ pub struct Call {
     pub attr: Attr,
     pub group: u32,
     pub ticket: u32,
+    pub label_name: Span,
+    pub label: Span,
+    pub setxattr_flags: u32,
+    pub has_label: u8,
 }
 
 #[repr(C)]

@@ -6,9 +6,17 @@ use guest::recorder::{opened, Recorder};
 use guest::{args, number, Bytes, Guest, Reply};
 use pitskhomu::*;
 
+/// How a name in a directory is printed.
+const NAME: &str = "Child { parent: Node(5), name: \"name\", label: None }";
+
 /// Asks one call, and returns what the file system was called with, and the reply.
 fn called(opcode: u32, args: Bytes, room: u32) -> (String, Reply) {
-    let (mut guest, recorder) = (Guest::new(), Recorder::default());
+    called_with(Options::empty(), opcode, args, room)
+}
+
+/// The same in a session that agreed on these options.
+fn called_with(wanted: Options, opcode: u32, args: Bytes, room: u32) -> (String, Reply) {
+    let (mut guest, recorder) = (Guest::new(), Recorder { wanted, ..Recorder::default() });
     guest.init(&recorder);
     recorder.taken();
     let reply = guest.ask(&recorder, opcode, 5, args, room);
@@ -75,18 +83,18 @@ fn names_are_found_and_made() {
     assert_eq!(call, r#"lookup (Node(5), "na\xffme")"#);
     check_entry(&reply.data());
     let (call, reply) = called(6, args().bytes(b"name\0to/there\0"), 144);
-    assert_eq!(call, r#"symlink (Child { parent: Node(5), name: "name" }, "to/there", None)"#);
+    assert_eq!(call, format!("symlink ({NAME}, \"to/there\", None)"));
     check_entry(&reply.data());
     let (call, reply) = called(8, args().d(0o20666).d(0x103).d(0o22).d(0).bytes(b"name\0"), 144);
     let made = "MakeNode { mode: 8630, rdev: 259, umask: 18 }";
-    assert_eq!(call, format!("mknod (Child {{ parent: Node(5), name: \"name\" }}, {made}, None)"));
+    assert_eq!(call, format!("mknod ({NAME}, {made}, None)"));
     check_entry(&reply.data());
     let (call, reply) = called(9, args().d(0o755).d(0o22).bytes(b"name\0"), 144);
     let made = "MakeDirectory { mode: 493, umask: 18 }";
-    assert_eq!(call, format!("mkdir (Child {{ parent: Node(5), name: \"name\" }}, {made})"));
+    assert_eq!(call, format!("mkdir ({NAME}, {made})"));
     check_entry(&reply.data());
     let (call, reply) = called(13, args().q(9).bytes(b"name\0"), 144);
-    assert_eq!(call, r#"link (Node(9), Child { parent: Node(5), name: "name" })"#);
+    assert_eq!(call, format!("link (Node(9), {NAME})"));
     check_entry(&reply.data());
 }
 
@@ -99,17 +107,72 @@ fn a_group_of_the_callers_is_told() {
     assert!(call.ends_with(", Some(4711))"), "{call}");
 }
 
+/// struct fuse_secctx_header with one label, struct fuse_secctx with its size, its name and its
+/// bytes, filled up to a multiple of 8.
+fn label() -> Bytes {
+    args().d(40).d(1).d(5).d(0).bytes(b"security.x\0").bytes(b"a\0b:c").bytes(&[0; 8])
+}
+
+/// How a call is printed with a name and its label, and with the caller's group.
+type Printed = fn(&str, &str) -> String;
+
+/// The calls that make a node: the opcode, the arguments before the label, and the call.
+fn makers() -> [(u32, Bytes, Printed); 4] {
+    [
+        (6, args().bytes(b"name\0to\0"), |name, group| {
+            format!("symlink ({name}, \"to\", {group})")
+        }),
+        (8, args().d(0o100644).d(0).d(0o22).d(0).bytes(b"name\0"), |name, group| {
+            format!("mknod ({name}, MakeNode {{ mode: 33188, rdev: 0, umask: 18 }}, {group})")
+        }),
+        (9, args().d(0o755).d(0o22).bytes(b"name\0"), |name, _| {
+            format!("mkdir ({name}, MakeDirectory {{ mode: 493, umask: 18 }})")
+        }),
+        (35, args().d(0x42).d(0o100600).d(0o77).d(0).bytes(b"name\0"), |name, _| {
+            let create = "Create { flags: 66, mode: 33152, umask: 63, kill_priv: false }";
+            format!("create ({name}, {create})")
+        }),
+    ]
+}
+
+#[test]
+fn a_label_of_a_new_node_is_passed() {
+    let label_of = "Label { name: \"security.x\", value: [97, 0, 98, 58, 99] }";
+    let labelled = NAME.replace("None", &format!("Some({label_of})"));
+    let (label, none, group) = (label(), args().d(8).d(0), args().d(16).d(32).d(1).d(4711));
+    for (opcode, args, printed) in makers() {
+        let cases = [
+            (vec![&label], &*labelled, "None"),
+            (vec![&group, &label], &*labelled, "Some(4711)"),
+            (vec![&label, &group], &*labelled, "Some(4711)"),
+            (vec![&group, &none], NAME, "Some(4711)"),
+            (vec![&none], NAME, "None"),
+        ];
+        for (extensions, name, group) in cases {
+            let args = extensions.iter().fold(args.clone(), |args, more| args.bytes(&more.0));
+            let (call, _) = called_with(Options::SECURITY_CTX, opcode, args, 160);
+            assert_eq!(call, printed(name, group));
+        }
+    }
+}
+
+/// struct fuse_setxattr_in with its flags: FUSE_SETXATTR_ACL_KILL_SGID is 1.
+#[test]
+fn the_flags_of_setxattr_are_passed() {
+    for (flags, kills) in [(1, true), (0, false)] {
+        let args = args().d(3).d(2).d(flags).d(0).bytes(b"user.a\0x\0y");
+        let (call, _) = called_with(Options::SETXATTR_EXT, 21, args, 16);
+        let set = format!("SetXattr {{ flags: 2, kill_sgid: {kills} }}");
+        assert_eq!(call, format!("setxattr (Node(5), \"user.a\", [120, 0, 121], {set})"));
+    }
+}
+
 #[test]
 fn names_go_and_change() {
-    assert_eq!(
-        called(10, args().bytes(b"name\0"), 16).0,
-        r#"unlink Child { parent: Node(5), name: "name" }"#
-    );
-    assert_eq!(
-        called(11, args().bytes(b"name\0"), 16).0,
-        r#"rmdir Child { parent: Node(5), name: "name" }"#
-    );
-    let names = r#"Child { parent: Node(5), name: "old" }, Child { parent: Node(9), name: "new" }"#;
+    assert_eq!(called(10, args().bytes(b"name\0"), 16).0, format!("unlink {NAME}"));
+    assert_eq!(called(11, args().bytes(b"name\0"), 16).0, format!("rmdir {NAME}"));
+    let names = "Child { parent: Node(5), name: \"old\", label: None }, \
+                 Child { parent: Node(9), name: \"new\", label: None }";
     let (call, reply) = called(12, args().q(9).bytes(b"old\0new\0"), 16);
     assert_eq!((call, reply), (format!("rename ({names}, RenameFlags(0x0))"), Reply::Data(vec![])));
     let (call, _) = called(45, args().q(9).d(3).d(0).bytes(b"old\0new\0"), 16);
@@ -126,7 +189,7 @@ fn files_are_opened_and_closed() {
     check_opened(&reply.data());
     let (call, reply) = called(35, args().d(0x42).d(0o100600).d(0o77).d(1).bytes(b"name\0"), 160);
     let create = "Create { flags: 66, mode: 33152, umask: 63, kill_priv: true }";
-    assert_eq!(call, format!("create (Child {{ parent: Node(5), name: \"name\" }}, {create})"));
+    assert_eq!(call, format!("create ({NAME}, {create})"));
     let data = reply.data();
     check_entry(&data);
     check_opened(&data[128..]);
@@ -220,7 +283,8 @@ fn values_are_told_and_set() {
     let (call, reply) = called(23, args().d(0).d(0), 80);
     assert_eq!((call.as_str(), numbers(&reply.data(), 4)), ("listxattr (Node(5), 0)", vec![14, 0]));
     let (call, _) = called(21, args().d(3).d(2).bytes(b"user.a\0x\0y"), 16);
-    assert_eq!(call, r#"setxattr (Node(5), "user.a", [120, 0, 121], 2)"#);
+    let set = "SetXattr { flags: 2, kill_sgid: false }";
+    assert_eq!(call, format!("setxattr (Node(5), \"user.a\", [120, 0, 121], {set})"));
     assert_eq!(called(24, args().bytes(b"user.a\0"), 16).0, r#"removexattr (Node(5), "user.a")"#);
 }
 

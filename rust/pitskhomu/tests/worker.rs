@@ -278,23 +278,24 @@ fn answers_without_room_are_taken_back() {
     }
 }
 
-/// The library replies ENOSYS to these opcodes by itself. The wrapper reports that such a reply
-/// doesn't fit.
+/// The library replies ENOSYS to these opcodes by itself. A reply that doesn't fit is a fault, as
+/// virtiofsd's EncodeMessage.
 #[test]
 fn a_reply_without_a_call_that_has_no_room() {
     let (mut guest, recorder) = (Guest::new(), Recorder::default());
     for opcode in [31, 32, 33, 37, 39, 40, 41, 51] {
-        for (room, found) in [(15, (Reply::None, true)), (16, (Reply::Error(38), false))] {
+        let encode = Some(RequestFault::Encode);
+        for (room, found) in [(15, (Reply::None, encode)), (16, (Reply::Error(38), None))] {
             guest.offer_request(&request(opcode, 5, &[0; 80]), room);
             let (served, reply) = guest.serve(&recorder);
-            assert_eq!((reply, served.had_no_room), found, "opcode {opcode}, room {room}");
-            assert_eq!(served.request_fault, None);
+            assert_eq!((reply, served.request_fault), found, "opcode {opcode}, room {room}");
+            assert!(!served.had_no_room);
         }
     }
     // INTERRUPT has no reply, and needs no room.
     guest.offer_request(&request(36, 5, &[0; 8]), 0);
     let (served, reply) = guest.serve(&recorder);
-    assert_eq!((reply, served.had_no_room), (Reply::None, false));
+    assert_eq!((reply, served.request_fault), (Reply::None, None));
     assert!(recorder.taken().is_empty());
 }
 

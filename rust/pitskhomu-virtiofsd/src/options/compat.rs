@@ -47,10 +47,10 @@ impl Options {
             "announce_submounts" => self.announce_submounts = true,
             "killpriv_v2" => self.killpriv_v2 = true,
             "no_killpriv_v2" => self.killpriv_v2 = false,
-            "posix_acl" => self.refused.posix_acl = true,
-            "no_posix_acl" => self.refused.posix_acl = false,
-            "security_label" => self.refused.security_label = true,
-            "no_security_label" => self.refused.security_label = false,
+            "posix_acl" => self.posix_acl = true,
+            "no_posix_acl" => self.posix_acl = false,
+            "security_label" => self.security_label = true,
+            "no_security_label" => self.security_label = false,
             // the guest's kernel keeps all locks itself
             "no_posix_lock" | "no_flock" => {}
             _ => return Err(unknown(name)),

@@ -9,8 +9,8 @@ use crate::flags::{AccessMask, Options, RenameFlags, SetAttributesValid};
 use crate::listing::Listing;
 use crate::memory::GuestMemory;
 use crate::requests::{
-    Allocate, Child, CopyFileRange, Create, FilePlace, Forgets, Init, MakeDirectory, MakeNode,
-    Open, Read, ReadDirectory, Release, Seek, SetAttributes, Write,
+    Allocate, Child, CopyFileRange, Create, FilePlace, Forgets, Init, Label, MakeDirectory,
+    MakeNode, Open, Read, ReadDirectory, Release, Seek, SetAttributes, SetXattr, Write,
 };
 use crate::status::Status;
 use crate::sys::{self, kind};
@@ -18,9 +18,8 @@ use crate::values::{Attributes, Context, Entry, Handle, Node, Opened};
 use crate::CStr;
 use core::time::Duration;
 
-/// The opcodes of locks, BMAP, IOCTL, POLL, `NOTIFY_REPLY` and TMPFILE (enum `fuse_opcode` of
-/// linux/fuse.h).
-const ENOSYS_AT_ONCE: [u32; 8] = [31, 32, 33, 37, 39, 40, 41, 51];
+/// The flag of SETXATTR that clears the set-group bit.
+const SETXATTR_ACL_KILL_SGID: u32 = 1;
 
 /// The name or value at a span of a request.
 fn bytes(request: &[u8], span: sys::Span) -> Answer<&[u8]> {
@@ -53,7 +52,7 @@ impl Worker {
         memory: &dyn GuestMemory,
     ) -> Result<Replied, Status> {
         match self.call.kind {
-            kind::NONE => Ok(self.reply_at_once()),
+            kind::NONE => Ok(Replied::Whole),
             kind::FORGET | kind::BATCH_FORGET => {
                 self.forget(file_system);
                 Ok(Replied::Whole)
@@ -79,17 +78,6 @@ impl Worker {
                 let done = self.done(file_system);
                 self.reply(done, |worker, ()| worker.chain.reply_done())
             }
-        }
-    }
-
-    /// Whether the library's own reply fits. The library replies ENOSYS to some opcodes by itself,
-    /// and doesn't report a reply buffer that is too small for it.
-    fn reply_at_once(&self) -> Replied {
-        let is_replied = self.call.fault == 0 && ENOSYS_AT_ONCE.contains(&self.call.opcode);
-        if is_replied && self.pop.reply_len < sys::HEADER {
-            Replied::NoRoom
-        } else {
-            Replied::Whole
         }
     }
 
@@ -129,9 +117,21 @@ impl Worker {
         name(&self.request, self.call.name)
     }
 
-    /// The call's name in its node.
+    /// The call's name in a directory, and the label of the node that is made.
+    fn child_of(&self, parent: u64) -> Answer<Child<'_>> {
+        let label = match self.call.has_label {
+            0 => None,
+            _ => Some(Label {
+                name: name(&self.request, self.call.label_name)?,
+                value: bytes(&self.request, self.call.label)?,
+            }),
+        };
+        Ok(Child { parent: Node(parent), name: self.name()?, label })
+    }
+
+    /// The same in its node.
     fn child(&self) -> Answer<Child<'_>> {
-        Ok(Child { parent: self.node(), name: self.name()? })
+        self.child_of(self.call.node)
     }
 
     fn forget(&self, file_system: &dyn FileSystem) {
@@ -182,7 +182,7 @@ impl Worker {
                 file_system.mkdir(context, self.child()?, make)
             }
             _ => {
-                let child = Child { parent: Node(call.node2), name: self.name()? };
+                let child = self.child_of(call.node2)?;
                 file_system.link(context, self.node(), child)
             }
         }
@@ -299,12 +299,15 @@ impl Worker {
             kind::UNLINK => file_system.unlink(context, self.child()?),
             kind::RMDIR => file_system.rmdir(context, self.child()?),
             kind::RENAME => {
-                let to = Child { parent: Node(call.node2), name: name(&self.request, call.name2)? };
+                let (parent, label) = (Node(call.node2), None);
+                let to = Child { parent, name: name(&self.request, call.name2)?, label };
                 file_system.rename(context, self.child()?, to, RenameFlags::from_bits(call.flags))
             }
             kind::SETXATTR => {
                 let value = bytes(&self.request, call.value)?;
-                file_system.setxattr(context, node, self.name()?, value, call.flags)
+                let kill_sgid = SETXATTR_ACL_KILL_SGID & call.setxattr_flags != 0;
+                let set = SetXattr { flags: call.flags, kill_sgid };
+                file_system.setxattr(context, node, self.name()?, value, set)
             }
             kind::REMOVEXATTR => file_system.removexattr(context, node, self.name()?),
             kind::ACCESS => file_system.access(context, node, AccessMask::from_bits(call.mode)),

@@ -210,9 +210,9 @@ impl FileSystem for Recorder {
         node: Node,
         name: &CStr,
         value: &[u8],
-        flags: u32,
+        set: SetXattr,
     ) -> Answer<()> {
-        self.asked(context, "setxattr", &(node, name, value, flags), ())
+        self.asked(context, "setxattr", &(node, name, value, set), ())
     }
     fn getxattr(
         &self,
