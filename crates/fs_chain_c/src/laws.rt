@@ -3,8 +3,8 @@
 ghost use Rattle.fs_chain_c.specs.Notifying.{NotifyIsACheck, StoresAWish};
 ghost use Rattle.fs_chain_c.specs.Spans.{AskedSpansHoldNames, SpansHoldNames};
 
-/// Each span of a call holds just its name, its value or its pairs. This holds for each request of less than
-/// 2^32 bytes, in any session. `pk_decode` returns spans within the bytes that C passed.
+/// Each span of a call holds just its name, its value, its pairs or its label. This holds for each request of
+/// less than 2^32 bytes, in any session. `pk_decode` returns spans within the bytes that C passed.
 pub fn law_spans()
     ensures meant { SpansHoldNames }
     ensures asked { AskedSpansHoldNames }
