@@ -17,7 +17,7 @@ use fs_chain::{ChainError, ChainHandle};
 use std::alloc::Global;
 
 /// The version of the header (PK_VERSION).
-const VERSION: u32 = 8;
+const VERSION: u32 = 9;
 
 /// The status of a handle whose memory was never set: WrongOrder.
 pub(crate) fn wrong_order() -> u32
@@ -29,7 +29,7 @@ pub(crate) fn wrong_order() -> u32
 /// The version of the header that the archive was built with.
 #[unsafe(no_mangle)]
 pub extern "C" fn pk_version() -> u32
-    ensures { result ≡ 8 }
+    ensures { result ≡ 9 }
 {
     VERSION
 }
