@@ -10,60 +10,7 @@
  *     pk_push     returns the stores that add the chain to the used ring
  *     pk_pushed   ends the push, and returns whether to notify the driver
  *
- * THE SMALLEST LOOP, from examples/c/sketch.c. That file also has `load`, `gather` and `scatter`,
- * which copy guest bytes, and `answer`, the file system with its pk_reply_* calls. monitor.c shows
- * more.
- *
- * <!-- examples/c/sketch.c: decode, serve_request, push, serve -->
- * ```
- * static uint32_t decode(const struct pk_pop *pop, struct pk_call *call) {
- *     size_t have = 0, want = pop->request_len < PK_FIRST ? (size_t)pop->request_len : PK_FIRST;
- *     for (;;) {
- *         gather(request, have, want);
- *         uint32_t s = pk_decode(&chain, &device, request, have = want, call);
- *         if (s != PK_MORE) return s;
- *         want = call->needed;
- *     }
- * }
- *
- * static uint32_t serve_request(const struct pk_pop *pop) {
- *     struct pk_call call;
- *     uint32_t s = decode(pop, &call);
- *     if (s != PK_DONE) return s;
- *     s = answer(&call);
- *     return s == PK_DONE || s == PK_NO_ROOM ? PK_DONE : pk_reply_err(&chain, call.ticket, EIO);
- * }
- *
- * static uint32_t push(bool *notify) {
- *     uint8_t front[PK_FRONT_MAX], now;
- *     struct pk_stores out;
- *     uint16_t seen;
- *     uint32_t s = pk_push(&chain, &queue, front, sizeof front, &out);
- *     if (s != PK_DONE) return s;
- *     scatter(front, out.front_len);
- *     memcpy((void *)out.id_at, &out.id, 4);
- *     memcpy((void *)out.len_at, &out.len, 4);
- *     atomic_store_explicit((_Atomic uint16_t *)out.index_at, out.index, memory_order_release);
- *     atomic_thread_fence(memory_order_seq_cst);
- *     load(&seen, out.seen_at, 2);
- *     s = pk_pushed(&chain, &queue, seen, &now);
- *     *notify = *notify || now;
- *     return s;
- * }
- *
- * static uint32_t serve(bool *notify) {
- *     uint8_t bytes[PK_LOAD_MAX];
- *     uint32_t s;
- *     for (;;) {
- *         struct pk_pop pop = {0}; // the first call of a pop has no bytes
- *         while ((s = pk_pop(&chain, &queue, bytes, pop.load_len, &pop)) == PK_LOAD)
- *             load(bytes, pop.load_at, pop.load_len);
- *         if (s != PK_DONE) return s;
- *         if (pop.fault == 0 && (s = serve_request(&pop)) != PK_DONE) return s;
- *         if ((s = push(notify)) != PK_DONE) return s; // a faulty chain: without a reply
- *     }
- * }
- * ```
+ * The smallest loop of these calls is examples/c/sketch.c; monitor.c, beside it, shows more.
  *
  * OWNERSHIP. `struct pk_device` and `struct pk_queue` hold plain numbers and may be copied. `struct
  * pk_chain` is a handle for one chain at a time: zero it before its first use, never copy it, and
@@ -118,7 +65,8 @@
  *
  * FEATURES that you may offer: VERSION_1 (32; insist on it), INDIRECT_DESC (28), EVENT_IDX (29; set
  * `event_index`), IN_ORDER (35; push the chains of a queue in the order of their pops), and
- * ACCESS_PLATFORM (33), if the driver's addresses are guest physical. Not RING_PACKED (34).
+ * ACCESS_PLATFORM (33): the driver's addresses are guest physical, or the chains have the IOMMU's
+ * table. Not RING_PACKED (34).
  * STATUSES. 1 to 8: the queue can't be served; 2 to 8 stop it until its reset. 9: an allocation
  * failed. 32 to 63 say how to go on. 64 and more: the call did nothing, and zeroed the structs that
  * it fills, unless its comment says otherwise. Errors are listed in the order of their checks.
@@ -190,6 +138,7 @@ enum pk_status {
     PK_ENTRIES = 38,    /* the listing failed, but the guest already holds nodes of its entries, so
                            the reply has them: after pk_push copy the list's first `len - front_len`
                            bytes into the reply buffer from PK_HEADER on */
+    PK_MISS = 39,       /* I/O addresses aren't mapped in the table: map them, and pop again */
     /* 64 and more: the call did nothing (but PK_NOT_MAPPED). */
     PK_BAD_ARGUMENT = 66, /* a number that the function doesn't allow, or a wrong length */
     PK_SHORT_BUFFER = 69, /* the buffer is too short */
@@ -366,15 +315,17 @@ struct pk_pop {
     uint32_t fault;       /* enum pk_fault. 0: pk_decode comes next; else pk_push */
     uint16_t head;        /* the driver's number of the chain */
     uint32_t ticket;      /* names the chain in each answer */
+    uint64_t miss_at, miss_len; /* with PK_MISS: I/O addresses that the pop needs first */
+    uint32_t miss_access; /* and the access to them (enum pk_access) */
 };
 
 /* Pops the next available chain, by several calls. The first one has `loaded_len` 0. After PK_LOAD
  * load the bytes and call again with them, at most size + 4 times. PK_DONE: the chain is in flight.
- * PK_IDLE and errors 1 to 8: the handle is free. Other errors leave the pop under way; pk_drop ends
- * it. Two loads can be saved. A table entry that crosses two regions is loaded in two parts:
- * instead of the first you may pass the whole entry. The first load is the available index: you may
- * pass the bytes of an earlier load of it, if that was made over the same memory since the queue's
- * reset, and its number isn't `next_avail`.
+ * PK_IDLE, PK_MISS and errors 1 to 8: the handle is free; PK_MISS changes nothing else. Other
+ * errors leave the pop under way; pk_drop ends it. Two loads can be saved. A table entry that
+ * crosses two regions is loaded in two parts: instead of the first you may pass the whole entry.
+ * The first load is the available index: you may pass the bytes of an earlier load of it, if that
+ * was made over the same memory since the queue's reset, and its number isn't `next_avail`.
  * Errors: PK_WRONG_ORDER (no memory was set); PK_BAD_ARGUMENT (the queue's fields are no queue's,
  * as zeros); PK_WRONG_ORDER (the chain is in flight); PK_BAD_ARGUMENT (`loaded_len` isn't the
  * load's); PK_OTHER_QUEUE (then drop or abandon the pop); PK_CHAIN_IN_FLIGHT; then, in no order,
@@ -413,6 +364,57 @@ size_t pk_reply_windows(struct pk_chain *chain, uint64_t from, uint64_t len,
                         struct pk_window *windows, size_t window_count) PK_NONNULL PK_WRITES(4, 5);
 size_t pk_reply_ranges(struct pk_chain *chain, uint64_t from, uint64_t len, struct pk_range *ranges,
                        size_t range_count) PK_NONNULL PK_WRITES(4, 5);
+
+/* ---------------------------------------------------------------- an IOMMU's table */
+/* A place for a table that maps I/O addresses to guest physical ones. As with a chain, zero it
+ * before its first use, never copy it, and free it. One table serves all chains, under your lock:
+ * lend it before a pop's first call, and take it back after its windows were read; the same around
+ * pk_push and pk_set_notification. While a chain of a queue is in flight, keep the mappings of the
+ * queue's rings (rule 6). pk_chain_set_memory and pk_chain_free free a table that the chain has. */
+struct pk_iotlb { void *at; uint32_t full; };
+
+/* The numbers of VHOST_ACCESS_ (linux/vhost_types.h). */
+enum pk_access {
+    PK_ACCESS_NONE = 0, PK_ACCESS_READ = 1, PK_ACCESS_WRITE = 2, PK_ACCESS_READ_WRITE = 3,
+};
+
+/* Puts a table without a mapping into the place, instead of the one that is there.
+ * Errors: PK_OUT_OF_MEMORY (only of zeros). */
+uint32_t pk_iotlb_new(struct pk_iotlb *iotlb) PK_CHECK;
+
+/* Frees the place with its table, and zeroes it. */
+void pk_iotlb_free(struct pk_iotlb *iotlb) PK_NONNULL;
+
+/* Maps `len` I/O addresses, whatever they were mapped to. With PK_ACCESS_NONE they are refused: a
+ * pop that needs them has a refusal or a fault, and no miss.
+ * Errors: PK_WRONG_ORDER (no table is here); PK_BAD_ARGUMENT (not an access; not multiples of 4096;
+ * `len` is 0; an end isn't below 2^64); PK_OUT_OF_MEMORY. */
+uint32_t pk_iotlb_map(struct pk_iotlb *iotlb, uint64_t iova, uint64_t len, uint64_t guest,
+                      uint32_t access) PK_CHECK;
+
+/* Removes the mappings of `len` I/O addresses, which end at 2^64 at most.
+ * Errors: PK_WRONG_ORDER (no table is here); PK_BAD_ARGUMENT (as pk_iotlb_map's); PK_OUT_OF_MEMORY
+ * (only if a mapping goes on behind them). */
+uint32_t pk_iotlb_unmap(struct pk_iotlb *iotlb, uint64_t iova, uint64_t len) PK_CHECK;
+
+/* Exchanges the tables of chain and place; each may have none. It allocates nothing. Without a
+ * table the chain's addresses are guest physical.
+ * Errors: PK_WRONG_ORDER (no memory was set, or the place is zeros); PK_CHAIN_IN_FLIGHT (a pop is
+ * under way: one table holds for all of it). */
+uint32_t pk_chain_exchange_iotlb(struct pk_chain *chain, struct pk_iotlb *iotlb) PK_CHECK;
+
+/* I/O addresses that the table doesn't map, and the access that is needed (enum pk_access). */
+struct pk_miss { uint64_t at, len; uint32_t access; };
+
+/* After PK_MISS: the first I/O addresses that the buffer of descriptor `index` lacks, at or after
+ * address `from`. Ask for each index from 0 on: first with `from` 0, then with the end of the miss.
+ * PK_MISS: filled. PK_DONE: nothing is missing from there on. PK_IDLE: no such descriptor was read.
+ * Errors: PK_WRONG_ORDER (no memory was set). */
+uint32_t pk_miss(struct pk_chain *chain, size_t index, uint64_t from, struct pk_miss *miss)
+    PK_CHECK PK_FILLS(4);
+
+/* Returns 1 if the buffers of the chain in flight use one of `len` I/O addresses, else 0. */
+uint8_t pk_uses(struct pk_chain *chain, uint64_t iova, uint64_t len) PK_CHECK;
 
 /* ---------------------------------------------------------------- decode */
 /* Bytes of the request, by their offset. A name has no zero byte, and one follows it. */
@@ -609,11 +611,7 @@ uint32_t pk_pushed(struct pk_chain *chain, struct pk_queue *queue, uint16_t seen
 
 /* ---------------------------------------------------------------- notifications of the driver */
 /* A store of 2 bytes at a host address, or none (`len` 0). */
-struct pk_store {
-    uintptr_t at;
-    uint16_t value;
-    uint8_t len;
-};
+struct pk_store { uintptr_t at; uint16_t value; uint8_t len; };
 
 /* Returns the store that enables (1) or disables (0) available buffer notifications (VIRTIO 1.2,
  * 2.7.10). It is to the used ring's flags at guest address `used`, or with event_index to

@@ -1,4 +1,4 @@
-/* The loop at the top of pitskhomu.h as a program: it serves a queue until no chain is
+/* The smallest loop over the library: it serves a queue until no chain is
  * available. Its guest looks a name up, and doesn't run meanwhile. monitor.c has a file system;
  * access.c, live.c and monitor.c are there to be copied. */
 #include <errno.h>

@@ -5,6 +5,8 @@ use Rattle.std.specs.Prelude.{◌⊎◌}
 use Rattle.std.proofs.lemmas.Bool.Decides.{nat_tests}
 use Rattle.std.proofs.lemmas.List.{length-append}
 use Rattle.std.specs.Global.{Vec}
+use Rattle.vm_iotlb.specs.declared.iova.IovaRange.{IovaRange}
+use Rattle.vm_iotlb.specs.declared.permissions.Permissions.{Permissions}
 use Rattle.fs_queue.specs.declared.fault.QueueError.{QueueError}
 use Rattle.fs_regions.specs.declared.course.Course.{Course}
 use Rattle.fs_regions.specs.declared.walk.QueueWalk.{QueueWalk}
@@ -18,8 +20,9 @@ use Rattle.fs_chain.specs.declared.error.ChainError.{ChainError}
 use Rattle.fs_chain.specs.declared.error.ChainError.TheVariants.{OutOfMemory}
 use Rattle.fs_chain.specs.declared.queue.QueueState.{QueueState}
 use Rattle.fs_chain.specs.Orders.{entries_asked, IfWalking, IsWalking, load_len, walk_error}
-use Rattle.fs_chain.specs.Events.{event_fault}
-use Rattle.fs_chain.specs.Walks.{BeginsUnless, BeginsWhere, GoesOnUnless, LacksRoom, WalksFrom, WalksOn}
+use Rattle.fs_chain.specs.Events.{event_fault, event_miss}
+use Rattle.fs_chain.specs.Walks.{BeginsUnless, BeginsWhere, GoesOnUnless, LacksEvents, LacksRoom, WalksFrom}
+use Rattle.fs_chain.specs.Walks.{WalksOn}
 use Rattle.fs_chain.specs.declared.popping.PopOutcome as walked
 use Rattle.fs_chain.specs.declared.chain_handle.ChainHandle.{ChainHandle}
 use Rattle.fs_chain.specs.Loads.{AreDue, AreWanted, AreWhole, RefusesWalk, came, due_len, whole}
@@ -91,9 +94,14 @@ module _ (w w' : ChainHandle) (aside kept : Vec ℕ) (q q' : QueueState) (told :
   abbrev after : ChainHandle
   after = record w' { part = kept }
 
+  lacks : (e : QueueError) (miss : Option (IovaRange × Permissions)) → LacksEvents e miss before w' q q' told →
+      LacksEvents e miss w after q q' told
+  lacks e None h = h
+  lacks e (Some r) h = h
+
   begins_where : (fault : Option QueueError) → BeginsWhere fault before w' q q' told → BeginsWhere fault w after q q' told
   begins_where None h = h
-  begins_where (Some e) h = h
+  begins_where (Some e) h = lacks e (event_miss (places_in w.regions) q) h
 
   begins : (stopped : Option QueueError) → BeginsUnless stopped before w' q q' told → BeginsUnless stopped w after q q' told
   begins None h = begins_where (event_fault (places_in w.regions) q) h

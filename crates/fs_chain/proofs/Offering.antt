@@ -41,12 +41,13 @@ comes_to : OffersAreTheMemorys → (h : Host) (regions : Mapped) (limit : ℕ) (
 comes_to law h regions limit q loaded ds (step.Load walk) request runs came has = tt
 comes_to law h regions limit q loaded ds step.Idle request runs came has =
     sym (law h regions limit q loaded [] _ runs came (unasked (memory_over h regions) q loaded request has))
+comes_to law h regions limit q loaded ds (step.Missing range access) request runs came has = tt
 comes_to law h regions limit q loaded ds (step.Refused e) request runs came has =
-    sym (law h regions limit q loaded [] _ runs came (unasked (memory_over h regions) q loaded request has))
+    sym (law h regions limit q loaded [] _ runs came.0 (unasked (memory_over h regions) q loaded request has))
 comes_to law h regions limit q loaded ds (step.Chain head (Some fault)) request runs came has =
-    sym (law h regions limit q loaded [] _ runs came (unasked (memory_over h regions) q loaded request has))
+    sym (law h regions limit q loaded [] _ runs came.0 (unasked (memory_over h regions) q loaded request has))
 comes_to law h regions limit q loaded ds (step.Chain head None) request runs came has =
-    λ len. sym (law h regions limit q loaded request _ runs (came.1 request len) has)
+    λ len. sym (law h regions limit q loaded request _ runs (came.0.1 request len) has)
 
 begins : OffersAreTheMemorys → (h : Host) (bytes request : List ℕ) (old new : ChainHandle) (before after : QueueState)
     (told : walked.PopOutcome) → before.stopped ≡ None

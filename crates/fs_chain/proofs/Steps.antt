@@ -1,5 +1,7 @@
 -- What a walk came to, by the descriptors that are kept of it.
 use Rattle.std.proofs.Common.{◌≡◌, ℕ, List, Option, Some, None, refl, subst, sym}
+use Rattle.vm_iotlb.specs.declared.iova.IovaRange.{IovaRange}
+use Rattle.vm_iotlb.specs.declared.permissions.Permissions.{Permissions}
 use Rattle.vm_memory.specs.Memory.{Memory}
 use Rattle.fs_queue.specs.declared.fault.QueueError.{QueueError}
 use Rattle.fs_queue.specs.Chain.{Descriptor}
@@ -17,9 +19,9 @@ use Rattle.fs_chain.specs.declared.state.PopId.{PopId}
 use Rattle.fs_chain.specs.declared.popping.PopOutcome as walked
 use Rattle.fs_chain.specs.declared.popping.PopOutcome.TheVariants as tells
 use Rattle.fs_chain.specs.declared.chain_handle.ChainHandle.{ChainHandle}
-use Rattle.fs_chain.specs.Events.{event_fault}
-use Rattle.fs_chain.specs.Walks.{BeginsPop, BeginsUnless, BeginsWhere, GoesOn, GoesOnUnless, HasEvents, LeavesNone, RefusalHasEvents}
-use Rattle.fs_chain.specs.Walks.{WalksFrom, WalksOn, left_of}
+use Rattle.fs_chain.specs.Events.{event_fault, event_miss}
+use Rattle.fs_chain.specs.Walks.{BeginsPop, BeginsUnless, BeginsWhere, GoesOn, GoesOnUnless, HasEvents, LacksEvents, LeavesNone}
+use Rattle.fs_chain.specs.Walks.{RefusalHasEvents, WalksFrom, WalksOn, left_of}
 
 -- of a faulty chain none are kept, and none are spoken of
 pub comes_left : (m : Memory) (limit : ℕ) (q : Queue) (loaded : Loaded) (ds : List Descriptor) (came : comes.CourseStep)
@@ -29,6 +31,7 @@ comes_left m limit q loaded ds step.Idle h = h
 comes_left m limit q loaded ds (step.Refused e) h = h
 comes_left m limit q loaded ds (step.Chain head None) h = h
 comes_left m limit q loaded ds (step.Chain head (Some fault)) h = h
+comes_left m limit q loaded ds (step.Missing range access) h = h
 
 pub by_left : (m : Memory) (limit : ℕ) (q : Queue) (loaded : Loaded) (walk : QueueWalk) (bytes : List ℕ) (ds : List Descriptor)
     (came : comes.CourseStep)
@@ -42,6 +45,7 @@ leaves_none step.Idle ds = tt
 leaves_none (step.Refused e) ds = tt
 leaves_none (step.Chain head None) ds = tt
 leaves_none (step.Chain head (Some fault)) ds = refl
+leaves_none (step.Missing range access) ds = tt
 
 -- a walk comes to the same that was taken out of its place
 pub comes_taken : (course : Course) (walk taken : QueueWalk) (bytes : List ℕ) (came : comes.CourseStep) (regions : Mapped)
@@ -63,19 +67,27 @@ begins_where old new before after told fault goes is begins =
     let there = subst (λ (f : Option QueueError). BeginsWhere f old new before after told) is begins in
     subst (λ (s : Option QueueError). BeginsUnless s old new before after told) (sym goes) there
 
--- a walk that begins tells a refusal alone where the event index has no place
+-- a walk that begins tells a refusal or a miss alone where the event index isn't mapped
 abbrev IsRefused : walked.PopOutcome → Type 0
 IsRefused (tells.Refused e) = Unit {0}
+IsRefused (tells.Missing range access) = Unit {0}
 IsRefused _ = ⊥
+
+refused_so : (old new : ChainHandle) (before after : QueueState) (told : walked.PopOutcome) (e : QueueError)
+    (miss : Option (IovaRange × Permissions)) → LacksEvents e miss old new before after told → IsRefused told
+refused_so old new before after told e None begins = subst IsRefused (sym begins.0) tt
+refused_so old new before after told e (Some miss) begins = subst IsRefused (sym begins.0) tt
 
 goes_by_none : (old new : ChainHandle) (before after : QueueState) (told : walked.PopOutcome) (fault : Option QueueError)
     → (IsRefused told → ⊥) → BeginsWhere fault old new before after told → fault ≡ None
 goes_by_none old new before after told None goes begins = refl
-goes_by_none old new before after told (Some e) goes begins = absurd (goes (subst IsRefused (sym begins.0) tt))
+goes_by_none old new before after told (Some e) goes begins =
+    absurd (goes (refused_so old new before after told e (event_miss (places_in old.regions) before) begins))
 
 pub begun_has_events : (old new : ChainHandle) (before after : QueueState) (told : walked.PopOutcome) → RefusalHasEvents told old before
     → BeginsUnless None old new before after told → HasEvents old before
 begun_has_events old new before after (tells.Refused e) has begins = has
+begun_has_events old new before after (tells.Missing range access) has begins = has
 begun_has_events old new before after (tells.Load n) has begins =
     goes_by_none old new before after (tells.Load n) (event_fault (places_in old.regions) before) (λ no. no) begins
 begun_has_events old new before after tells.Idle has begins =

@@ -105,6 +105,7 @@ request_in _ = 0
 pub came_is : (ds : List Descriptor) (came : comes.CourseStep) (head n r : ℕ) → says.Chain head n r ≡ told_of ds came →
     (came ≡ step.Chain head None) × (n ≡ count false ds) × (r ≡ count true ds)
 came_is ds (step.Load walk) head n r e = absurd (subst IsAChain e tt)
+came_is ds (step.Missing range access) head n r e = absurd (subst IsAChain e tt)
 came_is ds step.Idle head n r e = absurd (subst IsAChain e tt)
 came_is ds (step.Refused error) head n r e = absurd (subst IsAChain e tt)
 came_is ds (step.Chain h None) head n r e = (ap (λ (x : ℕ). step.Chain x None) (sym (ap head_in e)), ap request_in e, ap room_in e)
@@ -220,8 +221,9 @@ chain_parts {F} may given request calls acts last head i notice old new before s
     let room = addresses_of (writable ds) in
     let state_is : run.popped_handle.state ≡ at.Taken out =
     came.1.1 ∙ ap (λ (c : comes.CourseStep). state_after course (pop_id_of before) ds c) is.0 in
-    let found : IsCourseStep (places_in old.regions) old.limit q loaded ds (step.Chain head None) =
+    let comes_so : IsCourseStep (places_in old.regions) old.limit q loaded ds (step.Chain head None) =
     subst (λ (c : comes.CourseStep). IsCourseStep (places_in old.regions) old.limit q loaded ds c) is.0 came.2 in
+    let found = comes_so.0 in
     let fits = fits_limit (places_in old.regions) old.limit q loaded ds head bound found.1 in
     let asked = subst (λ (st : state.ChainState). FromTaken st (λ o. (o.request_len ≡ length request) × IsRequestFront run.front request
     × TellsMeaning (setting s.page_size s.options.0 o.room_len) (meaning s.options.0 request o.room_len) (drop 80 request) o run.made
@@ -329,6 +331,7 @@ fault_in _ f = f
 
 idle_is : (ds : List Descriptor) (came : comes.CourseStep) → says.Idle ≡ told_of ds came → came ≡ step.Idle
 idle_is ds (step.Load walk) e = absurd (subst IsIdle e tt)
+idle_is ds (step.Missing range access) e = absurd (subst IsIdle e tt)
 idle_is ds step.Idle e = refl
 idle_is ds (step.Refused error) e = absurd (subst IsIdle e tt)
 idle_is ds (step.Chain h None) e = absurd (subst IsIdle e tt)
@@ -337,6 +340,7 @@ idle_is ds (step.Chain h (Some fault)) e = absurd (subst IsIdle e tt)
 refusal_is :
     (ds : List Descriptor) (came : comes.CourseStep) (error : QueueError) → says.Refused error ≡ told_of ds came → came ≡ step.Refused error
 refusal_is ds (step.Load walk) error e = absurd (subst IsRefusal e tt)
+refusal_is ds (step.Missing range access) error e = absurd (subst IsRefusal e tt)
 refusal_is ds step.Idle error e = absurd (subst IsRefusal e tt)
 refusal_is ds (step.Refused why) error e = ap (λ (x : QueueError). step.Refused x) (sym (ap error_in e))
 refusal_is ds (step.Chain h None) error e = absurd (subst IsRefusal e tt)
@@ -345,6 +349,7 @@ refusal_is ds (step.Chain h (Some fault)) error e = absurd (subst IsRefusal e tt
 pub faulty_is : (ds : List Descriptor) (came : comes.CourseStep) (head : ℕ) (fault : ChainFault) →
     says.Faulty head fault ≡ told_of ds came → came ≡ step.Chain head (Some fault)
 faulty_is ds (step.Load walk) head fault e = absurd (subst IsFaulty e tt)
+faulty_is ds (step.Missing range access) head fault e = absurd (subst IsFaulty e tt)
 faulty_is ds step.Idle head fault e = absurd (subst IsFaulty e tt)
 faulty_is ds (step.Refused error) head fault e = absurd (subst IsFaulty e tt)
 faulty_is ds (step.Chain h None) head fault e = absurd (subst IsFaulty e tt)
@@ -395,8 +400,9 @@ refusal_is_step_by {F} may given e i old new before after m first events walks =
     let loaded = all.0 in
     let came = all.2 in
     let is = refusal_is new.descriptors.items came.0 e came.1.0 in
-    let found : IsCourseStep (places_in old.regions) old.limit q loaded new.descriptors.items (step.Refused e) =
+    let comes_so : IsCourseStep (places_in old.regions) old.limit q loaded new.descriptors.items (step.Refused e) =
     subst (λ (c : comes.CourseStep). IsCourseStep (places_in old.regions) old.limit q loaded new.descriptors.items c) is came.2 in
+    let found = comes_so.0 in
     let l = step_loads loaded found.1 [] in
     let isnt = is_within (places_in old.regions) old.limit q loaded.index loaded.entry (loaded.entries ++ found.1) [] (Refuses e)
     found.3 in (
@@ -448,8 +454,9 @@ faulty_parts {F} may given fault acts last head i notice old before m run goes =
     let loaded = all.0 in
     let came = all.2 in
     let is = faulty_is ds came.0 head fault came.1.0 in
-    let found : IsCourseStep (places_in old.regions) old.limit q loaded ds (step.Chain head (Some fault)) =
+    let comes_so : IsCourseStep (places_in old.regions) old.limit q loaded ds (step.Chain head (Some fault)) =
     subst (λ (c : comes.CourseStep). IsCourseStep (places_in old.regions) old.limit q loaded ds c) is came.2 in
+    let found = comes_so.0 in
     let state_is : run.popped_handle.state ≡ at.HasReply (faulty_out course pop_id head) no_reply =
     came.1.1 ∙ ap (λ (c : comes.CourseStep). state_after course pop_id ds c) is in
     let back : PushesBy run.back (faulty_out course pop_id head) no_reply run.returns.stores

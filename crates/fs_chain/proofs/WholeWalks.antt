@@ -1,6 +1,8 @@
 -- A walk by calls of the handle comes to what all its loads tell.
 use Rattle.std.proofs.Common.{◌≡◌, ◌+◌, ◌<◌, ℕ, ◌^◌, zero, suc, true, false, List, [], ◌∷◌, ◌++◌, length, length-append, Option, Some, None}
 use Rattle.std.proofs.Common.{refl, subst, sym, ap, ◌∙◌, arith}
+use Rattle.vm_iotlb.specs.declared.iova.IovaRange.{IovaRange}
+use Rattle.vm_iotlb.specs.declared.permissions.Permissions.{Permissions}
 use Rattle.vm_iotlb.specs.declared.permissions.Permissions.TheVariants.{Read}
 use Rattle.std.specs.Prelude.{is_some, nat_lt}
 use Rattle.std.specs.List.{list_all}
@@ -21,14 +23,15 @@ use Rattle.fs_chain.specs.declared.state.PopId.{PopId}
 use Rattle.fs_chain.specs.declared.popping.PopOutcome as walked
 use Rattle.fs_chain.specs.declared.popping.PopOutcome.TheVariants as says
 use Rattle.fs_chain.specs.declared.chain_handle.ChainHandle.{ChainHandle}
-use Rattle.fs_chain.specs.Events.{event_fault}
+use Rattle.fs_chain.specs.Events.{event_fault, event_miss}
 use Rattle.fs_chain.specs.Walks.{WalksOn, WalksFrom, BeginsPop, BeginsOn, BeginsUnless, BeginsWhere, GoesOn, GoesOnUnless, HasEvents}
-use Rattle.fs_chain.specs.Walks.{IsAllButPart, KeepsStep, RefusalHasEvents, course_of, queue_after}
+use Rattle.fs_chain.specs.Walks.{IsAllButPart, KeepsStep, LacksEvents, RefusalHasEvents, course_of, queue_after, state_after, told_of}
 use Rattle.fs_chain.specs.declared.loads.LoadOutcome as went
 use Rattle.fs_chain.specs.declared.loads.LoadOutcome.TheVariants as wents
 use Rattle.fs_chain.specs.Loads.{GoesSo, came, whole}
 use Rattle.fs_chain.specs.Orders.{IfWalking, load_len}
 use Rattle.fs_chain.specs.Queues.{pop_id_of}
+use Rattle.fs_chain.specs.Missed.{EventMissIsNoStep, MissIsNoStep}
 use Rattle.fs_chain.specs.Whole.{AddsSo, BeginsPopBy, EventFaultRefuses, IsWalked, LoadsOf, WalksBy, WantedHasAPlace, WantsBytes}
 use Rattle.fs_queue.specs.Chain.{Descriptor}
 use Rattle.fs_chain.proofs.Steps.{begun_has_events}
@@ -202,6 +205,7 @@ wants_so l old w before q n step.Idle none keeps comes = absurd (subst IsALoad k
 wants_so l old w before q n (step.Refused e) none keeps comes = absurd (subst IsALoad keeps.0 tt)
 wants_so l old w before q n (step.Chain head None) none keeps comes = absurd (subst IsALoad keeps.0 tt)
 wants_so l old w before q n (step.Chain head (Some fault)) none keeps comes = absurd (subst IsALoad keeps.0 tt)
+wants_so l old w before q n (step.Missing range access) none keeps comes = absurd (subst IsALoad keeps.0 tt)
 
 wanted : (l : Loaded) (old w : ChainHandle) (before q : QueueState) (earlier : went.LoadOutcome) → WantsBytes earlier →
     Comes l old w before q earlier → Wants l old w before q
@@ -211,6 +215,7 @@ wanted l old w before q (wents.On says.Idle) wants comes = absurd wants
 wanted l old w before q (wents.On (says.Refused e)) wants comes = absurd wants
 wanted l old w before q (wents.On (says.Chain head n r)) wants comes = absurd wants
 wanted l old w before q (wents.On (says.Faulty head fault)) wants comes = absurd wants
+wanted l old w before q (wents.On (says.Missing range access)) wants comes = absurd wants
 
 -- a walk has told no refusal, or the queue's event index has its places
 abbrev HasNoneRefused : went.LoadOutcome → ChainHandle → QueueState → Type 0
@@ -224,6 +229,7 @@ wants_unrefused w q (wents.On says.Idle) wants = absurd wants
 wants_unrefused w q (wents.On (says.Refused e)) wants = absurd wants
 wants_unrefused w q (wents.On (says.Chain head n r)) wants = absurd wants
 wants_unrefused w q (wents.On (says.Faulty head fault)) wants = absurd wants
+wants_unrefused w q (wents.On (says.Missing range access)) wants = absurd wants
 
 first_has_events :
     (old new : ChainHandle) (before after : QueueState) (told : went.LoadOutcome) → before.stopped ≡ None → HasNoneRefused told old before
@@ -295,23 +301,89 @@ no_fault e is = cc
 
 -- the first call is refused
 first_refused : (e : QueueError) (old new : ChainHandle) (before after : QueueState) (told : went.LoadOutcome) → before.stopped ≡ None
-    → event_fault (places_in old.regions) before ≡ Some e
+    → event_fault (places_in old.regions) before ≡ Some e → event_miss (places_in old.regions) before ≡ None
     → BeginsPopBy old new before after told
     → (told ≡ wents.On (says.Refused e)) × IsAllButPart old new × (new.part.items ≡ []) × (after ≡ record before { stopped = Some e })
-first_refused e old new before after wents.Part goes fault by = absurd (begins_whole old before new after by.0 by.1)
-first_refused e old new before after (wents.On told) goes fault by =
+first_refused e old new before after wents.Part goes fault none by = absurd (begins_whole old before new after by.0 by.1)
+first_refused e old new before after (wents.On told) goes fault none by =
     let unless = begun old new before after told goes by in
-    let refused : BeginsWhere (Some e) old new before after told =
+    let lacks : BeginsWhere (Some e) old new before after told =
     subst (λ (f : Option QueueError). BeginsWhere f old new before after told) fault unless in
+    let refused : LacksEvents e None old new before after told =
+    subst (λ (r : Option (IovaRange × Permissions)). LacksEvents e r old new before after told) none lacks in
     (ap (λ (x : walked.PopOutcome). wents.On x) refused.0, refused.1, by.1.1, refused.2)
 
 pub event_fault_refuses : EventFaultRefuses
-event_fault_refuses [] e old new before after told goes fault walks =
-    let refused = first_refused e old new before after told goes fault walks in
+event_fault_refuses [] e old new before after told goes fault none walks =
+    let refused = first_refused e old new before after told goes fault none walks in
     (refused.0, refl, refl, refused.1, refused.2, refused.3)
-event_fault_refuses (bs ∷ given) e old new before after told goes fault walks =
+event_fault_refuses (bs ∷ given) e old new before after told goes fault none walks =
     absurd (no_fault e (sym (walk_has_events given old walks.0 before walks.1 walks.2 goes (wants_unrefused old before walks.2 walks.4)
     walks.3) ∙ fault))
+
+-- the first call misses
+first_missed : (e : QueueError) (range : IovaRange) (access : Permissions) (old new : ChainHandle) (before after : QueueState)
+    (told : went.LoadOutcome) → before.stopped ≡ None → event_fault (places_in old.regions) before ≡ Some e
+    → event_miss (places_in old.regions) before ≡ Some (range, access) → BeginsPopBy old new before after told
+    → (told ≡ wents.On (says.Missing range access)) × IsAllButPart old new × (new.part.items ≡ []) × (after ≡ before)
+first_missed e range access old new before after wents.Part goes fault miss by = absurd (begins_whole old before new after by.0 by.1)
+first_missed e range access old new before after (wents.On told) goes fault miss by =
+    let unless = begun old new before after told goes by in
+    let lacks : BeginsWhere (Some e) old new before after told =
+    subst (λ (f : Option QueueError). BeginsWhere f old new before after told) fault unless in
+    let missed : LacksEvents e (Some (range, access)) old new before after told =
+    subst (λ (r : Option (IovaRange × Permissions)). LacksEvents e r old new before after told) miss lacks in
+    (ap (λ (x : walked.PopOutcome). wents.On x) missed.0, missed.1, by.1.1, missed.2)
+
+pub event_miss_is_no_step : EventMissIsNoStep
+event_miss_is_no_step [] e range access old new before after told goes fault miss walks =
+    let missed = first_missed e range access old new before after told goes fault miss walks in
+    (missed.0, refl, refl, missed.1, missed.2, missed.3)
+event_miss_is_no_step (bs ∷ given) e range access old new before after told goes fault miss walks =
+    absurd (no_fault e (sym (walk_has_events given old walks.0 before walks.1 walks.2 goes (wants_unrefused old before walks.2 walks.4)
+    walks.3) ∙ fault))
+
+-- ---- a pop that misses addresses
+
+abbrev IsMissing : walked.PopOutcome → Type 0
+IsMissing (says.Missing range access) = Unit {0}
+IsMissing _ = ⊥
+
+abbrev range_in : IovaRange → walked.PopOutcome → IovaRange
+range_in r (says.Missing range access) = range
+range_in r _ = r
+
+abbrev access_in : Permissions → walked.PopOutcome → Permissions
+access_in a (says.Missing range access) = access
+access_in a _ = a
+
+missing_is : (ds : List Descriptor) (came : comes.CourseStep) (range : IovaRange) (access : Permissions) →
+    says.Missing range access ≡ told_of ds came → came ≡ step.Missing range access
+missing_is ds (step.Load walk) range access e = absurd (subst IsMissing e tt)
+missing_is ds step.Idle range access e = absurd (subst IsMissing e tt)
+missing_is ds (step.Refused error) range access e = absurd (subst IsMissing e tt)
+missing_is ds (step.Chain h None) range access e = absurd (subst IsMissing e tt)
+missing_is ds (step.Chain h (Some fault)) range access e = absurd (subst IsMissing e tt)
+missing_is ds (step.Missing r a) range access e =
+    ap (λ (x : IovaRange). step.Missing x a) (sym (ap (range_in range) e))
+    ∙ ap (λ (x : Permissions). step.Missing range x) (sym (ap (access_in access) e))
+
+pub miss_is_no_step : MissIsNoStep
+miss_is_no_step given range access old new before after goes events walks =
+    let course = course_of before old.limit in
+    let ds = new.descriptors.items in
+    let all = walk_comes given old new before after (says.Missing range access) goes events walks in
+    let came = all.2 in
+    let is = missing_is ds came.0 range access came.1.0 in
+    let misses : IsCourseStep (places_in old.regions) old.limit (queue_of course) all.0 ds (step.Missing range access) =
+    subst (λ (c : comes.CourseStep). IsCourseStep (places_in old.regions) old.limit (queue_of course) all.0 ds c) is came.2 in (
+      came.1.2 ∙ ap (queue_after before) is,
+      came.1.1 ∙ ap (λ (c : comes.CourseStep). state_after course (pop_id_of before) ds c) is,
+      came.1.4,
+      all.0,
+      all.1,
+      misses,
+    )
 
 -- ---- by the contract of walk, call by call
 

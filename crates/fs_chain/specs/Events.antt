@@ -1,13 +1,16 @@
 -- Notifications of driver and device, enabled by VIRTIO_F_EVENT_IDX or by the flags of the rings
 -- (VIRTIO 1.2, 2.7.7 and 2.7.10).
-use Rattle.std.specs.Prelude.{ℕ, ◌+◌, ◌*◌, Bool, not, ◌==◌, List, Option, Some, None, if◌then◌else◌}
+use Rattle.std.specs.Prelude.{ℕ, ◌+◌, ◌*◌, Bool, not, ◌==◌, List, [], ◌∷◌, Option, Some, None, if◌then◌else◌}
 use Rattle.std.specs.Int.{w16, to_le_bytes, from_le_bytes}
+use Rattle.vm_iotlb.specs.declared.iova.IovaRange.{IovaRange}
+use Rattle.vm_iotlb.specs.declared.permissions.Permissions.{Permissions}
 use Rattle.vm_iotlb.specs.declared.permissions.Permissions.TheVariants.{Read, Write}
 use Rattle.vm_memory.specs.Memory.{Memory, reach}
 use Rattle.fs_queue.specs.declared.fault.QueueError.{QueueError}
 use Rattle.fs_queue.specs.declared.fault.QueueError.TheVariants.{AvailFlagsUnreachable, UsedUnreachable}
 use Rattle.fs_queue.specs.declared.layout.QueueLayout.{QueueLayout}
 use Rattle.fs_queue.specs.Returning.{Store, tells}
+use Rattle.fs_regions.specs.Misses.{first_miss}
 use Rattle.fs_chain.specs.declared.event_index.NotificationStore.{NotificationStore}
 use Rattle.fs_chain.specs.declared.queue.QueueState.{QueueState}
 
@@ -35,6 +38,13 @@ event_fault m q =
     else if not (reach m Read (used_event_at q.layout) 2) then Some AvailFlagsUnreachable
     else if not (reach m Write (avail_event_at q.layout) 2) then Some UsedUnreachable
     else None
+
+-- the first of their addresses that the table doesn't map, with the access that is needed
+abbrev pub event_miss : Memory → QueueState → Option (IovaRange × Permissions)
+event_miss m q =
+    if q.event_index
+    then first_miss m (record { from = used_event_at q.layout; len = 2; access = Read }
+    ∷ record { from = avail_event_at q.layout; len = 2; access = Write } ∷ []) else None
 
 -- the store that enables or disables the driver's notifications of new chains. With the event index it
 -- stores the next chain's position, and nothing to disable; without it, the used flags, whose bit 0

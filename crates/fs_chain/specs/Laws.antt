@@ -20,7 +20,7 @@ use Rattle.fs_chain.specs.declared.chain_handle.ChainHandle.{ChainHandle}
 use Rattle.fs_chain.specs.Walks.{RefusalHasEvents, WalksOn, course_of, told_of}
 
 -- the result of a pop, with these descriptors, is this offer. For a chain without a fault that holds if
--- `request` has the length of its request; a load decides nothing yet
+-- `request` has the length of its request; a load or a miss decides nothing yet
 abbrev pub IsOfferOf : List Descriptor → walked.PopOutcome → (request : List ℕ) → Offer → Type 0
 IsOfferOf ds (tells.Load n) request o = Unit {0}
 IsOfferOf ds tells.Idle request o = o ≡ Idle
@@ -29,6 +29,7 @@ IsOfferOf ds (tells.Chain head request_len room_len) request o =
     length request ≡ total_len (readable ds) →
     o ≡ Offers head (IsRequest request (addresses_of (writable ds)))
 IsOfferOf ds (tells.Faulty head fault) request o = o ≡ Offers head (CannotFetch fault)
+IsOfferOf ds (tells.Missing range access) request o = Unit {0}
 
 -- the result of a pop is the offer of the course's queue in a memory
 abbrev pub TellsOffer : Memory → Course → ChainHandle → walked.PopOutcome → (request : List ℕ) → Type 0

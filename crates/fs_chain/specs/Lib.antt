@@ -13,4 +13,6 @@ pub mod Pushes
 pub mod Serials
 pub mod Walks
 pub mod Whole
+pub mod Missed
+pub mod Tables
 pub mod WholeListings

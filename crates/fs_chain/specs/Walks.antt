@@ -2,6 +2,8 @@
 use Rattle.std.specs.Prelude.{◌≡◌, ℕ, ◌-◌, ◌^◌, ◌<◌, min, [], List, Bool, true, false, Option, Some, None}
 use Rattle.smallvec.specs.SmallVec.{HasRoomFor}
 use Rattle.memory_requests.specs.Refused.{RoomWasRefused}
+use Rattle.vm_iotlb.specs.declared.iova.IovaRange.{IovaRange}
+use Rattle.vm_iotlb.specs.declared.permissions.Permissions.{Permissions}
 use Rattle.fs_queue.specs.declared.fault.QueueError.{QueueError}
 use Rattle.fs_queue.specs.declared.fault.QueueError.TheVariants.{Stopped}
 use Rattle.fs_queue.specs.Chain.{Descriptor}
@@ -21,7 +23,7 @@ use Rattle.fs_chain.specs.declared.state.ChainState.TheVariants as at
 use Rattle.fs_chain.specs.declared.popping.PopOutcome as walked
 use Rattle.fs_chain.specs.declared.popping.PopOutcome.TheVariants as tells
 use Rattle.fs_chain.specs.declared.chain_handle.ChainHandle.{ChainHandle}
-use Rattle.fs_chain.specs.Events.{event_fault}
+use Rattle.fs_chain.specs.Events.{event_fault, event_miss}
 use Rattle.fs_chain.specs.Orders.{entries_asked}
 use Rattle.fs_chain.specs.Queues.{pop_id_of, took}
 
@@ -60,6 +62,7 @@ told_of ds step.Idle = tells.Idle
 told_of ds (step.Refused e) = tells.Refused e
 told_of ds (step.Chain head None) = tells.Chain head (count false ds) (count true ds)
 told_of ds (step.Chain head (Some fault)) = tells.Faulty head fault
+told_of ds (step.Missing range access) = tells.Missing range access
 
 -- the chain's state after this step
 abbrev pub state_after : Course → PopId → List Descriptor → comes.CourseStep → state.ChainState
@@ -69,6 +72,7 @@ state_after course pop_id ds (step.Refused e) = at.Free
 state_after course pop_id ds (step.Chain head None) = at.Taken (out_of course pop_id head ds)
 state_after course pop_id ds (step.Chain head (Some fault)) =
     at.HasReply (faulty_out course pop_id head) no_reply
+state_after course pop_id ds (step.Missing range access) = at.Free
 
 -- the queue after this step
 abbrev pub queue_after : QueueState → comes.CourseStep → QueueState
@@ -145,18 +149,27 @@ GoesOn course pop_id walk bytes old new before after told =
 abbrev pub HasEvents : ChainHandle → QueueState → Type 0
 HasEvents w q = event_fault (places_in w.regions) q ≡ None
 
--- the result isn't a refusal, or used_event and avail_event are mapped: a pop that begins while they
--- aren't mapped is refused
+-- the result is neither a refusal nor a miss, or used_event and avail_event are mapped: a pop that begins
+-- while they aren't mapped is refused, or misses them
 abbrev pub RefusalHasEvents : walked.PopOutcome → ChainHandle → QueueState → Type 0
 RefusalHasEvents (tells.Refused e) w q = HasEvents w q
+RefusalHasEvents (tells.Missing range access) w q = HasEvents w q
 RefusalHasEvents _ w q = Unit {0}
 
--- a pop begins, unless used_event or avail_event of the queue isn't mapped: that refuses the pop and stops
--- the queue
+-- used_event or avail_event of the queue isn't mapped. If the table doesn't map one of them, the pop misses
+-- it, and nothing changes; else the pop is refused, and the queue stops
+abbrev pub LacksEvents : QueueError → (miss : Option (IovaRange × Permissions)) → (old new : ChainHandle) →
+    (before after : QueueState) → walked.PopOutcome → Type 0
+LacksEvents e (Some miss) old new before after told =
+    (told ≡ tells.Missing miss.0 miss.1) × IsAllButPart old new × (after ≡ before)
+LacksEvents e None old new before after told =
+    (told ≡ tells.Refused e) × IsAllButPart old new × (after ≡ record before { stopped = Some e })
+
+-- a pop begins, unless used_event or avail_event of the queue isn't mapped
 abbrev pub BeginsWhere : (fault : Option QueueError) → (old new : ChainHandle) → (before after : QueueState) →
     walked.PopOutcome → Type 0
 BeginsWhere (Some e) old new before after told =
-    (told ≡ tells.Refused e) × IsAllButPart old new × (after ≡ record before { stopped = Some e })
+    LacksEvents e (event_miss (places_in old.regions) before) old new before after told
 BeginsWhere None old new before after told =
     BeginsOn (course_of before old.limit) (pop_id_of before) old new before after told
 

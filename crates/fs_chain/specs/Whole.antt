@@ -47,7 +47,7 @@ use Rattle.fs_chain.specs.declared.loads.LoadOutcome.TheVariants as wents
 use Rattle.fs_chain.specs.declared.chain_handle.ChainHandle.{ChainHandle}
 use Rattle.fs_chain.specs.Answers.{IfWaits, IsGiven, IsWaiting}
 use Rattle.fs_chain.specs.Decoding.{TellsMeaning}
-use Rattle.fs_chain.specs.Events.{event_fault, seen_at, tells_of}
+use Rattle.fs_chain.specs.Events.{event_fault, event_miss, seen_at, tells_of}
 use Rattle.fs_chain.specs.Orders.{front_len}
 use Rattle.fs_chain.specs.Pushes.{PushesBy}
 use Rattle.fs_chain.specs.Loads.{GoesSo, HasNoPlace, came, whole}
@@ -323,14 +323,15 @@ RefusalIsStepBy {F} may =
     × StepBy may m i (step_loads loaded lost []) [] (Refused (device.Queue e)) no_effects
     (with_queue m i (after_refusal q e))
 
--- if they aren't mapped, the first call of the pop is refused, even if a chain is available. Nothing is
--- loaded or stored, the handle stays as it was, and the queue is stopped
+-- if they aren't mapped, and that isn't a miss (`Missed`), the first call of the pop is refused, even if a
+-- chain is available. Nothing is loaded or stored, the handle stays as it was, and the queue is stopped
 abbrev pub EventFaultRefuses : Type 0
 EventFaultRefuses =
     (given : List (List ℕ)) (e : QueueError) (old new : ChainHandle) (before after : QueueState)
     (told : went.LoadOutcome) →
     before.stopped ≡ None →
     event_fault (places_in old.regions) before ≡ Some e →
+    event_miss (places_in old.regions) before ≡ None →
     (walks : WalksBy given old new before after told) →
     (told ≡ wents.On (says.Refused e))
     × (given ≡ [])

@@ -3,13 +3,13 @@
 
 ghost use Rattle.std.specs.Prelude.{◌≡◌, option_map};
 ghost use Rattle.fs_regions.specs.Places.{places_in};
-ghost use Rattle.fs_chain.specs.Events.{avail_event_at, event_fault, notification_store, seen_at, store_of};
-ghost use Rattle.fs_chain.specs.Events.{tells_of, used_event_at};
+ghost use Rattle.fs_chain.specs.Events.{avail_event_at, event_fault, event_miss, notification_store};
+ghost use Rattle.fs_chain.specs.Events.{seen_at, store_of, tells_of, used_event_at};
 
 use crate::queue::QueueState;
 use fs_queue::{QueueError, QueueLayout, Return};
 use fs_regions::GuestMap;
-use vm_memory_core::Permissions;
+use vm_memory_core::{IovaRange, Permissions};
 
 // The used ring's flag that disables the driver's notifications (VIRTIO 1.2, 2.7.10).
 const NO_NOTIFY: u16 = 1;
@@ -74,6 +74,19 @@ impl QueueState {
             return Some(QueueError::UsedUnreachable);
         }
         None
+    }
+
+    // The first miss among the two fields, if the queue has the event index.
+    pub(crate) fn event_miss(&self, regions: &GuestMap) -> Option<(IovaRange, Permissions)>
+        ensures { result ≡ event_miss (places_in regions.now) self.now }
+    {
+        if !self.event_index {
+            return None;
+        }
+        match regions.miss(used_event_at(&self.layout), 2, Permissions::Read) {
+            Some(miss) => Some(miss),
+            None => regions.miss(avail_event_at(&self.layout), 2, Permissions::Write),
+        }
     }
 
     /// The store that enables the driver's notifications of new chains, or disables them. With the event

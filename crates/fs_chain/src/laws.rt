@@ -1,6 +1,7 @@
 //! Theorems about the definitions, as contracts of functions that do nothing.
 
 ghost use Rattle.fs_chain.specs.Laws.{WalksAreOffers};
+ghost use Rattle.fs_chain.specs.Missed.{EventMissIsNoStep, MissIsNoStep};
 ghost use Rattle.fs_chain.specs.Whole.{ChainIsAnsweredBy, ChainIsStep, ChainIsStepBy, EventFaultRefuses};
 ghost use Rattle.fs_chain.specs.Whole.{FaultyIsAnsweredBy, FaultyIsStepBy, IdleIsStepBy, RefusalIsStepBy};
 ghost use Rattle.fs_chain.specs.Whole.{ReturnsAreToldBySeen, WantedHasAPlace};
@@ -17,6 +18,13 @@ pub fn law_walks()
 {
     law_offers();
 }
+
+/// A pop that misses addresses changes neither the queue nor the settings of the handle, which is free for
+/// another pop. It returns the addresses that it needs first and the table doesn't map, with the access.
+pub fn law_misses()
+    ensures missed { MissIsNoStep }
+    ensures events { EventMissIsNoStep }
+{}
 
 /// The calls of a handle, from the begin of a pop to the push of its chain, are a step of the plain
 /// machine by the loaded bytes: the same file calls, stores and notification of the driver. The guest

@@ -1,10 +1,12 @@
 //! The pop of the next available chain.
 
 ghost use Rattle.std.specs.Prelude.{◌≡◌, [], true, Some, None, IfErr, IfOk, OnOk, OnErr, length};
+ghost use Rattle.fs_regions.specs.Places.{places_in};
+ghost use Rattle.fs_chain.specs.Events.{event_miss};
 ghost use Rattle.fs_chain.specs.Orders.{begin_error};
 ghost use Rattle.fs_chain.specs.Queues.{pop_id_of, took};
 ghost use Rattle.fs_chain.specs.Walks.{course_of, told_of, state_after, queue_after, left_of, BeginsPop};
-ghost use Rattle.fs_chain.specs.Walks.{BeginsOn, IsAllBut};
+ghost use Rattle.fs_chain.specs.Walks.{BeginsOn, IsAllBut, LacksEvents};
 ghost use Rattle.fs_chain.specs.declared.state.ChainState.TheVariants as at;
 
 use crate::chain_handle::ChainHandle;
@@ -14,6 +16,7 @@ use crate::state::{ChainReply, ChainState, InFlight, PopId};
 use fs_queue::{ChainFault, QueueError, count_bytes};
 use fs_regions::{Course, CourseStep, QueueWalk};
 use std::mem;
+use vm_memory_core::{IovaRange, Permissions};
 
 /// The result of a pop.
 #[derive(Clone, Copy, Debug, PartialEq, Eq)]
@@ -32,6 +35,14 @@ pub enum PopOutcome {
         request_len: usize,
         /// The length of its reply buffer in bytes.
         room_len: usize,
+    },
+    /// The pop needs a range of addresses for an access, and the table doesn't map it. Nothing was popped:
+    /// the handle is free, and the queue as it was. `missing_at` returns the other missing ranges.
+    Missing {
+        /// The first missing addresses.
+        range: IovaRange,
+        /// The access that the pop needs.
+        access: Permissions,
     },
     /// A faulty chain was popped: it is pushed without a reply.
     Faulty {
@@ -148,6 +159,10 @@ impl ChainHandle {
                 queue.stopped = Some(error);
                 PopOutcome::Refused(error)
             }
+            CourseStep::Missing(range, access) => {
+                self.end_walk();
+                PopOutcome::Missing { range, access }
+            }
             CourseStep::Chain(head, None) => self.take(queue, course, pop_id, head),
             CourseStep::Chain(head, Some(fault)) => {
                 self.take_faulty(queue, course, pop_id, head, fault)
@@ -164,11 +179,24 @@ impl ChainHandle {
         ensures apart { (self.new.part ≡ self.old.part) × (self.new.session ≡ self.old.session) }
     {
         match queue.event_fault(&self.regions) {
-            Some(error) => {
+            Some(error) => self.begin_without_events(queue, error),
+            None => self.begin_there(queue),
+        }
+    }
+
+    // The result of a pop if the queue's used_event or avail_event isn't mapped: a miss, or a refusal.
+    #[cold]
+    #[inline(never)]
+    fn begin_without_events(&self, queue: &mut QueueState, error: QueueError) -> PopOutcome
+        ensures { LacksEvents error (event_miss (places_in self.now.regions) queue.old) self.now self.now
+            queue.old queue.new result }
+    {
+        match queue.event_miss(&self.regions) {
+            Some((range, access)) => PopOutcome::Missing { range, access },
+            None => {
                 queue.stopped = Some(error);
                 PopOutcome::Refused(error)
             }
-            None => self.begin_there(queue),
         }
     }
 

@@ -1,4 +1,6 @@
 mod ChainValues
+mod IotlbValues
+pub mod IotlbLemmas
 pub mod HandleLemmas
 pub mod LabelPlaces
 pub mod MemoryLemmas

@@ -16,3 +16,4 @@ pub mod Pushing
 pub mod Spans
 pub mod Popping
 pub mod Windows
+pub mod Iotlbs

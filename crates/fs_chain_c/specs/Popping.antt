@@ -13,6 +13,7 @@ use Rattle.fs_chain.specs.Loads.{GoesSo, HasNoPlace, IsLoadWindow, IsSame, Refus
 use Rattle.fs_chain.specs.Numbers.{chain_error_number}
 use Rattle.fs_chain_c.specs.declared.queue.FsQueue.{FsQueue}
 use Rattle.fs_chain_c.specs.declared.popping.FsPop.{FsPop}
+use Rattle.fs_chain_c.specs.Iotlbs.{access_number}
 use Rattle.fs_chain_c.specs.Queues.{IsQueueState, IsQueue, put}
 
 -- the host address of a window: the number of its region, and its offset there
@@ -24,7 +25,18 @@ host_at v = (v.block + v.offset) % 2 ^ 64
 -- the result without a load and without a chain
 abbrev pub no_step : FsPop
 no_step =
-    record { load_at = 0; load_len = 0; request_len = 0; reply_len = 0; fault = 0; head = 0; ticket = 0 }
+    record {
+      load_at = 0;
+      load_len = 0;
+      request_len = 0;
+      reply_len = 0;
+      fault = 0;
+      head = 0;
+      ticket = 0;
+      miss_at = 0;
+      miss_len = 0;
+      miss_access = 0;
+    }
 
 -- the result that asks for a load, by its host address and length
 abbrev pub load_step : Window → FsPop
@@ -42,11 +54,19 @@ TellsWanted b step =
     ((v : Window) × IsLoadWindow b (came b) v × (step ≡ load_step v))
     ⊎ (HasNoPlace b (came b) × (step ≡ no_step))
 
--- the result of a pop and its status: a load, no chain (33), a refusal, a chain, or a faulty chain
+-- the result of a pop and its status: a load, no chain (33), a miss (39), a refusal, a chain, or a faulty
+-- chain
 abbrev pub TellsWent : ChainHandle → went.LoadOutcome → FsPop → (status : ℕ) → Type 0
 TellsWent b goes.Part step status = TellsLoad b step status
 TellsWent b (goes.On (comes.Load n)) step status = TellsLoad b step status
 TellsWent b (goes.On comes.Idle) step status = (status ≡ 33) × (step ≡ no_step)
+TellsWent b (goes.On (comes.Missing range access)) step status =
+    (status ≡ 39)
+    × (step ≡ record no_step {
+      miss_at = range.base.0;
+      miss_len = range.length;
+      miss_access = access_number access;
+    })
 TellsWent b (goes.On (comes.Refused e)) step status = (status ≡ queue_number e) × (step ≡ no_step)
 TellsWent b (goes.On (comes.Chain head request room)) step status =
     (status ≡ 0)

@@ -2,6 +2,7 @@
 //! header is pitskhomu.h, beside it.
 #![tactic(auto)]
 
+mod access;
 mod answer_kind;
 mod answers;
 mod call;
@@ -11,10 +12,13 @@ mod device;
 mod exports;
 mod fields;
 mod handle;
+mod iotlb_handle;
+mod iotlbs;
 mod labels;
 pub mod laws;
 mod listing;
 mod memory;
+mod missing;
 mod names;
 mod notifications;
 mod parts;
@@ -33,7 +37,11 @@ pub use exports::{
     pk_abandon, pk_chain_free, pk_chain_set_memory, pk_chain_set_ticket, pk_drop, pk_pop, pk_push,
     pk_pushed, pk_queue_begin, pk_reply_windows, pk_request_windows, pk_version,
 };
+pub use iotlbs::{
+    pk_chain_exchange_iotlb, pk_iotlb_free, pk_iotlb_map, pk_iotlb_new, pk_iotlb_unmap,
+};
 pub use listing::{pk_add_direntry, pk_add_direntry_plus, pk_reply_entries, pk_reply_err};
+pub use missing::{pk_miss, pk_uses};
 pub use names::pk_is_name;
 pub use notifications::pk_set_notification;
 pub use ranges::pk_reply_ranges;

@@ -3,6 +3,7 @@
 ghost use Rattle.std.specs.Prelude.{◌≡◌};
 ghost use Rattle.fs_chain_c.specs.Popping.{TellsLoad, TellsWanted, TellsWent, PopsHandle, host_at, no_step};
 
+use crate::access::access_number;
 use crate::queue::FsQueue;
 use fs_chain::{ChainError, ChainHandle, LoadOutcome, PopOutcome};
 use vm_memory_core::VolatileSlice;
@@ -12,6 +13,9 @@ const LOAD: u32 = 32;
 
 /// No chain is available.
 const IDLE: u32 = 33;
+
+/// An I/O address isn't mapped in the table.
+pub const MISS: u32 = 39;
 
 /// The address of a load or store isn't mapped.
 pub const NOT_MAPPED: u32 = 77;
@@ -34,6 +38,12 @@ pub struct FsPop {
     pub head: u16,
     /// The ticket by which an answer names the chain; 0 for a faulty chain.
     pub ticket: u32,
+    /// The first I/O address that is missing.
+    pub miss_at: u64,
+    /// How many are missing from there on.
+    pub miss_len: u64,
+    /// The number of the access that they are needed for.
+    pub miss_access: u32,
 }
 
 impl FsPop {
@@ -49,6 +59,9 @@ impl FsPop {
             fault: 0,
             head: 0,
             ticket: 0,
+            miss_at: 0,
+            miss_len: 0,
+            miss_access: 0,
         }
     }
 }
@@ -99,6 +112,12 @@ fn told(handle: &ChainHandle, went: LoadOutcome) -> (FsPop, u32)
         LoadOutcome::Part | LoadOutcome::On(PopOutcome::Load(_)) => told_load(handle),
         LoadOutcome::On(PopOutcome::Idle) => (step, IDLE),
         LoadOutcome::On(PopOutcome::Refused(error)) => (step, u32::from(error.number())),
+        LoadOutcome::On(PopOutcome::Missing { range, access }) => {
+            step.miss_at = range.base.0;
+            step.miss_len = range.length as u64;
+            step.miss_access = access_number(access);
+            (step, MISS)
+        }
         LoadOutcome::On(
             PopOutcome::Chain {
                 head,

@@ -77,6 +77,7 @@ walk_keeps : {F : Type 0} (s after : LiveState F) (i : ℕ) (w : LiveQueue) (loa
     → WalksIn s i w loaded ds came after
     → AllWalked s → AllWalked after
 walk_keeps s after i w loaded ds (step.Load walk) h all = absurd h
+walk_keeps s after i w loaded ds (step.Missing range access) h all = absurd h
 walk_keeps {F} s after i w loaded ds step.Idle h all = subst (λ (k : LiveState F). AllWalked k) (sym h.1) all
 walk_keeps {F} s after i w loaded ds (step.Refused e) h all = subst (λ (k : LiveState F). AllWalked k) (sym h.1) all
 walk_keeps {F} s after i w loaded ds (step.Chain head fault) h all =

@@ -250,6 +250,7 @@ load_stands l old new before now after n (step.Load walk) told state_is regions 
   stands = comes.0;
 }
 load_stands l old new before now after n step.Idle told state_is regions limit part comes = absurd (subst IsALoad told tt)
+load_stands l old new before now after n (step.Missing range access) told state_is regions limit part comes = absurd (subst IsALoad told tt)
 load_stands l old new before now after n (step.Refused e) told state_is regions limit part comes = absurd (subst IsALoad told tt)
 load_stands l old new before now after n (step.Chain head None) told state_is regions limit part comes = absurd (subst IsALoad told tt)
 load_stands l old new before now after n (step.Chain head (Some fault)) told state_is regions limit part comes =
@@ -265,6 +266,7 @@ standing (Some why) given old new before now after (wents.On (says.Load n)) walk
 standing None given old new before now after (wents.On (says.Load n)) walks wants so =
     let c = so.2 in (so.0, so.1, load_stands so.0 old new before now after n c.came c.told_is c.state c.regions c.limit c.part c.comes)
 standing stopped given old new before now after (wents.On says.Idle) walks wants so = absurd wants
+standing stopped given old new before now after (wents.On (says.Missing range access)) walks wants so = absurd wants
 standing stopped given old new before now after (wents.On (says.Refused e)) walks wants so = absurd wants
 standing stopped given old new before now after (wents.On (says.Chain head n r)) walks wants so = absurd wants
 standing stopped given old new before now after (wents.On (says.Faulty head fault)) walks wants so = absurd wants
@@ -273,6 +275,7 @@ pub wants_unrefused : (w : ChainHandle) (q : QueueState) (told : went.LoadOutcom
 wants_unrefused w q wents.Part wants = tt
 wants_unrefused w q (wents.On (says.Load n)) wants = tt
 wants_unrefused w q (wents.On says.Idle) wants = absurd wants
+wants_unrefused w q (wents.On (says.Missing range access)) wants = absurd wants
 wants_unrefused w q (wents.On (says.Refused e)) wants = absurd wants
 wants_unrefused w q (wents.On (says.Chain head n r)) wants = absurd wants
 wants_unrefused w q (wents.On (says.Faulty head fault)) wants = absurd wants

@@ -39,6 +39,7 @@ one_more None bs k l old v new before now after (wents.On (says.Load n)) wants f
     let more = made_more (places_in old.regions) q l so.0 v.descriptors.items from.walk (whole v bs) adds.0 from.stands adds.2 in
     (so.0, load_stands so.0 old new before now after n c.came c.told_is c.state c.regions c.limit c.part c.comes, omega (arith, more, come))
 one_more stopped bs k l old v new before now after (wents.On says.Idle) wants from come so = absurd wants
+one_more stopped bs k l old v new before now after (wents.On (says.Missing range access)) wants from come so = absurd wants
 one_more stopped bs k l old v new before now after (wents.On (says.Refused e)) wants from come so = absurd wants
 one_more stopped bs k l old v new before now after (wents.On (says.Chain head n r)) wants from come so = absurd wants
 one_more stopped bs k l old v new before now after (wents.On (says.Faulty head fault)) wants from come so = absurd wants

@@ -14,6 +14,7 @@ use Rattle.fs_live.specs.Runs.{CallsAreARun}
 walk_files : {F : Type 0} (s after : LiveState F) (i : ℕ) (w : LiveQueue) (loaded : Loaded) (ds : List Descriptor)
     (came : comes.CourseStep) → WalksIn s i w loaded ds came after → after.files ≡ s.files
 walk_files s after i w loaded ds (step.Load walk) h = absurd h
+walk_files s after i w loaded ds (step.Missing range access) h = absurd h
 walk_files {F} s after i w loaded ds step.Idle h = ap (λ (k : LiveState F). k.files) h.1
 walk_files {F} s after i w loaded ds (step.Refused e) h = ap (λ (k : LiveState F). k.files) h.1
 walk_files {F} s after i w loaded ds (step.Chain head fault) h = ap (λ (k : LiveState F). k.files) h.1

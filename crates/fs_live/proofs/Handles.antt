@@ -1,6 +1,8 @@
 -- What calls of handles give a run.
 use Rattle.std.proofs.Common.{◌≡◌, ℕ, Bool, List, [], ◌∷◌, ◌++◌, length, Option, Some, None, slice_get, refl, subst, sym, ap, ◌∙◌, arith}
 use Rattle.std.specs.Prelude.{◌==◌, drop, false, if◌then◌else◌, is_some, IsTrue, not, true, unwrap_or}
+use Rattle.vm_iotlb.specs.declared.iova.IovaRange.{IovaRange}
+use Rattle.vm_iotlb.specs.declared.permissions.Permissions.{Permissions}
 use Rattle.vm_iotlb.specs.declared.permissions.Permissions.TheVariants.{Read, Write}
 use Rattle.vm_memory.specs.Memory.{Memory, reach}
 use Rattle.fs_queue.specs.Chain.{Descriptor}
@@ -31,10 +33,10 @@ use Rattle.virtiofsd_fuse.specs.Grammar.{FileCommand, Meaning, meaning, Asks, On
 use Rattle.virtiofsd_fuse.specs.Serving.{Setting, May, ServedMessage, served, setting}
 use Rattle.fs_chain.specs.Answers.{CanBeGiven, IfWaits, IsGiven, IsWaiting}
 use Rattle.fs_chain.specs.Decoding.{KeepsCall, KeepsReply, TellsMeaning, asked_of}
-use Rattle.fs_chain.specs.Events.{event_fault}
+use Rattle.fs_chain.specs.Events.{event_fault, event_miss}
 use Rattle.fs_chain.specs.Events as chain_events
 use Rattle.fs_chain.specs.Walks.{BeginsPop, BeginsUnless, BeginsWhere, WalksFrom, WalksOn, RefusalHasEvents, course_of, faulty_out}
-use Rattle.fs_chain.specs.Walks.{no_reply, out_of, queue_after, state_after, told_of}
+use Rattle.fs_chain.specs.Walks.{LacksEvents, no_reply, out_of, queue_after, state_after, told_of}
 use Rattle.fs_chain.specs.Loads.{GoesSo, whole}
 use Rattle.fs_chain.specs.Orders.{begin_error, front_len, load_len, walk_error}
 use Rattle.fs_chain.specs.Pushes.{PushesBy}
@@ -57,7 +59,7 @@ use Rattle.fs_chain.specs.declared.popping.PopOutcome.TheVariants as says
 use Rattle.fs_chain.specs.declared.chain_handle.ChainHandle.{ChainHandle}
 use Rattle.fs_chain.proofs.WholeChains.{told_so}
 use Rattle.fs_chain.proofs.WholeOffers.{fits_limit}
-use Rattle.fs_chain.proofs.WholeWalks.{event_fault_refuses, walk_comes}
+use Rattle.fs_chain.proofs.WholeWalks.{event_fault_refuses, event_miss_is_no_step, walk_comes}
 use Rattle.fs_chain.specs.Queues.{at_return, pop_id_of}
 use Rattle.plain_machine.specs.Step.{Calls, EachSuits, Exchange, State, answers_alone, calls_alone, faulty, served_exchange}
 use Rattle.plain_machine.specs.StepBy as act
@@ -106,20 +108,21 @@ pub event_of : {F : Type 0} (s : LiveState F) (i : ℕ) (before after : QueueSta
     → after ≡ queue_after before came → IsPopDone (told_of ds came) → (live_of before).queue ≡ queue_of (course_of before 0)
     → IsCourseStep s.places s.limit (live_of before).queue loaded ds came → WalkEvent s i before after loaded ds came
 event_of s i before after loaded ds (step.Load walk) there left done goes comes = absurd done
+event_of s i before after loaded ds (step.Missing range access) there left done goes comes = absurd done
 event_of s i before after loaded ds step.Idle there left done goes comes =
     ((comes, refl), there ∙ ap (λ (q : QueueState). Some (live_of q)) (sym left))
 event_of s i before after loaded ds (step.Refused e) there left done goes comes =
     let w = record (live_of before) { queue = after_refusal (live_of before).queue e } in
     let stops = refusal_stops s.places s.limit (course_of before 0) loaded e
-    (subst (λ (q : Queue). OffersBy s.places s.limit q loaded [] (Refuses e)) goes comes) in
-    ((comes, refl), there_same s.queues i i (λ _. w) (live_of before) refl there ∙ stopped_by before after e stops left)
+    (subst (λ (q : Queue). OffersBy s.places s.limit q loaded [] (Refuses e)) goes comes.0) in
+    ((comes.0, refl), there_same s.queues i i (λ _. w) (live_of before) refl there ∙ stopped_by before after e stops left)
 event_of s i before after loaded ds (step.Chain head None) there left done goes comes = (
-  (comes, refl),
+  (comes.0, refl),
   there_same s.queues i i (λ _. several.took (live_of before)) (live_of before) refl there
       ∙ ap (λ (q : QueueState). Some (live_of q)) (sym left),
 )
 event_of s i before after loaded ds (step.Chain head (Some fault)) there left done goes comes = (
-  (comes, refl),
+  (comes.0, refl),
   there_same s.queues i i (λ _. several.took (live_of before)) (live_of before) refl there
       ∙ ap (λ (q : QueueState). Some (live_of q)) (sym left),
 )
@@ -128,6 +131,7 @@ pub held_by : {F : Type 0} (s : LiveState F) (i : ℕ) (q : LiveQueue) (before :
     (w : ChainHandle) → s.places ≡ places_in w.regions → q.queue ≡ queue_of (course_of before s.limit)
     → w.state ≡ state_after (course_of before s.limit) (pop_id_of before) w.descriptors.items came → IsHeld s i q loaded came w
 held_by s i q before loaded (step.Load walk) w places goes is = tt
+held_by s i q before loaded (step.Missing range access) w places goes is = tt
 held_by s i q before loaded step.Idle w places goes is = tt
 held_by s i q before loaded (step.Refused e) w places goes is = tt
 held_by s i q before loaded (step.Chain head None) w places goes is =
@@ -146,8 +150,16 @@ pub walked_events : (given : List (List ℕ)) (old new : ChainHandle) (before af
     → event_fault (places_in old.regions) before ≡ None
 walked_events given old new before after told None is goes refusal walks = is
 walked_events given old new before after told (Some e) is goes refusal walks =
-    let refused = event_fault_refuses given e old new before after (wents.On told) goes is walks in
-    subst (λ (k : went.LoadOutcome). IsUnrefused k old before) refused.0 refusal
+    by_miss (event_miss (places_in old.regions) before) refl
+  where
+    by_miss : (miss : Option (IovaRange × Permissions)) → event_miss (places_in old.regions) before ≡ miss →
+        event_fault (places_in old.regions) before ≡ None
+    by_miss None none =
+        let refused = event_fault_refuses given e old new before after (wents.On told) goes is none walks in
+        subst (λ (k : went.LoadOutcome). IsUnrefused k old before) refused.0 refusal
+    by_miss (Some r) some =
+        let missed = event_miss_is_no_step given e r.0 r.1 old new before after (wents.On told) goes is some walks in
+        subst (λ (k : went.LoadOutcome). IsUnrefused k old before) missed.0 refusal
 
 -- the first call of a walk gives no bytes
 no_load : (w : ChainHandle) → w.state ≡ at.Free → load_len w.state ≡ 0
@@ -237,30 +249,33 @@ lacks_stop true true false e is = ap (λ (x : Option QueueError). stops_queue (u
 lacks_stop true true true e is = absurd (none_some e is)
 
 declined_there : (old new : ChainHandle) (before after : QueueState) (told : walked.PopOutcome) (e : QueueError) (fault : Option QueueError)
-    → fault ≡ Some e → stops_queue e ≡ true
+    → fault ≡ Some e → stops_queue e ≡ true → event_miss (places_in old.regions) before ≡ None
     → BeginsWhere fault old new before after told → IsDeclined (wents.On told) e before after
-declined_there old new before after told e None is stops begins = absurd (none_some e is)
-declined_there old new before after told e (Some d) is stops begins =
-    let same : d ≡ e = same_some d e is in (
-      begins.0 ∙ ap (λ (k : QueueError). says.Refused k) same,
-      stopped_by before after e stops (begins.2 ∙ ap (λ (k : QueueError). record before { stopped = Some k }) same),
+declined_there old new before after told e None is stops none begins = absurd (none_some e is)
+declined_there old new before after told e (Some d) is stops none begins =
+    let same : d ≡ e = same_some d e is in
+    let lacks : LacksEvents d None old new before after told =
+    subst (λ (r : Option (IovaRange × Permissions)). LacksEvents d r old new before after told) none begins in (
+      lacks.0 ∙ ap (λ (k : QueueError). says.Refused k) same,
+      stopped_by before after e stops (lacks.2 ∙ ap (λ (k : QueueError). record before { stopped = Some k }) same),
     )
 
 declined_by : (old new : ChainHandle) (before after : QueueState) (told : walked.PopOutcome) (e : QueueError) (stopped : Option QueueError)
     → before.stopped ≡ stopped
     → (if is_some stopped then Some stop.Stopped else event_fault (places_in old.regions) before) ≡ Some e
+    → (before.stopped ≡ None → event_miss (places_in old.regions) before ≡ None)
     → BeginsUnless stopped old new before after told → IsDeclined (wents.On told) e before after
-declined_by old new before after told e (Some why) is lacks begins =
+declined_by old new before after told e (Some why) is lacks none begins =
     let same : stop.Stopped ≡ e = same_some stop.Stopped e lacks in (
       begins.0 ∙ ap (λ (k : QueueError). says.Refused k) same,
       ap (λ (k : QueueError). Some (record (live_of before) { queue = after_refusal (live_of before).queue k })) (sym same)
           ∙ ap (λ (q : QueueState). Some (live_of q)) (sym begins.2),
     )
-declined_by old new before after told e None is lacks begins =
+declined_by old new before after told e None is lacks none begins =
     let m = places_in old.regions in
     let stops = lacks_stop before.event_index (reach m Read (chain_events.used_event_at before.layout) 2)
     (reach m Write (chain_events.avail_event_at before.layout) 2) e lacks in
-    declined_there old new before after told e (event_fault m before) lacks stops begins
+    declined_there old new before after told e (event_fault m before) lacks stops (none is) begins
 
 -- and one more chain may be out
 abbrev IsDeclinedThere : went.LoadOutcome → (e : QueueError) → (before after : QueueState) → Type 0
@@ -269,10 +284,11 @@ IsDeclinedThere (wents.On told) e before after = IsDeclined (wents.On told) e be
 
 declined_first : (old new : ChainHandle) (before after : QueueState) (told : went.LoadOutcome) (e : QueueError)
     → why_declined (places_in old.regions) (live_of before) ≡ Some e
+    → (before.stopped ≡ None → event_miss (places_in old.regions) before ≡ None)
     → BeginsPopBy old new before after told → IsDeclinedThere told e before after
-declined_first old new before after wents.Part e why by = begins_whole old before new after by.0 by.1
-declined_first old new before after (wents.On told) e why by = (
-  declined_by old new before after told e before.stopped refl why (begun old new before after told by),
+declined_first old new before after wents.Part e why none by = begins_whole old before new after by.0 by.1
+declined_first old new before after (wents.On told) e why none by = (
+  declined_by old new before after told e before.stopped refl why none (begun old new before after told by),
   begun_room old new before after told by,
 )
 
@@ -284,17 +300,18 @@ wants_none (wents.On told) e before after declined wants = subst (λ (k : walked
 -- so no call is behind the first one
 declined_walk : (given : List (List ℕ)) (old new : ChainHandle) (before after : QueueState) (told : went.LoadOutcome) (e : QueueError)
     → why_declined (places_in old.regions) (live_of before) ≡ Some e
+    → (before.stopped ≡ None → event_miss (places_in old.regions) before ≡ None)
     → WalksBy given old new before after told → (given ≡ []) × IsDeclinedThere told e before after
-declined_walk [] old new before after told e why walks = (refl, declined_first old new before after told e why walks)
-declined_walk (bs ∷ given) old new before after told e why walks =
-    let earlier = declined_walk given old walks.0 before walks.1 walks.2 e why walks.3 in
+declined_walk [] old new before after told e why none walks = (refl, declined_first old new before after told e why none walks)
+declined_walk (bs ∷ given) old new before after told e why none walks =
+    let earlier = declined_walk given old walks.0 before walks.1 walks.2 e why none walks.3 in
     absurd (wants_none walks.2 e before walks.1 earlier.1 walks.4)
 
 pub handle_declines : {F : Type 0} (may : May F) → HandleDeclines may
-handle_declines {F} may s i given old new before after told e there places why walks =
+handle_declines {F} may s i given old new before after told e there places why none walks =
     let there_why : why_declined (places_in old.regions) (live_of before) ≡ Some e =
     subst (λ (m : Memory). why_declined m (live_of before) ≡ Some e) places why in
-    let so = declined_walk given old new before after (wents.On told) e there_why walks in
+    let so = declined_walk given old new before after (wents.On told) e there_why none walks in
     let w = record (live_of before) { queue = after_refusal (live_of before).queue e } in (
       so.1.0.0,
       so.0,

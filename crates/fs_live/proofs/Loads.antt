@@ -3,6 +3,8 @@ use Rattle.std.proofs.Common.{◌≡◌, ◌+◌, ◌<◌, ◌≤◌, ℕ, suc, 
 use Rattle.std.proofs.Common.{subst, sym, ap, ◌∙◌, arith}
 use Rattle.std.specs.Prelude.{true, false, not, ◌==◌, ◌&&◌, option_map, option_and_then, if◌then◌else◌}
 use Rattle.std.proofs.lemmas.Bool.{eqb-true}
+use Rattle.vm_iotlb.specs.declared.iova.IovaRange.{IovaRange}
+use Rattle.vm_iotlb.specs.declared.permissions.Permissions.{Permissions}
 use Rattle.vm_iotlb.specs.declared.permissions.Permissions.TheVariants.{Read, Write}
 use Rattle.vm_memory.specs.Memory.{Memory, reach}
 use Rattle.fs_queue.specs.declared.fault.ChainFault.{ChainFault}
@@ -23,18 +25,19 @@ use Rattle.fs_queue.proofs.LoadLemmas.{memory_with, reach_none}
 use Rattle.fs_queue.proofs.StillLemmas.{mapped}
 use Rattle.fs_regions.specs.Places.{Mapped, places_in}
 use Rattle.fs_regions.specs.Walks.{AddsBytes, Brings, ComesBy, IsCourseStep, FetchesBy, IsLongestStretch, Loaded, OffersBy, IsWalkAt}
-use Rattle.fs_regions.specs.Walks.{nothing, queue_of}
+use Rattle.fs_regions.specs.Misses.{Test, OfIndex, OfRingEntry, OfReturn, OfEntry, OfBuffers}
+use Rattle.fs_regions.specs.Walks.{ComesTo, nothing, queue_of}
 use Rattle.fs_regions.specs.declared.step.CourseStep as comes
 use Rattle.fs_regions.specs.declared.step.CourseStep.TheVariants as step
 use Rattle.fs_regions.specs.declared.walk.QueueWalk.{QueueWalk}
 use Rattle.fs_regions.specs.declared.walk.QueueWalk.TheVariants as asks
 use Rattle.fs_regions.proofs.Steps.{loses, lost_walked}
-use Rattle.fs_chain.specs.Events.{event_fault}
+use Rattle.fs_chain.specs.Events.{event_fault, event_miss}
 use Rattle.fs_chain.specs.Loads.{GoesSo, whole}
 use Rattle.fs_chain.specs.Orders.{load_len}
 use Rattle.fs_chain.specs.Queues.{pop_id_of}
 use Rattle.fs_chain.specs.Walks.{BeginsPop, BeginsUnless, BeginsWhere, GoesOn, GoesOnUnless, WalksFrom, WalksOn, course_of, queue_after}
-use Rattle.fs_chain.specs.Walks.{state_after, told_of}
+use Rattle.fs_chain.specs.Walks.{LacksEvents, state_after, told_of}
 use Rattle.fs_chain.specs.Whole.{BeginsPopBy, WalksBy, WantsBytes}
 use Rattle.fs_chain.specs.declared.loads.LoadOutcome as went
 use Rattle.fs_chain.specs.declared.loads.LoadOutcome.TheVariants as wents
@@ -175,6 +178,23 @@ few_standing m q loaded ds (asks.Entries w) inside stands =
     (reach_none (entry_address v) 15) refl stands.2 in
     few_front loaded.entries finds.0 (q.size + 2) (few_used q w.head (loaded.entries ++ finds.0) _ finds.2)
 
+-- so it is where a walk misses addresses
+few_missing : (m : Memory) (limit : ℕ) (q : Queue) (loaded : Loaded) (ds : List Descriptor) (test : Test) →
+    ComesTo m limit q loaded ds test → length loaded.entries ≤ q.size + 2
+few_missing m limit q loaded ds OfIndex comes =
+    let none : length loaded.entries ≡ 0 = ap (λ (l : Loaded). length l.entries) comes.0 in omega (arith, none)
+few_missing m limit q loaded ds OfRingEntry comes =
+    let none : length loaded.entries ≡ 0 = ap (λ (ls : List Load). length ls) comes.3 in omega (arith, none)
+few_missing m limit q loaded ds OfReturn comes =
+    let none : length loaded.entries ≡ 0 = ap (λ (ls : List Load). length ls) comes.2 in omega (arith, none)
+few_missing m limit q loaded ds (OfEntry v) comes =
+    let finds = loses (memory_with (entry_address v) None) q loaded comes.0 ds v (lost_walked v.table.indirect) comes.2
+    (reach_none (entry_address v) 15) refl comes.3 in
+    few_front loaded.entries finds.0 (q.size + 2) (few_used q comes.0 (loaded.entries ++ finds.0) _ finds.2)
+few_missing m limit q loaded ds (OfBuffers found) comes =
+    let finds = comes.2 in
+    few_front loaded.entries finds.0 (q.size + 2) (few_used q comes.0 (loaded.entries ++ finds.0) (IsChain found) finds.2)
+
 -- there is room for the load that is asked for
 few_before : (q : Queue) (head : ℕ) (ls more : List Load) (f : Found) (ds : List Descriptor) (v : Visit)
     → Brings q.size ls (ahead_at q.size (first_visit q head)) ds (Reads v)
@@ -272,15 +292,18 @@ by_came k old new before after loaded (step.Load walk) come state_is queue_is re
 by_came k old new before after loaded step.Idle come state_is queue_is regions_are comes =
     few_made k before.layout.size loaded come
     (few_offered (places_in old.regions) old.limit (queue_of (course_of before old.limit)) loaded [] taking.Idle comes)
+by_came k old new before after loaded (step.Missing range access) come state_is queue_is regions_are comes =
+    few_made k before.layout.size loaded come
+    (few_missing (places_in old.regions) old.limit (queue_of (course_of before old.limit)) loaded new.descriptors.items comes.0 comes.1)
 by_came k old new before after loaded (step.Refused e) come state_is queue_is regions_are comes =
     few_made k before.layout.size loaded come
-    (few_offered (places_in old.regions) old.limit (queue_of (course_of before old.limit)) loaded [] (Refuses e) comes)
+    (few_offered (places_in old.regions) old.limit (queue_of (course_of before old.limit)) loaded [] (Refuses e) comes.0)
 by_came k old new before after loaded (step.Chain head None) come state_is queue_is regions_are comes =
     few_made k before.layout.size loaded come
-    (few_fetched (places_in old.regions) old.limit (queue_of (course_of before old.limit)) loaded new.descriptors.items head None comes)
+    (few_fetched (places_in old.regions) old.limit (queue_of (course_of before old.limit)) loaded new.descriptors.items head None comes.0)
 by_came k old new before after loaded (step.Chain head (Some fault)) come state_is queue_is regions_are comes =
     few_made k before.layout.size loaded come (few_fetched (places_in old.regions) old.limit (queue_of (course_of before old.limit)) loaded
-    new.descriptors.items head (Some fault) comes)
+    new.descriptors.items head (Some fault) comes.0)
 
 -- the first call
 begins_whole : (old : ChainHandle) (before : QueueState) (new : ChainHandle) (after : QueueState) → old.state ≡ at.Free →
@@ -288,10 +311,16 @@ begins_whole : (old : ChainHandle) (before : QueueState) (new : ChainHandle) (af
 begins_whole old before new after free call =
     let none : load_len old.state ≡ 0 = ap load_len free in let few = call.1 in omega (arith, none, few)
 
+by_lack : (old new : ChainHandle) (before after : QueueState) (told : walked.PopOutcome) (e : QueueError)
+    (miss : Option (IovaRange × Permissions)) → LacksEvents e miss old new before after told → After 0 old new before after (wents.On told)
+by_lack old new before after told e None h =
+    subst (λ (t : walked.PopOutcome). After 0 old new before after (wents.On t)) (sym h.0) (omega arith)
+by_lack old new before after told e (Some r) h =
+    subst (λ (t : walked.PopOutcome). After 0 old new before after (wents.On t)) (sym h.0) (omega arith)
+
 by_fault : (old new : ChainHandle) (before after : QueueState) (told : walked.PopOutcome) (fault : Option QueueError) →
     BeginsWhere fault old new before after told → After 0 old new before after (wents.On told)
-by_fault old new before after told (Some e) h =
-    subst (λ (t : walked.PopOutcome). After 0 old new before after (wents.On t)) (sym h.0) (omega arith)
+by_fault old new before after told (Some e) h = by_lack old new before after told e (event_miss (places_in old.regions) before) h
 by_fault old new before after told None h =
     subst (λ (t : walked.PopOutcome). After 0 old new before after (wents.On t)) (sym h.1.0)
     (by_came 0 old new before after nothing h.0 (omega arith) h.1.1 h.1.2 h.1.4.0 h.2)
@@ -357,6 +386,7 @@ standing : (k : ℕ) (old w : ChainHandle) (before q : QueueState) (earlier : we
 standing k old w before q wents.Part wants h = h
 standing k old w before q (wents.On (says.Load n)) wants h = h
 standing k old w before q (wents.On says.Idle) wants h = absurd wants
+standing k old w before q (wents.On (says.Missing range access)) wants h = absurd wants
 standing k old w before q (wents.On (says.Refused e)) wants h = absurd wants
 standing k old w before q (wents.On (says.Chain head n r)) wants h = absurd wants
 standing k old w before q (wents.On (says.Faulty head fault)) wants h = absurd wants
@@ -381,6 +411,7 @@ few_after : (k : ℕ) (old new : ChainHandle) (before after : QueueState) (told 
 few_after k old new before after wents.Part h = few_standing_at k old new before after h
 few_after k old new before after (wents.On (says.Load n)) h = few_standing_at k old new before after h
 few_after k old new before after (wents.On says.Idle) h = h
+few_after k old new before after (wents.On (says.Missing range access)) h = h
 few_after k old new before after (wents.On (says.Refused e)) h = h
 few_after k old new before after (wents.On (says.Chain head n r)) h = h
 few_after k old new before after (wents.On (says.Faulty head fault)) h = h

@@ -211,6 +211,7 @@ module _ (i : ℕ) where
       → slice_get s.queues j ≡ Some v
       → why_declined s.places v ≡ None → WalksIn s j v loaded ds came mid → Kept s → Kept mid
   walks s mid j v loaded ds (step.Load walk) at clear h kept = absurd h
+  walks s mid j v loaded ds (step.Missing range access) at clear h kept = absurd h
   walks {F} s mid j v loaded ds step.Idle at clear h kept = subst (λ (k : LiveState F). Kept k) (sym h.1) kept
   walks {F} s mid j v loaded ds (step.Refused e) at clear h kept = subst (λ (k : LiveState F). Kept k) (sym h.1)
       (refuses s j v (stops_queue e) at kept)
@@ -401,6 +402,7 @@ walk_tied : {F : Type 0} (s mid : LiveState F) (j : ℕ) (v : LiveQueue) (loaded
     → slice_get s.queues j ≡ Some v → WalksIn s j v loaded ds came mid
     → AllTied s → AllTied mid
 walk_tied s mid j v loaded ds (step.Load walk) at h all = absurd h
+walk_tied s mid j v loaded ds (step.Missing range access) at h all = absurd h
 walk_tied {F} s mid j v loaded ds step.Idle at h all = subst (λ (k : LiveState F). AllTied k) (sym h.1) all
 walk_tied {F} s mid j v loaded ds (step.Refused e) at h all =
     subst (λ (k : LiveState F). AllTied k) (sym h.1) (refusal_tied s j v (stops_queue e) at all)

@@ -195,6 +195,7 @@ module _ (i : ℕ) where
       → slice_get s.queues i ≡ Some w → slice_get s.queues j ≡ Some v
       → IsTrue (may_take v) → WalksIn s j v loaded ds came mid → Carries s mid w (event_on i (Walks j loaded ds came))
   walks s mid j w v loaded ds (step.Load walk) there at room h = absurd h
+  walks s mid j w v loaded ds (step.Missing range access) there at room h = absurd h
   walks {F} s mid j w v loaded ds step.Idle there at room h =
       subst (λ (k : LiveState F). Carries s k w []) (sym h.1) (stays s s w w there refl refl)
   walks {F} s mid j w v loaded ds (step.Refused e) there at room h =

@@ -22,7 +22,7 @@ use Rattle.virtiofsd_fuse.specs.Serving.{May, served, setting}
 use Rattle.server_phases.specs.declared.session.Session.{Session}
 use Rattle.fs_chain.specs.Answers.{CanBeGiven, IfWaits}
 use Rattle.fs_chain.specs.Decoding.{TellsMeaning}
-use Rattle.fs_chain.specs.Events.{notification_store, store_of}
+use Rattle.fs_chain.specs.Events.{event_miss, notification_store, store_of}
 use Rattle.fs_chain.specs.Queues.{reset_to, gave}
 use Rattle.fs_chain.specs.Walks.{RefusalHasEvents, course_of, faulty_out, no_reply, out_of, told_of}
 use Rattle.fs_chain.specs.Whole.{ChainAnswer, GoesBackBy, HasReply, IsAnsweredBy, IsDecodedBy, LoadsOf}
@@ -61,9 +61,10 @@ live_of q = record {
 
 -- ---- pops
 
--- the pop asks for no further load
+-- the pop asks for no further load, and missed nothing
 abbrev pub IsPopDone : walked.PopOutcome → Type 0
 IsPopDone (says.Load n) = ⊥
+IsPopDone (says.Missing range access) = ⊥
 IsPopDone _ = Unit {0}
 
 -- a chain of a run with this limit, in the handle that popped it: both have the same mappings
@@ -136,7 +137,8 @@ HandleLoads =
     load_count given old new before after told walks ≤ before.layout.size + 4
 
 -- a pop of a queue that is stopped, or whose event index isn't mapped, is refused by its first call: no load
--- was made
+-- was made. If the table doesn't map a field of the event index, the pop misses it instead (`Missed` of
+-- fs_chain)
 abbrev pub HandleDeclines : {F : Type 0} → May F → Type 0
 HandleDeclines {F} may =
     (s : LiveState F) (i : ℕ) (given : List (List ℕ)) (old new : ChainHandle) (before after : QueueState)
@@ -144,6 +146,7 @@ HandleDeclines {F} may =
     slice_get s.queues i ≡ Some (live_of before) →
     s.places ≡ places_in old.regions →
     why_declined s.places (live_of before) ≡ Some e →
+    (before.stopped ≡ None → event_miss (places_in old.regions) before ≡ None) →
     WalksBy given old new before after (wents.On told) →
     (told ≡ says.Refused e)
     × (given ≡ [])

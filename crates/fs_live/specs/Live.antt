@@ -160,10 +160,11 @@ new_chain s i w loaded ds head fault =
 abbrev pub after_take : {F : Type 0} → LiveState F → ℕ → LiveQueue → OutChain → LiveState F
 after_take s i w c = record s { queues = changed_at s.queues i (λ _. took w); outs = s.outs ++ c ∷ [] }
 
--- how a pop of a queue ends
+-- how a pop of a queue ends. A pop that misses addresses is no event: it changes nothing
 abbrev pub WalksIn : {F : Type 0} → LiveState F → ℕ → LiveQueue → Loaded → List Descriptor →
     comes.CourseStep → LiveState F → Type 0
 WalksIn s i w loaded ds (step.Load walk) after = ⊥
+WalksIn s i w loaded ds (step.Missing range access) after = ⊥
 WalksIn s i w loaded ds step.Idle after = OffersBy s.places s.limit w.queue loaded [] Idle × (after ≡ s)
 WalksIn s i w loaded ds (step.Refused e) after =
     OffersBy s.places s.limit w.queue loaded [] (Refuses e)

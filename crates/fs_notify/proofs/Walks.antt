@@ -308,6 +308,7 @@ takes_by given old new before after told s walks loaded head fetched loads says 
 pub takes : TakesByWalk
 takes given old new before after (says.Load n) s counted goes taken walks is walker = absurd taken
 takes given old new before after says.Idle s counted goes taken walks is walker = absurd taken
+takes given old new before after (says.Missing range access) s counted goes taken walks is walker = absurd taken
 takes given old new before after (says.Refused e) s counted goes taken walks is walker = absurd taken
 takes given old new before after (says.Chain head request_len room_len) s counted goes taken walks is walker =
     let m = places_in old.regions in
@@ -315,8 +316,9 @@ takes given old new before after (says.Chain head request_len room_len) s counte
     let all = walk_comes given old new before after (says.Chain head request_len room_len) goes tt walks in
     let came = (came_is new.descriptors.items all.2.0 head request_len room_len all.2.1.0).0 in
     let ds = new.descriptors.items in
-    let found : IsCourseStep m old.limit q all.0 ds (step.Chain head None) =
+    let comes_so : IsCourseStep m old.limit q all.0 ds (step.Chain head None) =
     subst (λ (c : comes.CourseStep). IsCourseStep m old.limit q all.0 ds c) came all.2.2 in
+    let found = comes_so.0 in
     let n = total_len (readable ds) in
     let by = found.1 (replicate n 0) (length-replicate n 0) in
     let gone : after ≡ took before = all.2.1.2 ∙ ap (queue_after before) came in
@@ -330,8 +332,9 @@ takes given old new before after (says.Faulty head fault) s counted goes taken w
     let all = walk_comes given old new before after (says.Faulty head fault) goes tt walks in
     let came = faulty_is new.descriptors.items all.2.0 head fault all.2.1.0 in
     let ds = new.descriptors.items in
-    let found : IsCourseStep m old.limit q all.0 ds (step.Chain head (Some fault)) =
+    let comes_so : IsCourseStep m old.limit q all.0 ds (step.Chain head (Some fault)) =
     subst (λ (c : comes.CourseStep). IsCourseStep m old.limit q all.0 ds c) came all.2.2 in
+    let found = comes_so.0 in
     let gone : after ≡ took before = all.2.1.2 ∙ ap (queue_after before) came in
     takes_by given old new before after (says.Faulty head fault) s walks all.0 head (CannotFetch fault) all.1
     (offer_says m old.limit before.layout before.next_avail all.0 [] (Offers head (CannotFetch fault)) found tt) counted gone is walker
@@ -345,6 +348,7 @@ IsIdle _ = ⊥
 idle_is : (ds : List Descriptor) (came : comes.CourseStep) → says.Idle ≡ told_of ds came → came ≡ step.Idle
 idle_is ds (step.Load walk) e = absurd (subst IsIdle e tt)
 idle_is ds step.Idle e = refl
+idle_is ds (step.Missing range access) e = absurd (subst IsIdle e tt)
 idle_is ds (step.Refused error) e = absurd (subst IsIdle e tt)
 idle_is ds (step.Chain h None) e = absurd (subst IsIdle e tt)
 idle_is ds (step.Chain h (Some fault)) e = absurd (subst IsIdle e tt)

@@ -1,5 +1,6 @@
 pub mod Finding
 pub mod Mapping
+pub mod Missing
 pub mod Touching
 pub mod Offering
 pub mod Fetching

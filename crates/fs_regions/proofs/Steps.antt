@@ -1,5 +1,5 @@
 -- what a walk comes to, step by step
-use Rattle.std.proofs.Common.{◌≡◌, ℕ, Bool, true, false, ◌<◌, List, [], ◌∷◌, Option, Some, None, refl, ap, sym, ◌∙◌, subst}
+use Rattle.std.proofs.Common.{◌≡◌, ℕ, Bool, true, false, ◌<◌, List, [], ◌∷◌, Option, Some, None, refl, ap, sym, ◌∙◌, subst, append-nil}
 use Rattle.std.specs.Prelude.{if◌then◌else◌, length, option_map}
 use Rattle.std.proofs.lemmas.Bool.{eqb-true, eq-eqb}
 use Rattle.std.proofs.lemmas.List.Elements.{All-nil, All-cons}
@@ -17,8 +17,8 @@ use Rattle.fs_queue.specs.declared.walk.Walk as code
 use Rattle.fs_queue.specs.declared.walk.Walk.TheVariants as says
 use Rattle.fs_queue.specs.Queue.{Queue, avail_index_at, ring_entry_at}
 use Rattle.fs_queue.specs.NextAvail.{NextAvail, Idle, Head, Refused}
-use Rattle.fs_queue.specs.Chain.{Descriptor, Visit, WalkStep, after_walk_step, entry_address, first_visit}
-use Rattle.fs_queue.specs.Loads.{Load, Reads, Ends, asks_entry, is_whole, found_exactly, ahead_at, ahead_after}
+use Rattle.fs_queue.specs.Chain.{Descriptor, Found, Visit, WalkStep, after_walk_step, entry_address, first_visit}
+use Rattle.fs_queue.specs.Loads.{Load, Reads, Ends, asks_entry, is_whole, found_exactly, chain_exactly, ahead_at, ahead_after}
 use Rattle.fs_queue.specs.OfferLoads.{waits_by}
 use Rattle.fs_queue.specs.RingingView.{Stage, AsksIndex, AsksEntry, Told, by_index, by_entry, stage_of, stage_at, BeginsAt, BeginsChain}
 use Rattle.fs_queue.specs.RingingView.{IfRingEntry}
@@ -26,6 +26,7 @@ use Rattle.fs_queue.specs.WalkingView.{at_position, found_of}
 use Rattle.fs_queue.proofs.LoadLemmas.{step_at, step_lost, reach_none}
 use Rattle.fs_regions.specs.Walks.{Loaded, nothing, standing_before, Brings, BeginsAtHead, BeginsIfChain, TellsBy, StandsAfterIndex}
 use Rattle.fs_regions.specs.Walks.{HeadWaits, Waits, IsLost, FindsBy}
+use Rattle.fs_regions.specs.Misses.{OfIndex, OfRingEntry, first_miss, needed_at}
 use Rattle.fs_regions.proofs.Finding.{brings_end, before}
 
 -- ---- an entry without a place
@@ -64,11 +65,18 @@ loses m q loaded head ds v w inside away is brings = (
 )
 
 -- a walk that has ended
-pub ends : (m : Memory) (q : Queue) (loaded : Loaded) (head : ℕ) (ds : List Descriptor) (w : walked.WalkEnd) →
+pub ends : (q : Queue) (loaded : Loaded) (head : ℕ) (ds : List Descriptor) (w : walked.WalkEnd) →
     Brings q.size loaded.entries (ahead_at q.size (first_visit q head)) ds (Ends (found_of w [])) →
-    FindsBy m q loaded head (found_of w ds)
-ends m q loaded head ds w brings =
-    ([], All-nil (IsLost m), brings_end q.size loaded.entries (ahead_at q.size (first_visit q head)) ds w brings)
+    chain_exactly loaded.entries q head ≡ Some (found_of w ds)
+ends q loaded head ds w brings =
+    ap (λ (ls : List Load). chain_exactly ls q head) (sym (append-nil loaded.entries))
+    ∙ brings_end q.size loaded.entries (ahead_at q.size (first_visit q head)) ds w brings
+
+-- so it finds this
+pub finds : (m : Memory) (q : Queue) (loaded : Loaded) (head : ℕ) (found : Found) → chain_exactly loaded.entries q head ≡ Some found →
+    FindsBy m q loaded head found
+finds m q loaded head found by =
+    ([], All-nil (IsLost m), ap (λ (ls : List Load). chain_exactly ls q head) (append-nil loaded.entries) ∙ by)
 
 -- ---- the ring
 
@@ -138,6 +146,7 @@ tells_alone m q index w stands other =
       by_loads = by_alone q index stands.whole told.1;
       no_entries = refl;
       asked = (stands.asked, λ none it_asks. no_more (asks_entry (by_index q index)) told.1 it_asks);
+      no_miss = (stands.no_miss, λ none it_asks. no_more (asks_entry (by_index q index)) told.1 it_asks);
       begins = stands.begins;
     }
 
@@ -145,14 +154,16 @@ tells_alone m q index w stands other =
 pub tells_both : (m : Memory) (q : Queue) (index entry : Option (List ℕ)) (w : code.Walk) → is_whole 2 index ≡ true →
     asks_entry (by_index q index) ≡ true → is_whole 2 entry ≡ true →
     (index ≡ None → reach m Read (avail_index_at q) 2 ≡ false) → (entry ≡ None → reach m Read (ring_entry_at q) 2 ≡ false) →
+    (index ≡ None → first_miss m (needed_at q OfIndex) ≡ None) → (entry ≡ None → first_miss m (needed_at q OfRingEntry) ≡ None) →
     BeginsIfChain q w → stage_of w ≡ Told (by_entry q index entry) →
     TellsBy m q (record { index = index; entry = entry; entries = [] }) w
-tells_both m q index entry w whole asks_it whole_entry no_index no_entry begins told = record {
+tells_both m q index entry w whole asks_it whole_entry no_index no_entry index_there entry_there begins told = record {
   next = by_entry q index entry;
   tells = told;
   by_loads = by_both q index entry whole asks_it whole_entry;
   no_entries = refl;
   asked = (no_index, λ none it_asks. no_entry none);
+  no_miss = (index_there, λ none it_asks. entry_there none);
   begins = begins;
 }
 
@@ -209,14 +220,16 @@ ring_same l position q (says.Refused e) is same = tt
 -- what comes of the index, by what the code answers
 pub after_index : (m : Memory) (q : Queue) (l : QueueLayout) (position : ℕ) (index : Option (List ℕ)) (w : code.Walk) →
     at_position l position ≡ q → is_whole 2 index ≡ true →
-    (index ≡ None → reach m Read (avail_index_at q) 2 ≡ false) → stage_of w ≡ stage_at (by_index (at_position l position) index) →
+    (index ≡ None → reach m Read (avail_index_at q) 2 ≡ false) → (index ≡ None → first_miss m (needed_at q OfIndex) ≡ None) →
+    stage_of w ≡ stage_at (by_index (at_position l position) index) →
     IfRingEntry w (λ x. (x.layout ≡ l) × (x.position ≡ position)) → BeginsChain l w →
     StandsAfterIndex m q index w
-after_index m q l position index w is whole asked stage same chain = record {
+after_index m q l position index w is whole asked no_miss stage same chain = record {
   stage = stage ∙ ap (λ (x : Queue). stage_at (by_index x index)) is;
   at = ring_same l position q w is same;
   whole = whole;
   asked = asked;
+  no_miss = no_miss;
   begins = begins_of l position q w is chain;
 }
 
@@ -231,3 +244,10 @@ whole_pair o is = let pair = loaded_pair o is in ap (is_whole 2) pair.1 ∙ eq-e
 pub not_none : {A : Type 0} (o : Option (List ℕ)) → option_map length o ≡ Some 2 → o ≡ None → A
 not_none None is none = absurd (cc)
 not_none (Some bs) is none = absurd (cc)
+
+-- an index that isn't mapped doesn't ask for the entry
+pub without_entry : (q : Queue) (w : code.Walk) → stage_of w ≡ stage_at (by_index q None) → (x : RingEntryWalk) → w ≡ says.RingEntry x → ⊥
+without_entry q w is x e = not_told (ap stage_of (sym e) ∙ is ∙ ap stage_at (index_lost q))
+  where
+    not_told : AsksEntry ≡ Told (Refused AvailIndexUnreachable) → ⊥
+    not_told same = cc

@@ -245,6 +245,7 @@ uses_up walk bs old new (says.Ends walked) r (step.Load next) asks = absurd asks
 uses_up walk bs old new after r step.Idle asks = tt
 uses_up walk bs old new after r (step.Refused e) asks = tt
 uses_up walk bs old new after r (step.Chain head fault) asks = tt
+uses_up walk bs old new after r (step.Missing range access) asks = tt
 
 same_size : (p : code.Progress) (a b : ℕ) → IfWants p (λ w. w.size ≡ a) → a ≡ b → IfWants p (λ w. w.size ≡ b)
 same_size (says.Wants w) a b h e = h ∙ e
@@ -269,11 +270,3 @@ comes_by m limit q loaded stretch bs old new after came r asks comes stands =
       comes = comes (record loaded { entries = loaded.entries ++ r.reads }) (waits_on m q loaded (loaded.entries ++ r.reads) stretch.head
           stands.0) (same_size after stretch.walk.size q.size r.size stands.1) brings;
     }
-
--- a walk that has ended asks for nothing
-pub asks_none :
-    (w : ChainWalk) (walked : walked.WalkEnd) (came : comes.CourseStep) → AsksFor (says.Ends walked) came → AsksFor (says.Wants w) came
-asks_none w walked (step.Load next) asks = absurd asks
-asks_none w walked step.Idle asks = tt
-asks_none w walked (step.Refused e) asks = tt
-asks_none w walked (step.Chain head fault) asks = tt

@@ -1,4 +1,5 @@
 pub mod Places
+pub mod Misses
 pub mod Making
 pub mod Walks
 pub mod Windows

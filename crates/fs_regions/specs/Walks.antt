@@ -4,23 +4,30 @@ use Rattle.std.specs.Prelude.{◌≡◌, ◌⊎◌, if◌then◌else◌, ℕ, �
 use Rattle.std.specs.Prelude.{List, [], ◌∷◌, ◌++◌, All, length, take, drop, Option, Some, None, option_map}
 use Rattle.vm_iotlb.specs.declared.permissions.Permissions.TheVariants.{Read}
 use Rattle.vm_memory.specs.Memory.{Memory, reach}
+use Rattle.vm_iotlb.specs.declared.iova.IovaRange.{IovaRange}
+use Rattle.vm_iotlb.specs.declared.permissions.Permissions.{Permissions}
 use Rattle.fs_queue.specs.declared.fault.ChainFault.{ChainFault}
+use Rattle.fs_queue.specs.declared.fault.ChainFault.TheVariants as fault
+use Rattle.fs_queue.specs.declared.fault.QueueError.{QueueError}
+use Rattle.fs_queue.specs.declared.fault.QueueError.TheVariants as stop
 use Rattle.fs_queue.specs.declared.chain_walk.Progress.{Progress}
 use Rattle.fs_queue.specs.declared.walk.Walk as code
 use Rattle.fs_queue.specs.declared.walk.Walk.TheVariants as waits
 use Rattle.fs_queue.specs.Queue.{Queue, avail_index_at, ring_entry_at}
 use Rattle.fs_queue.specs.NextAvail.{NextAvail, Head}
 use Rattle.fs_queue.specs.Chain.{Descriptor, DescriptorTable, Visit, with_front, entry_address, Found}
-use Rattle.fs_queue.specs.Chain.{IsChain, first_visit}
+use Rattle.fs_queue.specs.Chain.{IsChain, HasFault, StopsQueue, first_visit}
 use Rattle.fs_queue.specs.Loads.{Load, Ahead, Reads, found_exactly, chain_exactly, asks_entry, ahead_at}
 use Rattle.fs_queue.specs.Loads.{is_whole}
 use Rattle.fs_queue.specs.OfferLoads.{waits_by, offer_by}
 use Rattle.fs_queue.specs.Taking.{readable, writable, total_len, IsRequest, CannotFetch, Offer, Idle, Refuses}
-use Rattle.fs_queue.specs.Taking.{Offers, addresses_of, return_fault}
+use Rattle.fs_queue.specs.Taking.{Offers, addresses_of, chain_fault, return_fault}
 use Rattle.fs_queue.specs.RingingView.{Told, by_index, stage_of, stage_at, IfRingEntry}
 use Rattle.fs_queue.specs.SteppingView.{ahead_of, visit_of, IfWants}
 use Rattle.fs_queue.specs.WalkingView.{at_position}
 use Rattle.fs_regions.specs.Places.{left_in}
+use Rattle.fs_regions.specs.Misses.{Test, OfIndex, OfRingEntry, OfReturn, OfEntry, OfBuffers, first_miss}
+use Rattle.fs_regions.specs.Misses.{needed_at}
 use Rattle.fs_regions.specs.declared.walk.QueueWalk.{QueueWalk}
 use Rattle.fs_regions.specs.declared.walk.QueueWalk.TheVariants as at
 use Rattle.fs_regions.specs.declared.course.Course.{Course}
@@ -59,6 +66,14 @@ RingIsAsked m q loaded =
     asks_entry (by_index q loaded.index) ≡ true →
     reach m Read (ring_entry_at q) 2 ≡ false)
 
+-- a load of the ring that wasn't made is no mere miss
+abbrev pub RingIsNoMiss : Memory → Queue → Loaded → Type 0
+RingIsNoMiss m q loaded =
+    (loaded.index ≡ None → first_miss m (needed_at q OfIndex) ≡ None)
+    × (loaded.entry ≡ None →
+    asks_entry (by_index q loaded.index) ≡ true →
+    first_miss m (needed_at q OfRingEntry) ≡ None)
+
 -- the walk through a chain begins at its head
 abbrev pub BeginsAtHead : Queue → (head : ℕ) → Progress → Type 0
 BeginsAtHead q head progress =
@@ -76,6 +91,7 @@ pub record TellsBy (m : Memory) (q : Queue) (loaded : Loaded) (walk : code.Walk)
   pub by_loads : waits_by q loaded.index loaded.entry ≡ Some next
   pub no_entries : loaded.entries ≡ []
   pub asked : RingIsAsked m q loaded
+  pub no_miss : RingIsNoMiss m q loaded
   pub begins : BeginsIfChain q walk
 
 -- the index was loaded, or isn't mapped, and this walk follows
@@ -85,6 +101,7 @@ pub record StandsAfterIndex (m : Memory) (q : Queue) (index : Option (List ℕ))
   pub at : IfRingEntry walk (λ w. at_position w.layout w.position ≡ q)
   pub whole : is_whole 2 index ≡ true
   pub asked : index ≡ None → reach m Read (avail_index_at q) 2 ≡ false
+  pub no_miss : index ≡ None → first_miss m (needed_at q OfIndex) ≡ None
   pub begins : BeginsIfChain q walk
 
 -- the chain of this head is available, and its walk begins
@@ -233,13 +250,92 @@ FetchesBy m limit q loaded ds head None =
     length request ≡ total_len (readable ds) →
     OffersBy m limit q loaded request (Offers head (IsRequest request (addresses_of (writable ds)))))
 
+-- the loads so far bring a pop to this test, with these descriptors. The buffers of a chain over the limit
+-- aren't tested
+abbrev pub ComesTo : Memory → (limit : ℕ) → Queue → Loaded → List Descriptor → Test → Type 0
+ComesTo m limit q loaded ds OfIndex = (loaded ≡ nothing) × (ds ≡ [])
+ComesTo m limit q loaded ds OfRingEntry =
+    (option_map length loaded.index ≡ Some 2)
+    × (asks_entry (by_index q loaded.index) ≡ true)
+    × (loaded.entry ≡ None)
+    × (loaded.entries ≡ [])
+    × (ds ≡ [])
+ComesTo m limit q loaded ds OfReturn =
+    (head : ℕ)
+    × (waits_by q loaded.index loaded.entry ≡ Some (Head head))
+    × (loaded.entries ≡ [])
+    × (ds ≡ [])
+ComesTo m limit q loaded ds (OfEntry v) =
+    (head : ℕ)
+    × Waits m q loaded head
+    × (v.index < v.table.entries)
+    × Brings q.size loaded.entries (ahead_at q.size (first_visit q head)) ds (Reads v)
+ComesTo m limit q loaded ds (OfBuffers found) =
+    (head : ℕ)
+    × Waits m q loaded head
+    × FindsBy m q loaded head (IsChain found)
+    × (found ≡ ds)
+    × (chain_fault m limit ds ≡ Some fault.OverLimit → ⊥)
+
+-- a pop misses addresses: at a test, these are the first that it needs and the table doesn't map
+abbrev pub Misses : Memory → (limit : ℕ) → Queue → Loaded → List Descriptor → IovaRange → Permissions → Type 0
+Misses m limit q loaded ds range access =
+    (test : Test)
+    × ComesTo m limit q loaded ds test
+    × (first_miss m (needed_at q test) ≡ Some (range, access))
+
+-- a pop comes to a test, and misses nothing there: the table maps each address that it needs
+abbrev pub MissesNothing : Memory → (limit : ℕ) → Queue → Loaded → List Descriptor → Test → Type 0
+MissesNothing m limit q loaded ds test =
+    ComesTo m limit q loaded ds test × (first_miss m (needed_at q test) ≡ None)
+
+-- the walk finds this by the loads that were made
+abbrev pub FindsAlone : Memory → Queue → Loaded → Found → Type 0
+FindsAlone m q loaded found =
+    (head : ℕ) × Waits m q loaded head × (chain_exactly loaded.entries q head ≡ Some found)
+
+-- the walk needs an entry that the table maps: it isn't mapped to memory, or can't be read
+abbrev pub EntryIsNoMiss : Memory → (limit : ℕ) → Queue → Loaded → Type 0
+EntryIsNoMiss m limit q loaded =
+    (v : Visit) × (ds : List Descriptor) × MissesNothing m limit q loaded ds (OfEntry v)
+
+-- the same of a chain's request and reply buffer
+abbrev pub BuffersAreNoMiss : Memory → (limit : ℕ) → Queue → Loaded → Type 0
+BuffersAreNoMiss m limit q loaded =
+    (ds : List Descriptor) × MissesNothing m limit q loaded ds (OfBuffers ds)
+
+-- a refusal never results from a mere miss: where addresses aren't mapped to memory for the access, the table
+-- maps each of them
+abbrev pub RefusalIsNoMiss : Memory → (limit : ℕ) → Queue → Loaded → QueueError → Type 0
+RefusalIsNoMiss m limit q loaded stop.UsedUnreachable = MissesNothing m limit q loaded [] OfReturn
+RefusalIsNoMiss m limit q loaded stop.AvailFlagsUnreachable = MissesNothing m limit q loaded [] OfReturn
+RefusalIsNoMiss m limit q loaded stop.DescriptorUnreachable =
+    FindsAlone m q loaded StopsQueue ⊎ EntryIsNoMiss m limit q loaded
+RefusalIsNoMiss m limit q loaded _ = RingIsNoMiss m q loaded
+
+-- nor does a fault that the walk doesn't find by its loads alone
+abbrev pub TestIsNoMiss : Memory → (limit : ℕ) → Queue → Loaded → ChainFault → Type 0
+TestIsNoMiss m limit q loaded fault.OverLimit = Unit {0}
+TestIsNoMiss m limit q loaded fault.TableUnreachable = EntryIsNoMiss m limit q loaded
+TestIsNoMiss m limit q loaded fault.RequestUnreachable = BuffersAreNoMiss m limit q loaded
+TestIsNoMiss m limit q loaded fault.RoomUnreachable = BuffersAreNoMiss m limit q loaded
+TestIsNoMiss m limit q loaded _ = ⊥
+
+abbrev pub FaultIsNoMiss : Memory → (limit : ℕ) → Queue → Loaded → Option ChainFault → Type 0
+FaultIsNoMiss m limit q loaded None = Unit {0}
+FaultIsNoMiss m limit q loaded (Some why) =
+    FindsAlone m q loaded (HasFault why) ⊎ TestIsNoMiss m limit q loaded why
+
 -- a step of a pop, by the loads so far
 abbrev pub IsCourseStep : Memory → (limit : ℕ) → Queue → Loaded → List Descriptor → comes.CourseStep → Type 0
 IsCourseStep m limit q loaded ds (step.Load w) =
     IsWalkAt m q loaded ds w × IsThere m w × IsLongestStretch m q ds w
 IsCourseStep m limit q loaded ds step.Idle = OffersBy m limit q loaded [] Idle
-IsCourseStep m limit q loaded ds (step.Refused e) = OffersBy m limit q loaded [] (Refuses e)
-IsCourseStep m limit q loaded ds (step.Chain head fault) = FetchesBy m limit q loaded ds head fault
+IsCourseStep m limit q loaded ds (step.Refused e) =
+    OffersBy m limit q loaded [] (Refuses e) × RefusalIsNoMiss m limit q loaded e
+IsCourseStep m limit q loaded ds (step.Chain head fault) =
+    FetchesBy m limit q loaded ds head fault × FaultIsNoMiss m limit q loaded fault
+IsCourseStep m limit q loaded ds (step.Missing range access) = Misses m limit q loaded ds range access
 
 -- the step that follows the bytes of a load that the walk asked for, after the loads so far
 pub record ComesBy (m : Memory) (limit : ℕ) (q : Queue) (loaded : Loaded) (walk : QueueWalk) (bs : List ℕ)

@@ -10,7 +10,7 @@ use fs_queue::Descriptor;
 use vm_memory_core::{Permissions, VolatileSlice};
 
 // The access that a device needs for the bytes of one direction.
-fn access_of(write_only: bool) -> Permissions
+pub(crate) fn access_of(write_only: bool) -> Permissions
     ensures { result ≡ access_of write_only }
 {
     if write_only {

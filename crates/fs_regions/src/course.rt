@@ -1,13 +1,21 @@
 //! A pop over the regions of a guest's memory: its steps from load to load.
 
-ghost use Rattle.std.specs.Prelude.{◌≡◌, ℕ, ◌*◌, ◌-◌, [], List, Option, Some, length, true};
+ghost use Rattle.std.specs.Prelude.{◌≡◌, ℕ, ◌*◌, ◌-◌, [], List, Option, Some, length, true, false};
 ghost use Rattle.smallvec.specs.SmallVec.{HasRoomFor};
-ghost use Rattle.fs_queue.specs.Chain.{first_visit};
-ghost use Rattle.fs_queue.specs.Loads.{Reads, ahead_at};
+ghost use Rattle.vm_iotlb.specs.declared.permissions.Permissions.TheVariants.{Read};
+ghost use Rattle.vm_memory.specs.Memory.{reach};
+ghost use Rattle.fs_queue.specs.Chain.{IsChain, entry_address, first_visit};
+ghost use Rattle.fs_queue.specs.Loads.{Reads, ahead_at, asks_entry, chain_exactly};
 ghost use Rattle.fs_queue.specs.NextAvail.{NextAvail};
 ghost use Rattle.fs_queue.specs.OfferLoads.{waits_by};
+ghost use Rattle.fs_queue.specs.Queue.{avail_index_at, ring_entry_at};
+ghost use Rattle.fs_queue.specs.RingingView.{by_index};
 ghost use Rattle.fs_queue.specs.SteppingView.{ahead_of, visit_of, IfWants};
-ghost use Rattle.fs_queue.specs.WalkingView.{found_of};
+ghost use Rattle.fs_queue.specs.declared.chain_walk.WalkEnd.{WalkEnd};
+ghost use Rattle.fs_queue.specs.declared.chain_walk.Progress.{Progress};
+ghost use Rattle.fs_queue.specs.declared.chain_walk.WalkEnd.{WalkEnd};
+ghost use Rattle.fs_queue.specs.Taking.{chain_fault, return_fault};
+ghost use Rattle.fs_queue.specs.WalkingView.{at_position, found_of};
 ghost use Rattle.fs_regions.specs.Places.{places_in};
 ghost use Rattle.fs_regions.specs.Stretches.{AsksFor};
 ghost use Rattle.fs_regions.specs.Walks.{Loaded, nothing, asked_len, asked_entries, queue_of, IsCourseOf};
@@ -16,12 +24,13 @@ ghost use Rattle.fs_regions.specs.Walks.{IsCourseStep, Waits, Brings, FindsBy};
 
 use crate::entries::{ENTRY_LEN, EntriesWalk};
 use crate::map::GuestMap;
+use crate::misses::{buffers_miss, return_miss};
 use crate::step::CourseStep;
 use crate::stretch::{read_stretch, stretch_len};
 use crate::walk::QueueWalk;
 use fs_queue::{
-    ChainFault, ChainWalk, Descriptor, Descriptors, Progress, Queue, QueueError, QueueLayout, Walk,
-    WalkEnd, chain_fault, return_fault,
+    ChainFault, ChainWalk, Descriptor, Descriptors, IndexWalk, Progress, Queue, QueueError,
+    QueueLayout, RingEntryWalk, Walk, WalkEnd, chain_fault, return_fault,
 };
 use vm_memory_core::Permissions;
 
@@ -79,7 +88,7 @@ impl Course {
                 if regions.reaches(walk.address(), 2, Permissions::Read) {
                     CourseStep::Load(QueueWalk::Index(walk))
                 } else {
-                    self.at_index(regions, walk.give(None), descriptors)
+                    self.without_index(regions, walk, descriptors)
                 }
             }
             other => self.told(regions, other, descriptors),
@@ -137,7 +146,53 @@ impl Course {
         self.at_progress(regions, head, progress, descriptors)
     }
 
-    // The step after the available index was loaded, or isn't mapped.
+    // The step if the available index isn't mapped: a miss, or a refusal.
+    #[cold]
+    #[inline(never)]
+    fn without_index(
+        &self,
+        regions: &GuestMap,
+        walk: IndexWalk,
+        descriptors: &[Descriptor],
+    ) -> CourseStep
+        requires at { at_position walk.layout walk.position ≡ queue_of self.now }
+        requires away { reach (places_in regions.now) Read (avail_index_at (queue_of self.now)) 2 ≡ false }
+        ensures { descriptors.now ≡ []
+            → IsCourseStep (places_in regions.now) self.now.limit (queue_of self.now) nothing
+            descriptors.now result }
+    {
+        match regions.miss(walk.address(), 2, Permissions::Read) {
+            Some((range, access)) => CourseStep::Missing(range, access),
+            None => self.told(regions, walk.give(None), descriptors),
+        }
+    }
+
+    // The step if the available ring's entry isn't mapped: a miss, or a refusal.
+    #[cold]
+    #[inline(never)]
+    fn without_ring_entry(
+        &self,
+        regions: &GuestMap,
+        walk: RingEntryWalk,
+        descriptors: &[Descriptor],
+    ) -> CourseStep
+        requires { reach (places_in regions.now) Read
+            (ring_entry_at (at_position walk.layout walk.position)) 2 ≡ false }
+        ensures { (index : List ℕ)
+            → at_position walk.layout walk.position ≡ queue_of self.now
+            → length index ≡ 2
+            → asks_entry (by_index (queue_of self.now) (Some index)) ≡ true
+            → descriptors.now ≡ []
+            → IsCourseStep (places_in regions.now) self.now.limit (queue_of self.now)
+            (record nothing { index = Some index }) descriptors.now result }
+    {
+        match regions.miss(walk.address(), 2, Permissions::Read) {
+            Some((range, access)) => CourseStep::Missing(range, access),
+            None => self.told(regions, walk.give(None), descriptors),
+        }
+    }
+
+    // The step after the available index was loaded.
     #[inline(always)]
     fn at_index(&self, regions: &GuestMap, walk: Walk, descriptors: &[Descriptor]) -> CourseStep
         ensures { (index : Option (List ℕ))
@@ -151,7 +206,7 @@ impl Course {
                 if regions.reaches(walk.address(), 2, Permissions::Read) {
                     CourseStep::Load(QueueWalk::RingEntry(walk))
                 } else {
-                    self.told(regions, walk.give(None), descriptors)
+                    self.without_ring_entry(regions, walk, descriptors)
                 }
             }
             other => self.told(regions, other, descriptors),
@@ -191,8 +246,23 @@ impl Course {
             descriptors.now result }
     {
         match return_fault(regions, self.layout, self.position) {
-            Some(error) => CourseStep::Refused(error),
+            Some(error) => self.without_return(regions, error),
             None => self.at_progress(regions, head, progress, descriptors),
+        }
+    }
+
+    // The step if what the push of the chain needs isn't all mapped: a miss, or a refusal.
+    #[cold]
+    #[inline(never)]
+    fn without_return(&self, regions: &GuestMap, error: QueueError) -> CourseStep
+        requires { return_fault (places_in regions.now) (queue_of self.now) ≡ Some error }
+        ensures { (loaded : Loaded) (head : ℕ) (progress : Progress)
+            → HeadWaits (places_in regions.now) (queue_of self.now) loaded head progress
+            → IsCourseStep (places_in regions.now) self.now.limit (queue_of self.now) loaded [] result }
+    {
+        match return_miss(regions, self.layout, self.position) {
+            Some((range, access)) => CourseStep::Missing(range, access),
+            None => CourseStep::Refused(error),
         }
     }
 
@@ -254,12 +324,65 @@ impl Course {
                 entries,
             }));
         }
-        let walked = if is_indirect(&walk) {
-            WalkEnd::Faulty(ChainFault::TableUnreachable)
-        } else {
-            WalkEnd::Stopped
-        };
-        self.ended(regions, head, walked, descriptors)
+        self.without_entry(regions, head, &walk, descriptors)
+    }
+
+    // The step of a walk that needs an entry of a table which isn't mapped: a miss, a refusal, or a fault.
+    #[cold]
+    #[inline(never)]
+    fn without_entry(
+        &self,
+        regions: &GuestMap,
+        head: u16,
+        walk: &ChainWalk,
+        descriptors: &[Descriptor],
+    ) -> CourseStep
+        requires { reach (places_in regions.now) Read (entry_address (visit_of walk.now)) 16 ≡ false }
+        ensures comes { (loaded : Loaded)
+            → Waits (places_in regions.now) (queue_of self.now) loaded head
+            → Brings self.now.layout.size loaded.entries (ahead_at self.now.layout.size
+            (first_visit (queue_of self.now) head)) descriptors.now (Reads (visit_of walk.now))
+            → IsCourseStep (places_in regions.now) self.now.limit (queue_of self.now) loaded
+            descriptors.now result }
+        ensures asks { AsksFor (Progress.Wants walk.now) result }
+    {
+        match regions.miss(walk.address(), ENTRY_LEN, Permissions::Read) {
+            Some((range, access)) => CourseStep::Missing(range, access),
+            None => {
+                if is_indirect(walk) {
+                    CourseStep::Chain(head, Some(ChainFault::TableUnreachable))
+                } else {
+                    CourseStep::Refused(QueueError::DescriptorUnreachable)
+                }
+            }
+        }
+    }
+
+    // The step of a chain whose request or reply buffer can't be had: a miss, or a fault.
+    #[cold]
+    #[inline(never)]
+    fn without_buffers(
+        &self,
+        regions: &GuestMap,
+        head: u16,
+        fault: ChainFault,
+        descriptors: &[Descriptor],
+    ) -> CourseStep
+        requires { chain_fault (places_in regions.now) self.now.limit descriptors.now ≡ Some fault }
+        ensures comes { (loaded : Loaded)
+            → Waits (places_in regions.now) (queue_of self.now) loaded head
+            → FindsBy (places_in regions.now) (queue_of self.now) loaded head (IsChain descriptors.now)
+            → IsCourseStep (places_in regions.now) self.now.limit (queue_of self.now) loaded
+            descriptors.now result }
+        ensures asks { (walked : WalkEnd) → AsksFor (Progress.Ends walked) result }
+    {
+        match fault {
+            ChainFault::OverLimit => CourseStep::Chain(head, Some(ChainFault::OverLimit)),
+            _ => match buffers_miss(regions, descriptors) {
+                Some((range, access)) => CourseStep::Missing(range, access),
+                None => CourseStep::Chain(head, Some(fault)),
+            },
+        }
     }
 
     // The step of a walk that has ended.
@@ -273,8 +396,7 @@ impl Course {
     ) -> CourseStep
         ensures comes { (loaded : Loaded)
             → Waits (places_in regions.now) (queue_of self.now) loaded head
-            → FindsBy (places_in regions.now) (queue_of self.now) loaded head
-            (found_of walked descriptors.now)
+            → chain_exactly loaded.entries (queue_of self.now) head ≡ Some (found_of walked descriptors.now)
             → IsCourseStep (places_in regions.now) self.now.limit (queue_of self.now) loaded
             descriptors.now result }
         ensures asks { AsksFor (Progress.Ends walked) result }
@@ -282,10 +404,10 @@ impl Course {
         match walked {
             WalkEnd::Stopped => CourseStep::Refused(QueueError::DescriptorUnreachable),
             WalkEnd::Faulty(fault) => CourseStep::Chain(head, Some(fault)),
-            WalkEnd::Chain => CourseStep::Chain(
-                head,
-                chain_fault(regions, self.limit, descriptors),
-            ),
+            WalkEnd::Chain => match chain_fault(regions, self.limit, descriptors) {
+                None => CourseStep::Chain(head, None),
+                Some(fault) => self.without_buffers(regions, head, fault, descriptors),
+            },
         }
     }
 }

@@ -18,6 +18,7 @@ use crate::regions::GuestRegions;
 use fs_queue::AddressMap;
 use std::alloc::Global;
 use std::marker::Model;
+use std::mem;
 use vm_memory_core::{GuestAddress, Iotlb, IovaRange, Permissions, VolatileSlice};
 
 /// A guest's memory: its regions, and an IOMMU's table, if there is one. The table translates the device's
@@ -135,6 +136,14 @@ impl GuestMap {
             regions,
             table: Some(table),
         }
+    }
+
+    /// Exchanges the table for another one, or for none, and returns the one that was there.
+    pub fn exchange_table(&mut self, table: Option<Iotlb>) -> Option<Iotlb>
+        ensures old { result ≡ self.old.table }
+        ensures new { self.new ≡ record { layout = self.old.layout; table = table } }
+    {
+        mem::replace(&mut self.table, table)
     }
 
     /// Whether each of `len` addresses from one on is mapped for an access, and their end is an address.

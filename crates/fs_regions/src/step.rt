@@ -2,6 +2,7 @@
 
 use crate::walk::QueueWalk;
 use fs_queue::{ChainFault, QueueError};
+use vm_memory_core::{IovaRange, Permissions};
 
 /// A step of a pop.
 #[derive(Debug, Drop)]
@@ -14,4 +15,7 @@ pub enum CourseStep {
     Refused(QueueError),
     /// The chain of this head, or its fault. The list has the descriptors that the walk gathered.
     Chain(u16, Option<ChainFault>),
+    /// The pop needs these addresses for this access, and the table doesn't map them. Nothing was popped. The
+    /// list has the descriptors that the walk gathered.
+    Missing(IovaRange, Permissions),
 }

@@ -40,6 +40,7 @@ by_came : (ds : List Descriptor) (came : comes.CourseStep) (course : Course) (po
     FromTaken st (λ out. out.request_len ≡ n)
 by_came ds (step.Load walk) course pop_id st head n r told is = absurd (subst IsAChain told tt)
 by_came ds step.Idle course pop_id st head n r told is = absurd (subst IsAChain told tt)
+by_came ds (step.Missing range access) course pop_id st head n r told is = absurd (subst IsAChain told tt)
 by_came ds (step.Refused e) course pop_id st head n r told is = absurd (subst IsAChain told tt)
 by_came ds (step.Chain h None) course pop_id st head n r told is =
     subst (λ (s : state.ChainState). FromTaken s (λ out. out.request_len ≡ n)) (sym is) (sym (ap request_in told))
@@ -58,6 +59,7 @@ stays_there : (q : QueueState) (came : comes.CourseStep) →
     ((queue_after q came).next_used ≡ q.next_used) × ((queue_after q came).event_index ≡ q.event_index)
 stays_there q (step.Load walk) = (refl, refl)
 stays_there q step.Idle = (refl, refl)
+stays_there q (step.Missing range access) = (refl, refl)
 stays_there q (step.Refused e) = (refl, refl)
 stays_there q (step.Chain head fault) = (refl, refl)
 

@@ -111,6 +111,7 @@ pub chain_is :
     (ds : List Descriptor) (came : comes.CourseStep) (head n r : ℕ) → says.Chain head n r ≡ told_of ds came → came ≡ step.Chain head None
 chain_is ds (step.Load walk) head n r is = absurd (subst IsAChain is tt)
 chain_is ds step.Idle head n r is = absurd (subst IsAChain is tt)
+chain_is ds (step.Missing range access) head n r is = absurd (subst IsAChain is tt)
 chain_is ds (step.Refused e) head n r is = absurd (subst IsAChain is tt)
 chain_is ds (step.Chain h None) head n r is = ap (λ (x : ℕ). step.Chain x None) (sym (ap head_in is))
 chain_is ds (step.Chain h (Some fault)) head n r is = absurd (subst IsAChain is tt)
@@ -305,6 +306,7 @@ faulty_is : (ds : List Descriptor) (came : comes.CourseStep) (head : ℕ) (fault
     came ≡ step.Chain head (Some fault)
 faulty_is ds (step.Load walk) head fault is = absurd (subst IsFaulty is tt)
 faulty_is ds step.Idle head fault is = absurd (subst IsFaulty is tt)
+faulty_is ds (step.Missing range access) head fault is = absurd (subst IsFaulty is tt)
 faulty_is ds (step.Refused e) head fault is = absurd (subst IsFaulty is tt)
 faulty_is ds (step.Chain h None) head fault is = absurd (subst IsFaulty is tt)
 faulty_is ds (step.Chain h (Some why)) head fault is =

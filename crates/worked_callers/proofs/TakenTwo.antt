@@ -33,6 +33,7 @@ pub took_so : {F : Type 0} (may : May F) (s next : LiveState F) (i : ℕ) (loade
     → Happens may s (Walks i loaded ds came) next → (came ≡ step.Chain head None) × (next.places ≡ s.places) × (next.limit ≡ s.limit)
 took_so may s next i loaded ds (step.Load walk) head n r told happens = absurd (subst IsAChain told tt)
 took_so may s next i loaded ds step.Idle head n r told happens = absurd (subst IsAChain told tt)
+took_so may s next i loaded ds (step.Missing range access) head n r told happens = absurd (subst IsAChain told tt)
 took_so may s next i loaded ds (step.Refused e) head n r told happens = absurd (subst IsAChain told tt)
 took_so {F} may s next i loaded ds (step.Chain h None) head n r told happens = (
   ap (λ (x : ℕ). step.Chain x None) (sym (ap head_in told)),
@@ -45,6 +46,7 @@ after_chain_goes : (q : QueueState) (ds : List Descriptor) (came : comes.CourseS
     says.Chain head n r ≡ told_of ds came → (queue_after q came).stopped ≡ q.stopped
 after_chain_goes q ds (step.Load walk) head n r told = refl
 after_chain_goes q ds step.Idle head n r told = refl
+after_chain_goes q ds (step.Missing range access) head n r told = refl
 after_chain_goes q ds (step.Refused e) head n r told = absurd (subst IsAChain told tt)
 after_chain_goes q ds (step.Chain h fault) head n r told = refl
 

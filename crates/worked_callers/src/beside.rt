@@ -11,7 +11,7 @@ ghost use Rattle.fuse_values.specs.Values.{call_of};
 ghost use Rattle.fuse_values.specs.declared.call.FileCall as value;
 ghost use Rattle.virtiofsd_fuse.specs.Grammar.{meaning};
 ghost use Rattle.server_phases.specs.Answering.{TellsBytes};
-ghost use Rattle.fs_chain.specs.Events.{store_of};
+ghost use Rattle.fs_chain.specs.Events.{event_miss, store_of};
 ghost use Rattle.fs_chain.specs.Walks.{HasEvents};
 ghost use Rattle.fs_chain.specs.Whole.{IsWalked, WalksBy};
 ghost use Rattle.fs_chain.specs.declared.decoding.Decoded.TheVariants as asks;
@@ -159,6 +159,7 @@ pub fn refuse_beside<F: FileSystem>(
         → slice_get s.queues i ≡ Some (live_of queue.old)
         → s.places ≡ places_in handle.old.regions
         → why_declined s.places (live_of queue.old) ≡ Some e
+        → event_miss (places_in handle.old.regions) queue.old ≡ None
         → (told ≡ PopOutcome.Refused e)
         × (next : LiveState F)
         × Happens F.may s (Declines i e) next

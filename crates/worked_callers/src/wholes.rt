@@ -10,7 +10,7 @@ ghost use Rattle.fs_queue.specs.Taking.{after_refusal};
 ghost use Rattle.fs_queue.specs.declared.fault.QueueError.{QueueError};
 ghost use Rattle.fs_regions.specs.Places.{places_in};
 ghost use Rattle.fs_regions.specs.Walks.{queue_of};
-ghost use Rattle.fs_chain.specs.Events.{event_fault};
+ghost use Rattle.fs_chain.specs.Events.{event_fault, event_miss};
 ghost use Rattle.fs_chain.specs.Queues.{gave};
 ghost use Rattle.fs_chain.specs.Walks.{HasEvents, course_of};
 ghost use Rattle.fs_chain.specs.Whole.{FromTaken, ChainAnswer, GoesBackBy, HasReply, IsDecodedBy};
@@ -78,6 +78,7 @@ pub fn look<F: FileSystem>(
     ensures unplaced { IfOk result (λ told. (e : QueueError)
         → queue.old.stopped ≡ None
         → event_fault (places_in handle.old.regions) queue.old ≡ Some e
+        → event_miss (places_in handle.old.regions) queue.old ≡ None
         → (told ≡ LoadOutcome.On (PopOutcome.Refused e))
         × (queue.new ≡ record queue.old { stopped = Some e })) }
 {

@@ -28,6 +28,7 @@ load_keeps : (before after : QueueState) (ds : List Descriptor) (came : comes.Co
     after ≡ queue_after before came → after ≡ before
 load_keeps before after ds (step.Load walk) n told left = left
 load_keeps before after ds step.Idle n told left = absurd (subst IsALoad told tt)
+load_keeps before after ds (step.Missing range access) n told left = absurd (subst IsALoad told tt)
 load_keeps before after ds (step.Refused e) n told left = absurd (subst IsALoad told tt)
 load_keeps before after ds (step.Chain head None) n told left = absurd (subst IsALoad told tt)
 load_keeps before after ds (step.Chain head (Some fault)) n told left = absurd (subst IsALoad told tt)
@@ -39,6 +40,7 @@ keeps_queue old new before after (wents.On (says.Load n)) goes wants by =
     let made = walk_comes [] old new before after (says.Load n) goes tt by in
     load_keeps before after new.descriptors.items made.2.0 n made.2.1.0 made.2.1.2
 keeps_queue old new before after (wents.On says.Idle) goes wants by = absurd wants
+keeps_queue old new before after (wents.On (says.Missing range access)) goes wants by = absurd wants
 keeps_queue old new before after (wents.On (says.Refused e)) goes wants by = absurd wants
 keeps_queue old new before after (wents.On (says.Chain head n r)) goes wants by = absurd wants
 keeps_queue old new before after (wents.On (says.Faulty head fault)) goes wants by = absurd wants

@@ -30,7 +30,7 @@ returns-clause-declined g c =
     let before = c.args.queue.now in
     let after = c.walk_to_end.new.queue in
     if_ok c.walk_to_end.result _ _
-    (λ told walks s i e there places why.
-    let declined = c.law_handles.ensures.declines s i walks.0 old new before after told e there places why walks.1 in
+    (λ told walks s i e there places why none.
+    let declined = c.law_handles.ensures.declines s i walks.0 old new before after told e there places why (λ _. none) walks.1 in
     (declined.0, declined.2, declined.3, declined.4))
     c.walk_to_end.ensures.walked

@@ -36,6 +36,7 @@ returns-clause-unplaced g c =
     let before = c.args.queue.now in
     let after = c.walk_by.new.queue in
     if_ok c.walk_by.result _ _
-    (λ told walked e goes fault. let refused = c.law_chains.ensures.unplaced walked.0 e old new before after told goes fault walked.1 in
+    (λ told walked e goes fault none.
+    let refused = c.law_chains.ensures.unplaced walked.0 e old new before after told goes fault none walked.1 in
     (refused.0, refused.5))
     c.walk_by.ensures.walks

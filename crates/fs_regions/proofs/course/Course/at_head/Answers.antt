@@ -1,16 +1,15 @@
-use Rattle.std.proofs.Common.{◌∙◌, refl, sym}
+use Rattle.std.proofs.Common.{◌∙◌, sym}
 use Rattle.fs_queue.specs.Chain.{first_visit}
 use Rattle.fs_queue.specs.Loads.{ahead_at}
-use Rattle.fs_regions.specs.Places.{places_in}
 use Rattle.fs_regions.specs.Walks.{queue_of}
 use Rattle.fs_regions.proofs.Finding.{brings_none}
-use Rattle.fs_regions.proofs.Offering.{on_lacking}
 use Rattle.fs_regions.proofs.course.Course.at_head.Goals as goal
 
+pub without_return-requires : goal.without_return-requires
+without_return-requires c = sym c.return_fault.ensures ∙ c.in-Some.is
+
 pub returns-in-Some : goal.returns-in-Some
-returns-in-Some c = λ loaded waits none.
-    on_lacking (places_in c.args.regions.now) c.args.self.now.limit (queue_of c.args.self.now) loaded c.args.head c.args.progress
-    c.in-Some.error refl waits (sym c.return_fault.ensures ∙ c.in-Some.is)
+returns-in-Some c = λ loaded waits none. rw none (c.without_return.ensures loaded c.args.head c.args.progress waits)
 
 pub returns-in-None : goal.returns-in-None
 returns-in-None c = λ loaded waits none.

@@ -1,4 +1,3 @@
-use Rattle.fs_regions.specs.Places.{places_in}
 use Rattle.fs_regions.specs.Walks.{queue_of}
 use Rattle.fs_regions.proofs.Steps.{ends}
 use Rattle.fs_regions.proofs.course.Course.at_progress.Goals as goal
@@ -9,5 +8,5 @@ returns-in-Wants-clause-comes c =
 
 pub returns-in-Ends-clause-comes : goal.returns-in-Ends-clause-comes
 returns-in-Ends-clause-comes c = λ loaded waits size brings.
-    c.ended.ensures.comes loaded waits (ends (places_in c.args.regions.now) (queue_of c.args.self.now) loaded c.args.head
-    c.args.descriptors.now c.in-Ends.walked (rw c.in-Ends.is at brings))
+    c.ended.ensures.comes loaded waits (ends (queue_of c.args.self.now) loaded c.args.head c.args.descriptors.now c.in-Ends.walked
+    (rw c.in-Ends.is at brings))

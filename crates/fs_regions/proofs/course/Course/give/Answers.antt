@@ -17,6 +17,7 @@ returns-in-Index c = λ loaded stands.
     let comes = rw c.deref.ensures at c.at_index.ensures in
     let here = comes (Some c.pair.result)
     (after_index m q w.layout w.position (Some c.pair.result) c.give.result s.0 (eq-eqb (length c.pair.result) 2 long) (λ none. absurd (cc))
+    (λ none. absurd (cc))
     c.give.ensures.stage
     c.give.ensures.same c.give.ensures.chain) s.2 in
     rw c.in-Index.is
@@ -35,7 +36,7 @@ returns-in-RingEntry c = λ loaded stands.
     c.give-in-RingEntry.ensures.tells in
     let tells = tells_both m q loaded.index (Some c.pair-in-RingEntry.result) c.give-in-RingEntry.result (whole_pair loaded.index s.1) s.2
     (eq-eqb (length c.pair-in-RingEntry.result) 2 long)
-    (λ none. not_none loaded.index s.1 none) (λ none. absurd (cc))
+    (λ none. not_none loaded.index s.1 none) (λ none. absurd (cc)) (λ none. not_none loaded.index s.1 none) (λ none. absurd (cc))
     (begins_of w.layout w.position q c.give-in-RingEntry.result s.0 c.give-in-RingEntry.ensures.chain) told in
     let comes = rw c.deref-in-RingEntry.ensures at c.told.ensures in
     let here = comes (record { index = loaded.index; entry = Some c.pair-in-RingEntry.result; entries = [] }) tells s.5 in

@@ -3,15 +3,20 @@ use Rattle.fs_queue.specs.NextAvail.{Refused}
 use Rattle.fs_queue.specs.RingingView.{stage_of}
 use Rattle.fs_regions.specs.Places.{places_in}
 use Rattle.fs_regions.specs.Walks.{queue_of}
+use Rattle.fs_regions.proofs.Missing.{ring_no_miss}
 use Rattle.fs_regions.proofs.Offering.{on_refused}
 use Rattle.fs_regions.proofs.Steps.{untold, head_waits}
 use Rattle.fs_regions.proofs.course.Course.told.Goals as goal
 
 pub returns-in-Refused : goal.returns-in-Refused
 returns-in-Refused c = λ loaded tells none.
-    on_refused (places_in c.args.regions.now) c.args.self.now.limit (queue_of c.args.self.now) loaded c.in-Refused.error refl
-    tells.no_entries tells.asked
-    (tells.by_loads ∙ ap Some (sym (untold (Refused c.in-Refused.error) tells.next (ap stage_of (sym c.in-Refused.is) ∙ tells.tells))))
+    let m = places_in c.args.regions.now in
+    let q = queue_of c.args.self.now in
+    let e = c.in-Refused.error in
+    let by = tells.by_loads ∙ ap Some (sym (untold (Refused e) tells.next (ap stage_of (sym c.in-Refused.is) ∙ tells.tells))) in (
+      on_refused m c.args.self.now.limit q loaded e refl tells.no_entries tells.asked by,
+      ring_no_miss m c.args.self.now.limit q loaded e by tells.no_miss,
+    )
 
 pub returns-in-Chain : goal.returns-in-Chain
 returns-in-Chain c = λ loaded tells none. c.at_head.ensures loaded

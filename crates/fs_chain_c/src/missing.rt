@@ -1,0 +1,108 @@
+//! What is missing in an IOMMU's table, and what a chain uses of it.
+
+ghost use Rattle.std.specs.Prelude.{◌≡◌};
+ghost use Rattle.fs_chain.specs.Numbers.{chain_error_number};
+ghost use Rattle.fs_chain.specs.declared.error.ChainError.TheVariants.{WrongOrder};
+ghost use Rattle.fs_chain_c.specs.Handles.{OnHandle};
+ghost use Rattle.fs_chain_c.specs.Iotlbs.{TellsMiss, TellsUse, no_miss};
+
+use crate::access::access_number;
+use crate::exports::wrong_order;
+use crate::handle::FsChain;
+use crate::popping::MISS;
+use fs_chain::ChainHandle;
+use std::alloc::Global;
+
+/// The descriptor has no miss from there on.
+const NO_MISS: u32 = 0;
+
+/// No descriptor has this index.
+const NO_DESCRIPTOR: u32 = 33;
+
+/// I/O addresses that aren't mapped in the table.
+#[repr(C)]
+#[derive(Clone, Copy)]
+pub struct FsMiss {
+    /// The first one.
+    pub at: u64,
+    /// How many there are.
+    pub len: u64,
+    /// The number of the access that they are needed for.
+    pub access: u32,
+}
+
+impl FsMiss {
+    /// Neither addresses nor an access.
+    pub fn nothing() -> FsMiss
+        ensures { result ≡ no_miss }
+    {
+        FsMiss {
+            at: 0,
+            len: 0,
+            access: 0,
+        }
+    }
+}
+
+// The first miss of a gathered descriptor from an address on, and a status.
+fn miss_of(handle: &ChainHandle, index: usize, from: u64) -> (FsMiss, u32)
+    ensures { TellsMiss handle.now index from result.1 result.0 }
+{
+    if handle.gathered() <= index {
+        return (FsMiss::nothing(), NO_DESCRIPTOR);
+    }
+    match handle.missing_at(index, from) {
+        Some((range, access)) => {
+            let miss = FsMiss {
+                at: range.base.0,
+                len: range.length as u64,
+                access: access_number(access),
+            };
+            (miss, MISS)
+        }
+        None => (FsMiss::nothing(), NO_MISS),
+    }
+}
+
+/// Returns the first addresses of a gathered descriptor, from an address on, that the table doesn't map.
+#[unsafe(no_mangle)]
+pub extern "C" fn pk_miss(
+    alloc: Global,
+    chain: &mut FsChain,
+    index: usize,
+    from: u64,
+    miss: &mut FsMiss,
+) -> u32
+    ensures { OnHandle (λ b b'. TellsMiss b index from result miss.new × (b' ≡ b))
+        ((result ≡ chain_error_number WrongOrder) × (miss.new ≡ no_miss)) chain.old.value chain.new.value }
+{
+    let Some(handle) = chain.take(alloc) else {
+        *miss = FsMiss::nothing();
+        return wrong_order();
+    };
+    let (told, status) = miss_of(&handle, index, from);
+    *miss = told;
+    *chain = FsChain::of_box(handle);
+    status
+}
+
+// Whether the chain in flight uses one of some addresses: 1 or 0.
+fn use_of(handle: &ChainHandle, iova: u64, len: u64) -> u8
+    ensures { TellsUse handle.now iova len result }
+{
+    if handle.uses(iova, len) { 1 } else { 0 }
+}
+
+/// Returns whether the chain in flight uses one of `len` I/O addresses with its request or reply buffer.
+#[unsafe(no_mangle)]
+pub extern "C" fn pk_uses(alloc: Global, chain: &mut FsChain, iova: u64, len: u64) -> u8
+    ensures { OnHandle (λ b b'. TellsUse b iova len result × (b' ≡ b)) (result ≡ 0)
+        chain.old.value chain.new.value }
+{
+    let Some(handle) = chain.take(alloc) else {
+        return 0;
+    };
+    let told = use_of(&handle, iova, len);
+    *chain = FsChain::of_box(handle);
+    told
+}
