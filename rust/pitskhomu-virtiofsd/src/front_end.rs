@@ -24,12 +24,8 @@ use virtiofsd::vhost_user::MAX_TAG_LEN;
 
 /// The bit that a guest takes whose device accesses memory as the platform says. QEMU keeps it for
 /// itself unless the guest has a vIOMMU in front of the device: only then it is in SET_FEATURES,
-/// and ring addresses are IOVAs.
+/// and the addresses of rings and buffers are I/O addresses.
 const ACCESS_PLATFORM: u64 = 1 << VIRTIO_F_ACCESS_PLATFORM;
-const NO_IOMMU: &str =
-    "the guest has a vIOMMU in front of this device (VIRTIO_F_ACCESS_PLATFORM in SET_FEATURES), \
-                        and no translation is served yet: leave the vIOMMU out, or this device \
-                        out of it";
 
 /// What the daemon does on behalf of one front-end.
 pub struct FrontEnd<F> {
@@ -40,9 +36,6 @@ pub struct FrontEnd<F> {
     migration: Migration<F>,
     /// What rings are told with that stop.
     worker: QueueWorker<F>,
-    /// The back-end's own channel. QEMU offers VIRTIO_F_ACCESS_PLATFORM to the guest only if there
-    /// is one.
-    channel: Option<Backend>,
 }
 
 fn told(e: io::Error) -> Error {
@@ -62,7 +55,7 @@ impl<F: ServedFs> FrontEnd<F> {
     pub fn new(core: Arc<Core<F>>, tag: Option<String>, scratch: File) -> FrontEnd<F> {
         let (migration, worker) =
             (Migration::new(core.clone(), scratch), QueueWorker::new(core.clone(), 0));
-        FrontEnd { core, tag, features: 0, log: None, migration, worker, channel: None }
+        FrontEnd { core, tag, features: 0, log: None, migration, worker }
     }
 
     fn ring(&self, index: impl Into<u32>) -> Result<&Ring> {
@@ -127,10 +120,8 @@ impl<F: ServedFs> VhostUserBackendReqHandlerMut for FrontEnd<F> {
         if features & !self.get_features()? != 0 {
             return Err(told(io::Error::other("features that weren't offered")));
         }
-        if features & ACCESS_PLATFORM != 0 {
-            // it ends the connection, since QEMU wants no answer
-            return Err(Error::InvalidOperation(NO_IOMMU));
-        }
+        let has_iommu = features & ACCESS_PLATFORM != 0;
+        self.core.memory().iommu().set(has_iommu).map_err(|e| told(e.into()))?;
         self.features = features;
         let has_event_index = features & (1 << VIRTIO_RING_F_EVENT_IDX) != 0;
         self.core
@@ -183,7 +174,11 @@ impl<F: ServedFs> VhostUserBackendReqHandlerMut for FrontEnd<F> {
         _log: u64,
     ) -> Result<()> {
         let memory = self.core.memory();
-        let at = |front_end| memory.guest_address(front_end).map_err(told);
+        let has_iommu = memory.iommu().is_on();
+        let at = |address| match has_iommu {
+            true => Ok(address), // the driver's own
+            false => memory.guest_address(address).map_err(told),
+        };
         let (descriptors, available, used) = (at(descriptor)?, at(available)?, at(used)?);
         self.ring(index)?.tell(|numbers| {
             let size = numbers.layout.size;
@@ -247,9 +242,8 @@ impl<F: ServedFs> VhostUserBackendReqHandlerMut for FrontEnd<F> {
         Ok(())
     }
 
-    fn set_backend_req_fd(&mut self, channel: Backend) {
-        self.channel = Some(channel);
-    }
+    /// iommu::messages has taken a descriptor of the same channel.
+    fn set_backend_req_fd(&mut self, _channel: Backend) {}
 
     fn get_queue_num(&mut self) -> Result<u64> {
         Ok(self.core.rings.len() as u64)

@@ -1,12 +1,15 @@
 //! What the queues' threads and the front-end's share, and what a queue's thread serves chains
 //! with.
+mod translated;
+
 use crate::adapter::Adapter;
 use crate::in_flight::Doing;
+use crate::iommu::Cancel;
 use crate::memory::Table;
 use crate::open_flags::{Descriptors, OpenFlags};
 use crate::ring::{Ring, Server, LAST_CHAINS};
 use log::{debug, error};
-use pitskhomu::{Queue, Status};
+use pitskhomu::{Queue, Status, Taken};
 use std::io;
 use std::panic::{catch_unwind, AssertUnwindSafe};
 use std::sync::{Arc, PoisonError, RwLock};
@@ -118,12 +121,24 @@ pub struct QueueWorker<F> {
     /// The memory that the chain is out over; held no longer, so that what the front-end takes back
     /// isn't mapped any more.
     memory: Option<Arc<Table>>,
+    /// The chain was taken with an IOMMU's table.
+    is_translated: bool,
+    /// The pages that the front-end refuses to the next pop.
+    refused: Vec<u64>,
 }
 
 impl<F: ServedFs> QueueWorker<F> {
     /// A bench for the ring with this index.
     pub fn new(core: Arc<Core<F>>, index: usize) -> QueueWorker<F> {
-        QueueWorker { core, index, worker: pitskhomu::Worker::new(), told: None, memory: None }
+        QueueWorker {
+            core,
+            index,
+            worker: pitskhomu::Worker::new(),
+            told: None,
+            memory: None,
+            is_translated: false,
+            refused: Vec::new(),
+        }
     }
 
     fn work_over(&mut self, memory: &Table) -> Result<(), Status> {
@@ -149,11 +164,21 @@ impl<F: ServedFs> QueueWorker<F> {
 }
 
 impl<F: ServedFs> Server for QueueWorker<F> {
-    fn take(&mut self, queue: &mut Queue, memory: &Arc<Table>) -> Result<bool, Status> {
+    fn take(&mut self, queue: &mut Queue, memory: &Arc<Table>) -> Result<Taken, Status> {
         self.work_over(memory)?;
-        let taken = self.worker.take(queue, &**memory)?;
-        self.memory = taken.then(|| memory.clone());
+        let taken = if memory.iommu().is_on() {
+            self.take_translated(queue, memory)?
+        } else if self.worker.take(queue, &**memory)? {
+            Taken::Chain
+        } else {
+            Taken::Idle
+        };
+        self.memory = (taken == Taken::Chain).then(|| memory.clone());
         Ok(taken)
+    }
+
+    fn ask(&mut self, memory: &Table, cancel: &Cancel) -> bool {
+        self.ask_for_misses(memory, cancel)
     }
 
     /// What a guest makes the file system panic at is answered EIO, and costs it no more.
@@ -173,7 +198,11 @@ impl<F: ServedFs> Server for QueueWorker<F> {
 
     fn give_back(&mut self, queue: &mut Queue) -> Result<bool, Status> {
         let memory = self.memory.take().ok_or(Status::WrongOrder)?;
-        let served = self.worker.give_back(queue, &*memory);
+        let served = if self.is_translated {
+            self.give_back_translated(queue, &memory)
+        } else {
+            self.worker.give_back(queue, &*memory)
+        };
         self.worker.abandon(); // it has one only if this is refused
         served.map(|served| {
             self.log(&served);
@@ -188,6 +217,9 @@ impl<F: ServedFs> Server for QueueWorker<F> {
         memory: &Arc<Table>,
     ) -> Result<bool, Status> {
         self.work_over(memory)?;
+        if memory.iommu().is_on() {
+            return self.set_notification_translated(queue, wanted, memory);
+        }
         self.worker.set_notification(queue, wanted, &**memory)
     }
 }
