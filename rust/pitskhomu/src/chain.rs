@@ -26,6 +26,16 @@ pub(crate) enum Popped {
     Missed,
 }
 
+/// The result of `miss`.
+pub(crate) enum Missed {
+    /// These addresses.
+    Range(sys::Miss),
+    /// The descriptor misses none from there on.
+    Nothing,
+    /// The pop gathered no descriptor with this index.
+    NoDescriptor,
+}
+
 /// The result of `decode`.
 pub(crate) enum Decoded {
     /// A call, or none.
@@ -120,15 +130,14 @@ impl Chain {
         Status::check(unsafe { sys::pk_chain_exchange_iotlb(&mut self.handle, place) })
     }
 
-    /// The first addresses of a descriptor that the table doesn't map, from one on: none if there
-    /// are none, and `None` if no descriptor that was gathered has this index.
-    pub fn miss(&mut self, index: usize, from: u64) -> Option<Option<sys::Miss>> {
+    /// The first addresses of a descriptor that the table doesn't map, from one on.
+    pub fn miss(&mut self, index: usize, from: u64) -> Missed {
         let mut miss = sys::Miss::default();
         // SAFETY: as the module says.
         match unsafe { sys::pk_miss(&mut self.handle, index, from, &mut miss) } {
-            status::MISS => Some(Some(miss)),
-            status::DONE => Some(None),
-            _ => None,
+            status::MISS => Missed::Range(miss),
+            status::DONE => Missed::Nothing,
+            _ => Missed::NoDescriptor,
         }
     }
 

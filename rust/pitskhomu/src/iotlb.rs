@@ -5,7 +5,7 @@ use crate::sys::{self, access};
 use core::ptr;
 
 /// What a mapping allows, or a miss needs (enum `pk_access`; `VHOST_ACCESS_*` of
-/// linux/vhost_types.h).
+/// `linux/vhost_types.h`).
 #[derive(Clone, Copy, Debug, PartialEq, Eq, Hash)]
 pub enum Access {
     /// Neither: the range is refused. A pop that needs it gets a fault or a refusal, and no miss.

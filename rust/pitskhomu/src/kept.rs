@@ -23,9 +23,9 @@ pub(crate) struct Pieces(Vec<Piece>);
 
 impl Pieces {
     /// Those of `len` bytes; `next` returns the library's from one on.
-    fn gather<'w>(
+    fn gather(
         len: u64,
-        windows: &'w mut [Window; WINDOWS],
+        windows: &mut [Window; WINDOWS],
         mut next: impl FnMut(u64, u64, &mut [Window; WINDOWS]) -> usize,
     ) -> Result<Pieces, Status> {
         let (mut pieces, mut from) = (Vec::new(), 0);

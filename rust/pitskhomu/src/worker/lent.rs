@@ -1,5 +1,6 @@
 //! A worker to which an IOMMU's table is lent: addresses of the driver are I/O addresses then.
 use super::{Served, Worker};
+use crate::chain::Missed;
 use crate::iotlb::{Iotlb, Miss};
 use crate::memory::{GuestMemory, GuestRange, Window};
 use crate::queue::Queue;
@@ -160,9 +161,9 @@ impl Worker {
         let (mut index, mut from) = (0, 0);
         while self.misses.len() < MISSES {
             match self.chain.miss(index, from) {
-                None => break,
-                Some(None) => (index, from) = (index + 1, 0),
-                Some(Some(found)) => {
+                Missed::NoDescriptor => break,
+                Missed::Nothing => (index, from) = (index + 1, 0),
+                Missed::Range(found) => {
                     self.miss(found)?;
                     from = found.at.saturating_add(found.len);
                 }
