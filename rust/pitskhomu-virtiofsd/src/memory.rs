@@ -264,10 +264,7 @@ mod tests {
         let ranges = |at, len| table.guest_ranges(at, len);
         assert_eq!(ranges(0x7000_0800, 8), Some(vec![(0x4800, 8)]));
         // both regions lie side by side there
-        assert_eq!(
-            ranges(0x7000_1000, 0x2000),
-            Some(vec![(0x5000, 0x1000), (HIGH, 0x1000)])
-        );
+        assert_eq!(ranges(0x7000_1000, 0x2000), Some(vec![(0x5000, 0x1000), (HIGH, 0x1000)]));
         assert_eq!((ranges(0x7000_3fff, 2), ranges(0x6fff_ffff, 2)), (None, None));
         assert_eq!((ranges(u64::MAX, 2), ranges(0x7000_0000, u64::MAX)), (None, None));
     }

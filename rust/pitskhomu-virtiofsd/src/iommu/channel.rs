@@ -205,9 +205,7 @@ impl Channel {
             let events = Arc::new(Epoll::new()?);
             state.events = Some(events.clone());
             let channel = self.clone();
-            thread::Builder::new()
-                .name("IOMMU".into())
-                .spawn(move || channel.listen(&events))?;
+            thread::Builder::new().name("IOMMU".into()).spawn(move || channel.listen(&events))?;
         }
         if let Some(events) = &state.events {
             let event = EpollEvent::new(EventSet::IN, socket.as_raw_fd() as u64);
