@@ -64,7 +64,7 @@ make_image() {
     gcc -std=c11 -O2 -static -o "$work/root/bin/flags" "$here/testing/guest/flags.c"
     cp "$here"/testing/guest/{init,scenarios.sh,suites} "$work/root/"
     chmod 755 "$work/root/init"
-    for name in virtio_pci virtio_iommu virtiofs virtio_blk ext4; do take_module $name; done
+    for name in virtio_pci virtio-iommu virtiofs virtio_blk ext4; do take_module $name; done
     (cd "$work/root" && find . | "$busybox" cpio -o -H newc 2> "$work/none" |
         gzip -1) > "$work/image"
 }

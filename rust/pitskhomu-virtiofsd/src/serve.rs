@@ -10,6 +10,7 @@ use crate::open_flags::{Descriptors, OpenFlags};
 use crate::ring::{Ring, Server, LAST_CHAINS};
 use log::{debug, error};
 use pitskhomu::{Queue, Status, Taken};
+use std::collections::BTreeSet;
 use std::io;
 use std::panic::{catch_unwind, AssertUnwindSafe};
 use std::sync::{Arc, PoisonError, RwLock};
@@ -124,7 +125,7 @@ pub struct QueueWorker<F> {
     /// The chain was taken with an IOMMU's table.
     is_translated: bool,
     /// The pages that the front-end refuses to the next pop.
-    refused: Vec<u64>,
+    refused: BTreeSet<u64>,
 }
 
 impl<F: ServedFs> QueueWorker<F> {
@@ -137,7 +138,7 @@ impl<F: ServedFs> QueueWorker<F> {
             told: None,
             memory: None,
             is_translated: false,
-            refused: Vec::new(),
+            refused: BTreeSet::new(),
         }
     }
 

@@ -18,6 +18,9 @@ use super::messages::{flags, receive, send, Head, IotlbBody, HEAD_LEN, MISS};
 const PATIENCE: Duration = Duration::from_secs(2);
 /// So many misses are asked for before the first is answered.
 const MOST_ASKED: usize = 64;
+/// So many pages are asked for before the pop is made again: a READ and its reply have 514. A guest
+/// may have descriptors of any length.
+const MOST_PAGES: usize = 1024;
 /// A front-end that leaves so many without an answer has none: answers come in order, and nothing
 /// tells which are left out.
 const MOST_UNANSWERED: usize = 4096;
@@ -260,7 +263,8 @@ impl Channel {
         is_known: impl Fn(u64) -> bool,
     ) -> Option<Vec<u64>> {
         let end = Instant::now() + PATIENCE;
-        let (mut wanted, mut mine) = (pages(misses).peekable(), Vec::<Arc<Ask>>::new());
+        let mut wanted = pages(misses).take(MOST_PAGES).peekable();
+        let mut mine = Vec::<Arc<Ask>>::new();
         let mut refused = Vec::new();
         let mut state = self.lock();
         loop {

@@ -4,9 +4,10 @@ use super::{QueueWorker, ServedFs};
 use crate::iommu::{Cancel, Mappings};
 use crate::memory::Table;
 use pitskhomu::{Iotlb, Miss, Queue, Served, Status, Taken};
+use std::collections::BTreeSet;
 
 /// Whether all pages of what was missed are refused.
-fn are_refused(misses: &[Miss], refused: &[u64]) -> bool {
+fn are_refused(misses: &[Miss], refused: &BTreeSet<u64>) -> bool {
     misses.iter().flat_map(pages).all(|page| refused.contains(&page))
 }
 
