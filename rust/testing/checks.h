@@ -27,8 +27,8 @@ void send_apart(size_t ring, unsigned k, uint32_t opcode, uint64_t node, const v
  * at once. */
 void held(const char *dir, unsigned seconds);
 
-/* In platform.c: a guest whose device accesses memory as the platform says; the daemon ends. */
-_Noreturn void platform(void);
+/* In platform.c: a device that accesses memory as the platform says, and no vIOMMU. */
+void platform(void);
 
 /* In escape.c: nothing outside the directory can be reached; nothing of one that mayn't be changed
  * is. */

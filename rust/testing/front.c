@@ -179,10 +179,15 @@ void front_start_ring(struct front *front, size_t ring, uint16_t position) {
     uint32_t number = (uint32_t)ring;
     uint32_t size[2] = {number, RING_SIZE}, base[2] = {number, position}, enable[2] = {number, 1};
     uint64_t user = (uint64_t)(uintptr_t)front->memory, word = ring;
+    uint64_t first = front->has_iommu ? front->shift : user;
     struct {
         uint32_t index, flags;
         uint64_t desc, used, avail, log;
-    } address = {number,       0, user + desc_at(ring), user + used_at(ring), user + avail_at(ring),
+    } address = {number,
+                 0,
+                 first + desc_at(ring),
+                 first + used_at(ring),
+                 first + avail_at(ring),
                  used_at(ring)};
     r->told = position;
     must_tell(front, SET_VRING_NUM, size, sizeof size, NULL, 0);
@@ -304,7 +309,7 @@ void put_descriptor(const struct front *front, uint64_t table, unsigned k, uint6
         uint64_t addr;
         uint32_t len;
         uint16_t flags, next;
-    } d = {addr, len, (uint16_t)flags, (uint16_t)next};
+    } d = {addr + front->shift, len, (uint16_t)flags, (uint16_t)next};
     memcpy(front_at(front, table) + 16 * (size_t)k, &d, sizeof d);
 }
 

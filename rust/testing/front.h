@@ -34,6 +34,9 @@ struct front {
     uint8_t *memory;
     uint64_t features;
     bool has_event_index; /* EVENT_INDEX of the environment is 1: VIRTIO_F_EVENT_IDX is taken */
+    /* Behind an IOMMU, the driver's addresses are the guest's and so much. */
+    bool has_iommu;
+    uint64_t shift;
     struct front_ring rings[RINGS];
 };
 

@@ -64,7 +64,7 @@ make_image() {
     gcc -std=c11 -O2 -static -o "$work/root/bin/flags" "$here/testing/guest/flags.c"
     cp "$here"/testing/guest/{init,scenarios.sh,suites} "$work/root/"
     chmod 755 "$work/root/init"
-    for name in virtio_pci virtiofs virtio_blk ext4; do take_module $name; done
+    for name in virtio_pci virtio-iommu virtiofs virtio_blk ext4; do take_module $name; done
     (cd "$work/root" && find . | "$busybox" cpio -o -H newc 2> "$work/none" |
         gzip -1) > "$work/image"
 }
@@ -112,6 +112,25 @@ start_server() {
     return 1
 }
 
+# QEMU's words for the guest's IOMMU, as IOMMU of the environment has it, and then those of its
+# kernel: `strict`, or `lazy`, is Intel's, and Linux unmaps at once, or many at a time; `virtio` is
+# virtio-iommu; else there is none.
+iommu_of_machine() {
+    case ${IOMMU:-none} in
+    strict | lazy) echo -M q35,kernel-irqchip=split -device \
+        intel-iommu,device-iotlb=on,intremap=off ;;
+    virtio) echo -M q35 -device virtio-iommu-pci,granule=4k ;;
+    none) echo -M pc ;;
+    esac
+}
+iommu_of_kernel() {
+    case ${IOMMU:-none} in
+    strict) echo intel_iommu=on iommu.passthrough=0 iommu.strict=1 ;;
+    lazy) echo intel_iommu=on iommu.passthrough=0 iommu.strict=0 ;;
+    virtio) echo iommu.passthrough=0 iommu.strict=1 ;;
+    esac
+}
+
 # QEMU with a guest over a socket, in a run's folder; its monitor is on a pipe. What follows is
 # added to its words. MEMORY is how much it has, and DISK a disk of its own, which stays as it is.
 qemu() {
@@ -123,24 +142,29 @@ qemu() {
     (timeout "${GUEST_SECONDS:-900}" bash -c "$(declare -f other); other \"\$@\"" qemu \
         /usr/bin/qemu-system-x86_64 \
         -L "$root/usr/share/qemu" -L "$root/usr/share/seabios" \
-        -M "pc,accel=${ACCEL:-tcg},memory-backend=mem" -cpu max -smp "${PROCESSORS:-2}" \
+        $(iommu_of_machine) -M "accel=${ACCEL:-tcg},memory-backend=mem" -cpu max \
+        -smp "${PROCESSORS:-2}" \
         -object "memory-backend-memfd,id=mem,size=${MEMORY:-256M},share=on" -nodefaults \
         -no-user-config -nic none -display none \
         -serial "file:$run/console" -chardev "pipe,id=mon,path=$run/monitor" \
         -mon chardev=mon,mode=readline \
         -chardev "socket,id=fs,path=$socket" -kernel "$work/vmlinuz" -initrd "$work/image" \
         -append "console=ttyS0 quiet loglevel=3 panic=-1 no_timer_check nowatchdog \
-rcupdate.rcu_cpu_stall_suppress=1 \
+rcupdate.rcu_cpu_stall_suppress=1 $(iommu_of_kernel) \
 rdinit=/init scenario=$scenario" "${disk[@]}" "$@") > "$run/qemu" 2>&1
 }
 busybox=$root/usr/bin/busybox
 export root
 
 # PLATFORM=on: the guest's device accesses memory as the platform says, as each device of a
-# confidential guest does.
+# confidential guest does, and each behind an IOMMU.
 device() {
-    local properties=chardev=fs,tag=shared,queue-size=128
-    properties+=,num-request-queues=${QUEUES:-1},iommu_platform=${PLATFORM:-off}
+    local properties=chardev=fs,tag=shared,queue-size=128 platform=${PLATFORM:-off}
+    case ${IOMMU:-none} in
+    strict | lazy) platform=on,ats=on ;;
+    virtio) platform=on ;;
+    esac
+    properties+=,num-request-queues=${QUEUES:-1},iommu_platform=$platform
     echo "vhost-user-fs-pci,$properties"
 }
 
@@ -325,6 +349,7 @@ guest() {
     PLATFORM=on whole ours whole-platform
     grep -q '^FEATURES .\{33\}1' "$run/lines" ||
         failure "whole-platform: the driver didn't take VIRTIO_F_ACCESS_PLATFORM"
+    guest_behind_iommu
     make_files
     run_guest readonly ours readonly --readonly
     list_sums | expect readonly SUM
@@ -347,6 +372,30 @@ guest() {
     descriptors
     run_guest killed ours killed
     grep '^AFTER' "$run/lines" || echo "killed: calls of the guest wait"
+}
+
+# The guest has an IOMMU in front of the device.
+guest_behind_iommu() {
+    local IOMMU
+    for IOMMU in strict lazy virtio; do
+        THREADS=4 whole ours "whole-$IOMMU"
+        grep -q '^FEATURES .\{33\}1' "$run/lines" ||
+            failure "whole-$IOMMU: the driver didn't take VIRTIO_F_ACCESS_PLATFORM"
+        grep -q 'an IOMMU translates' "$run/server" ||
+            failure "whole-$IOMMU: the device isn't behind the IOMMU"
+    done
+    for IOMMU in strict lazy; do
+        THREADS=4 run_guest pause ours "pause-$IOMMU"
+        all_are "pause-$IOMMU" READER "$(sum "$share/files/m8")"
+        ! grep 'OTHER BYTES' "$run/lines" || failure "pause-$IOMMU: other bytes"
+        run_guest unbind ours "unbind-$IOMMU"
+        all_are "unbind-$IOMMU" READER "$(sum "$share/files/m8")"
+    done
+    IOMMU=lazy
+    make_files
+    run_guest reboot ours reboot-lazy
+    all_are reboot-lazy READER "$(sum "$share/files/m8")"
+    hotplug
 }
 
 # Memory comes and goes, and the daemon lets go of what went.

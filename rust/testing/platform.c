@@ -1,24 +1,23 @@
 /* VIRTIO_F_ACCESS_PLATFORM as QEMU asks for it: the bit is offered together with a channel of the
- * back-end's own. While no translation is served, a front-end that keeps the bit (the guest has a
- * vIOMMU) is turned away. */
+ * back-end's own. Without a vIOMMU QEMU keeps the bit for itself, and addresses are the guest's
+ * physical ones. iommu.c has a front-end that keeps it. */
 #define _GNU_SOURCE
 #include "checks.h"
 #include <linux/fuse.h>
 #include <poll.h>
 #include <sys/socket.h>
-#include <sys/wait.h>
 #include <unistd.h>
 
-enum { GET_FEATURES = 1, SET_FEATURES = 2, GET_PROTOCOL_FEATURES = 15, SET_BACKEND_REQ_FD = 21 };
+enum { GET_FEATURES = 1, GET_PROTOCOL_FEATURES = 15, SET_BACKEND_REQ_FD = 21, IOTLB_MSG = 22 };
 #define ACCESS_PLATFORM (1ull << 33)
 #define REPLY_ACK (1ull << 3)
 #define BACKEND_REQ (1ull << 5)
 
-_Noreturn void platform(void) {
-    uint64_t kept = front.features | ACCESS_PLATFORM,
-             protocol = front_number(&front, GET_PROTOCOL_FEATURES);
+void platform(void) {
+    uint64_t protocol = front_number(&front, GET_PROTOCOL_FEATURES);
+    uint64_t invalidate_all[4] = {0, 1ull << 47, 0, 3 << 8};
     struct fuse_getattr_in in = {0};
-    int channel[2], status;
+    int channel[2];
     check("the bit is offered", front_number(&front, GET_FEATURES) & ACCESS_PLATFORM);
     check("with all that it wants",
           (protocol & (REPLY_ACK | BACKEND_REQ)) == (REPLY_ACK | BACKEND_REQ));
@@ -28,12 +27,10 @@ _Noreturn void platform(void) {
     close(channel[1]);
     front_ask(&front, 1, FUSE_GETATTR, ROOT, &in, sizeof in, &reply);
     expect("GETATTR", reply.error, 0);
+    check("IOTLB_MSG without an IOMMU is refused",
+          front_tell(&front, IOTLB_MSG, invalidate_all, sizeof invalidate_all, NULL, 0) == 1);
+    front_ask(&front, 1, FUSE_GETATTR, ROOT, &in, sizeof in, &reply);
+    expect("GETATTR", reply.error, 0);
     struct pollfd end = {channel[0], POLLIN, 0};
-    check("the channel stays open", poll(&end, 1, 200) == 0);
-    front_say(&front, SET_FEATURES, &kept, sizeof kept);
-    if (waitpid(front.pid, &status, 0) != front.pid) die("the daemon goes on");
-    check("its status is 1", WIFEXITED(status) && WEXITSTATUS(status) == 1);
-    unlink(front.socket);
-    rmdir(front.folder);
-    _exit(failed);
+    check("the channel stays open, and nothing is asked", poll(&end, 1, 200) == 0);
 }

@@ -22,13 +22,9 @@ use virtio_bindings::bindings::virtio_ring::{
 use virtiofsd::vhost_user::MAX_TAG_LEN;
 
 /// VIRTIO_F_ACCESS_PLATFORM: the device accesses memory with the platform's translation. QEMU
-/// passes the bit in SET_FEATURES only if the guest has a vIOMMU in front of the device. Then ring
-/// addresses are IOVAs.
+/// passes the bit in SET_FEATURES only if the guest has a vIOMMU in front of the device. Then the
+/// addresses of rings and buffers are I/O addresses.
 const ACCESS_PLATFORM: u64 = 1 << VIRTIO_F_ACCESS_PLATFORM;
-const NO_IOMMU: &str =
-    "the guest has a vIOMMU in front of this device (VIRTIO_F_ACCESS_PLATFORM in SET_FEATURES), \
-                        and no translation is served yet: leave the vIOMMU out, or this device \
-                        out of it";
 
 /// The state of the connection to one front-end.
 pub struct FrontEnd<F> {
@@ -39,9 +35,6 @@ pub struct FrontEnd<F> {
     migration: Migration<F>,
     /// Enables the kicks of a ring that is stopped, enabled or disabled.
     worker: QueueWorker<F>,
-    /// The back-end's own channel (SET_BACKEND_REQ_FD). QEMU offers VIRTIO_F_ACCESS_PLATFORM to the
-    /// guest only if there is one.
-    channel: Option<Backend>,
 }
 
 fn told(e: io::Error) -> Error {
@@ -61,7 +54,7 @@ impl<F: ServedFs> FrontEnd<F> {
     pub fn new(core: Arc<Core<F>>, tag: Option<String>, scratch: File) -> FrontEnd<F> {
         let (migration, worker) =
             (Migration::new(core.clone(), scratch), QueueWorker::new(core.clone(), 0));
-        FrontEnd { core, tag, features: 0, log: None, migration, worker, channel: None }
+        FrontEnd { core, tag, features: 0, log: None, migration, worker }
     }
 
     fn ring(&self, index: impl Into<u32>) -> Result<&Ring> {
@@ -127,10 +120,8 @@ impl<F: ServedFs> VhostUserBackendReqHandlerMut for FrontEnd<F> {
         if features & !self.get_features()? != 0 {
             return Err(told(io::Error::other("features that weren't offered")));
         }
-        if features & ACCESS_PLATFORM != 0 {
-            // end the connection: QEMU doesn't ask for a reply here
-            return Err(Error::InvalidOperation(NO_IOMMU));
-        }
+        let has_iommu = features & ACCESS_PLATFORM != 0;
+        self.core.memory().iommu().set(has_iommu).map_err(|e| told(e.into()))?;
         self.features = features;
         let has_event_index = features & (1 << VIRTIO_RING_F_EVENT_IDX) != 0;
         self.core
@@ -183,7 +174,11 @@ impl<F: ServedFs> VhostUserBackendReqHandlerMut for FrontEnd<F> {
         _log: u64,
     ) -> Result<()> {
         let memory = self.core.memory();
-        let at = |front_end| memory.guest_address(front_end).map_err(told);
+        let has_iommu = memory.iommu().is_on();
+        let at = |address| match has_iommu {
+            true => Ok(address), // the driver's own
+            false => memory.guest_address(address).map_err(told),
+        };
         let (descriptors, available, used) = (at(descriptor)?, at(available)?, at(used)?);
         self.ring(index)?.tell(|numbers| {
             let size = numbers.layout.size;
@@ -247,9 +242,8 @@ impl<F: ServedFs> VhostUserBackendReqHandlerMut for FrontEnd<F> {
         Ok(())
     }
 
-    fn set_backend_req_fd(&mut self, channel: Backend) {
-        self.channel = Some(channel);
-    }
+    /// iommu::messages has taken a descriptor of the same channel.
+    fn set_backend_req_fd(&mut self, _channel: Backend) {}
 
     fn get_queue_num(&mut self) -> Result<u64> {
         Ok(self.core.rings.len() as u64)

@@ -4,6 +4,7 @@ mod adapter;
 mod capabilities;
 mod front_end;
 mod in_flight;
+mod iommu;
 mod marks;
 mod memory;
 mod migration;

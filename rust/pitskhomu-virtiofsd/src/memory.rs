@@ -1,6 +1,7 @@
 //! The guest's memory as the front-end reports it. A table never changes: another replaces it, and
 //! the old one stays mapped while a chain that was taken over it is in flight. Workers address each
 //! byte by its guest address, which pitskhomu-vm-memory looks up and checks.
+use crate::iommu::Iommu;
 use crate::marks::{Logging, Marks, MarksFrom};
 use pitskhomu::{GuestRange, GuestSlice, QueueLayout};
 use pitskhomu_vm_memory::MappedMemory;
@@ -35,6 +36,7 @@ pub struct Table {
     places: Vec<Place>,
     number: u64,
     logging: Arc<Logging>,
+    iommu: Arc<Iommu>,
 }
 
 /// The next table's number. Each table has a number of its own, and the one without memory has 0.
@@ -95,7 +97,8 @@ impl Table {
         let mapped = MappedMemory::new(guest)
             .map_err(|_| invalid("regions of memory that the library doesn't take"))?;
         let number = NUMBER.fetch_add(1, Ordering::Relaxed);
-        Ok(Table { mapped, places, number, logging: self.logging.clone() })
+        let (logging, iommu) = (self.logging.clone(), self.iommu.clone());
+        Ok(Table { mapped, places, number, logging, iommu })
     }
 
     /// The table's number, which no other table has.
@@ -112,6 +115,28 @@ impl Table {
             .iter()
             .find_map(|place| offset_in(place).map(|offset| place.guest + offset))
             .ok_or_else(|| invalid("an address outside the memory"))
+    }
+
+    /// The guest's addresses for `len` bytes of the front-end's, piece by piece: `None` unless each
+    /// byte has one.
+    pub fn guest_ranges(&self, front_end: u64, len: u64) -> Option<Vec<(u64, u64)>> {
+        let (mut pieces, mut at, mut left) = (Vec::new(), front_end, len);
+        while left > 0 {
+            let (place, offset) = self.places.iter().find_map(|place| {
+                let offset = at.checked_sub(place.front_end)?;
+                (offset < place.len).then_some((place, offset))
+            })?;
+            let part = left.min(place.len - offset);
+            pieces.push((place.guest + offset, part));
+            left -= part;
+            at = if left > 0 { at.checked_add(part)? } else { at };
+        }
+        Some(pieces)
+    }
+
+    /// The IOMMU in front of the device, if the guest has one.
+    pub fn iommu(&self) -> &Arc<Iommu> {
+        &self.iommu
     }
 
     /// The log of this table, and of all tables made from it.
@@ -141,12 +166,14 @@ impl Table {
     }
 
     fn has_page(&self, page: u64) -> bool {
-        self.slice(page.wrapping_mul(PAGE) as usize, 1).is_some()
+        let at = self.iommu.guest_address(page.wrapping_mul(PAGE));
+        at.is_some_and(|at| self.slice(at as usize, 1).is_some())
     }
 
     /// The index of an available ring (VIRTIO 1.2, 2.7.6), if it is mapped.
     pub fn available_index(&self, available: u64) -> Option<u16> {
-        let index = self.slice(available.checked_add(2)? as usize, 2)?;
+        let at = self.iommu.guest_address(available.checked_add(2)?)?;
+        let index = self.slice(at as usize, 2)?;
         index.load(0, Ordering::Acquire).ok().map(u16::from_le)
     }
 }
@@ -230,5 +257,16 @@ mod tests {
             (Some(0x1234), None)
         );
         assert_eq!(table.guest_address(0x7000_2008).ok(), Some(HIGH + 8));
+    }
+
+    #[test]
+    fn addresses_of_the_front_end_are_found_piece_by_piece() {
+        let table = table();
+        let ranges = |at, len| table.guest_ranges(at, len);
+        assert_eq!(ranges(0x7000_0800, 8), Some(vec![(0x4800, 8)]));
+        // both regions lie side by side there
+        assert_eq!(ranges(0x7000_1000, 0x2000), Some(vec![(0x5000, 0x1000), (HIGH, 0x1000)]));
+        assert_eq!((ranges(0x7000_3fff, 2), ranges(0x6fff_ffff, 2)), (None, None));
+        assert_eq!((ranges(u64::MAX, 2), ranges(0x7000_0000, u64::MAX)), (None, None));
     }
 }

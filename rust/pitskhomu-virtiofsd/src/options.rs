@@ -23,7 +23,9 @@ use virtiofsd::soft_idmap::cmdline::IdMap;
     args_override_self = true,
     arg_required_else_help = true,
     override_usage = "pitskhomu-virtiofsd --shared-dir <SHARED_DIR> --socket-path <SOCKET_PATH> \
-        [OPTIONS]"
+        [OPTIONS]",
+    after_help = "A guest may have an IOMMU in front of the device: give QEMU's device \
+        iommu_platform=on, and ats=on with Intel's. That needs no option here."
 )]
 pub struct Options {
     /// The directory that the guest is to see

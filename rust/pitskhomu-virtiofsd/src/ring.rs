@@ -7,9 +7,10 @@
 mod waits;
 
 use crate::in_flight::Doing;
+use crate::iommu::Cancel;
 use crate::memory::Table;
 use log::{debug, error, warn};
-use pitskhomu::{Queue, QueueLayout, Status};
+use pitskhomu::{Queue, QueueLayout, Status, Taken};
 use std::fs::File;
 use std::io::{self, ErrorKind, Write};
 use std::os::fd::AsRawFd;
@@ -22,6 +23,9 @@ pub use waits::LAST_CHAINS;
 pub const SIZE_MAX: u32 = 32768;
 /// The time until the next try after an allocation failed.
 const AGAIN_MILLISECONDS: i32 = 100;
+/// So often a chain's addresses are asked for before other queues have their turn: QEMU may answer,
+/// and unmap them again before the answer is used.
+const MOST_ROUNDS: u32 = 64;
 
 /// The source of an event.
 #[derive(Debug, Clone, Copy, PartialEq, Eq)]
@@ -70,6 +74,8 @@ pub struct State {
     is_held: bool,
     /// The front-end's thread waits until chains are taken or returned.
     is_awaited: bool,
+    /// The next chain has addresses that the IOMMU's table doesn't map.
+    is_missing: bool,
     kick: Option<File>,
     call: Option<File>,
     /// The driver wasn't interrupted, since there was no call descriptor. QEMU sets it after it has
@@ -166,14 +172,20 @@ pub enum Looked {
     Taken,
     /// No chain is available, or the greatest number is in flight.
     Idle,
+    /// Ask the IOMMU first.
+    Missing,
     /// Try again later.
     Again,
 }
 
 /// Serves chains, on a ring's thread.
 pub trait Server {
-    /// Takes the next chain over this memory, and returns whether one was available.
-    fn take(&mut self, queue: &mut Queue, memory: &Arc<Table>) -> Result<bool, Status>;
+    /// Takes the next chain over this memory, if one is available.
+    fn take(&mut self, queue: &mut Queue, memory: &Arc<Table>) -> Result<Taken, Status>;
+
+    /// Asks the IOMMU for the misses of the last call, and waits for the answer, unless that is
+    /// cancelled. Returns whether it has answered. The ring isn't locked.
+    fn ask(&mut self, memory: &Table, cancel: &Cancel) -> bool;
 
     /// Makes the reply to the chain that was taken. `doing` gets the request's opcode and number
     /// meanwhile. The ring isn't locked.
@@ -203,6 +215,8 @@ pub struct Ring {
     events: Epoll,
     wake: EventFd,
     doing: Vec<Doing>,
+    /// Whether its threads wait for the IOMMU.
+    pub asking: Cancel,
 }
 
 impl Ring {
@@ -218,6 +232,7 @@ impl Ring {
             events,
             wake,
             doing,
+            asking: Cancel::default(),
         };
         ring.listen(ring.wake.as_raw_fd(), Source::Wake)?;
         Ok(ring)
@@ -298,6 +313,7 @@ impl Ring {
         self.forget_kick(&mut state);
         state.call = None;
         (state.is_started, state.is_refused) = (false, false);
+        self.asking.resume();
         state.numbers.next_avail
     }
 
@@ -330,6 +346,7 @@ impl Ring {
         };
         let _ = state.want_kicks(true, server, memory); // a thread repeats it before it sleeps
         state.is_enabled = enabled;
+        self.asking.resume();
         drop(state);
         self.look();
     }
@@ -367,10 +384,11 @@ impl Ring {
         match begun.and_then(|()| server.take(&mut state.queue, memory)) {
             Ok(taken) => {
                 state.numbers.next_avail = state.queue.next_avail();
-                if taken {
-                    Looked::Taken
-                } else {
-                    Looked::Idle
+                state.is_missing = taken == Taken::Missing;
+                match taken {
+                    Taken::Chain => Looked::Taken,
+                    Taken::Idle => Looked::Idle,
+                    Taken::Missing => Looked::Missing,
                 }
             }
             Err(Status::ChainInFlight) => Looked::Idle, // the thread that returns one looks again
@@ -425,6 +443,7 @@ impl Ring {
     ) -> Looked {
         let mut state = self.lock();
         state.sleeping -= 1;
+        let mut rounds = 0;
         loop {
             state = self.wait_while(state, |state| state.is_held);
             // Get the memory under the lock: the front-end's thread has the lock while it changes
@@ -445,18 +464,32 @@ impl Ring {
                 state = self.lock();
                 doing.end();
                 self.give_back(&mut state, server);
+                rounds = 0;
                 continue;
             }
-            let looked = match state.want_kicks(true, server, &table) {
-                Ok(true) => continue,
-                Ok(false) => looked,
-                Err(status) => {
-                    debug!("queue {}: the driver isn't told yet to kick: {status}", self.index);
-                    Looked::Again
-                }
+            let looked = match looked {
+                Looked::Missing => looked,
+                _ => match state.want_kicks(true, server, &table) {
+                    Ok(true) => continue,
+                    Ok(false) => looked,
+                    Err(Status::NotMapped) if table.iommu().is_on() => Looked::Missing,
+                    Err(status) => {
+                        debug!("queue {}: the driver isn't told yet to kick: {status}", self.index);
+                        Looked::Again
+                    }
+                },
             };
+            if looked == Looked::Missing && rounds < MOST_ROUNDS {
+                rounds += 1;
+                drop(state);
+                let is_answered = server.ask(&table, &self.asking);
+                state = self.lock();
+                if is_answered {
+                    continue;
+                }
+            }
             state.sleeping += 1;
-            return looked;
+            return if looked == Looked::Missing { Looked::Again } else { looked };
         }
     }
 
@@ -508,8 +541,12 @@ mod tests {
     struct Failing(usize);
 
     impl Server for Failing {
-        fn take(&mut self, _queue: &mut Queue, _memory: &Arc<Table>) -> Result<bool, Status> {
-            Ok(false)
+        fn take(&mut self, _queue: &mut Queue, _memory: &Arc<Table>) -> Result<Taken, Status> {
+            Ok(Taken::Idle)
+        }
+
+        fn ask(&mut self, _memory: &Table, _cancel: &Cancel) -> bool {
+            false
         }
 
         fn answer(&mut self, _doing: &Doing) {}
@@ -556,9 +593,13 @@ mod tests {
     struct Asked(Sender<()>);
 
     impl Server for Asked {
-        fn take(&mut self, _queue: &mut Queue, _memory: &Arc<Table>) -> Result<bool, Status> {
+        fn take(&mut self, _queue: &mut Queue, _memory: &Arc<Table>) -> Result<Taken, Status> {
             self.0.send(()).expect("who listens");
-            Ok(false)
+            Ok(Taken::Idle)
+        }
+
+        fn ask(&mut self, _memory: &Table, _cancel: &Cancel) -> bool {
+            false
         }
 
         fn answer(&mut self, _doing: &Doing) {}

@@ -1,11 +1,15 @@
 //! The state that the queues' threads and the front-end's share, and a queue thread's worker.
+mod translated;
+
 use crate::adapter::Adapter;
 use crate::in_flight::Doing;
+use crate::iommu::Cancel;
 use crate::memory::Table;
 use crate::open_flags::{Descriptors, OpenFlags};
 use crate::ring::{Ring, Server, LAST_CHAINS};
 use log::{debug, error};
-use pitskhomu::{Queue, Status};
+use pitskhomu::{Queue, Status, Taken};
+use std::collections::BTreeSet;
 use std::io;
 use std::panic::{catch_unwind, AssertUnwindSafe};
 use std::sync::{Arc, PoisonError, RwLock};
@@ -123,12 +127,24 @@ pub struct QueueWorker<F> {
     /// The memory of the chain in flight. It is dropped with the chain, so that memory which the
     /// front-end removes doesn't stay mapped.
     memory: Option<Arc<Table>>,
+    /// The chain was taken with an IOMMU's table.
+    is_translated: bool,
+    /// The pages that the front-end refuses to the next pop.
+    refused: BTreeSet<u64>,
 }
 
 impl<F: ServedFs> QueueWorker<F> {
     /// A worker for the ring with this index.
     pub fn new(core: Arc<Core<F>>, index: usize) -> QueueWorker<F> {
-        QueueWorker { core, index, worker: pitskhomu::Worker::new(), told: None, memory: None }
+        QueueWorker {
+            core,
+            index,
+            worker: pitskhomu::Worker::new(),
+            told: None,
+            memory: None,
+            is_translated: false,
+            refused: BTreeSet::new(),
+        }
     }
 
     fn work_over(&mut self, memory: &Table) -> Result<(), Status> {
@@ -154,11 +170,21 @@ impl<F: ServedFs> QueueWorker<F> {
 }
 
 impl<F: ServedFs> Server for QueueWorker<F> {
-    fn take(&mut self, queue: &mut Queue, memory: &Arc<Table>) -> Result<bool, Status> {
+    fn take(&mut self, queue: &mut Queue, memory: &Arc<Table>) -> Result<Taken, Status> {
         self.work_over(memory)?;
-        let taken = self.worker.take(queue, &**memory)?;
-        self.memory = taken.then(|| memory.clone());
+        let taken = if memory.iommu().is_on() {
+            self.take_translated(queue, memory)?
+        } else if self.worker.take(queue, &**memory)? {
+            Taken::Chain
+        } else {
+            Taken::Idle
+        };
+        self.memory = (taken == Taken::Chain).then(|| memory.clone());
         Ok(taken)
+    }
+
+    fn ask(&mut self, memory: &Table, cancel: &Cancel) -> bool {
+        self.ask_for_misses(memory, cancel)
     }
 
     /// A call at which the file system panics is answered EIO, and the thread continues.
@@ -178,7 +204,11 @@ impl<F: ServedFs> Server for QueueWorker<F> {
 
     fn give_back(&mut self, queue: &mut Queue) -> Result<bool, Status> {
         let memory = self.memory.take().ok_or(Status::WrongOrder)?;
-        let served = self.worker.give_back(queue, &*memory);
+        let served = if self.is_translated {
+            self.give_back_translated(queue, &memory)
+        } else {
+            self.worker.give_back(queue, &*memory)
+        };
         self.worker.abandon(); // it still has a chain only if this was refused
         served.map(|served| {
             self.log(&served);
@@ -193,6 +223,9 @@ impl<F: ServedFs> Server for QueueWorker<F> {
         memory: &Arc<Table>,
     ) -> Result<bool, Status> {
         self.work_over(memory)?;
+        if memory.iommu().is_on() {
+            return self.set_notification_translated(queue, wanted, memory);
+        }
         self.worker.set_notification(queue, wanted, &**memory)
     }
 }

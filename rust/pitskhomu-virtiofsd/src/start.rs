@@ -1,6 +1,7 @@
 //! The start of the daemon, from its options to a served directory.
 use crate::capabilities;
 use crate::front_end::FrontEnd;
+use crate::iommu;
 use crate::open_flags::{Descriptors, OpenFlags};
 use crate::options::Options;
 use crate::serve::{Core, Parts, QueueWorker, ServedFs};
@@ -11,6 +12,7 @@ use std::env;
 use std::error::Error;
 use std::fs::File;
 use std::io;
+use std::os::fd::AsRawFd;
 use std::panic::PanicHookInfo;
 use std::path::Path;
 use std::sync::atomic::{AtomicU32, Ordering};
@@ -320,7 +322,7 @@ impl Serving {
         };
         drop(listener); // a second front-end can't connect
         info!("Client connected, servicing requests");
-        let ended = answer(handler);
+        let ended = answer(handler, &core);
         core.wait_for_chains();
         info!("Client disconnected, shutting down");
         ended
@@ -342,8 +344,17 @@ fn start_thread<F: ServedFs>(core: Arc<Core<F>>, index: usize) -> Result<(), Fai
 }
 
 /// Answers the front-end's messages until it disconnects.
-fn answer<F: ServedFs>(mut handler: BackendReqHandler<Mutex<FrontEnd<F>>>) -> Result<(), Failure> {
+fn answer<F: ServedFs>(
+    mut handler: BackendReqHandler<Mutex<FrontEnd<F>>>,
+    core: &Core<F>,
+) -> Result<(), Failure> {
+    let iommu = core.memory().iommu().clone();
     loop {
+        match iommu::answer_next(handler.as_raw_fd(), &iommu, || core.memory()) {
+            Ok(iommu::Outcome::Answered) => continue,
+            Ok(iommu::Outcome::Others) => {}
+            Err(e) => return Err(format!("the front-end: {e}").into()),
+        }
         match handler.handle_request() {
             Ok(()) => {}
             Err(FrontEndError::ReqHandlerError(e)) => warn!("the front-end is refused: {e}"),

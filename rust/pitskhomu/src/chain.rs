@@ -8,6 +8,7 @@
 #![allow(unsafe_code)]
 
 use crate::errno::Errno;
+use crate::kept::KeptWindows;
 use crate::memory::{GuestRange, Region, Window};
 use crate::queue::Queue;
 use crate::status::Status;
@@ -22,6 +23,18 @@ pub(crate) enum Popped {
     Idle,
     /// The chain is in flight.
     InFlight,
+    /// The table that is lent doesn't map what the pop needs.
+    Missed,
+}
+
+/// The result of `miss`.
+pub(crate) enum Missed {
+    /// These addresses.
+    Range(sys::Miss),
+    /// The descriptor misses none from there on.
+    Nothing,
+    /// The pop gathered no descriptor with this index.
+    NoDescriptor,
 }
 
 /// The result of `decode`.
@@ -63,6 +76,9 @@ pub(crate) enum Added {
 pub(crate) struct Chain {
     handle: sys::Chain,
     ticket: u32,
+    /// The windows of a chain that was popped with a table: they hold until it is returned, whatever
+    /// becomes of the table.
+    kept: Option<KeptWindows>,
 }
 
 // SAFETY: the handle's memory is from malloc, and the library keeps no state of a thread
@@ -78,7 +94,7 @@ impl Drop for Chain {
 
 impl Chain {
     pub const fn new() -> Chain {
-        Chain { handle: sys::Chain { at: ptr::null_mut(), full: 0 }, ticket: 0 }
+        Chain { handle: sys::Chain { at: ptr::null_mut(), full: 0 }, ticket: 0, kept: None }
     }
 
     pub fn set_memory(&mut self, device: &sys::Device, regions: &[Region]) -> Result<(), Status> {
@@ -104,13 +120,64 @@ impl Chain {
                 Ok(Popped::InFlight)
             }
             status::IDLE => Ok(Popped::Idle),
+            status::MISS => Ok(Popped::Missed),
             status::LOAD => Ok(Popped::Load),
             number => Err(Status::of(number)),
         }
     }
 
+    /// Exchanges the handle's table with that of the place.
+    pub fn exchange_iotlb(&mut self, place: &mut sys::Iotlb) -> Result<(), Status> {
+        // SAFETY: as the module says.
+        Status::check(unsafe { sys::pk_chain_exchange_iotlb(&mut self.handle, place) })
+    }
+
+    /// The first addresses of a descriptor that the table doesn't map, from one on.
+    pub fn miss(&mut self, index: usize, from: u64) -> Missed {
+        let mut miss = sys::Miss::default();
+        // SAFETY: as the module says.
+        match unsafe { sys::pk_miss(&mut self.handle, index, from, &mut miss) } {
+            status::MISS => Missed::Range(miss),
+            status::DONE => Missed::Nothing,
+            _ => Missed::NoDescriptor,
+        }
+    }
+
+    /// Whether the chain's buffers have one of these I/O addresses.
+    pub fn uses(&mut self, iova: u64, len: u64) -> bool {
+        // SAFETY: as the module says.
+        unsafe { sys::pk_uses(&mut self.handle, iova, len) == 1 }
+    }
+
+    /// Keeps the windows of the chain that was popped. If they can't be kept the pop is undone.
+    pub fn keep_windows(&mut self, queue: &mut Queue, pop: &sys::Pop) -> Result<(), Status> {
+        self.kept = None;
+        match KeptWindows::of(self, pop) {
+            Ok(kept) => {
+                self.kept = Some(kept);
+                Ok(())
+            }
+            Err(status) => {
+                // SAFETY: as the module says.
+                Status::check(unsafe { sys::pk_drop(&mut self.handle, queue.numbers_mut()) })?;
+                Err(status)
+            }
+        }
+    }
+
+    /// Forgets the windows: the chain is returned.
+    pub fn forget_windows(&mut self) {
+        self.kept = None;
+    }
+
+    /// Whether the chain was popped with a table.
+    pub fn is_translated(&self) -> bool {
+        self.kept.is_some()
+    }
+
     /// Frees the handle without its queue.
     pub fn abandon(&mut self) {
+        self.kept = None;
         // SAFETY: as the module says.
         unsafe { sys::pk_abandon(&mut self.handle) }
     }
@@ -131,6 +198,9 @@ impl Chain {
         len: u64,
         windows: &'w mut [Window],
     ) -> &'w [Window] {
+        if let Some(kept) = &self.kept {
+            return kept.request.fill(from, len, windows);
+        }
         // SAFETY: as the module says; it fills at most the slice.
         let count = unsafe {
             sys::pk_request_windows(
@@ -150,6 +220,9 @@ impl Chain {
         len: u64,
         windows: &'w mut [Window],
     ) -> &'w [Window] {
+        if let Some(kept) = &self.kept {
+            return kept.reply.fill(from, len, windows);
+        }
         // SAFETY: as of `request_windows`.
         let count = unsafe {
             sys::pk_reply_windows(&mut self.handle, from, len, windows.as_mut_ptr(), windows.len())
@@ -366,6 +439,34 @@ fn added(number: u32) -> Result<Added, Status> {
         status::LIST_FAILS => Ok(Added::NoRoom),
         _ => Err(Status::of(number)),
     }
+}
+
+/// Makes a table without a mapping in its place.
+pub(crate) fn new_iotlb(place: &mut sys::Iotlb) -> Result<(), Status> {
+    // SAFETY: as the module says.
+    Status::check(unsafe { sys::pk_iotlb_new(place) })
+}
+
+/// Frees a place and its table.
+pub(crate) fn free_iotlb(place: &mut sys::Iotlb) {
+    // SAFETY: as the module says; of zeros it does nothing.
+    unsafe { sys::pk_iotlb_free(place) }
+}
+
+pub(crate) fn map_iotlb(
+    place: &mut sys::Iotlb,
+    iova: u64,
+    len: u64,
+    guest: u64,
+    access: u32,
+) -> Result<(), Status> {
+    // SAFETY: as the module says.
+    Status::check(unsafe { sys::pk_iotlb_map(place, iova, len, guest, access) })
+}
+
+pub(crate) fn unmap_iotlb(place: &mut sys::Iotlb, iova: u64, len: u64) -> Result<(), Status> {
+    // SAFETY: as the module says.
+    Status::check(unsafe { sys::pk_iotlb_unmap(place, iova, len) })
 }
 
 /// Resets a queue.

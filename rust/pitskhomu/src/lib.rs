@@ -60,6 +60,8 @@ mod errno;
 mod exchange;
 mod file_system;
 mod flags;
+mod iotlb;
+mod kept;
 mod listing;
 mod memory;
 mod queue;
@@ -81,6 +83,7 @@ pub use errno::{Answer, Errno};
 pub use exchange::Exchange;
 pub use file_system::FileSystem;
 pub use flags::{AccessMask, FileKind, OpenOptions, Options, RenameFlags, SetAttributesValid};
+pub use iotlb::{Access, Iotlb, Miss};
 pub use listing::Listing;
 pub use memory::{GuestMemory, GuestRange, Region, Window};
 pub use queue::{Queue, QueueLayout};
@@ -93,7 +96,7 @@ pub use status::{Fault, RequestFault, Status};
 pub use values::{
     Attributes, Context, DirectoryEntry, Entry, Handle, Node, Opened, Statistics, Time,
 };
-pub use worker::{Served, Worker};
+pub use worker::{Lent, Served, Taken, Worker};
 
 /// The version of pitskhomu.h that this crate follows (`PK_VERSION`).
 pub const VERSION: u32 = sys::VERSION;

@@ -24,6 +24,7 @@ pub mod status {
     pub const FULL: u32 = 36;
     pub const LIST_FAILS: u32 = 37;
     pub const ENTRIES: u32 = 38;
+    pub const MISS: u32 = 39;
 }
 
 /// enum `pk_call_kind`.
@@ -68,6 +69,14 @@ pub mod kind {
     pub const SYNCFS: u32 = 50;
 }
 
+/// enum `pk_access`.
+pub mod access {
+    pub const NONE: u32 = 0;
+    pub const READ: u32 = 1;
+    pub const WRITE: u32 = 2;
+    pub const READ_WRITE: u32 = 3;
+}
+
 /// enum `pk_answer_kind`: the kinds that the wrapper distinguishes.
 pub mod answer {
     pub const NONE: u32 = 0;
@@ -107,6 +116,21 @@ pub struct Chain {
 }
 
 #[repr(C)]
+#[derive(Debug)]
+pub struct Iotlb {
+    pub at: *mut c_void,
+    pub full: u32,
+}
+
+#[repr(C)]
+#[derive(Clone, Copy, Debug, Default)]
+pub struct Miss {
+    pub at: u64,
+    pub len: u64,
+    pub access: u32,
+}
+
+#[repr(C)]
 #[derive(Clone, Copy, Debug, Default)]
 pub struct Pop {
     pub load_at: usize,
@@ -116,6 +140,9 @@ pub struct Pop {
     pub fault: u32,
     pub head: u16,
     pub ticket: u32,
+    pub miss_at: u64,
+    pub miss_len: u64,
+    pub miss_access: u32,
 }
 
 #[repr(C)]
@@ -259,7 +286,13 @@ extern "C" {
     pub fn pk_abandon(chain: &mut Chain);
     pub fn pk_set_notification(chain: &mut Chain, queue: &Queue, enabled: u32,
         store: &mut Store) -> u32;
-    #[allow(dead_code)] // a worker answers each chain that it pops
+    pub fn pk_iotlb_new(iotlb: &mut Iotlb) -> u32;
+    pub fn pk_iotlb_free(iotlb: &mut Iotlb);
+    pub fn pk_iotlb_map(iotlb: &mut Iotlb, iova: u64, len: u64, guest: u64, access: u32) -> u32;
+    pub fn pk_iotlb_unmap(iotlb: &mut Iotlb, iova: u64, len: u64) -> u32;
+    pub fn pk_chain_exchange_iotlb(chain: &mut Chain, iotlb: &mut Iotlb) -> u32;
+    pub fn pk_miss(chain: &mut Chain, index: usize, from: u64, miss: &mut Miss) -> u32;
+    pub fn pk_uses(chain: &mut Chain, iova: u64, len: u64) -> u8;
     pub fn pk_drop(chain: &mut Chain, queue: &mut Queue) -> u32;
     pub fn pk_request_windows(chain: &mut Chain, from: u64, len: u64, windows: *mut Window,
         window_count: usize) -> usize;

@@ -1,5 +1,6 @@
 //! The worker: from a chain's pop to its push.
 mod answering;
+mod lent;
 
 use crate::chain::{Chain, Decoded, Popped, Replied};
 use crate::data::{at_most, load_request, store_room};
@@ -7,7 +8,8 @@ use crate::device::Device;
 use crate::errno::Errno;
 use crate::exchange::{self, Exchange};
 use crate::file_system::FileSystem;
-use crate::memory::{self, GuestMemory, GuestRange, Region};
+use crate::iotlb::Miss;
+use crate::memory::{self, GuestMemory, GuestRange, Region, Window};
 use crate::queue::Queue;
 use crate::status::{Fault, RequestFault, Status};
 use crate::sys;
@@ -15,6 +17,7 @@ use alloc::vec::Vec;
 use core::fmt;
 use core::mem;
 use core::sync::atomic::{fence, Ordering};
+pub use lent::{Lent, Taken};
 
 /// A chain that was returned to the driver, with its reply's length, its fault and its notice.
 #[derive(Clone, Copy, Debug, PartialEq, Eq)]
@@ -126,6 +129,10 @@ pub struct Worker {
     progress: Option<Progress>,
     /// The number of its regions, by `memory::next_regions`.
     regions: usize,
+    /// The regions themselves: marks behind a table are looked up in them.
+    layout: Vec<Region>,
+    /// What the last pop missed in the table that was lent.
+    misses: Vec<Miss>,
     /// The bytes of a pop's load.
     loaded: Vec<u8>,
     /// The request, as far as it was loaded.
@@ -183,6 +190,8 @@ impl Worker {
             chain: Chain::new(),
             progress: None,
             regions: 0,
+            layout: Vec::new(),
+            misses: Vec::new(),
             loaded: Vec::new(),
             request: Vec::new(),
             list: Vec::new(),
@@ -204,8 +213,11 @@ impl Worker {
     /// - `ChainInFlight`: the worker has a chain.
     /// - `OutOfMemory`: an allocation failed.
     pub fn set_memory(&mut self, device: &Device, regions: &[Region]) -> Result<(), Status> {
+        let mut layout = Vec::new();
+        layout.try_reserve_exact(regions.len()).map_err(|_| Status::OutOfMemory)?;
+        layout.extend_from_slice(regions);
         self.chain.set_memory(&device.numbers(), regions)?;
-        self.regions = memory::next_regions();
+        (self.regions, self.layout) = (memory::next_regions(), layout);
         Ok(())
     }
 
@@ -252,6 +264,16 @@ impl Worker {
     /// # Errors
     /// Those of `serve`, and `WrongOrder`: the worker already has a chain, and keeps it.
     pub fn take(&mut self, queue: &mut Queue, memory: &dyn GuestMemory) -> Result<bool, Status> {
+        self.take_next(queue, memory, false).map(|taken| taken == Taken::Chain)
+    }
+
+    /// The same, with a table that is lent, or without one.
+    fn take_next(
+        &mut self,
+        queue: &mut Queue,
+        memory: &dyn GuestMemory,
+        is_lent: bool,
+    ) -> Result<Taken, Status> {
         if self.has_chain() {
             return Err(Status::WrongOrder);
         }
@@ -260,13 +282,16 @@ impl Worker {
         self.replied = Replied::Whole;
         self.written = 0;
         let popping = Popping(self);
-        if !popping.0.pop(queue, memory)? {
-            return Ok(false);
+        match popping.0.pop(queue, memory)? {
+            Popped::InFlight if is_lent => popping.0.keep_windows(queue)?,
+            Popped::InFlight => {}
+            Popped::Missed => return popping.0.gather_misses().map(|()| Taken::Missing),
+            Popped::Idle | Popped::Load => return Ok(Taken::Idle),
         }
         mem::forget(popping);
         let has_fault = self.pop.fault != 0;
         self.progress = Some(if has_fault { Progress::Answered } else { Progress::Popped });
-        Ok(true)
+        Ok(Taken::Chain)
     }
 
     /// Calls the file system for the chain that was taken, and makes the reply. It does nothing for
@@ -368,17 +393,16 @@ impl Worker {
         Ok(())
     }
 
-    /// Pops a chain, and returns whether one is in flight.
-    fn pop(&mut self, queue: &mut Queue, memory: &dyn GuestMemory) -> Result<bool, Status> {
+    /// Pops a chain, and returns the end of the pop.
+    fn pop(&mut self, queue: &mut Queue, memory: &dyn GuestMemory) -> Result<Popped, Status> {
         self.pop = sys::Pop::default();
         let mut is_first = true;
         loop {
             let loaded = &self.loaded[..self.pop.load_len];
             match self.chain.pop(queue, loaded, &mut self.pop)? {
-                Popped::InFlight => return Ok(true),
-                Popped::Idle => return Ok(false),
                 Popped::Load if is_first => self.load_index(queue, memory)?,
                 Popped::Load => self.load(memory)?,
+                ended => return Ok(ended),
             }
             is_first = false;
         }
@@ -483,8 +507,8 @@ impl Worker {
     /// this order (VIRTIO 1.2, 2.7.8). The result is a summary of the chain.
     ///
     /// # Errors
-    /// - `WrongOrder`: the worker has no chain, or one without an answer, which it keeps. After the
-    ///   other errors it has no chain.
+    /// - `WrongOrder`: the worker has no chain, or one without an answer, or one that was popped with
+    ///   a table ([`Lent::give_back`]), which it keeps. After the other errors it has no chain.
     /// - `OtherQueue`: the chain is of another queue, or its queue was reset.
     /// - `NotMapped`: the worker got regions without the queue's rings. Reset the queue.
     pub fn give_back(
@@ -492,6 +516,14 @@ impl Worker {
         queue: &mut Queue,
         memory: &dyn GuestMemory,
     ) -> Result<Served, Status> {
+        if self.chain.is_translated() {
+            return Err(Status::WrongOrder);
+        }
+        self.push(queue, memory)
+    }
+
+    /// The same, with a table that is lent, or without one.
+    fn push(&mut self, queue: &mut Queue, memory: &dyn GuestMemory) -> Result<Served, Status> {
         if !self.is_answered() {
             return Err(Status::WrongOrder);
         }
@@ -500,6 +532,7 @@ impl Worker {
         let notify = pushing.0.store(pushing.1, memory, &stores)?;
         mem::forget(pushing);
         self.progress = None;
+        self.chain.forget_windows();
         Ok(self.served(stores.len, notify))
     }
 
@@ -553,6 +586,17 @@ impl Worker {
         enabled: bool,
         memory: &dyn GuestMemory,
     ) -> Result<bool, Status> {
+        self.store_notification(queue, enabled, memory, false)
+    }
+
+    /// The same, with a table that is lent, or without one.
+    fn store_notification(
+        &mut self,
+        queue: &Queue,
+        enabled: bool,
+        memory: &dyn GuestMemory,
+        is_lent: bool,
+    ) -> Result<bool, Status> {
         let store = self.chain.set_notification(queue, enabled)?;
         if store.len == 0 {
             return Ok(false);
@@ -560,7 +604,11 @@ impl Worker {
         memory::store_u16(memory, store.at, store.value);
         if memory.is_logging() {
             let len = store.len.into();
-            memory.mark(GuestRange { guest: queue.notification_address(), len });
+            if is_lent {
+                self.mark_at(memory, Window { at: store.at, len: store.len.into() });
+            } else {
+                memory.mark(GuestRange { guest: queue.notification_address(), len });
+            }
         }
         fence(Ordering::SeqCst); // the next load of the available index comes after the store
         Ok(true)
@@ -570,6 +618,9 @@ impl Worker {
     /// the file system may have written, the used element and the used index.
     fn mark_written(&mut self, memory: &dyn GuestMemory, stores: &sys::Stores) {
         let written = u64::from(stores.len).max(self.written);
+        if self.chain.is_translated() {
+            return self.mark_windows(memory, written, stores);
+        }
         let mut ranges = [GuestRange::default(); 16];
         let mut done = 0;
         while done < written {

@@ -91,6 +91,7 @@ impl Ring {
     /// is enabled. Chains that no thread takes in time (`LAST_CHAINS`) stay in the ring. Time with
     /// a chain in flight doesn't count: the message waits for that chain anyway.
     pub(super) fn take_last(&self, memory: &Table, message: &str) {
+        memory.iommu().cancel(self); // it answers nothing until this message is answered
         let mut state = self.lock();
         let Numbers { layout, next_avail: first, .. } = state.numbers;
         let Some(end) = memory.available_index(layout.available).filter(|_| state.is_live()) else {
@@ -100,6 +101,7 @@ impl Ring {
         self.look();
         let is_wanting = |state: &mut State| {
             state.is_live()
+                && !state.is_missing
                 && state.numbers.next_avail.wrapping_sub(first) < end.wrapping_sub(first)
         };
         let (mut idle, mut is_said) = (Duration::ZERO, false);

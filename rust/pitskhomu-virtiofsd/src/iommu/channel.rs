@@ -1,0 +1,313 @@
+//! The channel of the back-end's own (SET_BACKEND_REQ_FD): misses go out, and each is acknowledged
+//! after the update that it led to has come by the front-end's socket. Crate vhost has no such
+//! message, so it is written here.
+use log::{debug, warn};
+use pitskhomu::{Access, Iotlb, Miss};
+use std::collections::VecDeque;
+use std::io::{self, ErrorKind, IoSlice, IoSliceMut};
+use std::os::fd::{AsRawFd, OwnedFd};
+use std::sync::atomic::{AtomicBool, AtomicUsize, Ordering};
+use std::sync::{Arc, Condvar, Mutex, MutexGuard, PoisonError};
+use std::thread;
+use std::time::{Duration, Instant};
+use vmm_sys_util::epoll::{ControlOperation, Epoll, EpollEvent, EventSet};
+
+use super::messages::{flags, receive, send, Head, IotlbBody, HEAD_LEN, MISS};
+
+/// How long a pop waits for the answers to its misses.
+const PATIENCE: Duration = Duration::from_secs(2);
+/// So many misses are asked for before the first is answered.
+const MOST_ASKED: usize = 64;
+/// So many pages are asked for before the pop is made again: a READ and its reply have 514. A guest
+/// may have descriptors of any length.
+const MOST_PAGES: usize = 1024;
+/// A front-end that leaves so many without an answer has none: answers come in order, and nothing
+/// tells which are left out.
+const MOST_UNANSWERED: usize = 4096;
+/// VHOST_USER_BACKEND_IOTLB_MSG.
+const BACKEND_IOTLB_MSG: u32 = 1;
+/// So often the log says that the front-end doesn't answer: a guest fills no log.
+const SILENCES_TOLD: usize = 20;
+
+/// A reply: its head and a number.
+const REPLY_LEN: usize = HEAD_LEN + 8;
+
+/// Whether a ring's threads wait for answers.
+#[derive(Debug, Default)]
+pub struct Cancel(AtomicBool);
+
+impl Cancel {
+    /// They do from here on.
+    pub fn resume(&self) {
+        self.0.store(false, Ordering::Release);
+    }
+
+    fn is_set(&self) -> bool {
+        self.0.load(Ordering::Acquire)
+    }
+}
+
+/// The front-end's answer to a miss.
+#[derive(Debug, Clone, Copy, PartialEq, Eq)]
+enum Answer {
+    None,
+    Good,
+    Refused,
+    /// The channel ended before.
+    Lost,
+}
+
+/// A page that was asked for. Several threads may wait for it.
+#[derive(Debug)]
+struct Ask {
+    page: u64,
+    access: Access,
+    sent: Instant,
+    /// It changes under the channel's lock.
+    answer: Mutex<Answer>,
+}
+
+impl Ask {
+    fn answer(&self) -> Answer {
+        *self.answer.lock().unwrap_or_else(PoisonError::into_inner)
+    }
+
+    fn is_fresh(&self) -> bool {
+        self.sent.elapsed() < PATIENCE
+    }
+
+    fn set(&self, answer: Answer) {
+        *self.answer.lock().unwrap_or_else(PoisonError::into_inner) = answer;
+    }
+}
+
+/// The channel as it is.
+#[derive(Debug, Default)]
+struct State {
+    socket: Option<OwnedFd>,
+    /// What was sent, and isn't acknowledged yet, in this order.
+    asked: VecDeque<Arc<Ask>>,
+    /// The bytes of a reply that has come in part.
+    part: Vec<u8>,
+    /// Where the reading thread waits, once it runs.
+    events: Option<Arc<Epoll>>,
+}
+
+/// The channel, if the front-end has one.
+#[derive(Debug, Default)]
+pub struct Channel {
+    state: Mutex<State>,
+    /// An ask was answered or cancelled, or the channel has changed.
+    changed: Condvar,
+    silences: AtomicUsize,
+}
+
+impl State {
+    /// The channel has ended, or is broken: nobody waits for its answers.
+    fn lose(&mut self) {
+        if let (Some(socket), Some(events)) = (self.socket.take(), &self.events) {
+            let none = EpollEvent::default();
+            let _ = events.ctl(ControlOperation::Delete, socket.as_raw_fd(), none);
+        }
+        self.part.clear();
+        self.asked.drain(..).for_each(|ask| ask.set(Answer::Lost));
+    }
+
+    /// Sends a miss, unless that would have to wait.
+    fn send(&mut self, page: u64, access: Access) -> Option<Arc<Ask>> {
+        let socket = self.socket.as_ref()?.as_raw_fd();
+        if self.asked.iter().rev().take(MOST_ASKED).filter(|ask| ask.is_fresh()).count()
+            == MOST_ASKED
+        {
+            return None;
+        }
+        if self.asked.len() >= MOST_UNANSWERED {
+            self.lose();
+            return None;
+        }
+        let head = Head { request: BACKEND_IOTLB_MSG, flags: flags::NEED_REPLY, size: 0 };
+        let body = IotlbBody { iova: page, size: Iotlb::PAGE, user: 0, access, kind: MISS };
+        let (head, body) = (head.with_size(IotlbBody::LEN).bytes(), body.bytes());
+        match send(socket, &[IoSlice::new(&head), IoSlice::new(&body)], libc::MSG_DONTWAIT) {
+            Ok(len) if len == HEAD_LEN + IotlbBody::LEN => {
+                let (sent, answer) = (Instant::now(), Mutex::new(Answer::None));
+                let ask = Arc::new(Ask { page, access, sent, answer });
+                self.asked.push_back(ask.clone());
+                return Some(ask);
+            }
+            Err(e) if e.kind() == ErrorKind::WouldBlock => {}
+            sent => {
+                debug!("the back-end's channel has ended: {sent:?}");
+                self.lose();
+            }
+        }
+        None
+    }
+
+    /// An ask of a moment ago that needs no less.
+    fn shared(&self, page: u64, access: Access) -> Option<Arc<Ask>> {
+        let is_same = |ask: &&Arc<Ask>| {
+            ask.page == page && ask.access.or(access) == ask.access && ask.is_fresh()
+        };
+        self.asked.iter().rev().take(MOST_ASKED).find(is_same).cloned()
+    }
+
+    /// Takes the replies that have come. An error ends the channel.
+    fn read(&mut self) -> io::Result<()> {
+        while let Some(socket) = &self.socket {
+            let mut bytes = [0; REPLY_LEN];
+            let wanted = REPLY_LEN - self.part.len();
+            let into = &mut [IoSliceMut::new(&mut bytes[..wanted])];
+            match receive(socket.as_raw_fd(), into, libc::MSG_DONTWAIT) {
+                Ok(0) => return Err(ErrorKind::UnexpectedEof.into()),
+                Ok(len) => self.part.extend_from_slice(&bytes[..len]),
+                Err(e) if e.kind() == ErrorKind::WouldBlock => return Ok(()),
+                Err(e) if e.kind() == ErrorKind::Interrupted => {}
+                Err(e) => return Err(e),
+            }
+            if self.part.len() == REPLY_LEN {
+                self.take_reply()?;
+                self.part.clear();
+            }
+        }
+        Ok(())
+    }
+
+    fn take_reply(&mut self) -> io::Result<()> {
+        let (head, number) = self.part.split_at(HEAD_LEN);
+        let head = Head::of(head);
+        let is_reply = head.request == BACKEND_IOTLB_MSG
+            && head.flags & flags::REPLY != 0
+            && head.size as usize == number.len();
+        let ask = if is_reply { self.asked.pop_front() } else { None };
+        let ask = ask.ok_or_else(|| io::Error::other("a reply to nothing that was asked"))?;
+        let is_good = number.iter().all(|byte| *byte == 0);
+        ask.set(if is_good { Answer::Good } else { Answer::Refused });
+        Ok(())
+    }
+}
+
+/// The pages of misses, each with what it is needed for.
+fn pages(misses: &[Miss]) -> impl Iterator<Item = (u64, Access)> + '_ {
+    misses.iter().flat_map(|miss| {
+        let count = miss.len / Iotlb::PAGE;
+        (0..count).map(move |k| (miss.iova.wrapping_add(k * Iotlb::PAGE), miss.access))
+    })
+}
+
+impl Channel {
+    fn lock(&self) -> MutexGuard<'_, State> {
+        self.state.lock().unwrap_or_else(PoisonError::into_inner)
+    }
+
+    /// Misses go by this socket from here on.
+    pub fn set(self: &Arc<Channel>, socket: OwnedFd) -> io::Result<()> {
+        let mut state = self.lock();
+        state.lose();
+        if state.events.is_none() {
+            let events = Arc::new(Epoll::new()?);
+            state.events = Some(events.clone());
+            let channel = self.clone();
+            thread::Builder::new().name("IOMMU".into()).spawn(move || channel.listen(&events))?;
+        }
+        if let Some(events) = &state.events {
+            let event = EpollEvent::new(EventSet::IN, socket.as_raw_fd() as u64);
+            events.ctl(ControlOperation::Add, socket.as_raw_fd(), event)?;
+        }
+        state.socket = Some(socket);
+        self.changed.notify_all();
+        Ok(())
+    }
+
+    /// What the reading thread does; it ends with the process.
+    fn listen(&self, events: &Epoll) {
+        loop {
+            match events.wait(-1, &mut [EpollEvent::default()]) {
+                Err(e) if e.kind() == ErrorKind::Interrupted => continue,
+                Err(e) => {
+                    warn!("the back-end's channel isn't heard any more: {e}");
+                    self.lock().lose();
+                    return self.changed.notify_all();
+                }
+                Ok(_) => {}
+            }
+            let mut state = self.lock();
+            if let Err(e) = state.read() {
+                debug!("the back-end's channel has ended: {e}");
+                state.lose();
+            }
+            self.changed.notify_all();
+        }
+    }
+
+    /// From here on nobody waits for answers with this.
+    pub fn cancel(&self, cancel: &Cancel) {
+        cancel.0.store(true, Ordering::Release);
+        let _state = self.lock(); // who has looked at it already waits by now
+        self.changed.notify_all();
+    }
+
+    /// An update has come: what it maps may be waited for.
+    pub fn wake(&self) {
+        let _state = self.lock();
+        self.changed.notify_all();
+    }
+
+    /// Asks for pages, several at once, and waits for the answers. Returns the pages that are
+    /// refused; `None` if not all are answered in time. What `is_known` isn't waited for: an update
+    /// comes before its acknowledgement, and may have more pages than the one that was missed.
+    pub fn ask(
+        &self,
+        misses: &[Miss],
+        cancel: &Cancel,
+        is_known: impl Fn(u64) -> bool,
+    ) -> Option<Vec<u64>> {
+        let end = Instant::now() + PATIENCE;
+        let mut wanted = pages(misses).take(MOST_PAGES).peekable();
+        let mut mine = Vec::<Arc<Ask>>::new();
+        let mut refused = Vec::new();
+        let mut state = self.lock();
+        loop {
+            while let Some(&(page, access)) = wanted.peek() {
+                if is_known(page) {
+                    wanted.next();
+                    continue;
+                }
+                let ask = state.shared(page, access).or_else(|| state.send(page, access));
+                let Some(ask) = ask else { break };
+                mine.push(ask);
+                wanted.next();
+            }
+            mine.retain(|ask| match ask.answer() {
+                Answer::None => !is_known(ask.page),
+                Answer::Good => false,
+                Answer::Refused => {
+                    refused.push(ask.page);
+                    false
+                }
+                Answer::Lost => true,
+            });
+            if wanted.peek().is_none() && mine.is_empty() {
+                return Some(refused);
+            }
+            let left = end.saturating_duration_since(Instant::now());
+            let is_lost =
+                state.socket.is_none() || mine.iter().any(|ask| ask.answer() == Answer::Lost);
+            if left.is_zero() || is_lost || cancel.is_set() {
+                drop(state);
+                if left.is_zero() {
+                    self.say_silence();
+                }
+                return None;
+            }
+            let waited = self.changed.wait_timeout(state, left);
+            state = waited.unwrap_or_else(PoisonError::into_inner).0;
+        }
+    }
+
+    fn say_silence(&self) {
+        if self.silences.fetch_add(1, Ordering::Relaxed) < SILENCES_TOLD {
+            warn!("the front-end doesn't answer what an I/O address means; its chain waits");
+        }
+    }
+}

@@ -1,0 +1,228 @@
+//! A driver behind an IOMMU: its addresses are I/O addresses, and the table is lent to the worker.
+mod guest;
+
+use guest::recorder::Recorder;
+use guest::*;
+use pitskhomu::*;
+use std::panic::{catch_unwind, AssertUnwindSafe};
+
+/// I/O addresses are the guest's and so much.
+const SHIFT: u64 = 0x7000_0000_0000;
+const PAGE: u64 = Iotlb::PAGE;
+const RW: Access = Access::ReadWrite;
+
+fn io_layout() -> QueueLayout {
+    QueueLayout {
+        size: SIZE,
+        descriptors: SHIFT + DESCRIPTORS,
+        available: SHIFT + AVAILABLE,
+        used: SHIFT + USED,
+    }
+}
+
+/// A guest whose queue has I/O addresses, and a table that maps nothing.
+fn guest() -> (Guest, Iotlb) {
+    let mut guest = Guest::new();
+    let first = guest.queue.next_avail();
+    guest.queue = Queue::new(io_layout(), first).unwrap();
+    (guest, Iotlb::new().unwrap())
+}
+
+/// A LOOKUP whose buffers have I/O addresses: header, name, and a reply buffer of two parts.
+fn offer(guest: &mut Guest) {
+    guest.memory.write(REQUEST, &request(1, 1, b"hello\0"));
+    let parts = [
+        Buffer(SHIFT + REQUEST, 40, false),
+        Buffer(SHIFT + REQUEST + 40, 6, false),
+        Buffer(SHIFT + ROOM, 16, true),
+        Buffer(SHIFT + ROOM + 0x1000, 128, true),
+    ];
+    guest.draw(DESCRIPTORS, 0, &parts);
+    guest.offer(0);
+}
+
+fn take(guest: &mut Guest, iotlb: &mut Iotlb) -> Result<Taken, Status> {
+    guest.worker.lend(iotlb)?.take(&mut guest.queue, &guest.memory)
+}
+
+fn give_back(guest: &mut Guest, iotlb: &mut Iotlb) -> Result<Served, Status> {
+    guest.worker.lend(iotlb)?.give_back(&mut guest.queue, &guest.memory)
+}
+
+fn map(iotlb: &mut Iotlb, iova: u64, guest: u64) {
+    iotlb.map(iova, PAGE, guest, RW).unwrap();
+}
+
+fn map_rings(iotlb: &mut Iotlb) {
+    [DESCRIPTORS, AVAILABLE, USED].iter().for_each(|part| map(iotlb, SHIFT + part, *part));
+}
+
+/// Maps what is missed until the pop comes to an end: each round's misses.
+fn take_by_misses(guest: &mut Guest, iotlb: &mut Iotlb) -> Vec<Vec<Miss>> {
+    let mut rounds = Vec::new();
+    while take(guest, iotlb).unwrap() == Taken::Missing {
+        for miss in guest.worker.misses() {
+            iotlb.map(miss.iova, miss.len, miss.iova - SHIFT, miss.access).unwrap();
+        }
+        rounds.push(guest.worker.misses().to_vec());
+    }
+    assert!(guest.worker.has_chain() && guest.worker.misses().is_empty());
+    rounds
+}
+
+fn answer(guest: &mut Guest) {
+    guest.worker.answer(&guest.device, &Recorder::default(), &guest.memory).unwrap();
+}
+
+fn miss(at: u64, access: Access) -> Miss {
+    Miss { iova: SHIFT + at, len: PAGE, access }
+}
+
+#[test]
+fn a_pop_names_all_that_it_misses() {
+    let (mut guest, mut iotlb) = guest();
+    offer(&mut guest);
+    let rounds = take_by_misses(&mut guest, &mut iotlb);
+    let rings = [
+        vec![miss(AVAILABLE, Access::Read)],
+        vec![miss(USED, Access::Write)],
+        vec![miss(DESCRIPTORS, Access::Read)],
+    ];
+    assert_eq!(rounds[..3], rings);
+    let buffers = vec![
+        miss(REQUEST, Access::Read),
+        miss(ROOM, Access::Write),
+        miss(ROOM + 0x1000, Access::Write),
+    ];
+    assert_eq!(rounds[3..], [buffers]);
+    answer(&mut guest);
+    let served = give_back(&mut guest, &mut iotlb).unwrap();
+    assert_eq!((served.opcode, served.reply_len, served.fault), (1, 144, None));
+    assert_eq!(guest.reply(144).data().len(), 128);
+    assert_eq!(take(&mut guest, &mut iotlb), Ok(Taken::Idle));
+}
+
+#[test]
+fn a_chain_keeps_its_windows_whatever_becomes_of_the_table() {
+    let (mut guest, mut iotlb) = guest();
+    offer(&mut guest);
+    take_by_misses(&mut guest, &mut iotlb);
+    // The buffers mean other pages now, and then nothing.
+    map(&mut iotlb, SHIFT + REQUEST, 0x10_0000);
+    map(&mut iotlb, SHIFT + ROOM, 0x10_0000);
+    iotlb.unmap(SHIFT + REQUEST, 0x100_0000).unwrap();
+    answer(&mut guest);
+    iotlb.clear();
+    map_rings(&mut iotlb);
+    assert_eq!(give_back(&mut guest, &mut iotlb).unwrap().reply_len, 144);
+    assert_eq!(guest.reply(144).data().len(), 128);
+    assert_eq!(guest.memory.read(0x10_0000, 16), [0; 16]);
+}
+
+#[test]
+fn a_buffer_may_lie_in_several_mappings() {
+    let (mut guest, mut iotlb) = guest();
+    map_rings(&mut iotlb);
+    let request = request(1, 1, b"hello\0");
+    // The request goes over the end of its first page, and so does the reply buffer.
+    let (first, room) = (SHIFT + 0x9000 - 42, SHIFT + 0xa000 - 8);
+    map(&mut iotlb, SHIFT + 0x8000, 0x10_0000);
+    map(&mut iotlb, SHIFT + 0x9000, 0x2_0000);
+    map(&mut iotlb, SHIFT + 0xa000, 0x3_0000);
+    guest.memory.write(0x10_1000 - 42, &request[..42]);
+    guest.memory.write(0x2_0000, &request[42..]);
+    guest.draw(DESCRIPTORS, 0, &[Buffer(first, 46, false), Buffer(room, 144, true)]);
+    guest.offer(0);
+    assert_eq!(take(&mut guest, &mut iotlb), Ok(Taken::Chain));
+    answer(&mut guest);
+    let served = give_back(&mut guest, &mut iotlb).unwrap();
+    assert_eq!((served.unique, served.reply_len), (UNIQUE, 144));
+    let reply = [guest.memory.read(0x2_1000 - 8, 8), guest.memory.read(0x3_0000, 136)].concat();
+    assert_eq!((number(&reply, 0, 4), number(&reply, 8, 8)), (144, UNIQUE));
+}
+
+#[test]
+fn what_is_refused_is_no_miss() {
+    let (mut guest, mut iotlb) = guest();
+    map_rings(&mut iotlb);
+    for (at, fault) in
+        [(REQUEST, Fault::RequestUnreachable), (ROOM + 0x1000, Fault::RoomUnreachable)]
+    {
+        offer(&mut guest);
+        [REQUEST, ROOM, ROOM + 0x1000].iter().for_each(|at| map(&mut iotlb, SHIFT + at, *at));
+        iotlb.map(SHIFT + at, PAGE, 0, Access::None).unwrap();
+        assert_eq!(take(&mut guest, &mut iotlb), Ok(Taken::Chain));
+        assert_eq!(give_back(&mut guest, &mut iotlb).unwrap().fault, Some(fault));
+    }
+    iotlb.map(SHIFT + AVAILABLE, PAGE, 0, Access::None).unwrap();
+    assert_eq!(take(&mut guest, &mut iotlb), Err(Status::AvailIndexUnreachable));
+    assert_eq!(guest.queue.stopped(), Some(Status::AvailIndexUnreachable));
+}
+
+#[test]
+fn a_chain_of_a_table_goes_back_with_one() {
+    let (mut guest, mut iotlb) = guest();
+    offer(&mut guest);
+    take_by_misses(&mut guest, &mut iotlb);
+    answer(&mut guest);
+    assert_eq!(guest.worker.give_back(&mut guest.queue, &guest.memory), Err(Status::WrongOrder));
+    assert!(guest.worker.is_answered());
+    assert!(guest.worker.lend(&mut iotlb).unwrap().uses(SHIFT + ROOM + 15, 1));
+    assert!(!guest.worker.lend(&mut iotlb).unwrap().uses(SHIFT + ROOM + 16, 1));
+    assert_eq!(give_back(&mut guest, &mut iotlb).unwrap().reply_len, 144);
+    assert_eq!(Worker::new().lend(&mut iotlb).err(), Some(Status::WrongOrder), "no memory");
+}
+
+#[test]
+fn marks_are_by_guest_addresses() {
+    let (mut guest, mut iotlb) = guest();
+    guest.memory.is_logging.set(true);
+    offer(&mut guest);
+    take_by_misses(&mut guest, &mut iotlb);
+    answer(&mut guest);
+    let element = USED + 4 + 8 * u64::from(guest.queue.next_used() % SIZE);
+    give_back(&mut guest, &mut iotlb).unwrap();
+    let mark = |guest, len| GuestRange { guest, len };
+    assert_eq!(
+        guest.memory.marks.take(),
+        [
+            mark(ROOM, 16),
+            mark(ROOM + 0x1000, 128),
+            mark(element, 4),
+            mark(element + 4, 4),
+            mark(USED + 2, 2)
+        ]
+    );
+    let mut lent = guest.worker.lend(&mut iotlb).unwrap();
+    assert_eq!(lent.set_notification(&guest.queue, true, &guest.memory), Ok(true));
+    drop(lent);
+    assert_eq!(guest.memory.marks.take(), [mark(USED, 2)]);
+}
+
+#[test]
+fn notifications_are_enabled_where_the_table_says() {
+    let (mut guest, mut iotlb) = guest();
+    let mut lent = guest.worker.lend(&mut iotlb).unwrap();
+    let enabled = lent.set_notification(&guest.queue, false, &guest.memory);
+    drop(lent);
+    assert_eq!(enabled, Err(Status::NotMapped));
+    assert_eq!(guest.worker.misses(), [miss(USED, Access::Write)]);
+    map(&mut iotlb, SHIFT + USED, 0x5000);
+    let mut lent = guest.worker.lend(&mut iotlb).unwrap();
+    assert_eq!(lent.set_notification(&guest.queue, false, &guest.memory), Ok(true));
+    drop(lent);
+    assert_eq!((guest.memory.read(0x5000, 2), guest.worker.misses().len()), (vec![1, 0], 0));
+}
+
+#[test]
+fn the_table_is_in_its_place_after_a_panic() {
+    let (mut guest, mut iotlb) = guest();
+    map_rings(&mut iotlb);
+    offer(&mut guest);
+    guest.memory.panics_after.set(Some(0));
+    let taken = catch_unwind(AssertUnwindSafe(|| take(&mut guest, &mut iotlb)));
+    assert!(taken.is_err());
+    guest.memory.panics_after.set(None);
+    map(&mut iotlb, SHIFT + 0x10_0000, 0x10_0000);
+    take_by_misses(&mut guest, &mut iotlb);
+}
