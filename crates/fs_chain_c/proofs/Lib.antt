@@ -1,11 +1,15 @@
+pub mod ActingLemmas
 mod ChainValues
 pub mod HandleLemmas
+pub mod LoggingLemmas
 pub mod MemoryLemmas
+pub mod MovingLemmas
 pub mod NamePlaces
 pub mod NotifyLemmas
 pub mod QueueLemmas
 pub mod RangeLemmas
 pub mod RecordLemmas
+pub mod SameQueues
 pub mod SpanCalls
 pub mod SpanLemmas
 pub mod WindowLemmas

@@ -1,3 +1,4 @@
+pub mod Acting
 pub mod Decoding
 pub mod Calls
 pub mod Handles
@@ -16,3 +17,5 @@ pub mod Pushing
 pub mod Spans
 pub mod Popping
 pub mod Windows
+pub mod Logging
+pub mod Moving

@@ -12,6 +12,8 @@ mod exports;
 mod fields;
 mod handle;
 pub mod laws;
+pub mod laws_acting;
+pub mod laws_moving;
 mod listing;
 mod memory;
 mod names;
