@@ -27,7 +27,7 @@ refused error.BadArgument is = cc
 refused e is = cc
 
 -- a store that is told without an error
-told_store : (regions : Mapped) (store : Store) (told : FsStore) → TellsStore regions (Some store) told 0
+pub told_store : (regions : Mapped) (store : Store) (told : FsStore) → TellsStore regions (Some store) told 0
     → StandsHere regions Write store.address 2 told.at × (store.bytes ≡ to_le_bytes w16 told.value) × (told.len ≡ 2)
 told_store regions store told (inl done) = (done.1, done.2, done.3)
 told_store regions store told (inr lost) = absurd (never lost.0)

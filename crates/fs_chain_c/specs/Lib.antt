@@ -1,3 +1,4 @@
+pub mod Acting
 pub mod Decoding
 pub mod Calls
 pub mod Handles
@@ -17,3 +18,5 @@ pub mod Spans
 pub mod Popping
 pub mod Windows
 pub mod Iotlbs
+pub mod Logging
+pub mod Moving

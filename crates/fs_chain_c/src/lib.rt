@@ -16,6 +16,8 @@ mod iotlb_handle;
 mod iotlbs;
 mod labels;
 pub mod laws;
+pub mod laws_acting;
+pub mod laws_moving;
 mod listing;
 mod memory;
 mod missing;

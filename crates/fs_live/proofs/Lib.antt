@@ -4,6 +4,7 @@ pub mod AmongLoads
 pub mod Calls
 pub mod Declined
 pub mod EachCall
+pub mod Filling
 pub mod GuestRun
 pub mod Handles
 pub mod InitBesideRun

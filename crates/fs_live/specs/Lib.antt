@@ -1,4 +1,5 @@
 pub mod Among
+pub mod Filling
 pub mod Guest
 pub mod Handles
 pub mod InitBeside

@@ -4,6 +4,7 @@
 
 ghost use Rattle.fs_live.specs.Among.{HandleFindsStopped, HandleLoadsAmong, HandleWalksAmong};
 ghost use Rattle.fs_live.specs.Among.{WantedAmongHasAPlace};
+ghost use Rattle.fs_live.specs.Filling.{HandleFills, HandleFillsRange};
 ghost use Rattle.fs_live.specs.Guest.{PagesOfRun};
 ghost use Rattle.fs_live.specs.Handles.{HandleAnswers, HandleAsks, HandleBegins, HandleCalls, HandleDeclines};
 ghost use Rattle.fs_live.specs.Handles.{HandleFaulty, HandleLoads, HandleReturns, HandleSleeps, HandleWalks};
@@ -87,6 +88,7 @@ pub fn law_examples<F: FileSystem>()
 /// - So is the reset of a queue, once no call of its chains is pending.
 /// - So are giving up a chain, freeing its handle, a reply of the caller's own bytes, and the return
 ///   with them.
+/// - So is the storing of data in the windows, or the ranges, of a reply buffer.
 /// - While no chain is in flight, so are other regions, and a record that is made here and read
 ///   elsewhere.
 pub fn law_handles<F: FileSystem>()
@@ -110,6 +112,8 @@ pub fn law_handles<F: FileSystem>()
     ensures instead { HandleRepliesInstead F.may }
     ensures held { AskedIsHeld }
     ensures returns_own { HandleReturnsOwn F.may }
+    ensures fills { HandleFills F.may }
+    ensures fills_range { HandleFillsRange F.may }
     ensures maps { HandleMaps F.may }
     ensures moves { HandleMoves F.may }
     ensures options { OptionsStay }

@@ -1,9 +1,13 @@
 pub mod Ended
+pub mod FilledRuns
 pub mod InARowRun
+pub mod Looks
 pub mod LostAsked
 pub mod MappedAmid
+pub mod ModelActs
 pub mod MovedAmid
 pub mod OthersBeside
+pub mod OwnRuns
 pub mod Served
 pub mod ServedBeside
 pub mod ServedCrossed

@@ -119,7 +119,8 @@ own_kept (at.HasReply out r) one two d reply own is = absurd own
 own_kept (at.Pushing out) one two d reply own is = absurd own
 
 -- what changes twice changes at last
-changed_twice : {A : Type 0} (xs : List A) (i : ℕ) (x y : A) → changed_at (changed_at xs i (λ _. x)) i (λ _. y) ≡ changed_at xs i (λ _. y)
+pub changed_twice : {A : Type 0} (xs : List A) (i : ℕ) (x y : A) →
+    changed_at (changed_at xs i (λ _. x)) i (λ _. y) ≡ changed_at xs i (λ _. y)
 changed_twice [] i x y = refl
 changed_twice (z ∷ zs) zero x y = refl
 changed_twice {A} (z ∷ zs) (suc i) x y = ap (λ (l : List A). z ∷ l) (changed_twice zs i x y)

@@ -58,10 +58,12 @@ use Rattle.fs_live.specs.Live.{
   after_walk,
   asked_chain,
   calls_among,
+  calls_in,
   new_chain,
   room_of,
 }
 use Rattle.fs_live.specs.Runs.{EachStoresThere, NotAnew, StoresStayThere}
+use Rattle.fs_live.specs.Serial.{IsOfChain, Single, events_in}
 use Rattle.fs_live.specs.Several.{LiveQueue, took}
 use Rattle.fs_live.proofs.Alone.{all_both}
 use Rattle.fs_live.proofs.Queues.{same_some, there_same}
@@ -162,6 +164,7 @@ pub record AllAnswered {F : Type 0} (may : May F) (s : LiveState F) (before behi
   pub page_size : end.page_size ≡ s.page_size
   pub calls : calls_among es ≡ later
   pub anew : (i : ℕ) → AllByRecursion (NotAnew i) es
+  pub of_chain : AllByRecursion IsOfChain es
   pub files_are : end.files ≡ files
 
 module _ {F : Type 0} (may : May F) (law : HandleCalls may) (w w' : ChainHandle) (request : List ℕ) (options : ℕ) (made : told.Decoded)
@@ -183,6 +186,7 @@ module _ {F : Type 0} (may : May F) (law : HandleCalls may) (w w' : ChainHandle)
     page_size = refl;
     calls = refl;
     anew = λ i. tt;
+    of_chain = tt;
     files_are = sym run;
   }
   answered_all s c before behind earlier ((call, answer) ∷ later) files out kept calls_are run =
@@ -202,6 +206,7 @@ module _ {F : Type 0} (may : May F) (law : HandleCalls may) (w w' : ChainHandle)
         page_size = rest.page_size;
         calls = ap (λ (calls : Calls). (call, answer) ∷ calls) rest.calls;
         anew = λ i. (tt, rest.anew i);
+        of_chain = (tt, rest.of_chain);
         files_are = rest.files_are;
       }
 
@@ -216,6 +221,11 @@ pub record IsServed {F : Type 0} (may : May F) (s : LiveState F) (i : ℕ) (afte
   pub outs : end.outs ≡ s.outs
   pub there : slice_get end.queues i ≡ Some (live_of (gave after))
   pub anew : AllByRecursion (NotAnew i) es
+  pub single : Single
+  pub queue_is : single.queue ≡ i
+  pub of_chain : AllByRecursion IsOfChain single.between
+  pub calls_of : calls_in single.chain.phase ≡ calls
+  pub single_run : LiveRun may s (events_in single) end
 
 module _ {F : Type 0} (may : May F) (walks_law : HandleWalks may) (asks_law : HandleAsks may) (calls_law : HandleCalls may)
     (returns_law : HandleReturns may) (old one two three : ChainHandle)
@@ -269,6 +279,24 @@ module _ {F : Type 0} (may : May F) (walks_law : HandleWalks may) (asks_law : Ha
         outs = append-nil s.outs;
         there = next_used.5;
         anew = (tt, (tt, all_both (NotAnew i) ans.es (last ∷ []) (ans.anew i) (tt, tt)));
+        single = record {
+          queue = i;
+          loaded = loaded;
+          descriptors = ds;
+          head = head;
+          fault = None;
+          between = Asks c request (calls_told (drop 80 request) made) ∷ ans.es;
+          chain = d;
+          exchange = next_used.0;
+          notice = notice;
+          last = goes_back.1;
+          used = next_used.1;
+          seen = next_used.2;
+        };
+        queue_is = refl;
+        of_chain = (tt, ans.of_chain);
+        calls_of = refl;
+        single_run = (s₁, first, (s₂, asking.0, run_more may s₂ ans.end s₄ ans.es last ans.run next_used.4));
       }
 
 -- ---- one event

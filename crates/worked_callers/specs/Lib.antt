@@ -1,1 +1,3 @@
 pub mod InARow
+pub mod Notified
+pub mod OwnReplies

@@ -1,16 +1,18 @@
 //! Pops in a run between whose calls other handles changed the queue, or a call of which was refused.
 
-ghost use Rattle.std.specs.Prelude.{◌≡◌, ℕ, List, None, Ok, Some, slice_get};
+ghost use Rattle.std.specs.Prelude.{◌≡◌, ◌≤◌, ◌+◌, ℕ, IfOk, List, None, Ok, Some, slice_get};
 ghost use Rattle.fs_queue.specs.declared.fault.QueueError.{QueueError};
 ghost use Rattle.fs_regions.specs.Places.{places_in};
 ghost use Rattle.fs_chain.specs.Loads.{HasNoPlace, came};
 ghost use Rattle.fs_chain.specs.Orders.{IsWalking};
+ghost use Rattle.fs_chain.specs.Queues.{gave};
 ghost use Rattle.fs_chain.specs.declared.state.ChainState.TheVariants as at;
 ghost use Rattle.fs_chain.specs.declared.popping.PopOutcome.{PopOutcome};
+ghost use Rattle.fs_live.specs.Among.{WalksAmong, load_count_among};
 ghost use Rattle.fs_live.specs.Handles.{live_of};
 ghost use Rattle.fs_live.specs.Live.{Declines, Happens, LiveEvent, LiveRun, LiveState};
 
-use crate::wholes::{walk_by, wants_bytes};
+use crate::wholes::{give_back, wants_bytes};
 use fs_chain::{ChainError, ChainHandle, LoadOutcome, PopOutcome, QueueState};
 use fs_live::law_handles;
 use fs_queue::QueueError;
@@ -49,6 +51,38 @@ pub fn look_after_refusal<F: FileSystem>(
         Ok(_) => Err(ChainError::BadArgument),
         Err(_) => handle.pop(queue, index),
     }
+}
+
+/// A pop amid which another handle returns a chain of the same queue. It makes few loads. If it finds no
+/// chain available, it is an event, and leaves the queue as that return did.
+pub fn look_amid_return<F: FileSystem>(
+    handle: &mut ChainHandle,
+    other: &mut ChainHandle,
+    queue: &mut QueueState,
+    index: &[u8],
+) -> Result<LoadOutcome, ChainError>
+    requires free { handle.old.state ≡ at.Free }
+    requires goes { queue.old.stopped ≡ None }
+    ensures few { IfOk result (λ told. (given : List (List ℕ)) × (now : QueueState)
+        × (walks : WalksAmong given handle.old handle.new queue.old now queue.new told)
+        × (load_count_among given handle.old handle.new queue.old now queue.new told walks
+        ≤ queue.old.layout.size + 4)) }
+    ensures idle { result ≡ Ok (LoadOutcome.On PopOutcome.Idle)
+        → (s : LiveState F) (i : ℕ)
+        → slice_get s.queues i ≡ Some (live_of (gave queue.old))
+        → s.places ≡ places_in handle.old.regions
+        → s.limit ≡ handle.old.limit
+        → (es : List LiveEvent) × (end : LiveState F)
+        × LiveRun F.may s es end
+        × (slice_get end.queues i ≡ Some (live_of queue.new)) }
+{
+    law_handles::<F>();
+    let begun = handle.pop(queue, &[])?;
+    if !wants_bytes(&begun) {
+        return Err(ChainError::WrongOrder);
+    }
+    let _notice = give_back(other, queue)?;
+    handle.pop(queue, index)
 }
 
 /// A pop that finds its queue stopped meanwhile is declined. It leaves the run's queue as it leaves the

@@ -1,11 +1,13 @@
-//! Callers of the handle. Each proves, by the theorems of `fs_chain` and `fs_live`, that its calls are a step
-//! or a run. So real calls meet the hypotheses of these theorems. `chain_tests` runs them.
+//! Callers of the handle. Each proves, by the theorems of `fs_chain`, `fs_live` and `fs_notify`, that its
+//! calls are a step or a run. So real calls meet the hypotheses of these theorems. `chain_tests` runs them.
 #![tactic(auto)]
 
 pub mod among;
 pub mod answers;
 pub mod beside;
 pub mod crossed;
+pub mod filling;
+pub mod givers;
 pub mod laws;
 pub mod listings;
 pub mod live_queues;
@@ -14,7 +16,9 @@ pub mod losses;
 pub mod moves;
 pub mod notices;
 pub mod others;
+pub mod own_replies;
 pub mod remapped;
 pub mod seen;
+pub mod takers;
 pub mod wholes;
 pub mod worked_runs;

@@ -1,18 +1,29 @@
 //! Runs of pops and returns on one queue, and of chains one after another.
 
-ghost use Rattle.std.specs.Prelude.{◌≡◌, ◌<◌, ◌^◌, ℕ, [], ◌∷◌, List, Some, None, slice_get};
+ghost use Rattle.std.specs.Prelude.{◌≡◌, ◌<◌, ◌^◌, ℕ, [], ◌∷◌, false, IfOk, List, Some, None, slice_get};
 ghost use Rattle.vm_memory.specs.Memory.{Memory};
 ghost use Rattle.fs_queue.specs.Returning.{Store, next_position};
 ghost use Rattle.plain_machine.specs.Run.{KickRun};
-ghost use Rattle.fs_live.specs.Live.{LiveState};
+ghost use Rattle.plain_machine.specs.Step.{Calls, Exchanged, Step};
+ghost use Rattle.plain_machine.specs.StepBy.{after_stores, stores_among};
+ghost use Rattle.server_phases.specs.Answering.{TellsBytes};
+ghost use Rattle.fs_chain.specs.declared.state.ChainState.TheVariants as at;
+ghost use Rattle.fs_live.specs.Handles.{IsSessionOf};
+ghost use Rattle.fs_live.specs.Live.{LiveRun, LiveState, acts_of};
 ghost use Rattle.fs_live.specs.Overlap.{at_positions, state};
-ghost use Rattle.fs_live.specs.Serial.{IsAtRest, SerialRun, Single, plain, turn_of};
+ghost use Rattle.fs_live.specs.Serial.{FoundIn, IsAtRest, SerialRun, Single, events_in, plain, return_in};
+ghost use Rattle.fs_live.specs.Serial.{turn_of};
 ghost use Rattle.fs_live.specs.Several.{AtTheirPlaces, LiveQueue};
-ghost use Rattle.fuse_fs.specs.Calls.{Destroy, Done};
+ghost use Rattle.fuse_fs.specs.Calls.{Destroy, Done, FileRun};
 ghost use Rattle.worked_callers.specs.InARow.{after_both, one, two, with_both};
+ghost use Rattle.worked_callers.specs.OwnReplies.{IsAt};
 
-use fs_live::{law_queues, law_serial};
+use crate::wholes::{give_back, reply, walk_chain};
+use fs_chain::{ChainError, ChainHandle, QueueState};
+use fs_live::{law_handles, law_queues, law_serial};
 use fuse_fs::FileSystem;
+use fuse_values::FileAnswer;
+use server_phases::Session;
 
 /// Of two popped chains, if the first one is returned first, each is returned at the position of its pop.
 pub fn oldest_first()
@@ -47,4 +58,42 @@ pub fn served_in_a_row<F: FileSystem>()
         (turn_of one ∷ turn_of two ∷ []) None (plain (state after (at_positions 2 2) 0 []) after_both) }
 {
     law_serial::<F>();
+}
+
+/// A chain without data in its answer, that is in flight alone. Over a memory that has the bytes of its loads
+/// it is the plain machine's step.
+pub fn serve_single<F: FileSystem>(
+    handle: &mut ChainHandle,
+    queue: &mut QueueState,
+    given: &[&[u8]],
+    session: Session,
+    request: &[u8],
+    answer: FileAnswer,
+) -> Result<bool, ChainError>
+    requires free { handle.old.state ≡ at.Free }
+    requires goes { queue.old.stopped ≡ None }
+    requires none_out { queue.old.next_used ≡ queue.old.next_avail }
+    requires by_flags { queue.old.event_index ≡ false }
+    requires data { TellsBytes [] answer }
+    ensures step { IfOk result (λ notice. (s : LiveState F) (i : ℕ) (files : F)
+        → IsAt F.may s i handle.old queue.old
+        → s.outs ≡ []
+        → IsSessionOf s session
+        → (calls : Calls)
+        × (FileRun F.may s.files calls files
+        → (r : Single) × (end : LiveState F)
+        × LiveRun F.may s (events_in r) end
+        × ((m : Memory)
+        → FoundIn m s r
+        → Step F.may (plain s m) i calls (Exchanged r.exchange r.notice)
+        (plain end (after_stores m (stores_among (acts_of (return_in r)))))))) }
+{
+    law_handles::<F>();
+    law_serial::<F>();
+    let (_, request_len, _) = walk_chain(handle, queue, given)?;
+    if request_len != request.len() {
+        return Err(ChainError::BadArgument);
+    }
+    reply(handle, session, request, answer)?;
+    give_back(handle, queue)
 }

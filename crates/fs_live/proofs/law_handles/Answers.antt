@@ -1,5 +1,6 @@
 use Rattle.fs_live.proofs.Among.{handle_finds_stopped, handle_walks_among}
 use Rattle.fs_live.proofs.AmongLoads.{handle_loads_among}
+use Rattle.fs_live.proofs.Filling.{handle_fills, handle_fills_range}
 use Rattle.fs_live.proofs.Handles.{handle_answers, handle_asks, handle_calls, handle_declines, handle_faulty, handle_returns, handle_walks}
 use Rattle.fs_live.proofs.Loads.{handle_loads}
 use Rattle.fs_live.proofs.Options.{options_stay}
@@ -77,3 +78,9 @@ returns-clause-maps g c = handle_maps g.F.FileSystemBase.may
 
 pub returns-clause-moves : goal.returns-clause-moves
 returns-clause-moves g c = handle_moves g.F.FileSystemBase.may
+
+pub returns-clause-fills : goal.returns-clause-fills
+returns-clause-fills g c = handle_fills g.F.FileSystemBase.may
+
+pub returns-clause-fills_range : goal.returns-clause-fills_range
+returns-clause-fills_range g c = handle_fills_range g.F.FileSystemBase.may

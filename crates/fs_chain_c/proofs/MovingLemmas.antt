@@ -1,0 +1,253 @@
+-- Records that C saves and restores, by the core's queues.
+use Rattle.std.proofs.Common.{arith, ◌≡◌, ℕ, suc, ◌+◌, ◌-◌, ◌%◌, ◌^◌, ◌<◌, ◌≤◌, ◌==◌, max, All, Bool, true, false, not, List, [], ◌∷◌}
+use Rattle.std.proofs.Common.{drop, length, map, take, Option, Some, None, refl, subst, sym, ap, ◌∙◌, if◌then◌else◌}
+use Rattle.std.specs.Prelude.{IsTrue, is_some, unwrap_or}
+use Rattle.std.specs.List.{AllByRecursion}
+use Rattle.std.proofs.lemmas.Bool.Decides.{nat_tests}
+use Rattle.std.proofs.lemmas.List.{length-map}
+use Rattle.std.proofs.lemmas.List.Elements.{All-cons, All-head, All-nil, All-tail}
+use Rattle.server_replies.specs.PageSizes.{is_page_size}
+use Rattle.fs_queue.specs.Queue.{Queue, resumed}
+use Rattle.fs_queue.specs.declared.fault.QueueError.{QueueError}
+use Rattle.fs_queue.specs.declared.fault.QueueError.TheVariants as stop
+use Rattle.fs_record.specs.Numbers.{restore_error_number}
+use Rattle.fs_record.specs.Record.{IsRecord, IsSavedQueue, Second, Version}
+use Rattle.fs_record.proofs.ReadingLemmas.{one_reading}
+use Rattle.fs_chain.specs.Numbers.{chain_error_number}
+use Rattle.fs_chain.specs.declared.error.ChainError.{ChainError}
+use Rattle.fs_chain.specs.declared.error.ChainError.TheVariants as error
+use Rattle.fs_chain.specs.declared.queue.QueueState.{QueueState}
+use Rattle.fs_chain_c.specs.declared.device.FsDevice.{FsDevice}
+use Rattle.fs_chain_c.specs.declared.queue.FsQueue.{FsQueue}
+use Rattle.fs_chain_c.specs.Moving.{AreQueueStates, HasItsBits, IsEven, MayBeOut, MovesByRecord, RestoresARecord, SavesARecord, recorded}
+use Rattle.fs_chain_c.specs.Queues.{IsQueue, IsQueueState, stop_of}
+use Rattle.fs_chain_c.specs.Records.{HasNoneOut, HasRecord, NoDevice, NoPlace, NoRecord, Read, ReadsSo, RestoreOutcome, SavesSo}
+use Rattle.fs_chain_c.specs.Records.{bytes_of, numbers_over, queue_of, read_status, restored_over, saved_status}
+
+same_some : {A : Type 0} (x y : A) → Some x ≡ Some y → x ≡ y
+same_some {A} x y e = ap (λ (o : Option A). unwrap_or o x) e
+
+-- ---- a queue's numbers, and the core's queue
+
+-- a number that isn't 0 is of a refusal
+abbrev IsStop : Option (Option QueueError) → Type 0
+IsStop (Some None) = ⊥
+IsStop _ = Unit {0}
+
+stop_if : (b : Bool) (e : QueueError) (rest : Option (Option QueueError)) → IsStop rest → IsStop (if b then Some (Some e) else rest)
+stop_if true e rest is = tt
+stop_if false e rest is = is
+
+some_stop : (x : Option QueueError) → IsStop (Some x) → is_some x ≡ true
+some_stop None is = absurd is
+some_stop (Some e) is = refl
+
+stop_first : (z : Bool) (rest : Option (Option QueueError)) (x : Option QueueError) → IsStop rest → (if z then Some None else rest) ≡ Some x
+    → is_some x ≡ not z
+stop_first true rest x stops is = ap (λ (o : Option QueueError). is_some o) (sym (same_some None x is))
+stop_first false rest x stops is = some_stop x (subst IsStop is stops)
+
+stopped_is : (n : ℕ) (x : Option QueueError) → stop_of n ≡ Some x → is_some x ≡ not (n == 0)
+stopped_is n x is =
+    stop_first (n == 0) _ x
+    (stop_if (n == 1) stop.Stopped _
+    (stop_if (n == 2) stop.AvailIndexUnreachable _
+    (stop_if (n == 3) stop.AvailTooFar _
+    (stop_if (n == 4) stop.RingEntryUnreachable _
+    (stop_if (n == 5) stop.HeadOutOfTable _
+    (stop_if (n == 6) stop.UsedUnreachable _
+    (stop_if (n == 7) stop.AvailFlagsUnreachable _ (stop_if (n == 8) stop.DescriptorUnreachable None tt)))))))) is
+
+pub recorded_is : (q : FsQueue) (k : QueueState) → IsQueueState q k → queue_of q ≡ recorded k
+recorded_is q k is =
+    let s = not (q.stopped == 0) in
+    ap (λ (n : ℕ). resumed n q.desc q.avail q.used q.next_avail s) (sym is.size)
+    ∙ ap (λ (n : ℕ). resumed k.layout.size n q.avail q.used q.next_avail s) (sym is.desc)
+    ∙ ap (λ (n : ℕ). resumed k.layout.size k.layout.desc n q.used q.next_avail s) (sym is.avail)
+    ∙ ap (λ (n : ℕ). resumed k.layout.size k.layout.desc k.layout.avail n q.next_avail s) (sym is.used)
+    ∙ ap (λ (n : ℕ). resumed k.layout.size k.layout.desc k.layout.avail k.layout.used n s) (sym is.next_avail)
+    ∙ ap (λ (b : Bool). resumed k.layout.size k.layout.desc k.layout.avail k.layout.used k.next_avail b)
+    (sym (stopped_is q.stopped k.stopped is.stopped))
+
+all_recorded : (qs : List FsQueue) (ks : List QueueState) → AreQueueStates qs ks → map queue_of qs ≡ map recorded ks
+all_recorded [] [] are = refl
+all_recorded [] (k ∷ ks) are = absurd are
+all_recorded (q ∷ qs) [] are = absurd are
+all_recorded (q ∷ qs) (k ∷ ks) are =
+    ap (λ (x : Queue). x ∷ map queue_of qs) (recorded_is q k are.0)
+    ∙ ap (λ (l : List Queue). recorded k ∷ l) (all_recorded qs ks are.1)
+
+-- ---- saving
+
+no_error : (e : ChainError) → 0 ≡ chain_error_number e → ⊥
+no_error error.OutOfMemory is = cc
+no_error error.BadArgument is = cc
+no_error e is = cc
+
+saved_so : (d : FsDevice) (qs : List FsQueue) (buffer buffer' : List ℕ) (len : ℕ) (how : Option ChainError) → 0 ≡ saved_status how
+    → SavesSo d qs buffer how len buffer' → SavesSo d qs buffer None len buffer'
+saved_so d qs buffer buffer' len None is so = so
+saved_so d qs buffer buffer' len (Some e) is so = absurd (no_error e is)
+
+one_position : (p r : ℕ) → p < 2 ^ 16 → r < 2 ^ 16 → (p + (2 ^ 16 - r)) % 2 ^ 16 ≡ 0 → r ≡ p
+one_position p r fp fr none = omega arith
+
+all_even : (qs : List FsQueue) (ks : List QueueState) → AllByRecursion HasItsBits qs → All HasNoneOut qs → AreQueueStates qs ks →
+    AllByRecursion IsEven ks
+all_even [] [] bits none are = tt
+all_even [] (k ∷ ks) bits none are = absurd are
+all_even (q ∷ qs) [] bits none are = absurd are
+all_even (q ∷ qs) (k ∷ ks) bits none are =
+    let at = one_position q.next_avail q.next_used bits.0.1 bits.0.2 (All-head HasNoneOut q qs none) in (
+      (
+        are.0.next_used ∙ at ∙ sym are.0.next_avail,
+        subst (λ (n : ℕ). n < 2 ^ 16) (sym are.0.next_avail) bits.0.1,
+      ),
+      all_even qs ks bits.1 (All-tail HasNoneOut q qs none) are.1,
+    )
+
+all_saved : (qs : List FsQueue) → All IsQueue qs → AllByRecursion HasItsBits qs → All IsSavedQueue (map queue_of qs)
+all_saved [] are bits = All-nil IsSavedQueue
+all_saved (q ∷ qs) are bits =
+    All-cons IsSavedQueue (queue_of q) (map queue_of qs) ((All-head IsQueue q qs are).0, bits.0.0, bits.0.1)
+    (all_saved qs (All-tail IsQueue q qs are) bits.1)
+
+page_size_low : (n : ℕ) → IsTrue (is_page_size n) → n < 2 ^ 32
+page_size_low n is = grind (arith, nat_tests)
+
+limit_low : (n : ℕ) → n ≤ 2 ^ 31 → n < 2 ^ 64
+limit_low n few = omega arith
+
+pub saves : SavesARecord
+saves d qs ks buffer buffer' len saved bits are =
+    let so = saved_so d qs buffer buffer' len saved.0 saved.1 saved.2 in
+    let can = so.0 in
+    let queues = map queue_of qs in
+    let v : Version = Second d.page_size d.limit in
+    let count : length queues ≡ length qs = length-map qs queue_of in
+    let made : IsRecord (bytes_of d qs) v d.options queues = (
+      refl,
+      (page_size_low d.page_size can.0.0, limit_low d.limit can.0.2),
+      (
+        can.1,
+        subst (λ (n : ℕ). 1 ≤ n) (sym count) can.2,
+        subst (λ (n : ℕ). n ≤ 64) (sym count) can.3,
+        all_saved qs can.4 bits,
+      ),
+    ) in (
+      bytes_of d qs,
+      v,
+      so.3,
+      so.2,
+      subst (λ (l : List Queue). IsRecord (bytes_of d qs) v d.options l) (all_recorded qs ks are) made,
+      all_even qs ks bits so.1 are,
+    )
+
+-- ---- restoring
+
+no_record : (n : ℕ) → 0 ≡ 80 + n → ⊥
+no_record n is = omega (arith, is)
+
+abbrev ReadSo : FsDevice → List FsQueue → (saved : List ℕ) → (count : ℕ) → FsDevice → List FsQueue → Type 0
+ReadSo d queues saved count d' queues' =
+    (options : ℕ) × (qs : List Queue) × ReadsSo d queues saved (Read options qs) count d' queues'
+
+read_so : (d : FsDevice) (queues : List FsQueue) (saved : List ℕ) (how : RestoreOutcome) (count : ℕ) (d' : FsDevice)
+    (queues' : List FsQueue) → 0 ≡ read_status how → ReadsSo d queues saved how count d' queues' → ReadSo d queues saved count d' queues'
+read_so d queues saved (Read options qs) count d' queues' is so = (options, qs, so)
+read_so d queues saved (NoPlace options qs) count d' queues' is so = absurd (no_error error.ShortBuffer is)
+read_so d queues saved (NoRecord e) count d' queues' is so = absurd (no_record (restore_error_number e) is)
+read_so d queues saved NoDevice count d' queues' is so = absurd (no_error error.BadArgument is)
+
+flag_back : (b : Bool) → not ((if b then 1 else 0) == 0) ≡ b
+flag_back true = refl
+flag_back false = refl
+
+over_back : (old : FsQueue) (q : Queue) → queue_of (numbers_over old q) ≡ q
+over_back old q = ap (λ (b : Bool). resumed q.size q.desc q.avail q.used q.position b) (flag_back q.stopped)
+
+one_at_least : (m : ℕ) → 1 ≤ max 1 m
+one_at_least m = grind arith
+
+no_more_than : (m n : ℕ) → m ≤ n → 0 < n → max 1 m ≤ n
+no_more_than m n few some = grind arith
+
+none_left : (n : ℕ) → suc n ≤ 0 → ⊥
+none_left n few = omega (arith, few)
+
+abbrev GoOn : List QueueState → List Queue → Type 0
+GoOn ks qs = (map recorded ks ≡ qs) × AllByRecursion IsEven ks × AllByRecursion MayBeOut ks
+
+go_on : (olds : List FsQueue) (qs : List Queue) (ks : List QueueState) → length qs ≤ length olds → All IsSavedQueue qs
+    → AreQueueStates (take (length qs) (restored_over olds qs)) ks → GoOn ks qs
+go_on olds [] [] few all are = (refl, tt, tt)
+go_on olds [] (k ∷ ks) few all are = absurd are
+go_on [] (q ∷ qs) ks few all are = absurd (none_left (length qs) few)
+go_on (old ∷ olds) (q ∷ qs) [] few all are = absurd are
+go_on (old ∷ olds) (q ∷ qs) (k ∷ ks) few all are =
+    let one = are.0 in
+    let low : q.position < 2 ^ 16 = (All-head IsSavedQueue q qs all).2 in
+    let size : q.size ≡ k.layout.size = sym one.size in
+    let rest = go_on olds qs ks (omega (arith, few)) (All-tail IsSavedQueue q qs all) are.1 in (
+      ap (λ (x : Queue). x ∷ map recorded ks) (sym (recorded_is (numbers_over old q) k one) ∙ over_back old q)
+          ∙ ap (λ (l : List Queue). q ∷ l) rest.0,
+      (
+        (one.next_used ∙ sym one.next_avail, subst (λ (n : ℕ). n < 2 ^ 16) (sym one.next_avail) low),
+        rest.1,
+      ),
+      (
+        (
+          subst (λ (n : ℕ). 1 ≤ n) (sym one.max_in_flight) (one_at_least old.max_in_flight),
+          subst (λ (n : ℕ). n ≤ k.layout.size) (sym one.max_in_flight)
+              (no_more_than old.max_in_flight k.layout.size (subst (λ (n : ℕ). old.max_in_flight ≤ n) size one.few) k.layout.sized),
+        ),
+        rest.2,
+      ),
+    )
+
+pub restores : RestoresARecord
+restores d d' queues queues' ks saved count restored are =
+    let so = read_so d queues saved restored.0 count d' queues' restored.1 restored.2 in
+    let options = so.0 in
+    let qs = so.1 in
+    let read = so.2 in
+    let has : HasRecord d saved options qs = read.1 in
+    let bytes = has.0 in
+    let v = has.3.0 in
+    let is : IsRecord bytes v options qs = has.3.2 in
+    let few : length qs ≤ length queues = subst (λ (n : ℕ). n ≤ length queues) read.2 read.3 in
+    let are' : AreQueueStates (take (length qs) (restored_over queues qs)) ks =
+    subst (λ (l : List FsQueue). AreQueueStates (take (length qs) l) ks) read.5
+    (subst (λ (n : ℕ). AreQueueStates (take n queues') ks) read.2 are) in
+    let go = go_on queues qs ks few is.2.3 are' in
+    let as_told : IsRecord bytes v d'.options qs =
+    subst (λ (n : ℕ). IsRecord bytes v n qs) (sym (ap (λ (x : FsDevice). x.options) read.4)) is in (
+      bytes,
+      has.1,
+      v,
+      has.2,
+      subst (λ (l : List Queue). IsRecord bytes v d'.options l) (sym go.0) as_told,
+      go.1,
+      go.2,
+    )
+
+-- ---- both
+
+pub moves : MovesByRecord
+moves d there d' qs olds queues' here ks buffer saved len count made bits are restored are' =
+    let one = saves d qs here buffer saved len made bits are in
+    let two = restores there d' olds queues' ks saved count restored are' in
+    let bytes = one.0 in
+    let v = one.1 in
+    let same = one_reading v two.2 d.options d'.options (map recorded here) (map recorded ks) bytes two.0 (drop len buffer) two.1
+    one.4 two.4 (sym one.2 ∙ two.3) in (
+      bytes,
+      v,
+      one.4,
+      subst (λ (l : List Queue). IsRecord bytes v d'.options l) same.2
+          (subst (λ (n : ℕ). IsRecord bytes v n (map recorded here)) same.1 one.4),
+      sym same.1,
+      sym same.2,
+      two.5,
+      two.6,
+    )

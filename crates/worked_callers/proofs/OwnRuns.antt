@@ -1,0 +1,372 @@
+-- Chains that their callers reply to with bytes of their own, as runs.
+use Rattle.std.proofs.Common.{◌≡◌, inl, inr, ℕ, Bool, List, [], ◌∷◌, ◌++◌, append-nil, length, Some, None, Result, Ok, Err, slice_get, refl}
+use Rattle.std.proofs.Common.{subst}
+use Rattle.std.proofs.Common.{sym, ap, ◌∙◌}
+use Rattle.std.specs.Prelude.{IsTrue, drop, true, ◌==◌}
+use Rattle.std.proofs.lemmas.Bool.{eq-eqb}
+use Rattle.vm_memory_core.specs.Host.{changed_at}
+use Rattle.vm_memory.specs.Memory.{location}
+use Rattle.fs_queue.specs.Chain.{Descriptor}
+use Rattle.fs_queue.specs.Queue.{Queue}
+use Rattle.fs_queue.specs.Returning.{Store}
+use Rattle.fs_regions.specs.Walks.{Loaded, queue_of}
+use Rattle.fs_regions.specs.declared.step.CourseStep as comes
+use Rattle.fs_regions.specs.declared.step.CourseStep.TheVariants as step
+use Rattle.fuse_fs.specs.Calls.{FileAnswer, FileCall, suits}
+use Rattle.fuse_values.specs.Values.{call_of}
+use Rattle.fuse_values.specs.declared.call.FileCall as made_call
+use Rattle.virtiofsd_fuse.specs.Serving.{May}
+use Rattle.server_phases.specs.Gathering.{Brought, added_found, added_plain}
+use Rattle.server_phases.specs.declared.listing.Listing.{Listing}
+use Rattle.server_phases.specs.declared.listing.NotAdded.{NotAdded}
+use Rattle.server_phases.specs.declared.session.Session.{Session}
+use Rattle.fs_chain.specs.Listings.{AddsTo}
+use Rattle.fs_chain.specs.OwnReplies.{IfUnanswered, own_error, own_reply}
+use Rattle.fs_chain.specs.Queues.{gave}
+use Rattle.fs_chain.specs.Walks.{course_of}
+use Rattle.fs_chain.specs.Whole.{FromTaken, IsDecodedBy, IsWalked}
+use Rattle.fs_chain.specs.WholeListings.{BringsEntry}
+use Rattle.fs_chain.specs.declared.decoding.Decoded.TheVariants as asks
+use Rattle.fs_chain.specs.declared.error.ChainError.{ChainError}
+use Rattle.fs_chain.specs.declared.error.ChainError.TheVariants as error
+use Rattle.fs_chain.specs.declared.listing.Added.{Added}
+use Rattle.fs_chain.specs.declared.listing.Added.TheVariants as added
+use Rattle.fs_chain.specs.declared.loads.LoadOutcome.TheVariants as wents
+use Rattle.fs_chain.specs.declared.queue.QueueState.{QueueState}
+use Rattle.fs_chain.specs.declared.state.InFlight.{InFlight}
+use Rattle.fs_chain.specs.declared.state.ChainState as state
+use Rattle.fs_chain.specs.declared.state.ChainState.TheVariants as at
+use Rattle.fs_chain.specs.declared.popping.PopOutcome.TheVariants as says
+use Rattle.fs_chain.specs.declared.chain_handle.ChainHandle.{ChainHandle}
+use Rattle.plain_machine.specs.MarkedPages.{returned_addresses}
+use Rattle.plain_machine.specs.Step.{Calls, Exchange}
+use Rattle.plain_machine.specs.StepBy.{Act}
+use Rattle.fs_live.specs.Guest.{Device, PagesOfRun, Writes}
+use Rattle.fs_live.specs.Handles.{HandleAsks, HandleWalks, IsHeld, IsOut, IsReached, IsSessionOf, live_of}
+use Rattle.fs_live.specs.Live.{Answers, Asks, GoesBackWith, Happens, LiveEvent, LiveRun, LiveState, OutChain, Own, Phase, Replies, Returns}
+use Rattle.fs_live.specs.Live.{Walks, after_answer, after_asking, after_giving, after_own, after_walk, asked_chain, calls_among, new_chain}
+use Rattle.fs_live.specs.Live.{room_of}
+use Rattle.fs_live.specs.Others.{AskedIsHeld, GoesBackOwn, HandleReplies, HandleRepliesInstead, HandleReturnsOwn, IfOut, IsHeldAsked, IsOwn}
+use Rattle.fs_live.specs.Runs.{IsAskedIn, IsBefore, OwnIsReturned, ReturnsTell, RunsOnQueue, events_on, going, tickets_on, told_by}
+use Rattle.fs_live.specs.Several.{InFlightId, IsSerial, LiveQueue, OncePerChain, OneAtATime, QueueEvent, RunsOver, UsedInOrder}
+use Rattle.fs_live.specs.Several.{heads_taken, returning, took}
+use Rattle.fs_live.specs.Several as several
+use Rattle.fs_live.proofs.Moved.{joined}
+use Rattle.fs_live.proofs.Queues.{same_some, there_same}
+use Rattle.worked_callers.specs.OwnReplies.{EndsAlone, IsAt, LogsOwn, RepliesOwn, ReturnsAsStep}
+use Rattle.worked_callers.proofs.OthersBeside.{changed_twice, own_kept}
+use Rattle.worked_callers.proofs.ServedBeside.{calls_of_both, chain_is, reached_by, run_more, taken_of}
+
+-- ---- the pop
+
+-- a chain that a handle popped, in a run
+pub record IsPopped {F : Type 0} (may : May F) (s : LiveState F) (i : ℕ) (before after : QueueState) (head : ℕ) (one : ChainHandle) :
+    Type 0 where
+  pub loaded : Loaded
+  pub happens : Happens may s (Walks i loaded one.descriptors.items (step.Chain head None))
+      (after_walk s i (live_of before) loaded one.descriptors.items (step.Chain head None))
+  pub there : slice_get (after_walk s i (live_of before) loaded one.descriptors.items (step.Chain head None)).queues i
+      ≡ Some (live_of after)
+  pub held : IsOut s.limit (new_chain s i (live_of before) loaded one.descriptors.items head None) one
+
+pub popped : {F : Type 0} (may : May F) (law : HandleWalks may) (old one : ChainHandle) (before after : QueueState) (head n r : ℕ)
+    → before.stopped ≡ None → IsWalked old one before after (wents.On (says.Chain head n r)) → (s : LiveState F) (i : ℕ)
+    → IsAt may s i old before → IsPopped may s i before after head one
+popped {F} may law old one before after head n r goes walks s i here =
+    let q = live_of before in
+    let ds = one.descriptors.items in
+    let walk = law s i walks.0 old one before after (says.Chain head n r) here.there here.places here.limit goes tt walks.1 tt in
+    let is = chain_is ds walk.2 head n r walk.3 in
+    record {
+      loaded = walk.0;
+      happens = subst (λ (k : comes.CourseStep). Happens may s (Walks i walk.0 ds k) (after_walk s i q walk.0 ds k)) is walk.4;
+      there = subst (λ (k : comes.CourseStep). slice_get (after_walk s i q walk.0 ds k).queues i ≡ Some (live_of after)) is walk.5;
+      held = subst (λ (k : comes.CourseStep). IsHeld s i q walk.0 k one) is walk.6;
+    }
+
+-- ---- from the reply on
+
+module _ {F : Type 0} (may : May F) (returns_law : HandleReturnsOwn may) (before after : QueueState) (request reply : List ℕ)
+    (notice : Bool) (goes : before.stopped ≡ None) where
+  abbrev pub replied_from : (s s₁ : LiveState F) (c : OutChain) (st : state.ChainState) (earlier : List LiveEvent) (calls : Calls)
+      (options : ℕ) → LiveRun may s earlier s₁ → calls_among earlier ≡ calls → s₁.outs ≡ s.outs ++ c ∷ []
+      → slice_get s.queues c.queue ≡ Some (live_of before) → slice_get s₁.queues c.queue ≡ Some (live_of after)
+      → s₁.queues ≡ changed_at s.queues c.queue (λ _. took (live_of before)) → c.taken ≡ (live_of before).queue → c.places ≡ s.places
+      → s₁.limit ≡ s.limit → s₁.page_size ≡ s.page_size
+      → Happens may s₁ (Replies c request reply options) (after_own s₁ s.outs [] c request reply options)
+      → IsOwn (record c { phase = Own request reply }) reply st
+      → ((room bytes : List ℕ) (last : ℕ) → (acts : List Act) × GoesBackOwn after room bytes st acts last notice)
+      → RepliesOwn may s c.queue before (gave after) request reply calls notice
+  replied_from s s₁ c st earlier calls options run calls_are outs there there₁ queues taken places limit page_size replies own back =
+      let q = live_of before in
+      let i = c.queue in
+      let replied : LiveEvent = Replies c request reply options in
+      let d : OutChain = record c { phase = Own request reply } in
+      let s₂ : LiveState F = after_own s₁ s.outs [] c request reply options in
+      let goes_back = back (room_of d) reply 0 in
+      let taken_is : took q ≡ live_of after =
+      same_some (took q) (live_of after)
+      (sym (there_same s.queues i i (λ _. took q) q refl there) ∙ ap (λ (l : List LiveQueue). slice_get l i) (sym queues) ∙ there₁) in
+      let laid : d.taken ≡ queue_of (course_of (record after { next_avail = d.taken.position }) 0) =
+      subst (λ (k : Queue). k ≡ queue_of (course_of (record after { next_avail = k.position }) 0)) (sym taken)
+      (taken_of before after goes taken_is) in
+      let returned = returns_law s₂ d s.outs [] st after request reply goes_back.0 0 notice refl there₁ laid refl own goes_back.1 in
+      let s₃ : LiveState F = after_giving s₂ s.outs [] d (live_of after) in
+      record {
+        earlier = earlier ++ replied ∷ [];
+        now = s₂;
+        run = run_more may s s₁ s₂ earlier replied run replies;
+        calls_are = calls_of_both earlier (replied ∷ []) ∙ append-nil (calls_among earlier) ∙ calls_are;
+        chain = d;
+        queue_is = refl;
+        taken_is = taken;
+        places_are = places;
+        phase_is = refl;
+        limit_is = limit;
+        page_size_is = page_size;
+        exchange = returned.0;
+        used = returned.1;
+        seen = returned.2;
+        end = s₃;
+        returns = returned.4;
+        outs_are = append-nil s.outs;
+        queues_are = ap (λ (l : List LiveQueue). changed_at l i (λ _. live_of (gave after))) queues
+            ∙ changed_twice s.queues i (took q) (live_of (gave after));
+      }
+
+-- ---- what theorems say of the return
+
+module _ {F : Type 0} (may : May F) (s : LiveState F) (i : ℕ) (before after : QueueState) (request reply : List ℕ) (calls : Calls)
+    (notice : Bool) (r : RepliesOwn may s i before after request reply calls notice) where
+  pub as_step : (G : Type 0) → OwnIsReturned G may → IsReached may s → ReturnsAsStep G may s i before after request reply calls notice
+  as_step G law reached = (
+    r,
+    λ m places limit page_size queue.
+        let is : IsBefore r.now r.chain m = record {
+          places = places ∙ ap location (sym r.places_are);
+          limit = limit ∙ sym r.limit_is;
+          page_size = page_size ∙ sym r.page_size_is;
+          options = subst (λ (p : Phase). IsAskedIn p m.options) (sym r.phase_is) tt;
+          queue = subst (λ (j : ℕ). slice_get m.queues j ≡ Some r.chain.taken) (sym r.queue_is)
+              (queue ∙ ap (λ (q : Queue). Some q) (sym r.taken_is));
+        } in
+        law reached.0 r.now r.end (reached.1 ++ r.earlier) r.chain r.exchange notice 0 r.used r.seen request reply m reached.2
+        (joined may reached.0 s r.now reached.1 r.earlier reached.3 r.run) r.returns r.phase_is is,
+  )
+
+  -- the bytes of the return are those of the reply
+  pub reply_is : r.exchange.reply ≡ reply
+  reply_is = ap (λ (x : Exchange). x.reply)
+      (subst (λ (p : Phase). GoesBackWith r.now.page_size r.chain p r.exchange) r.phase_is r.returns.goes)
+
+  pub reports : ReturnsTell may → (w : LiveQueue) × (slice_get r.now.queues r.chain.queue ≡ Some w)
+      × (told_by r.now (Returns r.chain r.exchange notice 0 r.used r.seen)
+      ≡ returned_addresses (returning w) r.chain.head (room_of r.chain) reply)
+  reports law =
+      let told = law r.now r.end r.chain r.exchange notice 0 r.used r.seen r.returns in
+      (told.0, told.1, told.2 ∙ ap (λ (bs : List ℕ). returned_addresses (returning told.0) r.chain.head (room_of r.chain) bs) reply_is)
+
+-- ---- a request that wasn't decoded
+
+both_events : (i head : ℕ) (loaded : Loaded) (ds : List Descriptor) (c d : OutChain) (request reply : List ℕ) (options : ℕ) (x : Exchange)
+    (notice : Bool) (used : List Store) (seen : List ℕ) → (i == i) ≡ true → (d.queue == i) ≡ true
+    → events_on i (Walks i loaded ds (step.Chain head None) ∷ Replies c request reply options ∷ Returns d x notice 0 used seen ∷ [])
+    ≡ several.Takes head ∷ several.Returns (d.taken.position, d.head) (length x.reply) used ∷ []
+both_events i head loaded ds c d request reply options x notice used seen same so = rw (same, so) refl
+
+module _ {F : Type 0} (may : May F) (walks_law : HandleWalks may) (replies_law : HandleReplies may) (returns_law : HandleReturnsOwn may)
+    (old one two : ChainHandle) (before after : QueueState) (head n r serial : ℕ) (request reply : List ℕ) (notice : Bool)
+    (goes : before.stopped ≡ None) (walks : IsWalked old one before after (wents.On (says.Chain head n r)))
+    (len : FromTaken one.state (λ out. out.request_len ≡ length request))
+    (clear : own_error one.state one.serial serial (length reply) ≡ None)
+    (kept : IfUnanswered one.state (λ out. two ≡ record one { state = at.HasReply out (own_reply (length reply)) }))
+    (back : (room bytes : List ℕ) (last : ℕ) → (acts : List Act) × GoesBackOwn after room bytes two.state acts last notice) where
+  abbrev pub replied_fetched : (s : LiveState F) (i : ℕ) → IsAt may s i old before
+      → RepliesOwn may s i before (gave after) request reply [] notice
+  replied_fetched s i here =
+      let q = live_of before in
+      let ds = one.descriptors.items in
+      let pop = popped may walks_law old one before after head n r goes walks s i here in
+      let c : OutChain = new_chain s i q pop.loaded ds head None in
+      let s₁ : LiveState F = after_walk s i q pop.loaded ds (step.Chain head None) in
+      let walked : LiveEvent = Walks i pop.loaded ds (step.Chain head None) in
+      let replied = replies_law s₁ c s.outs [] one serial s.options request reply (reached_by may s s₁ walked here.reached pop.happens)
+      here.small refl refl pop.held len clear in
+      let own = own_kept one.state one two (record c { phase = Own request reply }) reply replied.1 kept in
+      replied_from may returns_law before after request reply notice goes s s₁ c two.state (walked ∷ []) [] s.options
+      (s₁, pop.happens, refl) refl refl here.there pop.there refl refl refl refl refl replied.0 own back
+
+  pub logged : PagesOfRun may → (s : LiveState F) (i : ℕ) → IsAt may s i old before
+      → LogsOwn may s i before (gave after) request reply notice
+  logged law s i here =
+      let q = live_of before in
+      let ds = one.descriptors.items in
+      let pop = popped may walks_law old one before after head n r goes walks s i here in
+      let c : OutChain = new_chain s i q pop.loaded ds head None in
+      let s₁ : LiveState F = after_walk s i q pop.loaded ds (step.Chain head None) in
+      let walked : LiveEvent = Walks i pop.loaded ds (step.Chain head None) in
+      let told : LiveEvent = Replies c request reply s.options in
+      let replied = replies_law s₁ c s.outs [] one serial s.options request reply (reached_by may s s₁ walked here.reached pop.happens)
+      here.small refl refl pop.held len clear in
+      let whole = replied_fetched s i here in
+      let returned : LiveEvent = Returns whole.chain whole.exchange notice 0 whole.used whole.seen in (
+        whole,
+        walked,
+        told,
+        refl,
+        λ first second third last m.
+            law s whole.end
+            (
+            Writes first ∷ Device walked
+            ∷ Writes second ∷ Device told
+            ∷ Writes third ∷ Device returned
+            ∷ Writes last ∷ []
+            )
+            m (s₁, pop.happens, (whole.now, replied.0, (whole.end, whole.returns, refl))) (tt, (tt, (tt, tt))),
+      )
+
+  pub ended_alone : RunsOnQueue may → OncePerChain → UsedInOrder → OneAtATime → before.next_used ≡ before.next_avail
+      → (s : LiveState F) (i : ℕ) → IsAt may s i old before → tickets_on i s.outs ≡ [] → EndsAlone may s i before
+  ended_alone runs once used one_at none_out s i here none =
+      let q = live_of before in
+      let ds = one.descriptors.items in
+      let pop = popped may walks_law old one before after head n r goes walks s i here in
+      let c : OutChain = new_chain s i q pop.loaded ds head None in
+      let s₁ : LiveState F = after_walk s i q pop.loaded ds (step.Chain head None) in
+      let walked : LiveEvent = Walks i pop.loaded ds (step.Chain head None) in
+      let told : LiveEvent = Replies c request reply s.options in
+      let replied = replies_law s₁ c s.outs [] one serial s.options request reply (reached_by may s s₁ walked here.reached pop.happens)
+      here.small refl refl pop.held len clear in
+      let whole = replied_fetched s i here in
+      let returned : LiveEvent = Returns whole.chain whole.exchange notice 0 whole.used whole.seen in
+      let es : List LiveEvent = walked ∷ told ∷ returned ∷ [] in
+      let run : LiveRun may s es whole.end = (s₁, pop.happens, (whole.now, replied.0, (whole.end, whole.returns, refl))) in
+      let ticket : InFlightId = (whole.chain.taken.position, whole.chain.head) in
+      let events : List QueueEvent =
+      several.Takes head ∷ several.Returns ticket (length whole.exchange.reply) whole.used ∷ [] in
+      let are : events_on i es ≡ events = both_events i head pop.loaded ds c whole.chain request reply s.options whole.exchange notice
+      whole.used whole.seen (eq-eqb i i refl) (eq-eqb i i refl) in
+      let queue = runs s whole.end es i q here.there (tt, (tt, (tt, tt))) run in
+      let alone : RunsOver (going q) [] (events_on i es) (going queue.0) (tickets_on i whole.end.outs) =
+      subst (λ (outs : List InFlightId). RunsOver (going q) outs (events_on i es) (going queue.0) (tickets_on i whole.end.outs)) none
+      queue.2 in
+      let serial_is : IsSerial (events_on i es) = subst IsSerial (sym are) (refl, tt) in (
+        es,
+        whole.end,
+        head,
+        run,
+        ap heads_taken are,
+        once (going q) (going queue.0) (tickets_on i whole.end.outs) (events_on i es) alone,
+        used (going q) (going queue.0) [] (tickets_on i whole.end.outs) (events_on i es) alone,
+        one_at (going q) (going queue.0) (tickets_on i whole.end.outs) (events_on i es) none_out serial_is alone,
+      )
+
+-- ---- a decoded request
+
+-- an entry that is added leaves the chain in the handle
+no_entry : (why : ChainError) → ◌≡◌ {A = Result Added ChainError} (Ok added.In) (Err why) → ⊥
+no_entry why is = cc
+
+added_keeps : (st st' : state.ChainState) (list list' : List ℕ) (e : Brought) (outcome : Listing → Result (Unit {0}) NotAdded)
+    (out : InFlight) → AddsTo st st' list list' e outcome (Ok added.In) → IfOut st (λ o. o ≡ out) → IfOut st' (λ o. o ≡ out)
+added_keeps (at.Lists kept l) st' list list' e outcome out adds is =
+    subst (λ (st : state.ChainState). IfOut st (λ o. o ≡ out)) (sym adds.1.1) is
+added_keeps (at.Waits kept w) st' list list' e outcome out adds is = absurd (no_entry error.OtherKind adds.0)
+added_keeps (at.Taken kept) st' list list' e outcome out adds is = absurd (no_entry error.WrongOrder adds.0)
+added_keeps at.Free st' list list' e outcome out adds is = absurd is
+added_keeps (at.Walking course pop_id walk) st' list list' e outcome out adds is = absurd is
+added_keeps (at.HasReply o reply) st' list list' e outcome out adds is = absurd is
+added_keeps (at.Pushing o) st' list list' e outcome out adds is = absurd is
+
+pub entry_keeps : (w w' : ChainHandle) (list list' : List ℕ) (e : Brought) (out : InFlight) → BringsEntry w list e (Ok added.In) w' list' →
+    IfOut w.state (λ o. o ≡ out) → IfOut w'.state (λ o. o ≡ out)
+entry_keeps w w' list list' e out brings is = elim brings.0 [
+  | inl adds ↦ added_keeps w.state w'.state list list' e (λ l. added_plain l (length list) (length e.0.name)) out adds is
+  | inr adds ↦ added_keeps w.state w'.state list list' e (λ l. added_found l (length list) (length e.0.name)) out adds is
+]
+
+module _ {F : Type 0} (may : May F) (walks_law : HandleWalks may) (asks_law : HandleAsks may) (held_law : AskedIsHeld)
+    (instead_law : HandleRepliesInstead may) (returns_law : HandleReturnsOwn may)
+    (old one two three four : ChainHandle) (before after : QueueState) (head n r serial : ℕ) (session : Session) (request reply : List ℕ)
+    (made : made_call.FileCall) (notice : Bool) (goes : before.stopped ≡ None)
+    (walks : IsWalked old one before after (wents.On (says.Chain head n r)))
+    (asked : IsDecodedBy one session request request (asks.Call made) two)
+    (keeps : (out : InFlight) → IfOut two.state (λ o. o ≡ out) → IfOut three.state (λ o. o ≡ out))
+    (clear : own_error three.state three.serial serial (length reply) ≡ None)
+    (kept : IfUnanswered three.state (λ out. four ≡ record three { state = at.HasReply out (own_reply (length reply)) }))
+    (back : (room bytes : List ℕ) (last : ℕ) → (acts : List Act) × GoesBackOwn after room bytes four.state acts last notice) where
+  abbrev call : FileCall
+  call = call_of (drop 80 request) made
+
+  pub replied_asked : (s : LiveState F) (i : ℕ) → IsAt may s i old before → IsSessionOf s session
+      → RepliesOwn may s i before (gave after) request reply [] notice
+  replied_asked s i here in_session =
+      let q = live_of before in
+      let ds = one.descriptors.items in
+      let pop = popped may walks_law old one before after head n r goes walks s i here in
+      let c : OutChain = new_chain s i q pop.loaded ds head None in
+      let s₁ : LiveState F = after_walk s i q pop.loaded ds (step.Chain head None) in
+      let walked : LiveEvent = Walks i pop.loaded ds (step.Chain head None) in
+      let told : LiveEvent = Asks c request (call ∷ []) in
+      let asking = asks_law s₁ c s.outs [] one two session request request (asks.Call made)
+      (reached_by may s s₁ walked here.reached pop.happens) here.small refl refl pop.held in_session asked tt in
+      let s₂ : LiveState F = after_asking s₁ s.outs [] c request in
+      let d : OutChain = asked_chain c request s.options [] in
+      let held = held_law s.page_size s.options request d made two asking.1 in
+      let held' : IsHeldAsked d three = record {
+        out = held.out;
+        head = held.head;
+        taken = held.taken;
+        room = held.room;
+        is = keeps held.out held.is;
+      } in
+      let replied = instead_law s₂ d s.outs [] three serial s.options s.options request reply [] refl refl held' clear in
+      let own = own_kept three.state three four (record d { phase = Own request reply }) reply replied.1 kept in
+      replied_from may returns_law before after request reply notice goes s s₂ d four.state (walked ∷ told ∷ []) [] s.options
+      (s₁, pop.happens, (s₂, asking.0, refl)) refl refl here.there pop.there refl refl refl refl refl replied.0 own back
+
+  pub replied_answered : (s : LiveState F) (i : ℕ) → IsAt may s i old before → IsSessionOf s session → (answer : FileAnswer) (files : F)
+      → IsTrue (suits call answer) → may s.files call answer files
+      → RepliesOwn may s i before (gave after) request reply ((call, answer) ∷ []) notice
+  replied_answered s i here in_session answer files fits so =
+      let q = live_of before in
+      let ds = one.descriptors.items in
+      let pop = popped may walks_law old one before after head n r goes walks s i here in
+      let c : OutChain = new_chain s i q pop.loaded ds head None in
+      let s₁ : LiveState F = after_walk s i q pop.loaded ds (step.Chain head None) in
+      let walked : LiveEvent = Walks i pop.loaded ds (step.Chain head None) in
+      let told : LiveEvent = Asks c request (call ∷ []) in
+      let asking = asks_law s₁ c s.outs [] one two session request request (asks.Call made)
+      (reached_by may s s₁ walked here.reached pop.happens) here.small refl refl pop.held in_session asked tt in
+      let s₂ : LiveState F = after_asking s₁ s.outs [] c request in
+      let d : OutChain = asked_chain c request s.options [] in
+      let held = held_law s.page_size s.options request d made two asking.1 in
+      let calls : Calls = (call, answer) ∷ [] in
+      let s₃ : LiveState F = after_answer s₂ s.outs [] d request s.options calls files in
+      let e : OutChain = asked_chain c request s.options calls in
+      let answered : Happens may s₂ (Answers d call answer) s₃ = record {
+        before = s.outs;
+        behind = [];
+        out = refl;
+        request = request;
+        options = s.options;
+        calls = [];
+        asked = refl;
+        waits = sym asking.0.tells;
+        is_one = fits;
+        files = files;
+        may_so = so;
+        state = refl;
+      } in
+      let held' : IsHeldAsked e three = record {
+        out = held.out;
+        head = held.head;
+        taken = held.taken;
+        room = held.room;
+        is = keeps held.out held.is;
+      } in
+      let replied = instead_law s₃ e s.outs [] three serial s.options s₃.options request reply calls refl refl held' clear in
+      let own = own_kept three.state three four (record e { phase = Own request reply }) reply replied.1 kept in
+      replied_from may returns_law before after request reply notice goes s s₃ e four.state
+      (walked ∷ told ∷ Answers d call answer ∷ []) calls s₃.options
+      (s₁, pop.happens, (s₂, asking.0, (s₃, answered, refl))) refl refl here.there pop.there refl refl refl refl refl replied.0 own back

@@ -1,0 +1,52 @@
+use Rattle.std.proofs.Common.{◌≡◌, true, [], ◌∷◌, Some, Result, IfOk, refl, subst, sym, ap, ◌∙◌}
+use Rattle.fs_chain.specs.Loads.{GoesSo, IsSame}
+use Rattle.fs_chain.specs.Queues.{gave}
+use Rattle.fs_chain.specs.Whole.{BeginsPopBy, WantsBytes}
+use Rattle.fs_chain.specs.declared.error.ChainError.{ChainError}
+use Rattle.fs_chain.specs.declared.loads.LoadOutcome.{LoadOutcome}
+use Rattle.fs_chain.specs.declared.loads.LoadOutcome as went
+use Rattle.fs_chain.specs.declared.loads.LoadOutcome.TheVariants as wents
+use Rattle.fs_chain.specs.declared.queue.QueueState.{QueueState}
+use Rattle.fs_chain.specs.declared.popping.PopOutcome.TheVariants as says
+use Rattle.fs_live.specs.Among.{WalksAmong}
+use Rattle.fs_live.specs.Handles.{live_of}
+use Rattle.fs_live.specs.Live.{Walks, after_walk}
+use Rattle.worked_callers.proofs.Looks.{keeps_queue}
+use Rattle.worked_callers.proofs.Served.{if_ok}
+use Rattle.worked_callers.proofs.among.look_amid_return.Goals as goal
+
+pub returns : goal.returns
+returns g c =
+    let old = c.args.handle.now in
+    let w = c.pop.new.self in
+    let new = c.pop-2.new.self in
+    let before = c.args.queue.now in
+    let left = c.pop.new.queue in
+    let now = c.give_back.new.queue in
+    let after = c.pop-2.new.queue in
+    let index = c.args.index.now in
+    let told = c.in_ok-begun.begun in
+    let first : BeginsPopBy old w before left told = (c.requires.free, c.in_ok-begun.ensures.goes) in
+    let yes : c.wants_bytes.result ≡ true = Prim.search in
+    let wants : WantsBytes told = c.wants_bytes.ensures yes in
+    let now_is : now ≡ gave before =
+    c.in_ok-_notice.ensures.queue ∙ ap gave (keeps_queue old w before left told c.requires.goes wants first) in
+    let same : IsSame w w = ((refl, refl, refl, refl), refl, refl, refl, refl) in
+    let walks_so : (out : went.LoadOutcome) → GoesSo w now index out new after → WalksAmong (index ∷ []) old new before now after out =
+    λ out goes. (w, w, before, left, told, (refl, first), wants, same, goes) in
+    record {
+      few = if_ok c.pop-2.result _ _
+          (λ out goes.
+          let walks = walks_so out goes in
+          (index ∷ [], now, walks, c.law_handles.ensures.loads_among (index ∷ []) old new before now after out c.requires.goes walks))
+          c.pop-2.ensures.goes;
+      idle = λ is s i there places limit.
+          let goes : GoesSo w now index (wents.On says.Idle) new after =
+          subst (λ (r : Result LoadOutcome ChainError). IfOk r (λ out. GoesSo w now index out new after)) is c.pop-2.ensures.goes in
+          let law = c.law_handles.ensures.among s i (index ∷ []) old new before now after says.Idle
+          (there ∙ ap (λ (q : QueueState). Some (live_of q)) (sym now_is)) places limit c.requires.goes
+          (ap (λ (q : QueueState). q.stopped) now_is ∙ c.requires.goes) (ap (λ (q : QueueState). q.event_index) now_is) tt
+          (walks_so (wents.On says.Idle) goes) tt in
+          let end = after_walk s i (live_of now) law.0 new.descriptors.items law.2 in
+          (Walks i law.0 new.descriptors.items law.2 ∷ [], end, (end, law.4, refl), law.5);
+    }

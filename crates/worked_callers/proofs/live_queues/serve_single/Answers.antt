@@ -1,0 +1,61 @@
+use Rattle.std.proofs.Common.{◌≡◌, ℕ, length, Some, slice_get, subst, sym, ◌∙◌, arith}
+use Rattle.std.specs.Prelude.{drop}
+use Rattle.std.proofs.lemmas.Bool.Decides.{nat_tests}
+use Rattle.fs_chain.specs.Whole.{file_calls}
+use Rattle.plain_machine.specs.Step.{Calls, Exchanged, Step}
+use Rattle.plain_machine.specs.StepBy.{after_stores, stores_among}
+use Rattle.fs_live.specs.Handles.{live_of}
+use Rattle.fs_live.specs.Live.{acts_of, calls_in}
+use Rattle.fs_live.specs.Serial.{IsAtRest, plain, return_in}
+use Rattle.worked_callers.proofs.Served.{if_ok, more_taken, taken_so}
+use Rattle.worked_callers.proofs.ServedBeside.{served_beside}
+use Rattle.worked_callers.proofs.live_queues.serve_single.Goals as goal
+
+pub reply-requires-clause-taken : goal.reply-requires-clause-taken
+reply-requires-clause-taken g c =
+    let n = c.in_ok-request_len.request_len in
+    let test = c.if-request_len-request.false in
+    let same : n ≡ length c.args.request.now = grind (arith, nat_tests, test) in
+    more_taken c.walk_chain.new.handle.state _ _ (λ out is. is ∙ same)
+    (taken_so c.args.handle.now c.walk_chain.new.handle c.args.queue.now c.walk_chain.new.queue c.in_ok-request_len.field-0-0 n
+    c.in_ok-request_len.field-0-2
+    c.requires.goes c.in_ok-request_len.ensures.walked)
+
+pub returns : goal.returns
+returns g c =
+    let may = g.F.FileSystemBase.may in
+    let handles = c.law_handles.ensures in
+    let old = c.args.handle.now in
+    let one = c.walk_chain.new.handle in
+    let before = c.args.queue.now in
+    let after = c.walk_chain.new.queue in
+    let replied = c.in_ok-reply.ensures.replied in
+    let request = c.args.request.now in
+    let calls = file_calls (drop 80 request) replied.0 replied.2 in
+    record {
+      step = if_ok c.give_back.result _ _
+          (λ notice back s i files here none session. (
+            calls,
+            λ files_run.
+                let so = served_beside may handles.walks handles.asks handles.calls handles.returns old one replied.1 c.reply.new.handle
+                before after
+                c.in_ok-request_len.field-0-0 c.in_ok-request_len.request_len c.in_ok-request_len.field-0-2 c.args.session request replied.0
+                replied.2 notice c.requires.goes c.in_ok-request_len.ensures.walked
+                replied.3 replied.4 back s i files here.reached here.there here.places here.limit here.small session files_run in
+                let r = so.single in
+                let rest : IsAtRest (live_of before) = (c.requires.by_flags, c.requires.none_out) in (
+                  r,
+                  so.end,
+                  so.single_run,
+                  λ m found.
+                      let law = c.law_serial.ensures.single s so.end r m (live_of before) none
+                      (subst (λ (j : ℕ). slice_get s.queues j ≡ Some (live_of before)) (sym so.queue_is) here.there) rest so.of_chain
+                      so.single_run found in
+                      subst (λ (made : Calls). Step may (plain s m) i made (Exchanged r.exchange r.notice)
+                      (plain so.end (after_stores m (stores_among (acts_of (return_in r)))))) so.calls_of
+                      (subst (λ (j : ℕ). Step may (plain s m) j (calls_in r.chain.phase) (Exchanged r.exchange r.notice)
+                      (plain so.end (after_stores m (stores_among (acts_of (return_in r)))))) so.queue_is law.0),
+                ),
+          ))
+          c.give_back.ensures.back;
+    }

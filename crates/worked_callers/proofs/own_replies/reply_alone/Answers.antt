@@ -1,0 +1,31 @@
+use Rattle.std.proofs.Common.{◌≡◌, length, ◌∙◌, arith}
+use Rattle.std.proofs.lemmas.Bool.Decides.{nat_tests}
+use Rattle.worked_callers.proofs.OwnRuns.{ended_alone}
+use Rattle.worked_callers.proofs.Served.{if_ok, more_taken, taken_so}
+use Rattle.worked_callers.proofs.own_replies.reply_alone.Goals as goal
+
+pub returns : goal.returns
+returns g c =
+    let may = g.F.FileSystemBase.may in
+    let handles = c.law_handles.ensures in
+    let queues = c.law_queues.ensures in
+    let old = c.args.handle.now in
+    let one = c.walk_chain.new.handle in
+    let before = c.args.queue.now in
+    let after = c.walk_chain.new.queue in
+    let head = c.in_ok-request_len.field-0-0 in
+    let n = c.in_ok-request_len.request_len in
+    let r = c.in_ok-request_len.field-0-2 in
+    let request = c.args.request.now in
+    let walked = c.in_ok-request_len.ensures.walked in
+    let test = c.if-request_len-request.false in
+    let same : n ≡ length request = grind (arith, nat_tests, test) in
+    let taken = more_taken one.state _ _ (λ out is. is ∙ same) (taken_so old one before after head n r c.requires.goes walked) in
+    record {
+      alone = if_ok c.give_own_back.result _ _
+          (λ notice back.
+          ended_alone may handles.walks handles.replies handles.returns_own old one c.reply.new.self before after head n r _ request
+          c.args.bytes.now notice c.requires.goes walked taken c.in_ok-reply.ensures.ok c.in_ok-reply.ensures.kept back
+          c.law_runs.ensures.queue queues.once queues.used queues.one c.requires.none_out)
+          c.give_own_back.ensures.back;
+    }

@@ -1,0 +1,56 @@
+use Rattle.std.proofs.Common.{◌≡◌, [], length, subst, sym, ◌∙◌, arith}
+use Rattle.std.proofs.lemmas.Bool.Decides.{nat_tests}
+use Rattle.fs_chain.specs.Queues.{gave}
+use Rattle.fs_chain.specs.declared.queue.QueueState.{QueueState}
+use Rattle.worked_callers.specs.OwnReplies.{LogsOwn, ReportsOwn, ReturnsAsStep}
+use Rattle.worked_callers.proofs.OwnRuns.{as_step, logged, replied_fetched, reports}
+use Rattle.worked_callers.proofs.Served.{if_ok_so, more_taken, taken_so}
+use Rattle.worked_callers.proofs.own_replies.reply_logged.Goals as goal
+
+pub returns : goal.returns
+returns g c =
+    let may = g.F.FileSystemBase.may in
+    let handles = c.law_handles.ensures in
+    let runs = c.law_runs.ensures in
+    let old = c.args.handle.now in
+    let one = c.walk_chain.new.handle in
+    let two = c.reply.new.self in
+    let before = c.args.queue.now in
+    let after = c.walk_chain.new.queue in
+    let final = c.give_own_back.new.queue in
+    let head = c.in_ok-request_len.field-0-0 in
+    let n = c.in_ok-request_len.request_len in
+    let r = c.in_ok-request_len.field-0-2 in
+    let request = c.args.request.now in
+    let bytes = c.args.bytes.now in
+    let goes = c.requires.goes in
+    let walked = c.in_ok-request_len.ensures.walked in
+    let test = c.if-request_len-request.false in
+    let same : n ≡ length request = grind (arith, nat_tests, test) in
+    let taken = more_taken one.state _ _ (λ out is. is ∙ same) (taken_so old one before after head n r goes walked) in
+    let ok = c.in_ok-reply.ensures.ok in
+    let kept = c.in_ok-reply.ensures.kept in
+    record {
+      step = if_ok_so c.give_own_back.result _ _ _
+          (λ notice back final_is s i here.
+          subst (λ (q : QueueState). ReturnsAsStep g.row.G.Denot may s i before q request bytes [] notice) (sym final_is)
+          (as_step may s i before (gave after) request bytes [] notice
+          (replied_fetched may handles.walks handles.replies handles.returns_own old one two before after head n r _ request bytes notice
+          goes walked taken ok kept back s i here)
+          g.row.G.Denot runs.own here.reached))
+          c.give_own_back.ensures.back c.give_own_back.ensures.queue;
+      reports = if_ok_so c.give_own_back.result _ _ _
+          (λ notice back final_is s i here.
+          let whole = replied_fetched may handles.walks handles.replies handles.returns_own old one two before after head n r _ request
+          bytes notice goes walked taken ok kept back s i here in
+          let told = reports may s i before (gave after) request bytes [] notice whole runs.tell in
+          subst (λ (q : QueueState). ReportsOwn may s i before q request bytes notice) (sym final_is)
+          (whole, told.0, told.1, told.2))
+          c.give_own_back.ensures.back c.give_own_back.ensures.queue;
+      log = if_ok_so c.give_own_back.result _ _ _
+          (λ notice back final_is s i here.
+          subst (λ (q : QueueState). LogsOwn may s i before q request bytes notice) (sym final_is)
+          (logged may handles.walks handles.replies handles.returns_own old one two before after head n r _ request bytes notice goes
+          walked taken ok kept back runs.log s i here))
+          c.give_own_back.ensures.back c.give_own_back.ensures.queue;
+    }

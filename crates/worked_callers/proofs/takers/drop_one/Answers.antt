@@ -1,0 +1,30 @@
+use Rattle.worked_callers.proofs.ModelActs.{drops_so}
+use Rattle.worked_callers.proofs.OthersBeside.{on_ok_two}
+use Rattle.worked_callers.proofs.Served.{taken_so}
+use Rattle.worked_callers.proofs.takers.drop_one.Goals as goal
+
+pub returns : goal.returns
+returns c =
+    let old = c.args.handle.now in
+    let one = c.walk_chain.new.handle in
+    let q = c.args.queue.now in
+    let mid = c.walk_chain.new.queue in
+    let head = c.in_ok-_len.field-0-0 in
+    let n = c.in_ok-_len._len in
+    let r = c.in_ok-_len.field-0-2 in
+    let goes = c.requires.goes in
+    let walked = c.in_ok-_len.ensures.walked in
+    let counted = c.are_counted.ensures in
+    record {
+      drops = on_ok_two c.give_up.result _ _ _
+          (λ clear left s of walker. (
+            one,
+            mid,
+            head,
+            n,
+            r,
+            drops_so c.law_takers.ensures.takes c.law_takers.ensures.drops old one q mid c.give_up.new.queue head n r counted goes walked
+                (taken_so old one q mid head n r goes walked) clear left s of walker,
+          ))
+          c.give_up.ensures.ok c.give_up.ensures.queue;
+    }

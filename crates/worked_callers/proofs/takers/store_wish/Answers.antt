@@ -1,0 +1,8 @@
+use Rattle.worked_callers.proofs.ModelActs.{wish_is}
+use Rattle.worked_callers.proofs.takers.store_wish.Goals as goal
+
+pub returns : goal.returns
+returns c =
+    let q = c.args.queue.now in
+    let counted = c.are_counted.ensures in
+    wish_is c.law_takers.ensures.asks q c.notification_store.result c.notification_store.ensures counted

@@ -1,0 +1,14 @@
+use Rattle.worked_callers.proofs.ModelActs.{takes_so}
+use Rattle.worked_callers.proofs.Served.{if_ok}
+use Rattle.worked_callers.proofs.takers.take_one.Goals as goal
+
+pub returns : goal.returns
+returns c =
+    let q = c.args.queue.now in
+    let counted = c.are_counted.ensures in
+    record {
+      takes = if_ok c.walk_chain.result _ _
+          (λ k walked. takes_so c.law_takers.ensures.takes c.args.handle.now c.walk_chain.new.handle q c.walk_chain.new.queue k.0 k.1 k.2
+          counted c.requires.goes walked)
+          c.walk_chain.ensures.walked;
+    }

@@ -1,0 +1,40 @@
+-- Calls of a handle as acts of the model's threads (crate notify), and the index that a pop was given.
+use Rattle.std.specs.Prelude.{◌≡◌, ℕ, List, [], ◌∷◌, Option, Some, None}
+use Rattle.std.specs.Int.{w16, to_le_bytes}
+use Rattle.fs_regions.specs.Walks.{Loaded}
+use Rattle.fs_chain.specs.Whole.{LoadsOf, WalksBy}
+use Rattle.fs_chain.specs.declared.event_index.NotificationStore.{NotificationStore}
+use Rattle.fs_chain.specs.declared.loads.LoadOutcome.TheVariants as wents
+use Rattle.fs_chain.specs.declared.popping.PopOutcome.{PopOutcome}
+use Rattle.fs_chain.specs.declared.queue.QueueState.{QueueState}
+use Rattle.fs_chain.specs.declared.chain_handle.ChainHandle.{ChainHandle}
+use Rattle.notify.specs.Threads.{ThreadedQueue, ThreadStep, ActsOver, after_act}
+use Rattle.notify.specs.Threads.{Wishes, WishIsThere}
+use Rattle.fs_notify.specs.Takers.{IsIndex, IsOf, SaysWish, ways_of, wish_at}
+
+-- the store that was returned is the wish in memory, after two acts of the model's thread
+abbrev pub IsWish : QueueState → ThreadedQueue → Option NotificationStore → Type 0
+IsWish q s None = ⊥
+IsWish q s (Some store) =
+    let wished = after_act (ways_of q) (after_act (ways_of q) s Wishes) WishIsThere in
+    (store.address ≡ wish_at q)
+    × SaysWish q.event_index (to_le_bytes w16 store.value) wished.event wished.muted
+    × ActsOver (ways_of q) s (Wishes ∷ WishIsThere ∷ []) wished
+    × IsOf q wished
+
+-- a pop with this result was given an available index for which P holds
+abbrev pub PopsByIndex : (old new : ChainHandle) → (before after : QueueState) → PopOutcome →
+    (ℕ → Type 0) → Type 0
+PopsByIndex old new before after told P =
+    (given : List (List ℕ))
+    × (walks : WalksBy given old new before after (wents.On told))
+    × (loaded : Loaded)
+    × LoadsOf given old new before after (wents.On told) walks loaded
+    × (index : ℕ)
+    × IsIndex loaded index
+    × P index
+
+-- if that is the index in memory, these acts of the model's thread are a run, and its queue is this one then
+abbrev pub ActsTo : QueueState → ThreadedQueue → List ThreadStep → ThreadedQueue → QueueState → (index : ℕ) →
+    Type 0
+ActsTo q s acts end after index = s.index ≡ index → ActsOver (ways_of q) s acts end × IsOf after end

@@ -1,0 +1,113 @@
+-- A chain with its caller's own bytes in a run, up to its return, and what theorems say of that return.
+use Rattle.std.specs.Prelude.{◌≡◌, ◌≤◌, ◌^◌, ℕ, Bool, List, [], ◌∷◌, ◌++◌, map, IsPermutation, Some}
+use Rattle.std.specs.Prelude.{slice_get}
+use Rattle.vm_memory_core.specs.Host.{changed_at}
+use Rattle.vm_memory.specs.Memory.{Memory, location}
+use Rattle.fs_queue.specs.Returning.{Store}
+use Rattle.fs_regions.specs.Places.{places_in}
+use Rattle.virtiofsd_fuse.specs.Serving.{May}
+use Rattle.fs_chain.specs.declared.chain_handle.ChainHandle.{ChainHandle}
+use Rattle.fs_chain.specs.declared.queue.QueueState.{QueueState}
+use Rattle.plain_machine.specs.MarkedPages.{Marks, returned_addresses}
+use Rattle.plain_machine.specs.Step.{Calls, Exchange, State}
+use Rattle.fs_live.specs.Guest.{Device, Writes, after_moments}
+use Rattle.fs_live.specs.Handles.{IsReached, live_of}
+use Rattle.fs_live.specs.Live.{Happens, LiveEvent, LiveRun, LiveState, OutChain, Own, Returns, calls_among}
+use Rattle.fs_live.specs.Live.{room_of}
+use Rattle.fs_live.specs.Runs.{IsAReturn, events_on, going, tickets_on, told_by}
+use Rattle.fs_live.specs.Several.{LiveQueue, StoresAsTaken, UsedFrom, heads_ended, heads_taken, returning}
+use Rattle.fs_live.specs.Several.{returns_among}
+
+-- a state that a run reaches. Its queue i and its mappings are those of the caller's queue and handle
+pub record IsAt {F : Type 0} (may : May F) (s : LiveState F) (i : ℕ) (handle : ChainHandle)
+    (queue : QueueState) : Type 0 where
+  pub reached : IsReached may s
+  pub there : slice_get s.queues i ≡ Some (live_of queue)
+  pub places : s.places ≡ places_in handle.regions
+  pub limit : s.limit ≡ handle.limit
+  pub small : s.limit ≤ 2 ^ 31
+
+-- a chain of queue i that its caller replied to is returned: the events before its return, with these calls,
+-- and the return. The other chains stay in flight
+pub record RepliesOwn {F : Type 0} (may : May F) (s : LiveState F) (i : ℕ) (before after : QueueState)
+    (request reply : List ℕ) (calls : Calls) (notice : Bool) : Type 0 where
+  pub earlier : List LiveEvent
+  pub now : LiveState F
+  pub run : LiveRun may s earlier now
+  pub calls_are : calls_among earlier ≡ calls
+  pub chain : OutChain
+  pub queue_is : chain.queue ≡ i
+  pub taken_is : chain.taken ≡ (live_of before).queue
+  pub places_are : chain.places ≡ s.places
+  pub phase_is : chain.phase ≡ Own request reply
+  pub limit_is : now.limit ≡ s.limit
+  pub page_size_is : now.page_size ≡ s.page_size
+  pub exchange : Exchange
+  pub used : List Store
+  pub seen : List ℕ
+  pub end : LiveState F
+  pub returns : Happens may now (Returns chain exchange notice 0 used seen) end
+  pub outs_are : end.outs ≡ s.outs
+  pub queues_are : end.queues ≡ changed_at s.queues i (λ _. live_of after)
+
+-- each plain machine over these mappings, with the queue as it was before the pop, returns the chain with
+-- these bytes
+abbrev pub ReturnsAsStep : {F : Type 0} → (G : Type 0) → (may : May F) → (s : LiveState F) → (i : ℕ) →
+    (before after : QueueState) → (request reply : List ℕ) → Calls → (notice : Bool) → Type 0
+ReturnsAsStep {F} G may s i before after request reply calls notice =
+    (r : RepliesOwn may s i before after request reply calls notice)
+    × ((m : State G) →
+    location m.memory ≡ location s.places →
+    m.limit ≡ s.limit →
+    m.page_size ≡ s.page_size →
+    slice_get m.queues i ≡ Some (live_of before).queue →
+    (w : LiveQueue)
+    × (slice_get r.now.queues r.chain.queue ≡ Some w)
+    × IsAReturn m r.now.limit w r.chain request reply r.exchange 0 r.used r.seen)
+
+-- the addresses that the return reports are those that the plain machine's step writes
+abbrev pub ReportsOwn : {F : Type 0} → (may : May F) → (s : LiveState F) → (i : ℕ) →
+    (before after : QueueState) → (request reply : List ℕ) → (notice : Bool) → Type 0
+ReportsOwn {F} may s i before after request reply notice =
+    (r : RepliesOwn may s i before after request reply [] notice)
+    × (w : LiveQueue)
+    × (slice_get r.now.queues r.chain.queue ≡ Some w)
+    × (told_by r.now (Returns r.chain r.exchange notice 0 r.used r.seen)
+    ≡ returned_addresses (returning w) r.chain.head (room_of r.chain) reply)
+
+-- the addresses that the guest writes
+abbrev pub written : List (ℕ × ℕ) → List ℕ
+written ws = map (λ w. w.0) ws
+
+-- the guest writes before, between and after the three events of such a chain. The pages that are marked in
+-- the end are those marked before, those of the guest's writes, and those that the return reports
+abbrev pub LogsOwn : {F : Type 0} → (may : May F) → (s : LiveState F) → (i : ℕ) →
+    (before after : QueueState) → (request reply : List ℕ) → (notice : Bool) → Type 0
+LogsOwn {F} may s i before after request reply notice =
+    (r : RepliesOwn may s i before after request reply [] notice)
+    × (popped : LiveEvent) × (replied : LiveEvent)
+    × (r.earlier ≡ popped ∷ replied ∷ [])
+    × ((first second third last : List (ℕ × ℕ)) (m : Memory) →
+    let returned = Returns r.chain r.exchange notice 0 r.used r.seen in
+    Marks m (written first
+    ++ (written second ++ (written third ++ (told_by r.now returned ++ (written last ++ [])))))
+    (after_moments m
+    (
+    Writes first ∷ Device popped
+    ∷ Writes second ∷ Device replied
+    ∷ Writes third ∷ Device returned
+    ∷ Writes last ∷ []
+    )).host)
+
+-- queue i, on which one chain is popped and returned, is a run in which each popped chain ends once, the used
+-- ring is filled in order, and each return is at the position of its pop
+abbrev pub EndsAlone : {F : Type 0} → (may : May F) → (s : LiveState F) → (i : ℕ) → (before : QueueState) →
+    Type 0
+EndsAlone {F} may s i before =
+    (es : List LiveEvent) × (end : LiveState F) × (head : ℕ)
+    × LiveRun may s es end
+    × (heads_taken (events_on i es) ≡ head ∷ [])
+    × IsPermutation (heads_ended (events_on i es) ++ map (λ t. t.1) (tickets_on i end.outs))
+    (heads_taken (events_on i es))
+    × UsedFrom (going (live_of before)) (returns_among (events_on i es))
+    × StoresAsTaken (going (live_of before)).queue (events_on i es)

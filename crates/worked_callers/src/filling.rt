@@ -1,0 +1,78 @@
+//! Data that a caller stores in a chain's reply buffer before its reply counts it.
+
+ghost use Rattle.std.specs.Prelude.{◌≡◌, ◌%◌, ◌^◌, ℕ, [], ◌∷◌, drop, IfOk, length, List, None, Some, take};
+ghost use Rattle.vm_iotlb.specs.declared.permissions.Permissions.TheVariants.{Write};
+ghost use Rattle.vm_memory_core.specs.Window.{places_of};
+ghost use Rattle.vm_memory.specs.Memory.{located, location};
+ghost use Rattle.fs_regions.specs.Places.{places_in};
+ghost use Rattle.fs_chain.specs.declared.state.ChainState.TheVariants as at;
+ghost use Rattle.fs_live.specs.Filling.{data_stores};
+ghost use Rattle.fs_live.specs.Live.{Fills, LiveEvent, LiveRun, LiveState, OutChain, room_of};
+ghost use Rattle.fs_live.specs.Runs.{told_by};
+ghost use Rattle.worked_callers.specs.OwnReplies.{IsAt};
+
+use crate::wholes::walk_chain;
+use fs_chain::{ChainError, ChainHandle, QueueState};
+use fs_live::law_handles;
+use fuse_fs::FileSystem;
+use vm_memory_core::VolatileSlice;
+
+/// Pops a chain, and stores bytes in its reply buffer from byte `from` on: at the start of the window that is
+/// returned, which lies at the addresses of these bytes. Fails with `LongReply` if they don't fit one window.
+pub fn fill_window<F: FileSystem>(
+    handle: &mut ChainHandle,
+    queue: &mut QueueState,
+    given: &[&[u8]],
+    from: u64,
+    bytes: &[u8],
+) -> Result<VolatileSlice, ChainError>
+    requires free { handle.old.state ≡ at.Free }
+    requires goes { queue.old.stopped ≡ None }
+    ensures fills { IfOk result (λ v. (s : LiveState F) (i : ℕ)
+        → IsAt F.may s i handle.old queue.old
+        → (popped : LiveEvent) × (c : OutChain) × (end : LiveState F)
+        × LiveRun F.may s (popped ∷ Fills c (data_stores (room_of c) from bytes.now) ∷ []) end
+        × (located (location (places_in handle.new.regions) Write)
+        (take (length bytes.now) (drop from (room_of c)))
+        ≡ Some (take (length bytes.now) (places_of v)))) }
+{
+    law_handles::<F>();
+    let (_, _len, _) = walk_chain(handle, queue, given)?;
+    let Some(window) = handle.room_window(from) else {
+        return Err(ChainError::LongReply);
+    };
+    if window.len() < bytes.len() {
+        return Err(ChainError::LongReply);
+    }
+    Ok(window)
+}
+
+/// Pops a chain, and stores bytes in its reply buffer from byte `from` on. They are reported by the guest
+/// address that is returned. Fails with `LongReply` if they don't fit one range of addresses.
+pub fn fill_range<F: FileSystem>(
+    handle: &mut ChainHandle,
+    queue: &mut QueueState,
+    given: &[&[u8]],
+    from: u64,
+    bytes: &[u8],
+) -> Result<u64, ChainError>
+    requires free { handle.old.state ≡ at.Free }
+    requires goes { queue.old.stopped ≡ None }
+    ensures fills { IfOk result (λ guest. (s : LiveState F) (i : ℕ)
+        → IsAt F.may s i handle.old queue.old
+        → (popped : LiveEvent) × (c : OutChain) × (mid : LiveState F) × (address : ℕ)
+        × (guest ≡ address % 2 ^ 64)
+        × (let fills = Fills c (record { address = address; bytes = bytes.now } ∷ []) in
+        LiveRun F.may s (popped ∷ fills ∷ []) mid
+        × (told_by mid fills ≡ take (length bytes.now) (drop from (room_of c))))) }
+{
+    law_handles::<F>();
+    let (_, _len, _) = walk_chain(handle, queue, given)?;
+    let Some((guest, len)) = handle.room_range(from) else {
+        return Err(ChainError::LongReply);
+    };
+    if len < bytes.len() as u64 {
+        return Err(ChainError::LongReply);
+    }
+    Ok(guest)
+}

@@ -1,0 +1,62 @@
+//! A push: its stores and its load are steps of the model in which no notification is lost (crate `notify`).
+
+ghost use Rattle.std.specs.Prelude.{◌≡◌, ◌≤◌, ◌+◌, ◌||◌, ℕ, IfOk, IsTrue, [], ◌∷◌, ◌++◌, List, OnOk};
+ghost use Rattle.std.specs.Int.{w16, to_le_bytes};
+ghost use Rattle.fs_queue.specs.Returning.{Store};
+ghost use Rattle.fs_queue.specs.ReturningView.{stores_of};
+ghost use Rattle.notify.specs.Kicks as kicks;
+ghost use Rattle.notify.specs.Kicks.{NotifyState, Runs, ahead};
+ghost use Rattle.notify.specs.Threads.{Returns, ThreadedQueue, Walker, after_act, may_act};
+ghost use Rattle.fs_notify.specs.Givers.{rules_of};
+ghost use Rattle.fs_notify.specs.Takers.{IsOf, SaysWish, ways_of};
+
+use crate::takers::are_counted;
+use fs_chain::{ChainError, ChainHandle, PushStores, QueueState};
+use fs_notify::{law_givers, law_takers};
+
+/// Pushes a chain whose reply is known, with the number that the caller loads behind its barrier: used_event,
+/// or the available flags. Returns whether to notify the driver, and the stores.
+pub fn push_one(
+    handle: &mut ChainHandle,
+    queue: &mut QueueState,
+    seen: u16,
+) -> Result<(bool, PushStores), ChainError>
+    ensures returns { OnOk result ((s : ThreadedQueue)
+        → IsOf queue.old s
+        → s.holder ≡ Walker
+        → IsTrue (may_act (ways_of queue.old) s (Returns 1))
+        × IsOf queue.new (after_act (ways_of queue.old) s (Returns 1))) }
+    ensures publishes { IfOk result (λ told. (u : NotifyState)
+        → u.published ≡ queue.old.next_used
+        → (let published = (kicks.after (rules_of queue.old) u (kicks.Publishes 1)).published in
+        (first : List Store) × (index : Store)
+        × (stores_of told.1.used ≡ first ++ index ∷ [])
+        × (index.bytes ≡ to_le_bytes w16 published)
+        × (queue.new.next_used ≡ published))) }
+    ensures checks { IfOk result (λ told. (u : NotifyState)
+        → u.published ≡ queue.new.next_used
+        → u.unchecked ≡ 1
+        → SaysWish queue.old.event_index (to_le_bytes w16 seen) u.event u.muted
+        → (kicks.after (rules_of queue.old) u kicks.Checks).owes ≡ (u.owes || told.0)) }
+    ensures order { OnOk result ((u : NotifyState)
+        → u.published ≡ queue.old.next_used
+        → u.index ≡ u.published
+        → u.unchecked ≡ 0
+        → ahead u.published u.position + 1 ≤ queue.old.layout.size
+        → (let rules = rules_of queue.old in
+        let end = kicks.after rules (kicks.after rules (kicks.after rules u (kicks.Publishes 1))
+        (kicks.IndexArrives 1)) kicks.Checks in
+        Runs rules u (kicks.Publishes 1 ∷ kicks.IndexArrives 1 ∷ kicks.Checks ∷ []) end
+        × (end.published ≡ queue.new.next_used))) }
+{
+    law_takers();
+    law_givers();
+    are_counted(queue);
+    let mut front = [0u8; 160];
+    let stores = handle.push(queue, &mut front)?;
+    let bytes = seen.to_le_bytes();
+    match handle.pushed(queue, bytes) {
+        Ok(notice) => Ok((notice, stores)),
+        Err(error) => Err(error),
+    }
+}

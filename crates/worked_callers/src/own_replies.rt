@@ -1,0 +1,149 @@
+//! Replies of the caller's own bytes: to a request that wasn't decoded, instead of the answer to a pending
+//! call, and amid a listing. Each is returned as the plain machine's step returns a reply.
+
+ghost use Rattle.std.specs.Prelude.{ℕ, [], ◌∷◌, drop, IfOk, IsTrue};
+ghost use Rattle.fs_chain.specs.declared.state.ChainState.TheVariants as at;
+ghost use Rattle.fuse_fs.specs.Calls as file;
+ghost use Rattle.fuse_values.specs.Values.{call_of};
+ghost use Rattle.fuse_values.specs.declared.call.FileCall as value;
+ghost use Rattle.fs_live.specs.Handles.{IsSessionOf};
+ghost use Rattle.fs_live.specs.Live.{LiveState};
+ghost use Rattle.fs_live.specs.Runs.{tickets_on};
+ghost use Rattle.worked_callers.specs.OwnReplies.{EndsAlone, IsAt, LogsOwn, ReportsOwn, ReturnsAsStep};
+ghost use Rattle.std.specs.Prelude.{◌≡◌, None};
+
+use crate::listings::{ask_call, bring};
+use crate::others::give_own_back;
+use crate::wholes::walk_chain;
+use fs_chain::{ChainError, ChainHandle, QueueState};
+use fs_live::{law_handles, law_queues, law_runs};
+use fuse_fs::{DirEntry, Entry, FileSystem};
+use server_phases::Session;
+
+/// Pops a chain, replies with bytes of the caller's own, and returns it with them. The return reports the
+/// addresses for a migration's log.
+pub fn reply_logged<F: FileSystem, G: FileSystem>(
+    handle: &mut ChainHandle,
+    queue: &mut QueueState,
+    given: &[&[u8]],
+    request: &[u8],
+    bytes: &[u8],
+) -> Result<bool, ChainError>
+    requires free { handle.old.state ≡ at.Free }
+    requires goes { queue.old.stopped ≡ None }
+    ensures step { IfOk result (λ notice. (s : LiveState F) (i : ℕ)
+        → IsAt F.may s i handle.old queue.old
+        → ReturnsAsStep G F.may s i queue.old queue.new request.now bytes.now [] notice) }
+    ensures reports { IfOk result (λ notice. (s : LiveState F) (i : ℕ)
+        → IsAt F.may s i handle.old queue.old
+        → ReportsOwn F.may s i queue.old queue.new request.now bytes.now notice) }
+    ensures log { IfOk result (λ notice. (s : LiveState F) (i : ℕ)
+        → IsAt F.may s i handle.old queue.old
+        → LogsOwn F.may s i queue.old queue.new request.now bytes.now notice) }
+{
+    law_handles::<F>();
+    law_runs::<F, G>();
+    let (_, request_len, _) = walk_chain(handle, queue, given)?;
+    if request_len != request.len() {
+        return Err(ChainError::BadArgument);
+    }
+    let serial = handle.serial();
+    handle.reply(serial, bytes.len())?;
+    give_own_back(handle, queue)
+}
+
+/// Pops the one chain of a queue, and returns it with bytes of the caller's own: it ends once, at the
+/// position of its pop.
+pub fn reply_alone<F: FileSystem>(
+    handle: &mut ChainHandle,
+    queue: &mut QueueState,
+    given: &[&[u8]],
+    request: &[u8],
+    bytes: &[u8],
+) -> Result<bool, ChainError>
+    requires free { handle.old.state ≡ at.Free }
+    requires goes { queue.old.stopped ≡ None }
+    requires none_out { queue.old.next_used ≡ queue.old.next_avail }
+    ensures alone { IfOk result (λ notice. (s : LiveState F) (i : ℕ)
+        → IsAt F.may s i handle.old queue.old
+        → tickets_on i s.outs ≡ []
+        → EndsAlone F.may s i queue.old) }
+{
+    law_handles::<F>();
+    law_runs::<F, F>();
+    law_queues();
+    let (_, request_len, _) = walk_chain(handle, queue, given)?;
+    if request_len != request.len() {
+        return Err(ChainError::BadArgument);
+    }
+    let serial = handle.serial();
+    handle.reply(serial, bytes.len())?;
+    give_own_back(handle, queue)
+}
+
+/// Pops a chain and decodes its request, but replies with bytes of the caller's own instead of the answer to
+/// its pending call.
+pub fn reply_instead<F: FileSystem, G: FileSystem>(
+    handle: &mut ChainHandle,
+    queue: &mut QueueState,
+    given: &[&[u8]],
+    session: Session,
+    request: &[u8],
+    bytes: &[u8],
+) -> Result<bool, ChainError>
+    requires free { handle.old.state ≡ at.Free }
+    requires goes { queue.old.stopped ≡ None }
+    ensures step { IfOk result (λ notice. (s : LiveState F) (i : ℕ)
+        → IsAt F.may s i handle.old queue.old
+        → IsSessionOf s session
+        → ReturnsAsStep G F.may s i queue.old queue.new request.now bytes.now [] notice) }
+{
+    law_handles::<F>();
+    law_runs::<F, G>();
+    let (_, request_len, _) = walk_chain(handle, queue, given)?;
+    if request_len != request.len() {
+        return Err(ChainError::BadArgument);
+    }
+    ask_call(handle, session, request)?;
+    let serial = handle.serial();
+    handle.reply(serial, bytes.len())?;
+    give_own_back(handle, queue)
+}
+
+/// Begins a listing of a directory with one entry, and then replies with bytes of the caller's own. The
+/// directory's call was answered by then.
+pub fn reply_amid_listing<F: FileSystem, G: FileSystem>(
+    handle: &mut ChainHandle,
+    queue: &mut QueueState,
+    given: &[&[u8]],
+    session: Session,
+    request: &[u8],
+    list: &mut [u8],
+    entry: &DirEntry<'_>,
+    node: Entry<u64>,
+    bytes: &[u8],
+) -> Result<bool, ChainError>
+    requires free { handle.old.state ≡ at.Free }
+    requires goes { queue.old.stopped ≡ None }
+    ensures step { IfOk result (λ notice. (s : LiveState F) (i : ℕ)
+        → IsAt F.may s i handle.old queue.old
+        → IsSessionOf s session
+        → (made : value.FileCall)
+        × ((answer : file.FileAnswer) (files : F)
+        → IsTrue (file.suits (call_of (drop 80 request.now) made) answer)
+        → F.may s.files (call_of (drop 80 request.now) made) answer files
+        → ReturnsAsStep G F.may s i queue.old queue.new request.now bytes.now
+        ((call_of (drop 80 request.now) made, answer) ∷ []) notice)) }
+{
+    law_handles::<F>();
+    law_runs::<F, G>();
+    let (_, request_len, _) = walk_chain(handle, queue, given)?;
+    if request_len != request.len() {
+        return Err(ChainError::BadArgument);
+    }
+    ask_call(handle, session, request)?;
+    bring(handle, list, entry, node)?;
+    let serial = handle.serial();
+    handle.reply(serial, bytes.len())?;
+    give_own_back(handle, queue)
+}

@@ -1,0 +1,168 @@
+//! A thread that holds a queue's lock: its calls are acts of the model in which no notification is lost
+//! (crate `notify`).
+
+ghost use Rattle.std.specs.Prelude.{◌≡◌, ◌<◌, ◌^◌, ℕ, false, IfOk, IsTrue, [], ◌∷◌, None, OnOk, option_map};
+ghost use Rattle.std.specs.Prelude.{Err};
+ghost use Rattle.fs_chain.specs.Events.{store_of};
+ghost use Rattle.fs_chain.specs.Whole.{IsWalked};
+ghost use Rattle.fs_chain.specs.declared.error.ChainError.{ChainError};
+ghost use Rattle.fs_chain.specs.declared.popping.PopOutcome.{PopOutcome};
+ghost use Rattle.fs_chain.specs.declared.chain_handle.ChainHandle.{ChainHandle};
+ghost use Rattle.fs_chain.specs.declared.queue.QueueState.{QueueState};
+ghost use Rattle.fs_chain.specs.declared.state.ChainState.TheVariants as at;
+ghost use Rattle.notify.specs.Threads.{ActsOver, Asker, DropsOne, Loads, Nobody, Silences, SleepsNow};
+ghost use Rattle.notify.specs.Threads.{TakesOne, ThreadedQueue, Walker, WishIsThere, Wishes, after_act};
+ghost use Rattle.notify.specs.Threads.{may_act};
+ghost use Rattle.fs_notify.specs.Takers.{IsCounted, IsOf, MutesBy, ways_of};
+ghost use Rattle.worked_callers.specs.Notified.{ActsTo, IsWish, PopsByIndex};
+
+use crate::beside::walk_to_end;
+use crate::wholes::walk_chain;
+use fs_chain::{ChainError, ChainHandle, LoadOutcome, NotificationStore, PopOutcome, QueueState};
+use fs_notify::law_takers;
+
+/// The numbers of a queue are of 16 bits.
+pub fn are_counted(queue: &QueueState)
+    ensures { IsCounted queue.now }
+{
+    let _next = queue.next_avail;
+    let _used = queue.next_used;
+    let _most = queue.max_in_flight;
+}
+
+/// The store that enables notifications is the model's wish for the next chain.
+pub fn store_wish(queue: &QueueState) -> Option<NotificationStore>
+    ensures { (s : ThreadedQueue) → IsOf queue.now s → s.holder ≡ Walker → IsWish queue.now s result }
+{
+    law_takers();
+    are_counted(queue);
+    queue.notification_store(true)
+}
+
+/// The store that disables notifications is the model's. With the event index nothing is stored.
+pub fn store_silence(queue: &QueueState) -> Option<NotificationStore>
+    ensures { (s : ThreadedQueue)
+        → IsOf queue.now s
+        → s.holder ≡ Walker
+        → MutesBy queue.now.event_index queue.now s (option_map store_of result)
+        × IsTrue (may_act (ways_of queue.now) s (Silences s.event)) }
+{
+    law_takers();
+    queue.notification_store(false)
+}
+
+/// Pops a queue and finds no chain. Fails with `WrongOrder` if one is available, or if the pop is refused.
+pub fn walk_idle(
+    handle: &mut ChainHandle,
+    queue: &mut QueueState,
+    given: &[&[u8]],
+) -> Result<(), ChainError>
+    requires free { handle.old.state ≡ at.Free }
+    ensures walked { OnOk result (IsWalked handle.old handle.new queue.old queue.new
+        (LoadOutcome.On PopOutcome.Idle)) }
+{
+    match walk_to_end(handle, queue, given)? {
+        PopOutcome::Idle => Ok(()),
+        _ => Err(ChainError::WrongOrder),
+    }
+}
+
+/// Stores a wish, and pops behind a barrier. If no chain is available, the thread sleeps as the model's does.
+/// Fails with `WrongOrder` if one is.
+pub fn sleep_if_idle(
+    handle: &mut ChainHandle,
+    queue: &mut QueueState,
+    given: &[&[u8]],
+) -> Result<Option<NotificationStore>, ChainError>
+    requires free { handle.old.state ≡ at.Free }
+    requires goes { queue.old.stopped ≡ None }
+    ensures wish { IfOk result (λ store. (s : ThreadedQueue)
+        → IsOf queue.old s
+        → s.holder ≡ Walker
+        → IsWish queue.old s store) }
+    ensures sleeps { OnOk result ((s : ThreadedQueue)
+        → IsOf queue.old s
+        → s.holder ≡ Walker
+        → s.index < 2 ^ 16
+        → (let ways = ways_of queue.old in
+        let end = after_act ways (after_act ways (after_act ways s Wishes) WishIsThere) SleepsNow in
+        PopsByIndex handle.old handle.new queue.old queue.new PopOutcome.Idle
+        (ActsTo queue.old s (Wishes ∷ WishIsThere ∷ SleepsNow ∷ []) end queue.new))) }
+    ensures order { OnOk result ((s : ThreadedQueue)
+        → IsOf queue.old s
+        → s.holder ≡ Walker
+        → s.index ≡ queue.old.next_avail
+        → (let ways = ways_of queue.old in
+        let end = after_act ways (after_act ways (after_act ways s Wishes) WishIsThere) SleepsNow in
+        ActsOver ways s (Wishes ∷ WishIsThere ∷ SleepsNow ∷ []) end × (end.holder ≡ Nobody))) }
+{
+    law_takers();
+    are_counted(queue);
+    let store = store_wish(queue);
+    walk_idle(handle, queue, given)?;
+    Ok(store)
+}
+
+/// Pops a chain: its head, and the lengths of request and reply buffer. The model's thread loads the index,
+/// and takes one.
+pub fn take_one(
+    handle: &mut ChainHandle,
+    queue: &mut QueueState,
+    given: &[&[u8]],
+) -> Result<(u16, usize, usize), ChainError>
+    requires free { handle.old.state ≡ at.Free }
+    requires goes { queue.old.stopped ≡ None }
+    ensures takes { IfOk result (λ c. (s : ThreadedQueue)
+        → IsOf queue.old s
+        → s.holder ≡ Walker
+        → (let ways = ways_of queue.old in
+        PopsByIndex handle.old handle.new queue.old queue.new (PopOutcome.Chain c.0 c.1 c.2)
+        (ActsTo queue.old s (Loads ∷ TakesOne ∷ []) (after_act ways (after_act ways s Loads) TakesOne)
+        queue.new))) }
+{
+    law_takers();
+    are_counted(queue);
+    walk_chain(handle, queue, given)
+}
+
+/// Pops a chain and gives it up. The model's thread takes one and drops it.
+pub fn drop_one(
+    handle: &mut ChainHandle,
+    queue: &mut QueueState,
+    given: &[&[u8]],
+) -> Result<(), ChainError>
+    requires free { handle.old.state ≡ at.Free }
+    requires goes { queue.old.stopped ≡ None }
+    ensures drops { OnOk result ((s : ThreadedQueue)
+        → IsOf queue.old s
+        → s.holder ≡ Walker
+        → (taken : ChainHandle) × (mid : QueueState) × (head : ℕ) × (request : ℕ) × (room : ℕ)
+        × (let ways = ways_of queue.old in
+        let end = after_act ways (after_act ways (after_act ways s Loads) TakesOne) DropsOne in
+        PopsByIndex handle.old taken queue.old mid (PopOutcome.Chain head request room)
+        (ActsTo queue.old s (Loads ∷ TakesOne ∷ DropsOne ∷ []) end queue.new))) }
+{
+    law_takers();
+    are_counted(queue);
+    let (_, _len, _) = walk_chain(handle, queue, given)?;
+    handle.give_up(queue)
+}
+
+/// A pop that is refused because as many chains are in flight as may be. The model's thread, which stored its
+/// wish, sleeps then too.
+pub fn find_full(
+    handle: &mut ChainHandle,
+    queue: &mut QueueState,
+) -> Result<LoadOutcome, ChainError>
+    requires free { handle.old.state ≡ at.Free }
+    ensures full { result ≡ Err ChainError.ChainInFlight
+        → (s : ThreadedQueue)
+        → IsOf queue.old s
+        → s.holder ≡ Asker
+        → s.hidden ≡ false
+        → IsTrue (may_act (ways_of queue.old) s SleepsNow)
+        × IsOf queue.new (after_act (ways_of queue.old) s SleepsNow) }
+{
+    law_takers();
+    handle.pop(queue, &[])
+}
