@@ -1,0 +1,111 @@
+//! A guest that doesn't run: its memory, and a queue with one chain at a time.
+use crate::read::End;
+use pitskhomu::{
+    Device, FileSystem, GuestMemory, GuestSlice, Options, Queue, QueueLayout, Region, RequestFault,
+    Served, Status, Worker,
+};
+use std::sync::atomic::{AtomicU8, Ordering};
+
+const SIZE: u16 = 1024;
+const LAYOUT: QueueLayout =
+    QueueLayout { size: SIZE, descriptors: 0, available: 0x4000, used: 0x5000 };
+const REQUEST: usize = 0x8000;
+const REPLY: usize = 0xa000;
+const LEN: usize = 0xc000;
+
+struct Memory(Vec<AtomicU8>);
+
+impl GuestMemory for Memory {
+    fn get_slice(&self, at: usize, len: usize) -> Option<GuestSlice<'_>> {
+        self.0.get(at..at.checked_add(len)?).map(GuestSlice::from)
+    }
+}
+
+impl Memory {
+    fn write(&self, at: usize, bytes: &[u8]) {
+        GuestSlice::from(&self.0[at..]).store(bytes);
+    }
+
+    fn read(&self, at: usize, len: usize) -> Vec<u8> {
+        self.0[at..at + len].iter().map(|byte| byte.load(Ordering::Relaxed)).collect()
+    }
+}
+
+pub struct Guest {
+    memory: Memory,
+    pub device: Device,
+    queue: Queue,
+    worker: Worker,
+}
+
+fn fault_name(fault: RequestFault) -> &'static str {
+    match fault {
+        RequestFault::Decode => "DecodeMessage",
+        RequestFault::Encode => "EncodeMessage",
+        RequestFault::MissingParameter => "MissingParameter",
+        RequestFault::MissingExtension => "MissingExtension",
+        RequestFault::HeaderLength => "InvalidHeaderLength",
+        RequestFault::Name => "InvalidCString",
+        RequestFault::XattrSize => "InvalidXattrSize",
+        _ => "a fault without a name",
+    }
+}
+
+impl Guest {
+    /// A guest whose device agreed on these options before.
+    pub fn new(options: u64) -> Result<Guest, Status> {
+        let device = Device::default();
+        device.set_options(Options::from_bits(options));
+        let mut worker = Worker::new();
+        worker.set_memory(&device, &[Region { guest: 0, len: LEN as u64, host: 0 }])?;
+        let memory = Memory((0..LEN).map(|_| AtomicU8::new(0xff)).collect());
+        Ok(Guest { memory, device, queue: Queue::new(LAYOUT, 0)?, worker })
+    }
+
+    /// Draws descriptors of at most `cut` bytes each from number `first` on. Returns the next one.
+    fn draw(&self, mut first: usize, at: usize, len: usize, cut: usize, flags: u16) -> usize {
+        for done in (0..len).step_by(cut) {
+            let mut descriptor = ((at + done) as u64).to_le_bytes().to_vec();
+            descriptor.extend((cut.min(len - done) as u32).to_le_bytes());
+            descriptor.extend((flags | 1).to_le_bytes());
+            descriptor.extend((first as u16 + 1).to_le_bytes());
+            self.memory.write(16 * first, &descriptor);
+            first += 1;
+        }
+        first
+    }
+
+    /// Serves a request, whose parts have at most so many bytes.
+    pub fn serve(
+        &mut self,
+        request: &[u8],
+        buffer: usize,
+        (cut, reply_cut): (usize, usize),
+        files: &dyn FileSystem,
+    ) -> Result<End, Status> {
+        self.memory.write(REQUEST, &[0xff; LEN - REQUEST]);
+        self.memory.write(REQUEST, request);
+        let count = self.draw(0, REQUEST, request.len(), cut, 0);
+        let count = self.draw(count, REPLY, buffer, reply_cut, 2);
+        let last = 16 * (count - 1) + 12;
+        self.memory.write(last, &[self.memory.read(last, 1)[0] & 2]);
+        let position = self.queue.next_used();
+        let (entry, next) = (0x4004 + 2 * usize::from(position % SIZE), position.wrapping_add(1));
+        self.memory.write(entry, &[0, 0]);
+        self.memory.write(0x4002, &next.to_le_bytes());
+        match self.worker.serve(&mut self.queue, &self.device, files, &self.memory)? {
+            Some(served) => Ok(self.end(&served)),
+            None => Ok(End::Fault("no chain is available".into())),
+        }
+    }
+
+    fn end(&self, served: &Served) -> End {
+        match (served.request_fault, served.fault) {
+            (Some(fault), _) => End::Fault(fault_name(fault).into()),
+            (_, Some(fault)) => End::Fault(format!("{fault:?}")),
+            _ if served.had_no_room => End::Fault("EncodeMessage".into()),
+            _ if served.reply_len == 0 => End::Silent,
+            _ => End::Reply(self.memory.read(REPLY, served.reply_len as usize)),
+        }
+    }
+}

@@ -1,0 +1,3 @@
+# A script without a command prints nothing.
+
+#
