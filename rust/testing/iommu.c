@@ -157,7 +157,8 @@ static void *serve_channel(void *none) {
         check("a miss is to be acknowledged", head.flags & NEED_REPLY);
         misses++;
         int how = manner;
-        if (how == ANYHOW) how = (int)ONE_OF(HONEST, HONEST, REFUSING, SILENT, EMPTY, FLUSHING, LARGE);
+        if (how == ANYHOW)
+            how = (int)ONE_OF(HONEST, HONEST, REFUSING, SILENT, EMPTY, FLUSHING, LARGE);
         if (how == SILENT) continue;
         if (manner == ANYHOW && below(500) == 0) send_rubbish(fd);
         pthread_mutex_lock(&line);
@@ -485,7 +486,8 @@ static void *meddle(void *none) {
     chance_begin(now() << 8 | 3);
     while (!over) {
         uint64_t guest = ONE_OF(desc_at(1), avail_at(1), used_at(1), request_at(1), room_at(1),
-                                below(REGION_LEN), HIGH + below(REGION_LEN)) & ~(uint64_t)(PAGE - 1);
+                                below(REGION_LEN), HIGH + below(REGION_LEN)) &
+                         ~(uint64_t)(PAGE - 1);
         switch (below(6)) {
         case 0: flush(); break;
         case 1: tell(UPDATE, SHIFT + guest, PAGE, user_at(guest), (uint8_t)(1 + below(3))); break;
@@ -524,7 +526,8 @@ static void anyhow(unsigned seconds) {
             front.rings[1].offered = front.rings[1].seen = 0;
             start_ring(1, 0);
         }
-        if (now() - before > 4000) die("a message waits for %llu ms", (unsigned long long)(now() - before));
+        if (now() - before > 4000)
+            die("a message waits for %llu ms", (unsigned long long)(now() - before));
     }
     over = true;
     pthread_join(meddler, NULL);

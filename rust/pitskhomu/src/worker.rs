@@ -507,8 +507,8 @@ impl Worker {
     /// this order (VIRTIO 1.2, 2.7.8). The result is a summary of the chain.
     ///
     /// # Errors
-    /// - `WrongOrder`: the worker has no chain, or one without an answer, or one that was popped with
-    ///   a table ([`Lent::give_back`]), which it keeps. After the other errors it has no chain.
+    /// - `WrongOrder`: the worker has no chain, or one without an answer, or one that was popped
+    ///   with a table ([`Lent::give_back`]), which it keeps. After the other errors it has no chain.
     /// - `OtherQueue`: the chain is of another queue, or its queue was reset.
     /// - `NotMapped`: the worker got regions without the queue's rings. Reset the queue.
     pub fn give_back(

@@ -54,9 +54,9 @@ impl Lent<'_> {
     /// The windows of a chain that was taken hold until it is given back, whatever becomes of the
     /// table. Only the mappings of the queue's available and used ring must stay until then.
     ///
-    /// After [`Taken::Missing`] let go of the table, map what [`Worker::misses`] says, and take
-    /// again. Map a range that the IOMMU refuses with [`Access::None`](crate::Access::None) for that
-    /// one pop: then the chain gets its fault, or the queue its refusal.
+    /// After [`Taken::Missing`] let go of the table, map the ranges of [`Worker::misses`], and take
+    /// again. Map a range that the IOMMU refuses with [`Access::None`](crate::Access::None), for
+    /// that pop alone: then the chain gets its fault, or the queue its refusal.
     ///
     /// # Errors
     /// Those of [`Worker::take`].
@@ -118,7 +118,8 @@ impl Worker {
     /// # use pitskhomu::*;
     /// # use std::sync::Mutex;
     /// # fn translated(worker: &mut Worker, table: &Mutex<Iotlb>, queue: &mut Queue,
-    /// #     memory: &dyn GuestMemory, ask: &dyn Fn(&Miss) -> Option<u64>) -> Result<bool, Status> {
+    /// #     memory: &dyn GuestMemory, ask: &dyn Fn(&Miss) -> Option<u64>)
+    /// #     -> Result<bool, Status> {
     /// loop {
     ///     let mut iotlb = table.lock().unwrap();
     ///     match worker.lend(&mut iotlb)?.take(queue, memory)? {
@@ -202,8 +203,8 @@ impl Worker {
         }
     }
 
-    /// Reports the written bytes of a chain that was popped with a table: those of the reply buffer,
-    /// the used element and the used index.
+    /// Reports the written bytes of a chain that was popped with a table: those of the reply
+    /// buffer, the used element and the used index.
     pub(super) fn mark_windows(
         &mut self,
         memory: &dyn GuestMemory,
