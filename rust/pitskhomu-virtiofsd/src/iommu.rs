@@ -4,8 +4,8 @@
 //! the back-end's own.
 //!
 //! Locks are taken in this order: a ring's, the channel's, the table's. None is held while a thread
-//! awaits an answer. So the thread that answers the front-end may take each of them: QEMU answers no miss
-//! while it waits for that thread.
+//! awaits an answer. So the thread that answers the front-end may take each of them: QEMU answers
+//! no miss while it waits for that thread.
 mod channel;
 mod mappings;
 mod messages;
@@ -64,8 +64,8 @@ impl Iommu {
         }
     }
 
-    /// Asks the front-end for all missed pages, and waits for its answers. Returns the pages that it
-    /// refuses; `None` if it doesn't answer, or the asks were cancelled.
+    /// Asks the front-end for all missed pages, and waits for its answers. Returns the pages that
+    /// it refuses; `None` if it doesn't answer, or the asks were cancelled.
     pub fn ask(&self, misses: &[Miss], cancel: &Cancel) -> Option<Vec<u64>> {
         let is_known = |page| self.lock().guest_address(page).is_some();
         self.channel.ask(misses, cancel, is_known)

@@ -76,8 +76,8 @@ pub(crate) enum Added {
 pub(crate) struct Chain {
     handle: sys::Chain,
     ticket: u32,
-    /// The windows of a chain that was popped with a table. They are valid until it is returned, even
-    /// if the table changes.
+    /// The windows of a chain that was popped with a table. They are valid until it is returned,
+    /// even if the table changes.
     kept: Option<KeptWindows>,
 }
 

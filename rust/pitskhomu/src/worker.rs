@@ -508,7 +508,7 @@ impl Worker {
     ///
     /// # Errors
     /// - `WrongOrder`: the worker has no chain, or one without an answer, or one that was popped
-    ///   with a table ([`Lent::give_back`]), which it keeps. After the other errors it has no chain.
+    ///   with a table ([`Lent::give_back`]), which it keeps. After other errors it has no chain.
     /// - `OtherQueue`: the chain is of another queue, or its queue was reset.
     /// - `NotMapped`: the worker got regions without the queue's rings. Reset the queue.
     pub fn give_back(
