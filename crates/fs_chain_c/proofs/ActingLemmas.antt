@@ -154,6 +154,7 @@ load_wants : (b : ChainHandle) (told : went.LoadOutcome) (step : FsPop) → Tell
 load_wants b wents.Part step tells = tt
 load_wants b (wents.On (says.Load n)) step tells = tt
 load_wants b (wents.On says.Idle) step tells = absurd (apart 32 33 refl tells.0)
+load_wants b (wents.On (says.Missing range access)) step tells = absurd (apart 32 39 refl tells.0)
 load_wants b (wents.On (says.Refused e)) step tells = absurd (no_load_stop e tells.0)
 load_wants b (wents.On (says.Chain head n r)) step tells = absurd (apart 32 0 refl tells.0)
 load_wants b (wents.On (says.Faulty head fault)) step tells = absurd (apart 32 0 refl tells.0)
@@ -166,6 +167,7 @@ is_idle : (b : ChainHandle) (told : went.LoadOutcome) (step : FsPop) → TellsWe
 is_idle b wents.Part step tells = absurd (no_load_at b step 33 refl refl tells)
 is_idle b (wents.On (says.Load n)) step tells = absurd (no_load_at b step 33 refl refl tells)
 is_idle b (wents.On says.Idle) step tells = refl
+is_idle b (wents.On (says.Missing range access)) step tells = absurd (apart 33 39 refl tells.0)
 is_idle b (wents.On (says.Refused e)) step tells = absurd (no_idle_stop e tells.0)
 is_idle b (wents.On (says.Chain head n r)) step tells = absurd (apart 33 0 refl tells.0)
 is_idle b (wents.On (says.Faulty head fault)) step tells = absurd (apart 33 0 refl tells.0)
@@ -175,6 +177,7 @@ is_taken : (b : ChainHandle) (told : went.LoadOutcome) (step : FsPop) → TellsW
 is_taken b wents.Part step tells = absurd (no_load_at b step 0 refl refl tells)
 is_taken b (wents.On (says.Load n)) step tells = absurd (no_load_at b step 0 refl refl tells)
 is_taken b (wents.On says.Idle) step tells = absurd (apart 0 33 refl tells.0)
+is_taken b (wents.On (says.Missing range access)) step tells = absurd (apart 0 39 refl tells.0)
 is_taken b (wents.On (says.Refused e)) step tells = absurd (no_chain_stop e tells.0)
 is_taken b (wents.On (says.Chain head n r)) step tells = (says.Chain head n r, refl, tt)
 is_taken b (wents.On (says.Faulty head fault)) step tells = (says.Faulty head fault, refl, tt)
@@ -189,6 +192,7 @@ load_keeps : (before after : QueueState) (ds : List Descriptor) (came : comes.Co
     after ≡ queue_after before came → after ≡ before
 load_keeps before after ds (step.Load walk) n told left = left
 load_keeps before after ds step.Idle n told left = absurd (subst IsALoad told tt)
+load_keeps before after ds (step.Missing range access) n told left = absurd (subst IsALoad told tt)
 load_keeps before after ds (step.Refused e) n told left = absurd (subst IsALoad told tt)
 load_keeps before after ds (step.Chain head None) n told left = absurd (subst IsALoad told tt)
 load_keeps before after ds (step.Chain head (Some fault)) n told left = absurd (subst IsALoad told tt)
@@ -202,6 +206,7 @@ keeps_queue given old new before after (wents.On (says.Load n)) goes wants walks
     let came = walk_comes given old new before after (says.Load n) goes tt walks in
     load_keeps before after new.descriptors.items came.2.0 n came.2.1.0 came.2.1.2
 keeps_queue given old new before after (wents.On says.Idle) goes wants walks = absurd wants
+keeps_queue given old new before after (wents.On (says.Missing range access)) goes wants walks = absurd wants
 keeps_queue given old new before after (wents.On (says.Refused e)) goes wants walks = absurd wants
 keeps_queue given old new before after (wents.On (says.Chain head n r)) goes wants walks = absurd wants
 keeps_queue given old new before after (wents.On (says.Faulty head fault)) goes wants walks = absurd wants
@@ -352,6 +357,7 @@ not_full : (b : ChainHandle) (told : went.LoadOutcome) (step : FsPop) → TellsW
 not_full b wents.Part step tells = no_load_at b step 76 refl refl tells
 not_full b (wents.On (says.Load n)) step tells = no_load_at b step 76 refl refl tells
 not_full b (wents.On says.Idle) step tells = apart 76 33 refl tells.0
+not_full b (wents.On (says.Missing range access)) step tells = apart 76 39 refl tells.0
 not_full b (wents.On (says.Refused e)) step tells = no_full_stop e tells.0
   where
     no_full_stop : (e : QueueError) → ◌≡◌ {A = ℕ} 76 (queue_number e) → ⊥

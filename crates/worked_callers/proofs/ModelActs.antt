@@ -87,6 +87,7 @@ chain_took : (q : QueueState) (ds : List Descriptor) (came : comes.CourseStep) (
     queue_after q came ≡ took q
 chain_took q ds (step.Load walk) head n r told = absurd (subst IsAChain told tt)
 chain_took q ds step.Idle head n r told = absurd (subst IsAChain told tt)
+chain_took q ds (step.Missing range access) head n r told = absurd (subst IsAChain told tt)
 chain_took q ds (step.Refused e) head n r told = absurd (subst IsAChain told tt)
 chain_took q ds (step.Chain h fault) head n r told = refl
 
