@@ -10,7 +10,24 @@
  *     pk_push     returns the stores that add the chain to the used ring
  *     pk_pushed   ends the push, and returns whether to notify the driver
  *
- * The smallest loop of these calls is examples/c/sketch.c; monitor.c, beside it, shows more.
+ * THE SMALLEST LOOP. examples/c/sketch.c has the rest of it (decoding, answers, the push), and
+ * monitor.c shows more.
+ *
+ * <!-- examples/c/sketch.c: serve -->
+ * ```
+ * static uint32_t serve(bool *notify) {
+ *     uint8_t bytes[PK_LOAD_MAX];
+ *     uint32_t s;
+ *     for (;;) {
+ *         struct pk_pop pop = {0}; // the first call of a pop has no bytes
+ *         while ((s = pk_pop(&chain, &queue, bytes, pop.load_len, &pop)) == PK_LOAD)
+ *             load(bytes, pop.load_at, pop.load_len);
+ *         if (s != PK_DONE) return s;
+ *         if (pop.fault == 0 && (s = serve_request(&pop)) != PK_DONE) return s;
+ *         if ((s = push(notify)) != PK_DONE) return s; // a faulty chain: without a reply
+ *     }
+ * }
+ * ```
  *
  * OWNERSHIP. `struct pk_device` and `struct pk_queue` hold plain numbers and may be copied. `struct
  * pk_chain` is a handle for one chain at a time: zero it before its first use, never copy it, and
@@ -33,8 +50,8 @@
  *     used index, atomically and with release order; issue a full barrier
  *     (atomic_thread_fence(memory_order_seq_cst)); load the 2 bytes at `seen_at`.
  *  5. Use windows only until pk_pushed, pk_drop or pk_abandon. Store only into reply windows.
- *  6. A chain keeps the regions that it was popped with: leave that memory mapped while the chain
- *     is in flight. Meanwhile new regions must map the queue's rings as the old ones did.
+ *  6. A chain keeps the regions that it was popped with. While it is in flight, leave that memory
+ *     mapped, and let new regions map the queue's rings as the old ones did.
  *  7. In a migration log each page that you stored into, after the store and before pk_pushed. Also
  *     log data that you put into the reply buffer, but that the reply leaves out.
  *  8. Before a queue is reset (pk_queue_begin, pk_restore), end the loads, stores and file calls of
@@ -54,30 +71,30 @@
  *     barrier, and one more pop. That pop uses no earlier load of the available index (taker_waits,
  *     late). Sleep if it returns PK_IDLE, or if `max_in_flight` are in flight.
  *   - A thread that calls pk_pop or pk_set_notification while another thread of the queue sleeps
- *     does the same before it releases the lock, with any result (PK_IDLE and PK_OUT_OF_MEMORY
- *     too), with EVENT_IDX and without (asks_again). With a chain in its handle it compares a new
- *     load of the available index with `next_avail` instead of the pop. Without EVENT_IDX, it may
- *     omit a store that is the queue's last one. If a chain is available then, it pops it or wakes
+ *     also enables notifications so before it releases the lock, after any result, and without
+ *     EVENT_IDX too (asks_again). If its handle holds a chain, it replaces the pop: it loads the
+ *     available index again and compares it with `next_avail`. Without EVENT_IDX it may omit the
+ *     store if the queue's last one was the same. If a chain is available then, it pops it or wakes
  *     a thread, since the driver doesn't notify again (wakes_another).
  *   - A thread that pushes or drops a chain pops again, or wakes a thread (walks_after).
- *   - The barrier of a push precedes its load (giver_waits). Each push is ended before the next
- *     begins (checks_often). A woken thread resets its event (eventfd), and then pops.
+ *   - A push has its full barrier before its load (giver_waits), and is ended before the queue's
+ *     next push (checks_often). A woken thread resets its event (eventfd), and then pops.
  *
  * FEATURES that you may offer: VERSION_1 (32; insist on it), INDIRECT_DESC (28), EVENT_IDX (29; set
  * `event_index`), IN_ORDER (35; push the chains of a queue in the order of their pops), and
  * ACCESS_PLATFORM (33): the driver's addresses are guest physical, or the chains have the IOMMU's
  * table. Not RING_PACKED (34).
  * STATUSES. 1 to 8: the queue can't be served; 2 to 8 stop it until its reset. 9: an allocation
- * failed. 32 to 63 say how to go on. 64 and more: the call did nothing, and zeroed the structs that
- * it fills, unless its comment says otherwise. Errors are listed in the order of their checks.
+ * failed. 32 to 63 say how to go on. 64 and more: the call changed no chain, queue or device, and
+ * zeroed its results, unless its comment says otherwise. Errors are in the order of their checks.
  *
  * PROVED, for any arguments of these types: each function returns, never panics, accesses only the
- * memory of its arguments, and meets its contract in crates/fs_chain_c. They do as the calls of the
- * handle in fs_chain. Its loads, calls, replies (but your own bytes) and stores follow from the
- * bytes passed, by VIRTIO 1.2 and the FUSE grammar: for one chain (law_chains), and for many in
- * flight (law_runs, law_handles). See PROVED.md.
+ * memory of its arguments, and meets its contract in crates/fs_chain_c: it has the effect of the
+ * call of the handle in crates/fs_chain. The handle's loads, calls, replies (but your own bytes)
+ * and stores follow from the bytes passed, by VIRTIO 1.2 and the FUSE grammar: for one chain
+ * (law_chains), and for many in flight (law_runs, law_handles). See PROVED.md.
  * TESTED, not proved: that pk_chain_free frees all; calls on a chain that moves between threads;
- * which error is returned if PK_OUT_OF_MEMORY and a later one could be; inline functions.
+ * the inline functions; which error is returned if PK_OUT_OF_MEMORY and a later one apply.
  */
 #ifndef PITSKHOMU_CHAIN_H
 #define PITSKHOMU_CHAIN_H
@@ -129,12 +146,12 @@ enum pk_status {
     PK_LOAD = 32,                   /* load these bytes, and call again with them */
     PK_IDLE = 33,                   /* no chain is available */
     PK_MORE = 34,                   /* pass `needed` bytes of the request, from its start */
-    PK_NO_ROOM = 35,    /* the answer was taken, but the reply buffer is too small: the chain is
-                           pushed without a reply, and the guest doesn't hold the entry's node */
+    PK_NO_ROOM = 35,    /* the call is answered, but the reply buffer is too small: push the chain,
+                           without a reply. The guest doesn't count the look-up of an entry */
     PK_FULL = 36,       /* the entry doesn't fit in the size that the guest asked for: undo its
                            look-up (READDIRPLUS), and reply with the list */
-    PK_LIST_FAILS = 37, /* it fits there, but not in the reply buffer: undo its look-up, and reply
-                           with pk_reply_err(EIO) */
+    PK_LIST_FAILS = 37, /* the entry fits in that size, but not in the reply buffer: undo its
+                           look-up, and reply with pk_reply_err(EIO) */
     PK_ENTRIES = 38,    /* the listing failed, but the guest already holds nodes of its entries, so
                            the reply has them: after pk_push copy the list's first `len - front_len`
                            bytes into the reply buffer from PK_HEADER on */
@@ -182,7 +199,7 @@ enum pk_request_fault {
 enum pk_call_kind {
     PK_CALL_NONE = 0,         /* -> none: the reply is known (ENOSYS of locks), or none is sent */
     PK_CALL_LOOKUP = 1,       /* name -> entry */
-    PK_CALL_FORGET = 2,       /* count: the guest holds node so many times less -> none */
+    PK_CALL_FORGET = 2,       /* count (nlookup): node's look-up count falls by it -> none */
     PK_CALL_GETATTR = 3,      /* handle, if has_handle -> attr */
     PK_CALL_SETATTR = 4,      /* valid (FATTR_), attr, owner, handle, if has_handle -> attr */
     PK_CALL_READLINK = 5,     /* data_len -> data */
@@ -255,7 +272,7 @@ struct pk_device {
 struct pk_queue {
     uint64_t desc, avail, used; /* guest addresses, aligned to 16, 2 and 4; all end below 2^64 */
     uint16_t size;          /* yours: descriptors, a power of two up to 32768 */
-    uint16_t next_avail;    /* number of the next to pop; with none in flight GET_VRING_BASE */
+    uint16_t next_avail;    /* the next chain's number; GET_VRING_BASE's, if none is in flight */
     uint16_t next_used;     /* of the next to push: next_avail - next_used are in flight */
     uint16_t max_in_flight; /* yours: 1 to size; 0 counts as 1 */
     uint16_t stopped;       /* the refusal (2 to 8) that stopped it, 1 if pk_restore did, or 0 */
@@ -269,7 +286,7 @@ struct pk_queue {
 };
 
 /* Resets a queue: then no chain of it is in flight, and it isn't stopped. `next_avail` is the
- * number of SET_VRING_BASE, or 0. Calls with its earlier chains are refused, for 2^32 resets.
+ * number of SET_VRING_BASE, or 0. Calls with its earlier chains are refused (up to 2^32 resets).
  * Enable notifications next: an earlier device may have left them disabled.
  * Errors: PK_BAD_ARGUMENT (your fields are no queue's). */
 uint32_t pk_queue_begin(struct pk_queue *queue, uint16_t next_avail) PK_CHECK;
@@ -352,9 +369,9 @@ struct pk_window {
 /* A range of guest addresses. */
 struct pk_range { uint64_t guest, len; };
 
-/* Each fills the windows (or guest ranges, for a migration's log) of `len` bytes of a chain's
- * request or reply buffer, from byte `from` on. It returns how many it filled: 0 past the end, or
- * if no chain is in flight. A window ends where its descriptor or region ends, a range where its
+/* Three functions find `len` bytes of a chain's request or reply buffer, from byte `from` on: their
+ * windows, or guest ranges for a migration's log. Each returns how many it filled: 0 past the end,
+ * or if no chain is in flight. A window ends where its descriptor or region ends, a range where its
  * descriptor does. If they cover fewer than `len` bytes, call again from there. Each call goes
  * through all descriptors of the chain, so ask for many windows at once. */
 size_t pk_request_windows(struct pk_chain *chain, uint64_t from, uint64_t len,
@@ -385,7 +402,7 @@ uint32_t pk_iotlb_new(struct pk_iotlb *iotlb) PK_CHECK;
 /* Frees the place with its table, and zeroes it. */
 void pk_iotlb_free(struct pk_iotlb *iotlb) PK_NONNULL;
 
-/* Maps `len` I/O addresses, whatever they were mapped to. With PK_ACCESS_NONE they are refused: a
+/* Maps `len` I/O addresses; earlier mappings of them end. With PK_ACCESS_NONE they are refused: a
  * pop that needs them has a refusal or a fault, and no miss.
  * Errors: PK_WRONG_ORDER (no table is here); PK_BAD_ARGUMENT (not an access; not multiples of 4096;
  * `len` is 0; an end isn't below 2^64); PK_OUT_OF_MEMORY. */
@@ -467,17 +484,6 @@ struct pk_call {
 uint32_t pk_decode(struct pk_chain *chain, const struct pk_device *device, const uint8_t *request,
                    size_t request_len, struct pk_call *call) PK_CHECK PK_READS(3, 4) PK_FILLS(5);
 
-/* Pair `k`, below count, of BATCH_FORGET: the guest holds `*node` `*count` times less. */
-static inline void pk_pair(const uint8_t *request, const struct pk_call *call, uint64_t k,
-                           uint64_t *node, uint64_t *count) {
-    const uint8_t *p = request + call->value.at + 16 * k;
-    *node = *count = 0;
-    for (int i = 7; i >= 0; i--) {
-        *node = *node << 8 | p[i];
-        *count = *count << 8 | p[8 + i];
-    }
-}
-
 /* ---------------------------------------------------------------- reply */
 /* struct fuse_entry_out. Node 0: the name is known not to exist. */
 struct pk_entry {
@@ -497,13 +503,13 @@ struct pk_statfs {
 /* Each answers the chain's call once. The ticket names the call, so a late answer is refused. They
  * access no guest memory and never return PK_OUT_OF_MEMORY. pk_push returns the reply.
  * Errors: the function's own; PK_WRONG_ORDER (no call is unanswered); PK_OTHER_CALL; PK_OTHER_KIND.
- * The call stays unanswered then. PK_NO_ROOM is no error. */
+ * After an error the call is still unanswered. PK_NO_ROOM is no error. */
 
 /* Any call: an errno of Linux, 1 to 4095; or 0, if the kind of its answer is done.
  * Errors: PK_BAD_ARGUMENT (another number). It may return PK_ENTRIES. */
 uint32_t pk_reply_err(struct pk_chain *chain, uint32_t ticket, uint32_t error) PK_CHECK;
 
-/* LOOKUP, SYMLINK, MKNOD, MKDIR, LINK: the guest holds the node once more.
+/* LOOKUP, SYMLINK, MKNOD, MKDIR, LINK: the node's look-up count grows by 1.
  * Errors: PK_BAD_ARGUMENT (nanoseconds of 10^9 or more). */
 uint32_t pk_reply_entry(struct pk_chain *chain, uint32_t ticket, const struct pk_entry *entry)
     PK_CHECK;
@@ -560,11 +566,6 @@ uint32_t pk_add_direntry_plus(struct pk_chain *chain, uint32_t ticket, uint8_t *
                               size_t list_len, const uint8_t *name, size_t name_len,
                               const struct pk_entry *entry, uint64_t next_offset)
     PK_CHECK PK_READS(5, 6);
-
-/* The bytes that an entry takes of data_len. */
-static inline uint64_t pk_direntry_len(size_t name_len, int plus) {
-    return ((plus ? 152u : 24u) + (uint64_t)name_len + 7) & ~(uint64_t)7;
-}
 
 /* READDIR, READDIRPLUS: replies with the entries so far; a reply without any is the end of the
  * directory. Copy the first `*len` bytes of the list into the reply buffer from PK_HEADER on. */
@@ -644,5 +645,5 @@ uint32_t pk_restore(struct pk_device *device, struct pk_queue *queues, size_t qu
 #ifdef __cplusplus
 }
 #endif
-#include "pitskhomu_names.h" /* pk_status_name and the like, for logs */
+#include "pitskhomu_names.h" /* pk_pair, pk_direntry_len, names of numbers for logs */
 #endif

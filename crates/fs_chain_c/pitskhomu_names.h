@@ -1,7 +1,23 @@
-/* pitskhomu_names.h: the names of the numbers of pitskhomu.h, which includes it. Each function
- * returns "" for a number that has no name. */
+/* pitskhomu_names.h: inline functions of pitskhomu.h, which includes it. */
 #ifndef PITSKHOMU_NAMES_H
 #define PITSKHOMU_NAMES_H
+/* Pair `k`, below count, of BATCH_FORGET: the look-up count of `*node` falls by `*count`. */
+static inline void pk_pair(const uint8_t *request, const struct pk_call *call, uint64_t k,
+                           uint64_t *node, uint64_t *count) {
+    const uint8_t *p = request + call->value.at + 16 * k;
+    *node = *count = 0;
+    for (int i = 7; i >= 0; i--) {
+        *node = *node << 8 | p[i];
+        *count = *count << 8 | p[8 + i];
+    }
+}
+
+/* The bytes that an entry takes of data_len. */
+static inline uint64_t pk_direntry_len(size_t name_len, int plus) {
+    return ((plus ? 152u : 24u) + (uint64_t)name_len + 7) & ~(uint64_t)7;
+}
+
+/* The names of numbers: "" for a number that has none. */
 static inline const char *pk_status_name(uint32_t status) {
 #define PK_NAME(name) case name: return #name
     switch (status) {
