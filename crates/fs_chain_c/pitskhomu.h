@@ -53,7 +53,8 @@
  *  6. A chain keeps the regions that it was popped with. While it is in flight, leave that memory
  *     mapped, and let new regions map the queue's rings as the old ones did.
  *  7. In a migration log each page that you stored into, after the store and before pk_pushed. Also
- *     log data that you put into the reply buffer, but that the reply leaves out.
+ *     log data that you put into the reply buffer, but that the reply leaves out. Behind an IOMMU
+ *     log the pages of your regions by the host addresses of windows and stores.
  *  8. Before a queue is reset (pk_queue_begin, pk_restore), end the loads, stores and file calls of
  *     its chains, and free them with pk_abandon.
  *  9. Answer each decoded chain, unless `answer` is NONE: at least by pk_reply_err(EIO).
@@ -299,10 +300,7 @@ struct pk_region {
 
 /* ---------------------------------------------------------------- a chain: pop and drop */
 /* A handle for one chain. Its fields are the library's. */
-struct pk_chain {
-    void *at;
-    uint32_t full;
-};
+struct pk_chain { void *at; uint32_t full; };
 
 /* Copies the regions and the device's limit for the chain's next pops. The regions, up to
  * PK_REGIONS_MAX in any order, aren't empty, don't overlap and end at 2^64 at most. Call it first,
@@ -332,13 +330,13 @@ struct pk_pop {
     uint32_t fault;       /* enum pk_fault. 0: pk_decode comes next; else pk_push */
     uint16_t head;        /* the driver's number of the chain */
     uint32_t ticket;      /* names the chain in each answer */
-    uint64_t miss_at, miss_len; /* with PK_MISS: I/O addresses that the pop needs first */
+    uint64_t miss_at, miss_len; /* with PK_MISS: the first I/O addresses that it lacks */
     uint32_t miss_access; /* and the access to them (enum pk_access) */
 };
 
 /* Pops the next available chain, by several calls. The first one has `loaded_len` 0. After PK_LOAD
  * load the bytes and call again with them, at most size + 4 times. PK_DONE: the chain is in flight.
- * PK_IDLE, PK_MISS and errors 1 to 8: the handle is free; PK_MISS changes nothing else. Other
+ * PK_IDLE, PK_MISS and errors 1 to 8: the handle is free. PK_MISS leaves the queue as it was. Other
  * errors leave the pop under way; pk_drop ends it. Two loads can be saved. A table entry that
  * crosses two regions is loaded in two parts: instead of the first you may pass the whole entry.
  * The first load is the available index: you may pass the bytes of an earlier load of it, if that
@@ -366,7 +364,7 @@ struct pk_window {
     size_t len;   /* bytes */
 };
 
-/* A range of guest addresses. */
+/* A range of guest addresses; of I/O addresses, if the chain has a table. */
 struct pk_range { uint64_t guest, len; };
 
 /* Three functions find `len` bytes of a chain's request or reply buffer, from byte `from` on: their
@@ -384,10 +382,11 @@ size_t pk_reply_ranges(struct pk_chain *chain, uint64_t from, uint64_t len, stru
 
 /* ---------------------------------------------------------------- an IOMMU's table */
 /* A place for a table that maps I/O addresses to guest physical ones. As with a chain, zero it
- * before its first use, never copy it, and free it. One table serves all chains, under your lock:
- * lend it before a pop's first call, and take it back after its windows were read; the same around
- * pk_push and pk_set_notification. While a chain of a queue is in flight, keep the mappings of the
- * queue's rings (rule 6). pk_chain_set_memory and pk_chain_free free a table that the chain has. */
+ * before its first use, never copy it, and free it. One table serves all chains, under your lock.
+ * Lend it before a pop's first call, and take it back once you have read the chain's windows. Lend
+ * it around pk_push and pk_set_notification too: without it a call takes I/O addresses as guest
+ * physical ones. While a chain of a queue is in flight, keep the mappings of the queue's rings.
+ * pk_chain_set_memory and pk_chain_free free a table that the chain has. */
 struct pk_iotlb { void *at; uint32_t full; };
 
 /* The numbers of VHOST_ACCESS_ (linux/vhost_types.h). */
@@ -403,15 +402,15 @@ uint32_t pk_iotlb_new(struct pk_iotlb *iotlb) PK_CHECK;
 void pk_iotlb_free(struct pk_iotlb *iotlb) PK_NONNULL;
 
 /* Maps `len` I/O addresses; earlier mappings of them end. With PK_ACCESS_NONE they are refused: a
- * pop that needs them has a refusal or a fault, and no miss.
+ * pop that needs them has a refusal or a fault, and no miss. Unmap them after that pop.
  * Errors: PK_WRONG_ORDER (no table is here); PK_BAD_ARGUMENT (not an access; not multiples of 4096;
  * `len` is 0; an end isn't below 2^64); PK_OUT_OF_MEMORY. */
 uint32_t pk_iotlb_map(struct pk_iotlb *iotlb, uint64_t iova, uint64_t len, uint64_t guest,
                       uint32_t access) PK_CHECK;
 
 /* Removes the mappings of `len` I/O addresses, which end at 2^64 at most.
- * Errors: PK_WRONG_ORDER (no table is here); PK_BAD_ARGUMENT (as pk_iotlb_map's); PK_OUT_OF_MEMORY
- * (only if a mapping goes on behind them). */
+ * Errors: PK_WRONG_ORDER (no table is here); PK_BAD_ARGUMENT (not multiples of 4096; `len` is 0; an
+ * end above 2^64); PK_OUT_OF_MEMORY (only if a mapping goes on behind them). */
 uint32_t pk_iotlb_unmap(struct pk_iotlb *iotlb, uint64_t iova, uint64_t len) PK_CHECK;
 
 /* Exchanges the tables of chain and place; each may have none. It allocates nothing. Without a
@@ -426,6 +425,7 @@ struct pk_miss { uint64_t at, len; uint32_t access; };
 /* After PK_MISS: the first I/O addresses that the buffer of descriptor `index` lacks, at or after
  * address `from`. Ask for each index from 0 on: first with `from` 0, then with the end of the miss.
  * PK_MISS: filled. PK_DONE: nothing is missing from there on. PK_IDLE: no such descriptor was read.
+ * If the pop missed used_event or avail_event, don't ask: the descriptors are an earlier pop's.
  * Errors: PK_WRONG_ORDER (no memory was set). */
 uint32_t pk_miss(struct pk_chain *chain, size_t index, uint64_t from, struct pk_miss *miss)
     PK_CHECK PK_FILLS(4);
@@ -593,7 +593,7 @@ struct pk_stores {
     uint16_t index;          /* and its value */
     uintptr_t seen_at;       /* host address of the available flags, or of used_event, 2 bytes */
     uint64_t element_guest;  /* guest address of the element's 8 bytes, for a migration's log */
-    uint64_t index_guest;    /* and of the index's 2 */
+    uint64_t index_guest;    /* and of the index's 2. I/O addresses, if the chain has a table */
 };
 
 /* Returns the stores that add the chain to the used ring, after the chains pushed before.
@@ -617,8 +617,8 @@ struct pk_store { uintptr_t at; uint16_t value; uint8_t len; };
 /* Returns the store that enables (1) or disables (0) available buffer notifications (VIRTIO 1.2,
  * 2.7.10). It is to the used ring's flags at guest address `used`, or with event_index to
  * avail_event at used + 4 + 8 * size. With event_index nothing is stored to disable them. Of the
- * chain it uses only the regions.
- * Errors: PK_WRONG_ORDER (no memory was set); PK_BAD_ARGUMENT (the queue); PK_NOT_MAPPED. */
+ * chain it uses only regions and table. Errors: PK_WRONG_ORDER (no memory was set);
+ * PK_BAD_ARGUMENT (the queue); PK_NOT_MAPPED (map the bytes in the table, and call again). */
 uint32_t pk_set_notification(struct pk_chain *chain, const struct pk_queue *queue, uint32_t enabled,
                              struct pk_store *store) PK_CHECK PK_FILLS(4);
 
