@@ -61,6 +61,8 @@ pub struct State {
     told: Option<(bool, u16)>,
     /// How many threads sleep until something happens.
     sleeping: u16,
+    /// One of them is woken to take a chain, and hasn't the lock yet.
+    is_woken: bool,
     /// How many chains were taken since the daemon began.
     taken: u64,
     /// How many threads serve the ring.
@@ -70,7 +72,7 @@ pub struct State {
     /// The front-end's thread waits until chains are taken or returned.
     is_awaited: bool,
     kick: Option<File>,
-    call: Option<File>,
+    call: Option<Arc<File>>,
     /// The driver was to be interrupted while nobody had said where: QEMU says so after it has
     /// started a ring that chains wait in.
     owes_call: bool,
@@ -138,15 +140,15 @@ impl State {
                 != Some(self.numbers.next_avail)
     }
 
+    /// Where to interrupt the driver. If nobody has said so yet, it is interrupted then.
+    fn interrupt(&mut self) -> Option<Arc<File>> {
+        self.owes_call = self.call.is_none();
+        self.call.clone()
+    }
+
     /// Interrupts the driver, as soon as it is known where.
     pub fn notify(&mut self) {
-        self.owes_call = self.call.is_none();
-        if let Some(Err(e)) = self.call.as_mut().map(|call| call.write(&1u64.to_ne_bytes())) {
-            // An event that is full already is seen all the same.
-            if e.kind() != ErrorKind::WouldBlock {
-                warn!("the driver isn't notified: {e}");
-            }
-        }
+        send(&mut self.interrupt());
     }
 
     /// The ring is refused: the front-end is told by its err descriptor.
@@ -154,6 +156,16 @@ impl State {
         self.is_refused = true;
         if let Some(Err(e)) = self.err.as_mut().map(|err| err.write(&1u64.to_ne_bytes())) {
             warn!("the front-end isn't told that a ring is refused: {e}");
+        }
+    }
+}
+
+/// Interrupts the driver, if that is owed.
+fn send(owed: &mut Option<Arc<File>>) {
+    if let Some(Err(e)) = owed.take().map(|call| (&*call).write(&1u64.to_ne_bytes())) {
+        // An event that is full already is seen all the same.
+        if e.kind() != ErrorKind::WouldBlock {
+            warn!("the driver isn't notified: {e}");
         }
     }
 }
@@ -309,7 +321,7 @@ impl Ring {
     /// Where the driver is interrupted from now on, for chains in flight too.
     pub fn set_call(&self, call: Option<File>) {
         let mut state = self.lock();
-        state.call = call;
+        state.call = call.map(Arc::new);
         if state.owes_call {
             state.notify();
         }
@@ -390,18 +402,22 @@ impl Ring {
     }
 
     /// What comes while the chain that was taken is answered is for a thread that sleeps, and else
-    /// for this one. If the driver can't be told so, a thread that sleeps goes on to try.
-    fn hand_on(&self, state: &mut State, server: &mut impl Server, memory: &Arc<Table>) {
+    /// for this one. If the driver can't be told so, a thread that sleeps goes on to try. Returns
+    /// whether to wake a thread once the ring isn't locked. One at a time is enough: it takes a
+    /// chain, and wakes the next.
+    fn hand_on(state: &mut State, server: &mut impl Server, memory: &Arc<Table>) -> bool {
         let is_for_another = state.sleeping > 0;
         let told = state.want_kicks(is_for_another, server, memory);
-        if is_for_another && (told.is_err() || state.has_more(memory)) {
-            self.look();
-        }
+        let wakes = is_for_another && !state.is_woken && (told.is_err() || state.has_more(memory));
+        state.is_woken |= wakes;
+        wakes
     }
 
-    fn give_back(&self, state: &mut State, server: &mut impl Server) {
+    /// Returns where the driver is to be interrupted, if it is.
+    fn give_back(&self, state: &mut State, server: &mut impl Server) -> Option<Arc<File>> {
+        let mut owed = None;
         match server.give_back(&mut state.queue) {
-            Ok(true) => state.notify(),
+            Ok(true) => owed = state.interrupt(),
             Ok(false) => {}
             Err(status) => {
                 error!("queue {} is refused, since a chain can't go back: {status}", self.index);
@@ -412,19 +428,25 @@ impl Ring {
         if state.is_held || state.is_awaited {
             self.changed.notify_all();
         }
+        owed
     }
 
     /// Serves chains until none waits. A chain that comes while kicks aren't wanted is met by the
-    /// look after they are.
+    /// look after they are. An interrupt that is owed is sent when the next chain was taken and the
+    /// ring isn't locked any more: the ring's other threads don't wait for that system call.
     fn serve_all(
         &self,
         server: &mut impl Server,
         memory: &impl Fn() -> Arc<Table>,
         doing: &Doing,
     ) -> Looked {
-        let mut state = self.lock();
+        let (mut state, mut owed) = (self.lock(), None);
         state.sleeping -= 1;
+        state.is_woken = false;
         loop {
+            if state.is_held {
+                send(&mut owed);
+            }
             state = self.wait_while(state, |state| state.is_held);
             // The memory is asked for under the lock: whoever changes it has the lock meanwhile.
             let table = memory();
@@ -437,14 +459,19 @@ impl Ring {
                 self.changed.notify_all();
             }
             if looked == Looked::Taken {
-                self.hand_on(&mut state, server, &table);
+                let wakes = Ring::hand_on(&mut state, server, &table);
                 drop(state);
+                send(&mut owed);
+                if wakes {
+                    self.look();
+                }
                 server.answer(doing);
                 state = self.lock();
                 doing.end();
-                self.give_back(&mut state, server);
+                owed = self.give_back(&mut state, server);
                 continue;
             }
+            send(&mut owed);
             let looked = match state.want_kicks(true, server, &table) {
                 Ok(true) => continue,
                 Ok(false) => looked,
@@ -583,6 +610,18 @@ mod tests {
         // it ends with the process
         thread::spawn(move || ring.run(&mut Asked(asked), Arc::default));
         assert_eq!(answers.recv_timeout(Duration::from_secs(20)), Ok(()));
+    }
+
+    #[test]
+    fn one_thread_at_a_time_is_woken() {
+        let (ring, memory) = (Ring::new(0, 3).expect("a ring"), Arc::new(Table::default()));
+        let mut server = Failing(0);
+        *ring.lock() =
+            State { is_started: true, is_enabled: true, sleeping: 2, ..State::default() };
+        let hands_on = |server: &mut Failing| Ring::hand_on(&mut ring.lock(), server, &memory);
+        assert!(hands_on(&mut server) && !hands_on(&mut server));
+        ring.serve_all(&mut server, &|| memory.clone(), &Doing::default()); // it has come
+        assert!(hands_on(&mut server));
     }
 
     #[test]
