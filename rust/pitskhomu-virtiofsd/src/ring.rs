@@ -4,6 +4,12 @@
 //! taken from, and new ones have the new numbers. Only a message that ends something
 //! (GET_VRING_BASE, a ring that is disabled) waits until none of its chains is in flight, so that
 //! its answer is true.
+//!
+//! Comments in brackets name the steps of the notification model (crate notify): those of
+//! `specs/Threads.antt` for the available ring, whose giver is the driver, and those of
+//! `specs/Kicks.antt` for the used ring, whose giver is this device. The threads' own event is
+//! `wake`: a write to it is `Signals`. The calls of `Server` make the loads and stores, with their
+//! barriers (`Worker` in crate pitskhomu).
 mod waits;
 
 use crate::in_flight::Doing;
@@ -121,8 +127,10 @@ impl State {
         let Numbers { next_avail, has_event_index, .. } = self.numbers;
         let telling = Some((wanted, if wanted && has_event_index { next_avail } else { 0 }));
         if !self.is_live() || self.is_new || self.told == telling {
-            return Ok(false);
+            return Ok(false); // [HasWished], if it is wanted
         }
+        // [Wishes, WishIsThere], or [Silences]: a store of avail_event or of the used ring's flags,
+        // and a full barrier
         let is_stored = server.set_notification(&self.queue, wanted, memory)?;
         self.told = telling;
         Ok(is_stored)
@@ -135,6 +143,7 @@ impl State {
     /// Whether the driver has offered a chain that isn't taken: by the ring's own word, so it is a
     /// hint. The ring is asked only if its index, as it was loaded last, tells of none.
     fn has_more(&self, memory: &Table) -> bool {
+        // the look once more of [GoesBusy] and [CallsOne]: a load of the available index
         self.queue.knows_more()
             || memory.available_index(self.numbers.layout.available)
                 != Some(self.numbers.next_avail)
@@ -162,6 +171,7 @@ impl State {
 
 /// Interrupts the driver, if that is owed.
 fn send(owed: &mut Option<Arc<File>>) {
+    // [Notifies] of the used ring
     if let Some(Err(e)) = owed.take().map(|call| (&*call).write(&1u64.to_ne_bytes())) {
         // An event that is full already is seen all the same.
         if e.kind() != ErrorKind::WouldBlock {
@@ -272,7 +282,7 @@ impl Ring {
 
     /// Has a thread look for chains.
     pub fn look(&self) {
-        let _ = self.wake.write(1); // full is as good
+        let _ = self.wake.write(1); // [Signals]; full is as good
     }
 
     fn forget_kick(&self, state: &mut State) {
@@ -355,6 +365,7 @@ impl Ring {
     /// Waits until something happens.
     fn wait(&self, milliseconds: i32) -> io::Result<()> {
         let mut events = [EpollEvent::default(); 2];
+        // [Wakens]: by the driver's notification, by `wake`, or by neither
         let count = match self.events.wait(milliseconds, &mut events) {
             Err(e) if e.kind() == ErrorKind::Interrupted => 0,
             counted => counted?,
@@ -376,6 +387,8 @@ impl Ring {
             return Looked::Idle;
         }
         let begun = if state.is_new { state.begin(self.threads) } else { Ok(()) };
+        // [Loads], unless a chain before the index that was loaded last is left; [TakesOne]. An
+        // error after the first load is [DropsOne] or [Loads] alone.
         match begun.and_then(|()| server.take(&mut state.queue, memory)) {
             Ok(taken) => {
                 state.numbers.next_avail = state.queue.next_avail();
@@ -404,10 +417,14 @@ impl Ring {
     /// What comes while the chain that was taken is answered is for a thread that sleeps, and else
     /// for this one. If the driver can't be told so, a thread that sleeps goes on to try. Returns
     /// whether to wake a thread once the ring isn't locked. One at a time is enough: it takes a
-    /// chain, and wakes the next.
+    /// chain, and wakes the next. (In the model `wake` is pending from here on until that thread
+    /// has the lock, so that others are [GoesBusy] without a call of their own.)
     fn hand_on(state: &mut State, server: &mut impl Server, memory: &Arc<Table>) -> bool {
         let is_for_another = state.sleeping > 0;
+        // [Wishes] or [HasWished]; with nobody asleep [Silences]
         let told = state.want_kicks(is_for_another, server, memory);
+        // [GoesBusy] if no chain is left, or a thread is woken already. Else [Signals], and then
+        // [GoesBusy]. With nobody asleep [Leaves].
         let wakes = is_for_another && !state.is_woken && (told.is_err() || state.has_more(memory));
         state.is_woken |= wakes;
         wakes
@@ -416,6 +433,7 @@ impl Ring {
     /// Returns where the driver is to be interrupted, if it is.
     fn give_back(&self, state: &mut State, server: &mut impl Server) -> Option<Arc<File>> {
         let mut owed = None;
+        // [Returns]; of the used ring [Publishes], a full barrier, [Checks]
         match server.give_back(&mut state.queue) {
             Ok(true) => owed = state.interrupt(),
             Ok(false) => {}
@@ -440,9 +458,9 @@ impl Ring {
         memory: &impl Fn() -> Arc<Table>,
         doing: &Doing,
     ) -> Looked {
-        let (mut state, mut owed) = (self.lock(), None);
+        let (mut state, mut owed) = (self.lock(), None); // [Enters]
         state.sleeping -= 1;
-        state.is_woken = false;
+        state.is_woken = false; // [Hears]
         loop {
             if state.is_held {
                 send(&mut owed);
@@ -466,12 +484,14 @@ impl Ring {
                     self.look();
                 }
                 server.answer(doing);
-                state = self.lock();
+                state = self.lock(); // [Comes, Enters]
                 doing.end();
                 owed = self.give_back(&mut state, server);
                 continue;
             }
             send(&mut owed);
+            // [Wishes], and one more round, whose pop is the look once more: [SleepsNow] or
+            // [WalksOn]. Or [HasWished] before this round, whose pop was that look
             let looked = match state.want_kicks(true, server, &table) {
                 Ok(true) => continue,
                 Ok(false) => looked,
@@ -480,7 +500,7 @@ impl Ring {
                     Looked::Again
                 }
             };
-            state.sleeping += 1;
+            state.sleeping += 1; // [SleepsNow]
             return looked;
         }
     }
