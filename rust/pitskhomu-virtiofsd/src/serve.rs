@@ -35,6 +35,9 @@ pub struct Core<F> {
     /// The daemon's own descriptors.
     pub descriptors: Descriptors,
     memory: RwLock<Arc<Table>>,
+    /// The same memory for each ring, so that threads of different rings share no lock and no
+    /// count.
+    of_rings: Vec<RwLock<Arc<Table>>>,
 }
 
 /// What a core is made with.
@@ -61,19 +64,29 @@ impl<F: ServedFs> Core<F> {
         }
         let ring = |index| Ring::new(index, if index == 0 { 1 } else { threads });
         let rings = (0..=request_queues).map(ring).collect::<io::Result<_>>()?;
+        // All have the same log and the same IOMMU.
+        let memory = Table::default();
+        let own = |_| RwLock::new(Arc::new(memory.clone()));
+        let of_rings = (0..=request_queues).map(own).collect();
         Ok(Core {
             fs,
             device: pitskhomu::Device::default(),
             rings,
             flags,
             descriptors,
-            memory: RwLock::default(),
+            memory: RwLock::new(Arc::new(memory)),
+            of_rings,
         })
     }
 
     /// The memory as it is.
     pub fn memory(&self) -> Arc<Table> {
         self.memory.read().unwrap_or_else(PoisonError::into_inner).clone()
+    }
+
+    /// The same, for a thread of this ring.
+    pub fn memory_of(&self, ring: usize) -> Arc<Table> {
+        self.of_rings[ring].read().unwrap_or_else(PoisonError::into_inner).clone()
     }
 
     /// Has another memory from here on. Chains in flight go on over the one that they were taken
@@ -86,6 +99,10 @@ impl<F: ServedFs> Core<F> {
         let quiet: Vec<_> =
             differ.iter().map(|ring| ring.quiet("a memory without the queue's parts")).collect();
         let locked: Vec<_> = agree.iter().map(|ring| ring.lock()).collect();
+        for memory in &self.of_rings {
+            let own = Arc::new(Table::clone(&new));
+            *memory.write().unwrap_or_else(PoisonError::into_inner) = own;
+        }
         *self.memory.write().unwrap_or_else(PoisonError::into_inner) = new;
         drop((quiet, locked));
     }
