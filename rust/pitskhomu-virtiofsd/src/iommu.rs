@@ -3,9 +3,9 @@
 //! (VHOST_USER_IOTLB_MSG), and the queues' threads ask for those that they miss, over a channel of
 //! the back-end's own.
 //!
-//! Locks are taken in this order: a ring's, the channel's, the table's. None is held while an answer
-//! is awaited. So the thread that answers the front-end may take each of them: QEMU answers no miss
-//! while it waits for that thread.
+//! Locks are taken in this order: a ring's, the channel's, the table's. None is held while an
+//! answer is awaited. So the thread that answers the front-end may take each of them: QEMU answers
+//! no miss while it waits for that thread.
 mod channel;
 mod mappings;
 mod messages;
@@ -64,8 +64,8 @@ impl Iommu {
         }
     }
 
-    /// Asks the front-end for all that was missed, and waits for its answers. Returns the pages that
-    /// it refuses; `None` if it doesn't answer, or the asks were cancelled.
+    /// Asks the front-end for all that was missed, and waits for its answers. Returns the pages
+    /// that it refuses; `None` if it doesn't answer, or the asks were cancelled.
     pub fn ask(&self, misses: &[Miss], cancel: &Cancel) -> Option<Vec<u64>> {
         let is_known = |page| self.lock().guest_address(page).is_some();
         self.channel.ask(misses, cancel, is_known)

@@ -74,8 +74,8 @@ pub(crate) enum Added {
 pub(crate) struct Chain {
     handle: sys::Chain,
     ticket: u32,
-    /// The windows of a chain that was popped with a table: they hold until it is returned, whatever
-    /// becomes of the table.
+    /// The windows of a chain that was popped with a table: they hold until it is returned,
+    /// whatever becomes of the table.
     kept: Option<KeptWindows>,
 }
 

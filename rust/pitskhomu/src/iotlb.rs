@@ -137,8 +137,8 @@ impl Iotlb {
     ///
     /// # Errors
     /// Nothing changes.
-    /// - `BadArgument`: a number isn't a multiple of [`Iotlb::PAGE`], `len` is 0, or one of the ends
-    ///   is 2^64 or more.
+    /// - `BadArgument`: a number isn't a multiple of [`Iotlb::PAGE`], `len` is 0, or one of the
+    ///   ends is 2^64 or more.
     /// - `OutOfMemory`: an allocation failed.
     pub fn map(&mut self, iova: u64, len: u64, guest: u64, access: Access) -> Result<(), Status> {
         chain::map_iotlb(&mut self.place, iova, len, guest, access.number())
@@ -151,8 +151,8 @@ impl Iotlb {
     /// Nothing changes.
     /// - `BadArgument`: a number isn't a multiple of [`Iotlb::PAGE`], `len` is 0, or the end is
     ///   above 2^64.
-    /// - `OutOfMemory`: an allocation failed. Only a mapping that goes on behind the range needs one;
-    ///   [`Iotlb::clear`] never does.
+    /// - `OutOfMemory`: an allocation failed. Only a mapping that goes on behind the range needs
+    ///   one; [`Iotlb::clear`] never does.
     pub fn unmap(&mut self, iova: u64, len: u64) -> Result<(), Status> {
         chain::unmap_iotlb(&mut self.place, iova, len)
     }

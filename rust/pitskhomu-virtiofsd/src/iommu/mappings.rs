@@ -4,8 +4,8 @@ use log::warn;
 use pitskhomu::{Access, Iotlb, QueueLayout, Status};
 use std::collections::{BTreeMap, BTreeSet};
 
-/// With more ranges than this all but the rings' are dropped: a guest fills no memory of the host's.
-/// Those that are needed yet are asked for again.
+/// With more ranges than this all but the rings' are dropped: a guest fills no memory of the
+/// host's. Those that are needed yet are asked for again.
 const MOST_RANGES: usize = 65536;
 
 /// So often the log says that the table began again: a guest fills no log.
@@ -47,8 +47,8 @@ impl Parts {
     }
 }
 
-/// The table. Entries that a ring with chains in flight needs for their return stay until none is in
-/// flight.
+/// The table. Entries that a ring with chains in flight needs for their return stay until none is
+/// in flight.
 #[derive(Debug, Default)]
 pub struct Mappings {
     iotlb: Option<Iotlb>,

@@ -1,6 +1,6 @@
 //! Messages that crate vhost doesn't know, by hand: VHOST_USER_IOTLB_MSG of the front-end's. The
-//! next message's head is looked at before vhost reads it. Of SET_BACKEND_REQ_FD, which vhost knows,
-//! only the descriptor is taken so, since vhost doesn't give it out.
+//! next message's head is looked at before vhost reads it. Of SET_BACKEND_REQ_FD, which vhost
+//! knows, only the descriptor is taken so, since vhost doesn't give it out.
 use super::Iommu;
 use crate::memory::Table;
 use log::{debug, warn};
@@ -113,7 +113,8 @@ pub fn send(socket: RawFd, parts: &[IoSlice<'_>], how: i32) -> io::Result<usize>
     let mut message: libc::msghdr = unsafe { zeroed() };
     message.msg_iov = parts.as_ptr().cast_mut().cast();
     message.msg_iovlen = parts.len() as _;
-    // SAFETY: an IoSlice is laid out as iovec is, and the parts are borrowed; the kernel reads them.
+    // SAFETY: an IoSlice is laid out as iovec is, and the parts are borrowed; the kernel reads
+    // them.
     let len = unsafe { libc::sendmsg(socket, &message, how | libc::MSG_NOSIGNAL) };
     usize::try_from(len).map_err(|_| io::Error::last_os_error())
 }

@@ -55,8 +55,8 @@ impl Lent<'_> {
     /// table. Only the mappings of the queue's available and used ring must stay until then.
     ///
     /// After [`Taken::Missing`] let go of the table, map what [`Worker::misses`] says, and take
-    /// again. Map a range that the IOMMU refuses with [`Access::None`](crate::Access::None) for that
-    /// one pop: then the chain gets its fault, or the queue its refusal.
+    /// again. Map a range that the IOMMU refuses with [`Access::None`](crate::Access::None) for
+    /// that one pop: then the chain gets its fault, or the queue its refusal.
     ///
     /// # Errors
     /// Those of [`Worker::take`].
@@ -117,8 +117,13 @@ impl Worker {
     /// ```
     /// # use pitskhomu::*;
     /// # use std::sync::Mutex;
-    /// # fn translated(worker: &mut Worker, table: &Mutex<Iotlb>, queue: &mut Queue,
-    /// #     memory: &dyn GuestMemory, ask: &dyn Fn(&Miss) -> Option<u64>) -> Result<bool, Status> {
+    /// # fn translated(
+    /// #     worker: &mut Worker,
+    /// #     table: &Mutex<Iotlb>,
+    /// #     queue: &mut Queue,
+    /// #     memory: &dyn GuestMemory,
+    /// #     ask: &dyn Fn(&Miss) -> Option<u64>,
+    /// # ) -> Result<bool, Status> {
     /// loop {
     ///     let mut iotlb = table.lock().unwrap();
     ///     match worker.lend(&mut iotlb)?.take(queue, memory)? {
@@ -202,8 +207,8 @@ impl Worker {
         }
     }
 
-    /// Reports the written bytes of a chain that was popped with a table: those of the reply buffer,
-    /// the used element and the used index.
+    /// Reports the written bytes of a chain that was popped with a table: those of the reply
+    /// buffer, the used element and the used index.
     pub(super) fn mark_windows(
         &mut self,
         memory: &dyn GuestMemory,
