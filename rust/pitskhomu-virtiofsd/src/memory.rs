@@ -29,8 +29,8 @@ struct Place {
     len: u64,
 }
 
-/// The guest's memory.
-#[derive(Debug, Default)]
+/// The guest's memory. A copy has the same mappings, and the same number.
+#[derive(Debug, Clone, Default)]
 pub struct Table {
     mapped: MappedMemory<Marks>,
     places: Vec<Place>,

@@ -4,6 +4,12 @@
 //! that they were taken from, and new ones use the new numbers. Only a message that ends something
 //! waits until none of the ring's chains is in flight, so that its answer is true: GET_VRING_BASE,
 //! a ring that is disabled, and memory that maps or unmaps the ring's parts.
+//!
+//! Comments in brackets name the steps of the notification model (crate notify). For the available
+//! ring, whose giver is the driver, they are those of `specs/Threads.antt`; for the used ring,
+//! whose giver is this device, those of `specs/Kicks.antt`. The threads' own event is `wake`: a
+//! write to it is `Signals`. The calls of `Server` make the loads and stores, with their barriers
+//! (`Worker` in crate pitskhomu).
 mod waits;
 
 use crate::in_flight::Doing;
@@ -66,6 +72,8 @@ pub struct State {
     told: Option<(bool, u16)>,
     /// The number of threads that sleep until an event.
     sleeping: u16,
+    /// A sleeping thread was woken to take a chain, and doesn't have the lock yet.
+    is_woken: bool,
     /// The number of chains taken since the daemon began.
     taken: u64,
     /// The number of threads that serve the ring.
@@ -77,7 +85,7 @@ pub struct State {
     /// The next chain has addresses that the IOMMU's table doesn't map.
     is_missing: bool,
     kick: Option<File>,
-    call: Option<File>,
+    call: Option<Arc<File>>,
     /// The driver wasn't interrupted, since there was no call descriptor. QEMU sets it after it has
     /// started a ring with available chains.
     owes_call: bool,
@@ -126,8 +134,10 @@ impl State {
         let Numbers { next_avail, has_event_index, .. } = self.numbers;
         let telling = Some((wanted, if wanted && has_event_index { next_avail } else { 0 }));
         if !self.is_live() || self.is_new || self.told == telling {
-            return Ok(false);
+            return Ok(false); // [HasWished], if it is wanted
         }
+        // [Wishes, WishIsThere], or [Silences]: a store of avail_event or of the used ring's flags,
+        // and a full barrier
         let is_stored = server.set_notification(&self.queue, wanted, memory)?;
         self.told = telling;
         Ok(is_stored)
@@ -140,20 +150,22 @@ impl State {
     /// Whether a chain is available, as a hint: the driver may write to the ring at any time. The
     /// ring's index is loaded only if the last one shows no available chain.
     fn has_more(&self, memory: &Table) -> bool {
+        // the look once more of [GoesBusy] and [CallsOne]: a load of the available index
         self.queue.knows_more()
             || memory.available_index(self.numbers.layout.available)
                 != Some(self.numbers.next_avail)
     }
 
+    /// The event that interrupts the driver. Without a call descriptor the driver is interrupted
+    /// as soon as there is one.
+    fn interrupt(&mut self) -> Option<Arc<File>> {
+        self.owes_call = self.call.is_none();
+        self.call.clone()
+    }
+
     /// Interrupts the driver, as soon as there is a call descriptor.
     pub fn notify(&mut self) {
-        self.owes_call = self.call.is_none();
-        if let Some(Err(e)) = self.call.as_mut().map(|call| call.write(&1u64.to_ne_bytes())) {
-            // If the event's counter is full, the driver gets the interrupt all the same.
-            if e.kind() != ErrorKind::WouldBlock {
-                warn!("the driver isn't notified: {e}");
-            }
-        }
+        send(&mut self.interrupt());
     }
 
     /// Marks the ring as refused, and notifies the front-end by its err descriptor.
@@ -161,6 +173,17 @@ impl State {
         self.is_refused = true;
         if let Some(Err(e)) = self.err.as_mut().map(|err| err.write(&1u64.to_ne_bytes())) {
             warn!("the front-end isn't told that a ring is refused: {e}");
+        }
+    }
+}
+
+/// Interrupts the driver, if an interrupt is owed.
+fn send(owed: &mut Option<Arc<File>>) {
+    // [Notifies] of the used ring
+    if let Some(Err(e)) = owed.take().map(|call| (&*call).write(&1u64.to_ne_bytes())) {
+        // If the event's counter is full, the driver gets the interrupt all the same.
+        if e.kind() != ErrorKind::WouldBlock {
+            warn!("the driver isn't notified: {e}");
         }
     }
 }
@@ -275,7 +298,7 @@ impl Ring {
 
     /// Has a thread look for chains.
     pub fn look(&self) {
-        let _ = self.wake.write(1); // a full counter wakes too
+        let _ = self.wake.write(1); // [Signals]; a full counter wakes too
     }
 
     fn forget_kick(&self, state: &mut State) {
@@ -325,7 +348,7 @@ impl Ring {
     /// Sets the call descriptor, by which the driver is interrupted, also for chains in flight.
     pub fn set_call(&self, call: Option<File>) {
         let mut state = self.lock();
-        state.call = call;
+        state.call = call.map(Arc::new);
         if state.owes_call {
             state.notify();
         }
@@ -360,6 +383,7 @@ impl Ring {
     /// Waits for an event.
     fn wait(&self, milliseconds: i32) -> io::Result<()> {
         let mut events = [EpollEvent::default(); 2];
+        // [Wakens]: by the driver's notification, by `wake`, or by neither
         let count = match self.events.wait(milliseconds, &mut events) {
             Err(e) if e.kind() == ErrorKind::Interrupted => 0,
             counted => counted?,
@@ -381,6 +405,8 @@ impl Ring {
             return Looked::Idle;
         }
         let begun = if state.is_new { state.begin(self.threads) } else { Ok(()) };
+        // [Loads], unless a chain before the index that was loaded last is left; [TakesOne]. An
+        // error after the first load is [DropsOne] or [Loads] alone.
         match begun.and_then(|()| server.take(&mut state.queue, memory)) {
             Ok(taken) => {
                 state.numbers.next_avail = state.queue.next_avail();
@@ -408,19 +434,28 @@ impl Ring {
     }
 
     /// While this thread answers its chain, a sleeping thread serves the next ones, so kicks are
-    /// enabled. Without a sleeping thread kicks are disabled, and this thread looks again later. If
-    /// kicks can't be enabled, or a chain is available, a sleeping thread is woken.
-    fn hand_on(&self, state: &mut State, server: &mut impl Server, memory: &Arc<Table>) {
+    /// enabled. Without a sleeping thread kicks are disabled, and this thread looks again later.
+    /// Returns whether the caller must wake a thread after it has released the lock: if kicks can't
+    /// be enabled, or a chain is available. One at a time is enough: it takes a chain, and wakes
+    /// the next. (In the model `wake` is pending from here on until that thread has the lock, so
+    /// others are [GoesBusy] without a call of their own.)
+    fn hand_on(state: &mut State, server: &mut impl Server, memory: &Arc<Table>) -> bool {
         let is_for_another = state.sleeping > 0;
+        // [Wishes] or [HasWished]; with nobody asleep [Silences]
         let told = state.want_kicks(is_for_another, server, memory);
-        if is_for_another && (told.is_err() || state.has_more(memory)) {
-            self.look();
-        }
+        // [GoesBusy] if no chain is left, or a thread is woken already. Else [Signals], and then
+        // [GoesBusy]. With nobody asleep [Leaves].
+        let wakes = is_for_another && !state.is_woken && (told.is_err() || state.has_more(memory));
+        state.is_woken |= wakes;
+        wakes
     }
 
-    fn give_back(&self, state: &mut State, server: &mut impl Server) {
+    /// Returns the event that interrupts the driver, if it is to be interrupted.
+    fn give_back(&self, state: &mut State, server: &mut impl Server) -> Option<Arc<File>> {
+        let mut owed = None;
+        // [Returns]; of the used ring [Publishes], a full barrier, [Checks]
         match server.give_back(&mut state.queue) {
-            Ok(true) => state.notify(),
+            Ok(true) => owed = state.interrupt(),
             Ok(false) => {}
             Err(status) => {
                 error!("queue {} is refused, since a chain can't go back: {status}", self.index);
@@ -431,20 +466,27 @@ impl Ring {
         if state.is_held || state.is_awaited {
             self.changed.notify_all();
         }
+        owed
     }
 
     /// Serves chains until none is available. A chain that becomes available while kicks are
-    /// disabled is found by the look after they are enabled.
+    /// disabled is found by the look after they are enabled. This thread sends an interrupt that it
+    /// owes after it has taken the next chain and released the lock: the ring's other threads don't
+    /// wait for that system call.
     fn serve_all(
         &self,
         server: &mut impl Server,
         memory: &impl Fn() -> Arc<Table>,
         doing: &Doing,
     ) -> Looked {
-        let mut state = self.lock();
+        let (mut state, mut owed) = (self.lock(), None); // [Enters]
         state.sleeping -= 1;
+        state.is_woken = false; // [Hears]
         let mut rounds = 0;
         loop {
+            if state.is_held {
+                send(&mut owed);
+            }
             state = self.wait_while(state, |state| state.is_held);
             // Get the memory under the lock: the front-end's thread has the lock while it changes
             // it.
@@ -458,15 +500,22 @@ impl Ring {
                 self.changed.notify_all();
             }
             if looked == Looked::Taken {
-                self.hand_on(&mut state, server, &table);
+                let wakes = Ring::hand_on(&mut state, server, &table);
                 drop(state);
+                send(&mut owed);
+                if wakes {
+                    self.look();
+                }
                 server.answer(doing);
-                state = self.lock();
+                state = self.lock(); // [Comes, Enters]
                 doing.end();
-                self.give_back(&mut state, server);
+                owed = self.give_back(&mut state, server);
                 rounds = 0;
                 continue;
             }
+            send(&mut owed);
+            // [Wishes], and one more round, whose pop is the look once more: [SleepsNow] or
+            // [WalksOn]. Or [HasWished] before this round, whose pop was that look
             let looked = match looked {
                 Looked::Missing => looked,
                 _ => match state.want_kicks(true, server, &table) {
@@ -480,6 +529,8 @@ impl Ring {
                 },
             };
             if looked == Looked::Missing && rounds < MOST_ROUNDS {
+                // It doesn't sleep: it pops again when this is answered, and else in a moment. A
+                // thread that is woken meanwhile misses the same.
                 rounds += 1;
                 drop(state);
                 let is_answered = server.ask(&table, &self.asking);
@@ -488,7 +539,7 @@ impl Ring {
                     continue;
                 }
             }
-            state.sleeping += 1;
+            state.sleeping += 1; // [SleepsNow]
             return if looked == Looked::Missing { Looked::Again } else { looked };
         }
     }
@@ -625,6 +676,18 @@ mod tests {
         // it ends with the process
         thread::spawn(move || ring.run(&mut Asked(asked), Arc::default));
         assert_eq!(answers.recv_timeout(Duration::from_secs(20)), Ok(()));
+    }
+
+    #[test]
+    fn one_thread_at_a_time_is_woken() {
+        let (ring, memory) = (Ring::new(0, 3).expect("a ring"), Arc::new(Table::default()));
+        let mut server = Failing(0);
+        *ring.lock() =
+            State { is_started: true, is_enabled: true, sleeping: 2, ..State::default() };
+        let hands_on = |server: &mut Failing| Ring::hand_on(&mut ring.lock(), server, &memory);
+        assert!(hands_on(&mut server) && !hands_on(&mut server));
+        ring.serve_all(&mut server, &|| memory.clone(), &Doing::default()); // it has come
+        assert!(hands_on(&mut server));
     }
 
     #[test]

@@ -15,7 +15,7 @@ const PAGE: u64 = 4096;
 
 /// A region, for a faster look-up. (vm-memory's own takes several times as long, and a request
 /// needs about fifteen.)
-#[derive(Debug)]
+#[derive(Debug, Clone)]
 struct Stretch {
     guest: u64,
     len: u64,
@@ -45,7 +45,7 @@ struct Stretch {
 /// # Ok(())
 /// # }
 /// ```
-#[derive(Debug, Default)]
+#[derive(Debug, Clone, Default)]
 pub struct MappedMemory<B: Bitmap + 'static = ()> {
     memory: GuestMemoryMmap<B>,
     stretches: Vec<Stretch>,

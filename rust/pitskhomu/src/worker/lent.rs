@@ -117,9 +117,13 @@ impl Worker {
     /// ```
     /// # use pitskhomu::*;
     /// # use std::sync::Mutex;
-    /// # fn translated(worker: &mut Worker, table: &Mutex<Iotlb>, queue: &mut Queue,
-    /// #     memory: &dyn GuestMemory, ask: &dyn Fn(&Miss) -> Option<u64>)
-    /// #     -> Result<bool, Status> {
+    /// # fn translated(
+    /// #     worker: &mut Worker,
+    /// #     table: &Mutex<Iotlb>,
+    /// #     queue: &mut Queue,
+    /// #     memory: &dyn GuestMemory,
+    /// #     ask: &dyn Fn(&Miss) -> Option<u64>,
+    /// # ) -> Result<bool, Status> {
     /// loop {
     ///     let mut iotlb = table.lock().unwrap();
     ///     match worker.lend(&mut iotlb)?.take(queue, memory)? {
