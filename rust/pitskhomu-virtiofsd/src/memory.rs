@@ -1,6 +1,6 @@
 //! The guest's memory as the front-end reports it. A table never changes: another replaces it, and
 //! the old one stays mapped while a chain in flight was taken over it. Workers know each byte by
-//! its guest address, which pitskhomu-vm-memory looks up and checks.
+//! its region and its offset there, which the library has looked up and pitskhomu-vm-memory checks.
 use crate::marks::{Logging, Marks, MarksFrom};
 use pitskhomu::{GuestRange, GuestSlice, QueueLayout};
 use pitskhomu_vm_memory::MappedMemory;
@@ -123,9 +123,14 @@ impl Table {
         self.mapped.regions()
     }
 
-    /// A stretch within one region, if it is one.
+    /// A stretch within one region, if it is one, by the number that workers know it by.
     pub fn slice(&self, at: usize, len: usize) -> Option<Slice<'_>> {
         self.mapped.slice(at, len)
+    }
+
+    /// The same by its guest address.
+    fn guest_slice(&self, guest: u64, len: usize) -> Option<Slice<'_>> {
+        self.mapped.guest_slice(guest, len)
     }
 
     /// Whether the parts of a queue that a return loads and stores are mapped in both tables or in
@@ -140,12 +145,12 @@ impl Table {
     }
 
     fn has_page(&self, page: u64) -> bool {
-        self.slice(page.wrapping_mul(PAGE) as usize, 1).is_some()
+        self.guest_slice(page.wrapping_mul(PAGE), 1).is_some()
     }
 
     /// The index of an available ring (VIRTIO 1.2, 2.7.6), if it has a place.
     pub fn available_index(&self, available: u64) -> Option<u16> {
-        let index = self.slice(available.checked_add(2)? as usize, 2)?;
+        let index = self.guest_slice(available.checked_add(2)?, 2)?;
         index.load(0, Ordering::Acquire).ok().map(u16::from_le)
     }
 }
@@ -184,7 +189,7 @@ mod tests {
     #[test]
     fn an_access_is_within_one_region() {
         let table = table();
-        let has = |at: u64, len| table.slice(at as usize, len).is_some();
+        let has = |at, len| table.guest_slice(at, len).is_some();
         assert!(has(0x4000, 0x2000) && has(0x5fff, 1) && has(HIGH + 8, 8) && has(HIGH, 0x2000));
         assert!(
             !has(0x3fff, 1)
@@ -197,7 +202,7 @@ mod tests {
             !has(0, 1) && !has(HIGH - 1, 2) && !has(HIGH + 0x1fff, usize::MAX) && !has(u64::MAX, 1)
         );
         let without = table.without(HIGH, 2 * PAGE).expect("a table");
-        assert!(without.slice(HIGH as usize, 1).is_none() && without.slice(0x4000, 1).is_some());
+        assert!(without.guest_slice(HIGH, 1).is_none() && without.guest_slice(0x4000, 1).is_some());
     }
 
     #[test]
@@ -217,7 +222,12 @@ mod tests {
     #[test]
     fn what_is_stored_is_loaded() {
         let table = table();
-        let bytes_at = |at: u64, len| table.get_slice(at as usize, len);
+        let regions = table.regions();
+        let bytes_at = |at: u64, len| {
+            let holds = |region: &&pitskhomu::Region| at.wrapping_sub(region.guest) < region.len;
+            let region = regions.iter().find(holds)?;
+            table.get_slice(region.host + (at - region.guest) as usize, len)
+        };
         bytes_at(0x5ffd, 3).expect("bytes").store(&[1, 2, 3]);
         bytes_at(HIGH + 2, 2).expect("bytes").store(&0x1234u16.to_le_bytes());
         let mut bytes = [7; 3];
