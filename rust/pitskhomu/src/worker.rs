@@ -48,16 +48,14 @@ pub struct Served {
     pub notify: bool,
 }
 
-/// The progress of the worker's chain. The library checks the order of its calls. This also keeps
-/// whether the file system has seen the request, so that a panic of it can't undo that.
+/// The worker's next call for its chain. The library checks the order of its own calls, but doesn't
+/// return it. Only the worker knows `Asked`, so that a panic of the file system can't undo it.
 #[derive(Clone, Copy, Debug, PartialEq, Eq)]
 enum Progress {
-    /// The chain is popped, and the file system hasn't seen its request.
+    /// Call the file system: it hasn't seen the request, or answers it later.
     Popped,
     /// The file system has seen the request, and hasn't returned.
     Asked,
-    /// The file system has no answer yet, and gets the same call again.
-    Later,
     /// The reply is known, or there is none.
     Answered,
 }
@@ -313,17 +311,17 @@ impl Worker {
             Some(Progress::Asked) => self.answer_error(memory),
             Some(Progress::Popped) => {
                 self.progress = Some(Progress::Asked);
+                let answered = match self.replied {
+                    Replied::Later => self.call(device, file_system, memory),
+                    _ => self.exchange(device, file_system, memory),
+                };
                 // If the library refuses the answer, the reply is EIO. Files may have changed, so
                 // the call isn't made again.
-                self.exchange(device, file_system, memory).or_else(|_| self.answer_error(memory))
-            }
-            Some(Progress::Later) => {
-                self.progress = Some(Progress::Asked);
-                self.call(device, file_system, memory).or_else(|_| self.answer_error(memory))
+                answered.or_else(|_| self.answer_error(memory))
             }
         };
         match answered {
-            Ok(()) if self.replied == Replied::Later => self.progress = Some(Progress::Later),
+            Ok(()) if self.replied == Replied::Later => self.progress = Some(Progress::Popped),
             Ok(()) => self.progress = Some(Progress::Answered),
             Err(_) => self.abandon(), // can't happen: the library never refuses EIO
         }
