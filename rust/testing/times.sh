@@ -168,7 +168,7 @@ feel() {
         options=()
         [ "$queues" = 1 ] || options+=(--num-request-queues "$queues")
         # With a pool of 0 a thread of its own serves each queue of virtiofsd's.
-        [ "$kind" = ours ] || options+=(--thread-pool-size $((threads > 1 ? threads : 0)))
+        [ "$kind" != virtiofsd ] || options+=(--thread-pool-size $((threads > 1 ? threads : 0)))
         share=$work/feel/$tag THREADS=$threads start_server "$kind" "$run/$tag" "$run/$tag.log" \
             "${options[@]}" || return 0
         # QEMU has a socket of the name `fs` in any case.

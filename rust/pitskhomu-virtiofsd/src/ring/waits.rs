@@ -69,8 +69,8 @@ impl Ring {
         state
     }
 
-    /// Waits until no chain is in flight, at most for this time. Then the log says which are. (This
-    /// waits for a condition, since virtiofsd's filter of system calls doesn't allow a sleep.)
+    /// Waits until no chain is in flight, at most for this time. Then the log says which are. This
+    /// waits for a condition: virtiofsd's filter of system calls allows no sleep by the clock.
     pub fn wait_for_its_chains(&self, time: Duration) {
         let mut state = self.lock();
         state.is_awaited = true;
