@@ -1,6 +1,6 @@
 //! The guest's memory as the front-end reports it. A table never changes: another replaces it, and
 //! the old one stays mapped while a chain in flight was taken over it. Workers know each byte by
-//! its guest address, which pitskhomu-vm-memory looks up and checks.
+//! its region and its offset there, which the library has looked up and pitskhomu-vm-memory checks.
 use crate::iommu::Iommu;
 use crate::marks::{Logging, Marks, MarksFrom};
 use pitskhomu::{GuestRange, GuestSlice, QueueLayout};
@@ -148,9 +148,14 @@ impl Table {
         self.mapped.regions()
     }
 
-    /// A stretch within one region, if it is one.
+    /// A stretch within one region, if it is one, by the number that workers know it by.
     pub fn slice(&self, at: usize, len: usize) -> Option<Slice<'_>> {
         self.mapped.slice(at, len)
+    }
+
+    /// The same by its guest address.
+    fn guest_slice(&self, guest: u64, len: usize) -> Option<Slice<'_>> {
+        self.mapped.guest_slice(guest, len)
     }
 
     /// Whether the parts of a queue that a return loads and stores are mapped in both tables or in
@@ -166,13 +171,13 @@ impl Table {
 
     fn has_page(&self, page: u64) -> bool {
         let at = self.iommu.guest_address(page.wrapping_mul(PAGE));
-        at.is_some_and(|at| self.slice(at as usize, 1).is_some())
+        at.is_some_and(|at| self.guest_slice(at, 1).is_some())
     }
 
     /// The index of an available ring (VIRTIO 1.2, 2.7.6), if it has a place.
     pub fn available_index(&self, available: u64) -> Option<u16> {
         let at = self.iommu.guest_address(available.checked_add(2)?)?;
-        let index = self.slice(at as usize, 2)?;
+        let index = self.guest_slice(at, 2)?;
         index.load(0, Ordering::Acquire).ok().map(u16::from_le)
     }
 }
@@ -211,7 +216,7 @@ mod tests {
     #[test]
     fn an_access_is_within_one_region() {
         let table = table();
-        let has = |at: u64, len| table.slice(at as usize, len).is_some();
+        let has = |at, len| table.guest_slice(at, len).is_some();
         assert!(has(0x4000, 0x2000) && has(0x5fff, 1) && has(HIGH + 8, 8) && has(HIGH, 0x2000));
         assert!(
             !has(0x3fff, 1)
@@ -224,7 +229,7 @@ mod tests {
             !has(0, 1) && !has(HIGH - 1, 2) && !has(HIGH + 0x1fff, usize::MAX) && !has(u64::MAX, 1)
         );
         let without = table.without(HIGH, 2 * PAGE).expect("a table");
-        assert!(without.slice(HIGH as usize, 1).is_none() && without.slice(0x4000, 1).is_some());
+        assert!(without.guest_slice(HIGH, 1).is_none() && without.guest_slice(0x4000, 1).is_some());
     }
 
     #[test]
@@ -244,7 +249,12 @@ mod tests {
     #[test]
     fn what_is_stored_is_loaded() {
         let table = table();
-        let bytes_at = |at: u64, len| table.get_slice(at as usize, len);
+        let regions = table.regions();
+        let bytes_at = |at: u64, len| {
+            let holds = |region: &&pitskhomu::Region| at.wrapping_sub(region.guest) < region.len;
+            let region = regions.iter().find(holds)?;
+            table.get_slice(region.host + (at - region.guest) as usize, len)
+        };
         bytes_at(0x5ffd, 3).expect("bytes").store(&[1, 2, 3]);
         bytes_at(HIGH + 2, 2).expect("bytes").store(&0x1234u16.to_le_bytes());
         let mut bytes = [7; 3];

@@ -14,8 +14,7 @@ use std::collections::BTreeSet;
 use std::io;
 use std::panic::{catch_unwind, AssertUnwindSafe};
 use std::sync::{Arc, PoisonError, RwLock};
-use std::thread;
-use std::time::{Duration, Instant};
+use std::time::Instant;
 use virtiofsd::filesystem::{FileSystem, SerializableFileSystem};
 
 /// The file system's side, as all that is done here wants it.
@@ -112,13 +111,7 @@ impl<F: ServedFs> Core<F> {
     pub fn wait_for_chains(&self) {
         let end = Instant::now() + LAST_CHAINS;
         for ring in &self.rings {
-            while ring.has_in_flight() {
-                if Instant::now() > end {
-                    ring.say_what_is_awaited("the end of the daemon no longer");
-                    break;
-                }
-                thread::sleep(Duration::from_millis(5));
-            }
+            ring.wait_for_its_chains(end.saturating_duration_since(Instant::now()));
         }
     }
 

@@ -48,16 +48,15 @@ pub struct Served {
     pub notify: bool,
 }
 
-/// How far the worker's chain has come. The library keeps the order of the calls. This is beside it
-/// what a panic of the file system must not undo: which chains it has seen.
+/// Which call of the worker comes next for its chain. The library keeps the order of its own calls,
+/// and doesn't return it. `Asked` is what the library can't know: a panic of the file system must
+/// not undo it.
 #[derive(Clone, Copy, Debug, PartialEq, Eq)]
 enum Progress {
-    /// It is popped, and the file system hasn't seen its request.
+    /// The file system is to be asked: it hasn't seen the request, or answers it later.
     Popped,
-    /// The file system has seen its request, and owes the answer.
+    /// The file system has seen the request, and owes the answer.
     Asked,
-    /// The file system has no answer yet, and gets the same call again.
-    Later,
     /// Its reply is known, or it gets none.
     Answered,
 }
@@ -311,17 +310,17 @@ impl Worker {
             Some(Progress::Asked) => self.answer_error(memory),
             Some(Progress::Popped) => {
                 self.progress = Some(Progress::Asked);
+                let answered = match self.replied {
+                    Replied::Later => self.call(device, file_system, memory),
+                    _ => self.exchange(device, file_system, memory),
+                };
                 // An answer that the library refuses: files may have changed, so the call isn't
                 // made again.
-                self.exchange(device, file_system, memory).or_else(|_| self.answer_error(memory))
-            }
-            Some(Progress::Later) => {
-                self.progress = Some(Progress::Asked);
-                self.call(device, file_system, memory).or_else(|_| self.answer_error(memory))
+                answered.or_else(|_| self.answer_error(memory))
             }
         };
         match answered {
-            Ok(()) if self.replied == Replied::Later => self.progress = Some(Progress::Later),
+            Ok(()) if self.replied == Replied::Later => self.progress = Some(Progress::Popped),
             Ok(()) => self.progress = Some(Progress::Answered),
             Err(_) => self.abandon(), // no library of this header refuses EIO
         }
