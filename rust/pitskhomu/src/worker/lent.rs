@@ -126,10 +126,10 @@ impl Worker {
     /// # ) -> Result<bool, Status> {
     /// loop {
     ///     let mut iotlb = table.lock().unwrap();
-    ///     match worker.lend(&mut iotlb)?.take(queue, memory)? {
-    ///         Taken::Chain => return Ok(true),
-    ///         Taken::Idle => return Ok(false),
-    ///         Taken::Missing => drop(iotlb), // others may use it while the IOMMU is asked
+    ///     let taken = worker.lend(&mut iotlb)?.take(queue, memory)?;
+    ///     drop(iotlb); // others may use it while the IOMMU is asked
+    ///     if taken != Taken::Missing {
+    ///         return Ok(taken == Taken::Chain);
     ///     }
     ///     for miss in worker.misses() {
     ///         let guest = ask(miss).ok_or(Status::NotMapped)?;
