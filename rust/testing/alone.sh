@@ -99,6 +99,9 @@ alone() {
     try checks memory "${CHANGES:-500}"
     try checks two 5
     try checks slow
+    try checks leave
+    grep -q 'the end of the daemon no longer waits' "$work/checks-leave.errors" ||
+        failure "leave: the log doesn't say what was in flight"
     THREADS=4 try checks pool
     for threads in 0 4; do
         THREADS=$threads try checks held 20

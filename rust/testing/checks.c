@@ -365,6 +365,16 @@ static void slow_file(const char *dir) {
     printf("a slow file: %u chains of another queue meanwhile\n", asked);
 }
 
+/* The front-end leaves while a request takes long: the daemon waits for a while, and ends by
+ * itself (front_leave looks at its status). */
+static void leave(const char *dir) {
+    struct fuse_open_in open_in = {.flags = O_RDONLY};
+    uint64_t node = look_up(&front, ROOT, "slow");
+    lease_slow(dir);
+    front_send(&front, 1, FUSE_OPEN, node, &open_in, sizeof open_in, 16 + 16);
+    if (front_wait(&front, 1, 300)) die("the file isn't slow");
+}
+
 /* With a request and a room of its own. */
 void send_apart(size_t ring, unsigned k, uint32_t opcode, uint64_t node, const void *body,
                 uint32_t len, uint32_t room) {
@@ -501,6 +511,8 @@ static void run(const char *what, const char *dir, unsigned count) {
         two_queues(count);
     else if (!strcmp(what, "slow"))
         slow_file(dir);
+    else if (!strcmp(what, "leave"))
+        leave(dir);
     else if (!strcmp(what, "pool"))
         pool(dir);
     else if (!strcmp(what, "held"))
@@ -538,7 +550,7 @@ static const char *const *options_for(const char *what) {
 int main(int argc, char **argv) {
     if (argc < 4)
         die("usage: checks DAEMON DIR "
-            "escape|readonly|sleeps|pauses|log|rings|config|memory|two|slow|pool|held|groups|"
+            "escape|readonly|sleeps|pauses|log|rings|config|memory|two|slow|leave|pool|held|groups|"
             "labels|lists|platform|wild [N]");
     const char *what = argv[3], *dir = argv[2];
     front_begin(&front, argv[1], dir, options_for(what));

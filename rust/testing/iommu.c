@@ -421,12 +421,19 @@ static unsigned long kilobytes(void) {
     return strtoul(line, NULL, 10);
 }
 
-/* As many mappings as it likes: the daemon keeps few. */
+/* As many mappings as it likes: the daemon keeps few. Most of them want no answer. */
 static void many(unsigned count) {
     unsigned long before = kilobytes();
-    for (unsigned k = 0; k < count; k++)
-        if (tell(UPDATE, (uint64_t)(2 * k + 1) * PAGE, PAGE, user_at(k % 2 * PAGE), BOTH))
+    pthread_mutex_lock(&line);
+    for (unsigned k = 0; k < count; k++) {
+        struct iotlb body = {(2 * (uint64_t)k + 1) * PAGE, PAGE, user_at(k % 2 * PAGE), BOTH,
+                             UPDATE, {0}};
+        if (k % 256)
+            front_say(&front, IOTLB_MSG, &body, sizeof body);
+        else if (front_tell(&front, IOTLB_MSG, &body, sizeof body, NULL, 0))
             die("update %u is refused", k);
+    }
+    pthread_mutex_unlock(&line);
     unsigned long after = kilobytes();
     check("the daemon keeps few mappings", after - before < 64 << 10);
     ask_root("GETATTR after many updates");
@@ -486,8 +493,8 @@ static void *meddle(void *none) {
     chance_begin(now() << 8 | 3);
     while (!over) {
         uint64_t guest = ONE_OF(desc_at(1), avail_at(1), used_at(1), request_at(1), room_at(1),
-                                below(REGION_LEN), HIGH + below(REGION_LEN)) &
-                         ~(uint64_t)(PAGE - 1);
+                                below(REGION_LEN), HIGH + below(REGION_LEN));
+        guest &= ~(uint64_t)(PAGE - 1);
         switch (below(6)) {
         case 0: flush(); break;
         case 1: tell(UPDATE, SHIFT + guest, PAGE, user_at(guest), (uint8_t)(1 + below(3))); break;

@@ -114,3 +114,99 @@ rows() {
     echo "and of the driver:"
     compare "$work"/rows.CALLS.{ours,virtiofsd}
 }
+
+# git, and an archive of a repository with FILES files, 50 a directory: the guest's disk.
+make_feel_disk() {
+    local disk=$work/feel-disk tree=$work/feel-tree files=${FILES:-2000} packages k
+    [ ! -f "$work/feel.disk" ] || return 0
+    make_apt
+    theirs apt-get update > "$work/apt" 2>&1
+    packages=$(needed . base-files bash coreutils libc-bin git)
+    rm -rf "$disk" "$tree"
+    # shellcheck disable=SC2086
+    unpack suites "$disk" base-files $packages >> "$work/apt" 2>&1
+    rm -rf "$disk"/usr/share/{doc,man,locale,info}
+    mkdir -p "$disk"/{dev,proc,m,root} "$tree"
+    python3 - "$tree" "$files" << 'END'
+import os, random, sys
+
+chance = random.Random(1)
+for k in range(int(sys.argv[2])):
+    at = os.path.join(sys.argv[1], f"d{k // 1000}", f"d{k // 50 % 20}")
+    os.makedirs(at, exist_ok=True)
+    with open(os.path.join(at, f"file-{k}.c"), "w") as file:
+        file.write(f"{chance.random()}\n" * chance.randrange(100))
+END
+    git -C "$tree" init -q
+    git -C "$tree" add .
+    git -C "$tree" -c gc.auto=0 -c user.name=a -c user.email=a@a commit -q -m files
+    git -C "$tree" repack -adq
+    git -C "$tree" prune-packed -q
+    tar -C "$tree" --owner=0 --group=0 -cf "$disk/archive" .
+    rm -rf "$tree"
+    mke2fs -q -t ext4 -d "$disk" "$work/feel.making" 1G
+    rm -r "$disk"
+    mv "$work/feel.making" "$work/feel.disk"
+}
+
+# What a user feels, in one guest with a device for each daemon: the scenario `feel`. FEEL names
+# them: ours or virtiofsd, its threads, its queues (virtiofsd has one). The directories are in
+# memory. For a quiet run: chrt -f 10 rust/test feel.
+feel() {
+    local kind threads queues tag name device words=() tags=() servers=() options k
+    make_feel_disk
+    run=$work/run-feel
+    rm -rf "$run"
+    mkdir -p "$run" "$work/feel"
+    ! mountpoint -q "$work/feel" || umount "$work/feel"
+    mount -t tmpfs feel "$work/feel"
+    for device in ${FEEL:-ours,1,1 virtiofsd,1,1 ours,4,1 virtiofsd,4,1 ours,1,4}; do
+        IFS=, read -r kind threads queues <<< "$device"
+        tag=$kind-$threads-$queues
+        mkdir -p "$work/feel/$tag"
+        head -c 67108864 /dev/urandom > "$work/feel/$tag/big"
+        options=()
+        [ "$queues" = 1 ] || options+=(--num-request-queues "$queues")
+        # With a pool of 0 a thread of its own serves each queue of virtiofsd's.
+        [ "$kind" != virtiofsd ] || options+=(--thread-pool-size $((threads > 1 ? threads : 0)))
+        share=$work/feel/$tag THREADS=$threads start_server "$kind" "$run/$tag" "$run/$tag.log" \
+            "${options[@]}" || return 0
+        # QEMU has a socket of the name `fs` in any case.
+        name=fs
+        [ ${#tags[@]} = 0 ] || name=$tag words+=(-chardev "socket,id=$tag,path=$run/$tag")
+        words+=(-device
+            "vhost-user-fs-pci,chardev=$name,tag=$tag,queue-size=128,num-request-queues=$queues")
+        servers+=("$server") tags+=("$tag")
+    done
+    MEMORY=1536M DISK=$work/feel.disk qemu "$run" \
+        "feel rounds=${ROUNDS:-5} tags=$(IFS=, && echo "${tags[*]}")" \
+        "$run/${tags[0]}" -m 1536M -no-reboot "${words[@]}" ||
+        failure "feel: qemu ended with $?: $(tail -n 2 "$run/qemu")"
+    for k in "${!servers[@]}"; do
+        wait "${servers[k]}" || failure "feel: ${tags[k]} ended with $?"
+    done
+    umount "$work/feel"
+    tr -d '\r' < "$run/console" | sed -n '/^== begin/,$p' > "$run/lines"
+    ! grep '^FAILED' "$run/lines" || failure "feel: a row fails"
+    grep -q '^== end' "$run/lines" || failure "feel: the guest didn't come to its end"
+    feel_table "$run/lines"
+}
+
+# The median and the least of each row, for each daemon.
+feel_table() {
+    python3 - "$1" << 'END'
+import collections, re, statistics, sys
+
+for unit in ("ms", "interrupts"):
+    rows, tags = collections.defaultdict(lambda: collections.defaultdict(list)), []
+    for line in open(sys.argv[1]):
+        if found := re.match(rf"TIME ([0-9.]+) {unit}: (\S+) (.*)", line):
+            rows[found[3]][found[2]].append(float(found[1]))
+            if found[2] not in tags:
+                tags.append(found[2])
+    print(f"{unit}, median and least: {', '.join(sorted(tags))}")
+    for row, cells in rows.items():
+        print(*(f"{statistics.median(cells[tag]):9.1f} {min(cells[tag]):9.1f}"
+            for tag in sorted(tags)), row, sep="  ")
+END
+}

@@ -1,6 +1,7 @@
 //! The guest's memory as the front-end reports it. A table never changes: another replaces it, and
 //! the old one stays mapped while a chain that was taken over it is in flight. Workers address each
-//! byte by its guest address, which pitskhomu-vm-memory looks up and checks.
+//! byte by the number of its region and its offset there. The library looks these up, and
+//! pitskhomu-vm-memory checks them.
 use crate::iommu::Iommu;
 use crate::marks::{Logging, Marks, MarksFrom};
 use pitskhomu::{GuestRange, GuestSlice, QueueLayout};
@@ -29,8 +30,8 @@ struct Place {
     len: u64,
 }
 
-/// The guest's memory.
-#[derive(Debug, Default)]
+/// The guest's memory. A copy has the same mappings, and the same number.
+#[derive(Debug, Clone, Default)]
 pub struct Table {
     mapped: MappedMemory<Marks>,
     places: Vec<Place>,
@@ -149,9 +150,15 @@ impl Table {
         self.mapped.regions()
     }
 
-    /// The `len` bytes from a guest address on, if they lie in one region.
+    /// The `len` bytes from one on, if they lie in one region. `at` is the number by which workers
+    /// address a byte.
     pub fn slice(&self, at: usize, len: usize) -> Option<Slice<'_>> {
         self.mapped.slice(at, len)
+    }
+
+    /// The same by a guest address.
+    fn guest_slice(&self, guest: u64, len: usize) -> Option<Slice<'_>> {
+        self.mapped.guest_slice(guest, len)
     }
 
     /// Whether each page of the queue's parts that a return loads and stores is mapped in both
@@ -167,13 +174,13 @@ impl Table {
 
     fn has_page(&self, page: u64) -> bool {
         let at = self.iommu.guest_address(page.wrapping_mul(PAGE));
-        at.is_some_and(|at| self.slice(at as usize, 1).is_some())
+        at.is_some_and(|at| self.guest_slice(at, 1).is_some())
     }
 
     /// The index of an available ring (VIRTIO 1.2, 2.7.6), if it is mapped.
     pub fn available_index(&self, available: u64) -> Option<u16> {
         let at = self.iommu.guest_address(available.checked_add(2)?)?;
-        let index = self.slice(at as usize, 2)?;
+        let index = self.guest_slice(at, 2)?;
         index.load(0, Ordering::Acquire).ok().map(u16::from_le)
     }
 }
@@ -212,7 +219,7 @@ mod tests {
     #[test]
     fn an_access_is_within_one_region() {
         let table = table();
-        let has = |at: u64, len| table.slice(at as usize, len).is_some();
+        let has = |at, len| table.guest_slice(at, len).is_some();
         assert!(has(0x4000, 0x2000) && has(0x5fff, 1) && has(HIGH + 8, 8) && has(HIGH, 0x2000));
         assert!(
             !has(0x3fff, 1)
@@ -225,7 +232,7 @@ mod tests {
             !has(0, 1) && !has(HIGH - 1, 2) && !has(HIGH + 0x1fff, usize::MAX) && !has(u64::MAX, 1)
         );
         let without = table.without(HIGH, 2 * PAGE).expect("a table");
-        assert!(without.slice(HIGH as usize, 1).is_none() && without.slice(0x4000, 1).is_some());
+        assert!(without.guest_slice(HIGH, 1).is_none() && without.guest_slice(0x4000, 1).is_some());
     }
 
     #[test]
@@ -245,7 +252,12 @@ mod tests {
     #[test]
     fn what_is_stored_is_loaded() {
         let table = table();
-        let bytes_at = |at: u64, len| table.get_slice(at as usize, len);
+        let regions = table.regions();
+        let bytes_at = |at: u64, len| {
+            let holds = |region: &&pitskhomu::Region| at.wrapping_sub(region.guest) < region.len;
+            let region = regions.iter().find(holds)?;
+            table.get_slice(region.host + (at - region.guest) as usize, len)
+        };
         bytes_at(0x5ffd, 3).expect("bytes").store(&[1, 2, 3]);
         bytes_at(HIGH + 2, 2).expect("bytes").store(&0x1234u16.to_le_bytes());
         let mut bytes = [7; 3];

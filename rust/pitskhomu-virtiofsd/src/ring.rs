@@ -4,12 +4,19 @@
 //! that they were taken from, and new ones use the new numbers. Only a message that ends something
 //! waits until none of the ring's chains is in flight, so that its answer is true: GET_VRING_BASE,
 //! a ring that is disabled, and memory that maps or unmaps the ring's parts.
+//!
+//! Comments in brackets name the steps of the notification model (crate notify). For the available
+//! ring, whose giver is the driver, they are those of `specs/Threads.antt`; for the used ring,
+//! whose giver is this device, those of `specs/Kicks.antt`. The threads' own event is `wake`: a
+//! write to it is `Signals`. The calls of `Server` make the loads and stores, with their barriers
+//! (`Worker` in crate pitskhomu).
+mod threads;
 mod waits;
 
 use crate::in_flight::Doing;
 use crate::iommu::Cancel;
 use crate::memory::Table;
-use log::{debug, error, warn};
+use log::warn;
 use pitskhomu::{Queue, QueueLayout, Status, Taken};
 use std::fs::File;
 use std::io::{self, ErrorKind, Write};
@@ -21,11 +28,6 @@ pub use waits::LAST_CHAINS;
 
 /// The greatest queue size that the library allows.
 pub const SIZE_MAX: u32 = 32768;
-/// The time until the next try after an allocation failed.
-const AGAIN_MILLISECONDS: i32 = 100;
-/// So often a chain's addresses are asked for before other queues have their turn: QEMU may answer,
-/// and unmap them again before the answer is used.
-const MOST_ROUNDS: u32 = 64;
 
 /// The source of an event.
 #[derive(Debug, Clone, Copy, PartialEq, Eq)]
@@ -66,6 +68,8 @@ pub struct State {
     told: Option<(bool, u16)>,
     /// The number of threads that sleep until an event.
     sleeping: u16,
+    /// A sleeping thread was woken to take a chain, and doesn't have the lock yet.
+    is_woken: bool,
     /// The number of chains taken since the daemon began.
     taken: u64,
     /// The number of threads that serve the ring.
@@ -77,7 +81,7 @@ pub struct State {
     /// The next chain has addresses that the IOMMU's table doesn't map.
     is_missing: bool,
     kick: Option<File>,
-    call: Option<File>,
+    call: Option<Arc<File>>,
     /// The driver wasn't interrupted, since there was no call descriptor. QEMU sets it after it has
     /// started a ring with available chains.
     owes_call: bool,
@@ -126,8 +130,10 @@ impl State {
         let Numbers { next_avail, has_event_index, .. } = self.numbers;
         let telling = Some((wanted, if wanted && has_event_index { next_avail } else { 0 }));
         if !self.is_live() || self.is_new || self.told == telling {
-            return Ok(false);
+            return Ok(false); // [HasWished], if it is wanted
         }
+        // [Wishes, WishIsThere], or [Silences]: a store of avail_event or of the used ring's flags,
+        // and a full barrier
         let is_stored = server.set_notification(&self.queue, wanted, memory)?;
         self.told = telling;
         Ok(is_stored)
@@ -140,20 +146,22 @@ impl State {
     /// Whether a chain is available, as a hint: the driver may write to the ring at any time. The
     /// ring's index is loaded only if the last one shows no available chain.
     fn has_more(&self, memory: &Table) -> bool {
+        // the look once more of [GoesBusy] and [CallsOne]: a load of the available index
         self.queue.knows_more()
             || memory.available_index(self.numbers.layout.available)
                 != Some(self.numbers.next_avail)
     }
 
+    /// The event that interrupts the driver. Without a call descriptor the driver is interrupted
+    /// as soon as there is one.
+    fn interrupt(&mut self) -> Option<Arc<File>> {
+        self.owes_call = self.call.is_none();
+        self.call.clone()
+    }
+
     /// Interrupts the driver, as soon as there is a call descriptor.
     pub fn notify(&mut self) {
-        self.owes_call = self.call.is_none();
-        if let Some(Err(e)) = self.call.as_mut().map(|call| call.write(&1u64.to_ne_bytes())) {
-            // If the event's counter is full, the driver gets the interrupt all the same.
-            if e.kind() != ErrorKind::WouldBlock {
-                warn!("the driver isn't notified: {e}");
-            }
-        }
+        send(&mut self.interrupt());
     }
 
     /// Marks the ring as refused, and notifies the front-end by its err descriptor.
@@ -165,17 +173,15 @@ impl State {
     }
 }
 
-/// The outcome of looking for a chain.
-#[derive(Debug, Clone, Copy, PartialEq, Eq)]
-pub enum Looked {
-    /// A chain was taken.
-    Taken,
-    /// No chain is available, or the greatest number is in flight.
-    Idle,
-    /// Ask the IOMMU first.
-    Missing,
-    /// Try again later.
-    Again,
+/// Interrupts the driver, if an interrupt is owed.
+fn send(owed: &mut Option<Arc<File>>) {
+    // [Notifies] of the used ring
+    if let Some(Err(e)) = owed.take().map(|call| (&*call).write(&1u64.to_ne_bytes())) {
+        // If the event's counter is full, the driver gets the interrupt all the same.
+        if e.kind() != ErrorKind::WouldBlock {
+            warn!("the driver isn't notified: {e}");
+        }
+    }
 }
 
 /// Serves chains, on a ring's thread.
@@ -275,7 +281,7 @@ impl Ring {
 
     /// Has a thread look for chains.
     pub fn look(&self) {
-        let _ = self.wake.write(1); // a full counter wakes too
+        let _ = self.wake.write(1); // [Signals]; a full counter wakes too
     }
 
     fn forget_kick(&self, state: &mut State) {
@@ -325,7 +331,7 @@ impl Ring {
     /// Sets the call descriptor, by which the driver is interrupted, also for chains in flight.
     pub fn set_call(&self, call: Option<File>) {
         let mut state = self.lock();
-        state.call = call;
+        state.call = call.map(Arc::new);
         if state.owes_call {
             state.notify();
         }
@@ -350,169 +356,6 @@ impl Ring {
         drop(state);
         self.look();
     }
-
-    /// Removes a kick descriptor that has ended.
-    fn lose_kick(&self) {
-        warn!("queue {}: kicks aren't heard any more", self.index);
-        self.forget_kick(&mut self.lock());
-    }
-
-    /// Waits for an event.
-    fn wait(&self, milliseconds: i32) -> io::Result<()> {
-        let mut events = [EpollEvent::default(); 2];
-        let count = match self.events.wait(milliseconds, &mut events) {
-            Err(e) if e.kind() == ErrorKind::Interrupted => 0,
-            counted => counted?,
-        };
-        let ended = EventSet::HANG_UP | EventSet::ERROR;
-        if events[..count]
-            .iter()
-            .any(|event| event.data() == Source::Kick as u64 && event.event_set().intersects(ended))
-        {
-            self.lose_kick();
-        }
-        Ok(())
-    }
-
-    /// Takes the next chain, if one is available. With new numbers none is taken until the chains
-    /// in flight are returned with the old ones.
-    fn take(&self, state: &mut State, server: &mut impl Server, memory: &Arc<Table>) -> Looked {
-        if !state.is_live() || (state.is_new && state.queue.in_flight() > 0) {
-            return Looked::Idle;
-        }
-        let begun = if state.is_new { state.begin(self.threads) } else { Ok(()) };
-        match begun.and_then(|()| server.take(&mut state.queue, memory)) {
-            Ok(taken) => {
-                state.numbers.next_avail = state.queue.next_avail();
-                state.is_missing = taken == Taken::Missing;
-                match taken {
-                    Taken::Chain => Looked::Taken,
-                    Taken::Idle => Looked::Idle,
-                    Taken::Missing => Looked::Missing,
-                }
-            }
-            Err(Status::ChainInFlight) => Looked::Idle, // the thread that returns one looks again
-            Err(status) if status.is_out_of_memory() => {
-                warn!("queue {}: memory is wanting, and a chain waits", self.index);
-                Looked::Again
-            }
-            Err(status) => {
-                error!(
-                    "queue {} is refused, and isn't served until it begins anew: {status}",
-                    self.index
-                );
-                state.refuse();
-                Looked::Idle
-            }
-        }
-    }
-
-    /// While this thread answers its chain, a sleeping thread serves the next ones, so kicks are
-    /// enabled. Without a sleeping thread kicks are disabled, and this thread looks again later. If
-    /// kicks can't be enabled, or a chain is available, a sleeping thread is woken.
-    fn hand_on(&self, state: &mut State, server: &mut impl Server, memory: &Arc<Table>) {
-        let is_for_another = state.sleeping > 0;
-        let told = state.want_kicks(is_for_another, server, memory);
-        if is_for_another && (told.is_err() || state.has_more(memory)) {
-            self.look();
-        }
-    }
-
-    fn give_back(&self, state: &mut State, server: &mut impl Server) {
-        match server.give_back(&mut state.queue) {
-            Ok(true) => state.notify(),
-            Ok(false) => {}
-            Err(status) => {
-                error!("queue {} is refused, since a chain can't go back: {status}", self.index);
-                state.refuse();
-                let _ = state.begin(self.threads); // so no chain is in flight
-            }
-        }
-        if state.is_held || state.is_awaited {
-            self.changed.notify_all();
-        }
-    }
-
-    /// Serves chains until none is available. A chain that becomes available while kicks are
-    /// disabled is found by the look after they are enabled.
-    fn serve_all(
-        &self,
-        server: &mut impl Server,
-        memory: &impl Fn() -> Arc<Table>,
-        doing: &Doing,
-    ) -> Looked {
-        let mut state = self.lock();
-        state.sleeping -= 1;
-        let mut rounds = 0;
-        loop {
-            state = self.wait_while(state, |state| state.is_held);
-            // Get the memory under the lock: the front-end's thread has the lock while it changes
-            // it.
-            let table = memory();
-            let looked = self.take(&mut state, server, &table);
-            if looked == Looked::Taken {
-                state.taken += 1;
-                doing.begin(state.taken);
-            }
-            if state.is_awaited {
-                self.changed.notify_all();
-            }
-            if looked == Looked::Taken {
-                self.hand_on(&mut state, server, &table);
-                drop(state);
-                server.answer(doing);
-                state = self.lock();
-                doing.end();
-                self.give_back(&mut state, server);
-                rounds = 0;
-                continue;
-            }
-            let looked = match looked {
-                Looked::Missing => looked,
-                _ => match state.want_kicks(true, server, &table) {
-                    Ok(true) => continue,
-                    Ok(false) => looked,
-                    Err(Status::NotMapped) if table.iommu().is_on() => Looked::Missing,
-                    Err(status) => {
-                        debug!("queue {}: the driver isn't told yet to kick: {status}", self.index);
-                        Looked::Again
-                    }
-                },
-            };
-            if looked == Looked::Missing && rounds < MOST_ROUNDS {
-                rounds += 1;
-                drop(state);
-                let is_answered = server.ask(&table, &self.asking);
-                state = self.lock();
-                if is_answered {
-                    continue;
-                }
-            }
-            state.sleeping += 1;
-            return if looked == Looked::Missing { Looked::Again } else { looked };
-        }
-    }
-
-    /// The loop of each of the ring's threads, until the process ends. It begins with a look for
-    /// chains: an earlier thread that has a chain may have disabled kicks, since none slept.
-    pub fn run(&self, server: &mut impl Server, memory: impl Fn() -> Arc<Table>) {
-        let mut state = self.lock();
-        (state.sleeping, state.served_by) = (state.sleeping + 1, state.served_by + 1);
-        let doing = &self.doing[state.served_by - 1]; // at most `threads` run
-        drop(state);
-        let mut wait = 0;
-        loop {
-            if let Err(e) = self.wait(wait) {
-                error!("queue {} isn't served any more: {e}", self.index);
-                return;
-            }
-            wait = if self.serve_all(server, &memory, doing) == Looked::Again {
-                AGAIN_MILLISECONDS
-            } else {
-                -1
-            };
-        }
-    }
 }
 
 #[cfg(test)]
@@ -520,9 +363,6 @@ mod tests {
     use super::*;
     use std::io::Read;
     use std::os::fd::FromRawFd;
-    use std::sync::mpsc::{channel, Sender};
-    use std::thread;
-    use std::time::Duration;
 
     fn event() -> File {
         // SAFETY: no memory is touched.
@@ -535,96 +375,6 @@ mod tests {
     /// Whether it was written to since the last look.
     fn is_called(mut event: &File) -> bool {
         event.read(&mut [0; 8]).is_ok()
-    }
-
-    /// Has no chain, and `set_notification` fails this many times.
-    struct Failing(usize);
-
-    impl Server for Failing {
-        fn take(&mut self, _queue: &mut Queue, _memory: &Arc<Table>) -> Result<Taken, Status> {
-            Ok(Taken::Idle)
-        }
-
-        fn ask(&mut self, _memory: &Table, _cancel: &Cancel) -> bool {
-            false
-        }
-
-        fn answer(&mut self, _doing: &Doing) {}
-
-        fn give_back(&mut self, _queue: &mut Queue) -> Result<bool, Status> {
-            Ok(false)
-        }
-
-        fn set_notification(
-            &mut self,
-            _queue: &Queue,
-            _wanted: bool,
-            _memory: &Arc<Table>,
-        ) -> Result<bool, Status> {
-            let failing = self.0 > 0;
-            self.0 = self.0.saturating_sub(1);
-            if failing {
-                Err(Status::OutOfMemory)
-            } else {
-                Ok(true)
-            }
-        }
-    }
-
-    #[test]
-    fn what_could_not_be_said_of_kicks_is_said_again() {
-        let (ring, memory, mut server) =
-            (Ring::new(0, 1).expect("a ring"), Arc::new(Table::default()), Failing(1));
-        *ring.lock() =
-            State { is_started: true, is_enabled: true, sleeping: 1, ..State::default() };
-        assert_eq!(
-            ring.serve_all(&mut server, &|| memory.clone(), &Doing::default()),
-            Looked::Again
-        );
-        assert_eq!(ring.lock().told, None);
-        assert_eq!(
-            ring.serve_all(&mut server, &|| memory.clone(), &Doing::default()),
-            Looked::Idle
-        );
-        assert_eq!(ring.lock().told, Some((true, 0)));
-    }
-
-    /// Has no chain, and sends a message for each `take`.
-    struct Asked(Sender<()>);
-
-    impl Server for Asked {
-        fn take(&mut self, _queue: &mut Queue, _memory: &Arc<Table>) -> Result<Taken, Status> {
-            self.0.send(()).expect("who listens");
-            Ok(Taken::Idle)
-        }
-
-        fn ask(&mut self, _memory: &Table, _cancel: &Cancel) -> bool {
-            false
-        }
-
-        fn answer(&mut self, _doing: &Doing) {}
-
-        fn give_back(&mut self, _queue: &mut Queue) -> Result<bool, Status> {
-            Ok(false)
-        }
-
-        fn set_notification(
-            &mut self,
-            _queue: &Queue,
-            _wanted: bool,
-            _memory: &Arc<Table>,
-        ) -> Result<bool, Status> {
-            Ok(false)
-        }
-    }
-
-    #[test]
-    fn a_thread_looks_before_it_sleeps() {
-        let (ring, (asked, answers)) = (Ring::new(0, 2).expect("a ring"), channel());
-        *ring.lock() = State { is_started: true, is_enabled: true, ..State::default() };
-        // it ends with the process
-        thread::spawn(move || ring.run(&mut Asked(asked), Arc::default));
-        assert_eq!(answers.recv_timeout(Duration::from_secs(20)), Ok(()));
     }
 
     #[test]

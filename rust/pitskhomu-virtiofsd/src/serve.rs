@@ -13,8 +13,7 @@ use std::collections::BTreeSet;
 use std::io;
 use std::panic::{catch_unwind, AssertUnwindSafe};
 use std::sync::{Arc, PoisonError, RwLock};
-use std::thread;
-use std::time::{Duration, Instant};
+use std::time::Instant;
 use virtiofsd::filesystem::{FileSystem, SerializableFileSystem};
 
 /// A file system with all traits that the daemon needs.
@@ -36,6 +35,9 @@ pub struct Core<F> {
     /// What each session agrees on.
     pub always_agreed: pitskhomu::Options,
     memory: RwLock<Arc<Table>>,
+    /// The same memory for each ring, so that threads of different rings share no lock and no
+    /// count.
+    of_rings: Vec<RwLock<Arc<Table>>>,
 }
 
 /// The arguments of `Core::new`.
@@ -64,6 +66,10 @@ impl<F: ServedFs> Core<F> {
         }
         let ring = |index| Ring::new(index, if index == 0 { 1 } else { threads });
         let rings = (0..=request_queues).map(ring).collect::<io::Result<_>>()?;
+        // All have the same log and the same IOMMU.
+        let memory = Table::default();
+        let own = |_| RwLock::new(Arc::new(memory.clone()));
+        let of_rings = (0..=request_queues).map(own).collect();
         Ok(Core {
             fs,
             device: pitskhomu::Device::default(),
@@ -71,13 +77,19 @@ impl<F: ServedFs> Core<F> {
             flags,
             descriptors,
             always_agreed,
-            memory: RwLock::default(),
+            memory: RwLock::new(Arc::new(memory)),
+            of_rings,
         })
     }
 
     /// The current memory.
     pub fn memory(&self) -> Arc<Table> {
         self.memory.read().unwrap_or_else(PoisonError::into_inner).clone()
+    }
+
+    /// The same memory, for a thread of this ring.
+    pub fn memory_of(&self, ring: usize) -> Arc<Table> {
+        self.of_rings[ring].read().unwrap_or_else(PoisonError::into_inner).clone()
     }
 
     /// Replaces the memory. Chains in flight are served and returned over the memory that they were
@@ -90,6 +102,10 @@ impl<F: ServedFs> Core<F> {
         let quiet: Vec<_> =
             differ.iter().map(|ring| ring.quiet("a memory without the queue's parts")).collect();
         let locked: Vec<_> = agree.iter().map(|ring| ring.lock()).collect();
+        for memory in &self.of_rings {
+            let own = Arc::new(Table::clone(&new));
+            *memory.write().unwrap_or_else(PoisonError::into_inner) = own;
+        }
         *self.memory.write().unwrap_or_else(PoisonError::into_inner) = new;
         drop((quiet, locked));
     }
@@ -99,13 +115,7 @@ impl<F: ServedFs> Core<F> {
     pub fn wait_for_chains(&self) {
         let end = Instant::now() + LAST_CHAINS;
         for ring in &self.rings {
-            while ring.has_in_flight() {
-                if Instant::now() > end {
-                    ring.say_what_is_awaited("the end of the daemon no longer");
-                    break;
-                }
-                thread::sleep(Duration::from_millis(5));
-            }
+            ring.wait_for_its_chains(end.saturating_duration_since(Instant::now()));
         }
     }
 

@@ -13,9 +13,13 @@ use vm_memory::{
 /// All numbers of a region are multiples of this.
 const PAGE: u64 = 4096;
 
-/// A region, for a faster look-up. (vm-memory's own takes several times as long, and a request
-/// needs about fifteen.)
-#[derive(Debug)]
+/// A byte's number has this many bits for the offset in its region. The bits above are the region's
+/// place in the list. So only the library looks an address up.
+const OFFSET_BITS: u32 = usize::BITS - 8;
+
+/// A region, for a faster look-up of a guest address. (vm-memory's own takes several times as
+/// long.)
+#[derive(Debug, Clone)]
 struct Stretch {
     guest: u64,
     len: u64,
@@ -23,7 +27,8 @@ struct Stretch {
     host: usize,
 }
 
-/// The guest's memory, mapped by vm-memory. Workers know each byte by its guest address.
+/// The guest's memory, mapped by vm-memory. Workers know each byte by its region and its offset
+/// there, as one number ([`MappedMemory::regions`]).
 ///
 /// The regions never change: make another `MappedMemory` for other regions, and keep this one while
 /// a chain that was taken from it is in flight. Written pages are marked in the bitmap `B`.
@@ -37,7 +42,9 @@ struct Stretch {
 /// # fn main() -> Result<(), Box<dyn std::error::Error>> {
 /// let memory = GuestMemoryMmap::<()>::from_ranges(&[(GuestAddress(0x4000), 0x2000)])?;
 /// let memory = MappedMemory::new(memory)?;
-/// assert!(memory.get_slice(0x5ffe, 2).is_some() && memory.get_slice(0x5fff, 2).is_none());
+/// let host = memory.regions()[0].host;
+/// assert!(memory.get_slice(host + 0x1ffe, 2).is_some());
+/// assert!(memory.get_slice(host + 0x1fff, 2).is_none());
 ///
 /// let (device, mut worker) = (Device::default(), Worker::new());
 /// worker.set_memory(&device, &memory.regions())?;
@@ -45,7 +52,7 @@ struct Stretch {
 /// # Ok(())
 /// # }
 /// ```
-#[derive(Debug, Default)]
+#[derive(Debug, Clone, Default)]
 pub struct MappedMemory<B: Bitmap + 'static = ()> {
     memory: GuestMemoryMmap<B>,
     stretches: Vec<Stretch>,
@@ -56,12 +63,12 @@ impl<B: Bitmap + 'static> MappedMemory<B> {
     ///
     /// # Errors
     /// `BadArgument`: there are more than `Device::MOST_REGIONS`, one isn't of whole pages of 4096
-    /// bytes, or one ends past the greatest address of this host.
+    /// bytes, or one is longer than 2^56 bytes.
     pub fn new(memory: GuestMemoryMmap<B>) -> Result<MappedMemory<B>, Status> {
         let stretch = |region: &GuestRegionMmap<B>| {
             let (guest, len) = (region.start_addr().raw_value(), region.len());
             let is_whole = (guest | len | region.as_ptr() as u64) % PAGE == 0 && len > 0;
-            let fits = guest.checked_add(len).is_some_and(|end| usize::try_from(end).is_ok());
+            let fits = guest.checked_add(len).is_some() && len <= 1 << OFFSET_BITS;
             let host = region.as_ptr() as usize;
             (is_whole && fits).then_some(Stretch { guest, len, host }).ok_or(Status::BadArgument)
         };
@@ -81,34 +88,41 @@ impl<B: Bitmap + 'static> MappedMemory<B> {
     /// The regions for [`Worker::set_memory`](pitskhomu::Worker::set_memory).
     #[must_use]
     pub fn regions(&self) -> Vec<Region> {
-        let region = |&Stretch { guest, len, .. }: &Stretch| Region {
+        let region = |(k, &Stretch { guest, len, .. }): (usize, &Stretch)| Region {
             guest,
             len,
-            host: usize::try_from(guest).unwrap_or_default(), // fits: `new` has checked it
+            host: k << OFFSET_BITS,
         };
-        self.stretches.iter().map(region).collect()
+        self.stretches.iter().enumerate().map(region).collect()
     }
 
-    /// The index of the region that has the `len` bytes from a guest address on, and their offset
-    /// in it.
+    /// The place of the region that has the `len` bytes from a number on, and their offset in it.
     fn find(&self, at: usize, len: usize) -> Option<(usize, usize)> {
-        let offset_in = |stretch: &Stretch| {
-            (at as u64).checked_sub(stretch.guest).filter(|offset| *offset < stretch.len)
-        };
-        let (region, (stretch, offset)) = self
-            .stretches
-            .iter()
-            .enumerate()
-            .find_map(|(k, stretch)| Some((k, (stretch, offset_in(stretch)?))))?;
-        (len as u64 <= stretch.len - offset).then_some((region, usize::try_from(offset).ok()?))
+        let (region, offset) = (at >> OFFSET_BITS, at & ((1 << OFFSET_BITS) - 1));
+        let left = self.stretches.get(region)?.len.checked_sub(offset as u64)?;
+        (left > 0 && len as u64 <= left).then_some((region, offset))
+    }
+
+    /// The number of a guest address.
+    fn number(&self, guest: u64) -> Option<usize> {
+        self.stretches.iter().enumerate().find_map(|(k, stretch)| {
+            let offset = guest.checked_sub(stretch.guest).filter(|&offset| offset < stretch.len)?;
+            Some((k << OFFSET_BITS) + usize::try_from(offset).ok()?)
+        })
     }
 
     /// The bytes as vm-memory's slice, if they lie in one region. vm-memory marks the pages that it
-    /// writes by it. For the windows of a READ or WRITE, whose `at` is a guest address.
+    /// writes by it. `at` is a number, such as that of a window of a READ or WRITE.
     #[must_use]
     pub fn slice(&self, at: usize, len: usize) -> Option<VolatileSlice<'_, BS<'_, B>>> {
         let (region, offset) = self.find(at, len)?;
         self.memory.iter().nth(region)?.get_slice(MemoryRegionAddress(offset as u64), len).ok()
+    }
+
+    /// The same by a guest address, which is looked up.
+    #[must_use]
+    pub fn guest_slice(&self, guest: u64, len: usize) -> Option<VolatileSlice<'_, BS<'_, B>>> {
+        self.slice(self.number(guest)?, len)
     }
 }
 
@@ -129,8 +143,8 @@ impl<B: Bitmap + 'static> GuestMemory for MappedMemory<B> {
 
     fn mark(&self, written: GuestRange) {
         let place = |k: usize| Some((self.memory.iter().nth(k)?, self.stretches.get(k)?));
-        let at = usize::try_from(written.guest).ok();
-        let found = at.and_then(|at| self.find(at, 0)).and_then(|(k, at)| Some((place(k)?, at)));
+        let found = self.number(written.guest).and_then(|number| self.find(number, 0));
+        let found = found.and_then(|(k, offset)| Some((place(k)?, offset)));
         if let Some(((region, stretch), offset)) = found {
             let len = written.len.min(stretch.len - offset as u64);
             region.bitmap().mark_dirty(offset, usize::try_from(len).unwrap_or(usize::MAX));
@@ -145,6 +159,8 @@ mod tests {
     use vm_memory::{Bytes, GuestAddress};
 
     const HIGH: u64 = 1 << 32;
+    /// The number of the second region's first byte.
+    const SECOND: usize = 1 << OFFSET_BITS;
 
     /// Two regions of two pages each: at 0x4000, and at 2^32.
     fn mapped() -> MappedMemory<AtomicBitmap> {
@@ -167,13 +183,32 @@ mod tests {
             (u64::MAX, 1, false),
         ];
         for (at, len, is_mapped) in places {
-            let at = usize::try_from(at).unwrap();
+            let slice = memory.guest_slice(at, len).map(|slice| slice.len());
+            assert_eq!(slice, is_mapped.then_some(len), "{at:#x} {len}");
+        }
+        let region = |guest, host| Region { guest, len: 0x2000, host };
+        assert_eq!(memory.regions(), [region(0x4000, 0), region(HIGH, SECOND)]);
+    }
+
+    #[test]
+    fn a_number_is_a_region_and_an_offset() {
+        let memory = mapped();
+        let places = [
+            (0, 0x2000, true),
+            (0x1fff, 1, true),
+            (SECOND + 8, 8, true),
+            (0x1fff, 2, false),
+            (0x2000, 0, false),
+            (SECOND - 1, 1, false),
+            (SECOND + 0x1fff, usize::MAX, false),
+            (2 * SECOND, 1, false),
+            (usize::MAX, 1, false),
+        ];
+        for (at, len, is_mapped) in places {
             let slice = memory.get_slice(at, len).map(|slice| slice.len());
             assert_eq!(slice, is_mapped.then_some(len), "{at:#x} {len}");
             assert_eq!(memory.slice(at, len).map(|slice| slice.len()), slice, "{at:#x} {len}");
         }
-        let region = |guest: u64| Region { guest, len: 0x2000, host: guest as usize };
-        assert_eq!(memory.regions(), [region(0x4000), region(HIGH)]);
     }
 
     #[test]
@@ -181,9 +216,9 @@ mod tests {
         let memory = mapped();
         memory.memory().write_slice(b"hello", GuestAddress(HIGH + 3)).unwrap();
         let mut bytes = [0; 5];
-        memory.get_slice(HIGH as usize + 3, 5).unwrap().load(&mut bytes);
+        memory.get_slice(SECOND + 3, 5).unwrap().load(&mut bytes);
         assert_eq!(&bytes, b"hello");
-        memory.get_slice(0x5ffb, 5).unwrap().store(b"world");
+        memory.get_slice(0x1ffb, 5).unwrap().store(b"world");
         memory.memory().read_slice(&mut bytes, GuestAddress(0x5ffb)).unwrap();
         assert_eq!(&bytes, b"world");
     }

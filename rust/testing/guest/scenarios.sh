@@ -253,6 +253,57 @@ scenario_times() {
     run umount /mnt
 }
 
+# What a user does, timed by the row. One guest has a device for each daemon, and does everything on
+# each of them in turn. git and the archive are on a disk of its own.
+word_of() { sed -n "s/.*$1=\([^ ]*\).*/\1/p" /proc/cmdline | tr ',' ' '; }
+feel() {
+    local tag=$1 name=$2 sent
+    shift 2
+    sync
+    drop
+    sent=$(interrupts)
+    if ask "$@" > /tmp/felt 2>&1; then
+        sed -n "s/^TIME \([0-9.]*\) ms: .*/TIME \1 ms: $tag $name/p" /tmp/felt
+        echo "TIME $(($(interrupts) - sent)).0 interrupts: $tag $name"
+    else
+        echo "FAILED $tag $name: $(tail -n 1 /tmp/felt)"
+    fi
+}
+feel_all() {
+    local tag=$1 at=/disk/m/$1
+    mkdir "$at/w"
+    feel "$tag" 'untar' run tar -xf /tmp/archive -C "$at/w"
+    feel "$tag" 'git status, first' run chroot /disk git -C "/m/$tag/w" status --porcelain
+    feel "$tag" 'git status, again' run chroot /disk git -C "/m/$tag/w" status --porcelain
+    feel "$tag" 'ls -lR' run sh -c "ls -lR $at/w > /tmp/list"
+    feel "$tag" 'rm -r' run rm -r "$at/w"
+    feel "$tag" '4 KiB at random, 1 job' small 2000 "$at/big" 1
+    feel "$tag" '4 KiB at random, 8 jobs' small 4000 "$at/big" 8
+    feel "$tag" '64 KiB in order, 4 jobs' jobs 1024 "$at/big" 4
+    feel "$tag" '1 MiB in order' read 1048576 "$at/big" direct
+    feel "$tag" '64 KiB in order, cached' read 65536 "$at/big"
+}
+scenario_feel() {
+    local tag tags round
+    tags=$(word_of tags)
+    mkdir /disk
+    run mount -t ext4 -o ro /dev/vda /disk
+    mount -o bind /dev /disk/dev
+    mount -o bind /proc /disk/proc
+    mount -t tmpfs tmp /disk/m
+    for tag in $tags; do
+        mkdir "/disk/m/$tag"
+        run mount -t virtiofs "$tag" "/disk/m/$tag"
+    done
+    cp /disk/archive /tmp/archive
+    for round in $(seq "$(word_of rounds)"); do
+        for tag in $tags; do feel_all "$tag"; done
+        case $tags in *' '*) tags="${tags#* } ${tags%% *}" ;; esac
+        echo "ROUND $round"
+    done
+    for tag in $tags; do run umount "/disk/m/$tag"; done
+}
+
 # Holds all files that it may, in the background.
 hold_all() {
     hold 3000 /mnt/work/held/ > /tmp/taken &

@@ -113,7 +113,8 @@ pub fn send(socket: RawFd, parts: &[IoSlice<'_>], how: i32) -> io::Result<usize>
     let mut message: libc::msghdr = unsafe { zeroed() };
     message.msg_iov = parts.as_ptr().cast_mut().cast();
     message.msg_iovlen = parts.len() as _;
-    // SAFETY: an IoSlice is laid out as iovec is, and the parts are borrowed. It reads them.
+    // SAFETY: an IoSlice is laid out as iovec is, and the parts are borrowed. The kernel only reads
+    // them.
     let len = unsafe { libc::sendmsg(socket, &message, how | libc::MSG_NOSIGNAL) };
     usize::try_from(len).map_err(|_| io::Error::last_os_error())
 }

@@ -69,14 +69,17 @@ impl Ring {
         state
     }
 
-    /// Whether a chain is in flight.
-    pub fn has_in_flight(&self) -> bool {
-        self.lock().queue.in_flight() > 0
-    }
-
-    /// Logs which chains are in flight.
-    pub fn say_what_is_awaited(&self, message: &str) {
-        self.say(&self.lock(), message);
+    /// Waits until no chain is in flight, at most for this time. Then the log says which are. This
+    /// waits for a condition: virtiofsd's filter of system calls allows no sleep by the clock.
+    pub fn wait_for_its_chains(&self, time: Duration) {
+        let mut state = self.lock();
+        state.is_awaited = true;
+        let is_out = |state: &mut State| state.queue.in_flight() > 0;
+        let (mut state, is_long) = self.wait_a_while(state, time, is_out);
+        state.is_awaited = false;
+        if is_long {
+            self.say(&state, "the end of the daemon no longer");
+        }
     }
 
     fn say(&self, state: &State, message: &str) {

@@ -117,15 +117,19 @@ impl Worker {
     /// ```
     /// # use pitskhomu::*;
     /// # use std::sync::Mutex;
-    /// # fn translated(worker: &mut Worker, table: &Mutex<Iotlb>, queue: &mut Queue,
-    /// #     memory: &dyn GuestMemory, ask: &dyn Fn(&Miss) -> Option<u64>)
-    /// #     -> Result<bool, Status> {
+    /// # fn translated(
+    /// #     worker: &mut Worker,
+    /// #     table: &Mutex<Iotlb>,
+    /// #     queue: &mut Queue,
+    /// #     memory: &dyn GuestMemory,
+    /// #     ask: &dyn Fn(&Miss) -> Option<u64>,
+    /// # ) -> Result<bool, Status> {
     /// loop {
     ///     let mut iotlb = table.lock().unwrap();
-    ///     match worker.lend(&mut iotlb)?.take(queue, memory)? {
-    ///         Taken::Chain => return Ok(true),
-    ///         Taken::Idle => return Ok(false),
-    ///         Taken::Missing => drop(iotlb), // others may use it while the IOMMU is asked
+    ///     let taken = worker.lend(&mut iotlb)?.take(queue, memory)?;
+    ///     drop(iotlb); // others may use it while the IOMMU is asked
+    ///     if taken != Taken::Missing {
+    ///         return Ok(taken == Taken::Chain);
     ///     }
     ///     for miss in worker.misses() {
     ///         let guest = ask(miss).ok_or(Status::NotMapped)?;

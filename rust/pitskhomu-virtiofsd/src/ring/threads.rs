@@ -1,0 +1,334 @@
+//! The loop of a ring's threads. ring.rs says what the comments in brackets name.
+use super::{send, Ring, Server, Source, State};
+use crate::in_flight::Doing;
+use crate::memory::Table;
+use log::{debug, error, warn};
+use pitskhomu::{Status, Taken};
+use std::fs::File;
+use std::io::{self, ErrorKind};
+use std::sync::Arc;
+use vmm_sys_util::epoll::{EpollEvent, EventSet};
+
+/// The time until the next try after an allocation failed.
+const AGAIN_MILLISECONDS: i32 = 100;
+/// So often a chain's addresses are asked for before other queues have their turn: QEMU may answer,
+/// and unmap them again before the answer is used.
+const MOST_ROUNDS: u32 = 64;
+
+/// The outcome of looking for a chain.
+#[derive(Debug, Clone, Copy, PartialEq, Eq)]
+enum Looked {
+    /// A chain was taken.
+    Taken,
+    /// No chain is available, or the greatest number is in flight.
+    Idle,
+    /// Ask the IOMMU first.
+    Missing,
+    /// Try again later.
+    Again,
+}
+
+impl Ring {
+    /// Removes a kick descriptor that has ended.
+    fn lose_kick(&self) {
+        warn!("queue {}: kicks aren't heard any more", self.index);
+        self.forget_kick(&mut self.lock());
+    }
+
+    /// Waits for an event.
+    fn wait(&self, milliseconds: i32) -> io::Result<()> {
+        let mut events = [EpollEvent::default(); 2];
+        // [Wakens]: by the driver's notification, by `wake`, or by neither
+        let count = match self.events.wait(milliseconds, &mut events) {
+            Err(e) if e.kind() == ErrorKind::Interrupted => 0,
+            counted => counted?,
+        };
+        let ended = EventSet::HANG_UP | EventSet::ERROR;
+        if events[..count]
+            .iter()
+            .any(|event| event.data() == Source::Kick as u64 && event.event_set().intersects(ended))
+        {
+            self.lose_kick();
+        }
+        Ok(())
+    }
+
+    /// Takes the next chain, if one is available. With new numbers none is taken until the chains
+    /// in flight are returned with the old ones.
+    fn take(&self, state: &mut State, server: &mut impl Server, memory: &Arc<Table>) -> Looked {
+        if !state.is_live() || (state.is_new && state.queue.in_flight() > 0) {
+            return Looked::Idle;
+        }
+        let begun = if state.is_new { state.begin(self.threads) } else { Ok(()) };
+        // [Loads], unless a chain before the index that was loaded last is left; [TakesOne]. An
+        // error after the first load is [DropsOne] or [Loads] alone.
+        match begun.and_then(|()| server.take(&mut state.queue, memory)) {
+            Ok(taken) => {
+                state.numbers.next_avail = state.queue.next_avail();
+                state.is_missing = taken == Taken::Missing;
+                match taken {
+                    Taken::Chain => Looked::Taken,
+                    Taken::Idle => Looked::Idle,
+                    Taken::Missing => Looked::Missing,
+                }
+            }
+            Err(Status::ChainInFlight) => Looked::Idle, // the thread that returns one looks again
+            Err(status) if status.is_out_of_memory() => {
+                warn!("queue {}: memory is wanting, and a chain waits", self.index);
+                Looked::Again
+            }
+            Err(status) => {
+                error!(
+                    "queue {} is refused, and isn't served until it begins anew: {status}",
+                    self.index
+                );
+                state.refuse();
+                Looked::Idle
+            }
+        }
+    }
+
+    /// While this thread answers its chain, a sleeping thread serves the next ones, so kicks are
+    /// enabled. Without a sleeping thread kicks are disabled, and this thread looks again later.
+    /// Returns whether the caller must wake a thread after it has released the lock: if kicks can't
+    /// be enabled, or a chain is available. One at a time is enough: it takes a chain, and wakes
+    /// the next. (In the model `wake` is pending from here on until that thread has the lock, so
+    /// others are [GoesBusy] without a call of their own.)
+    fn hand_on(state: &mut State, server: &mut impl Server, memory: &Arc<Table>) -> bool {
+        let is_for_another = state.sleeping > 0;
+        // [Wishes] or [HasWished]; with nobody asleep [Silences]
+        let told = state.want_kicks(is_for_another, server, memory);
+        // [GoesBusy] if no chain is left, or a thread is woken already. Else [Signals], and then
+        // [GoesBusy]. With nobody asleep [Leaves].
+        let wakes = is_for_another && !state.is_woken && (told.is_err() || state.has_more(memory));
+        state.is_woken |= wakes;
+        wakes
+    }
+
+    /// Returns the event that interrupts the driver, if it is to be interrupted.
+    fn give_back(&self, state: &mut State, server: &mut impl Server) -> Option<Arc<File>> {
+        let mut owed = None;
+        // [Returns]; of the used ring [Publishes], a full barrier, [Checks]
+        match server.give_back(&mut state.queue) {
+            Ok(true) => owed = state.interrupt(),
+            Ok(false) => {}
+            Err(status) => {
+                error!("queue {} is refused, since a chain can't go back: {status}", self.index);
+                state.refuse();
+                let _ = state.begin(self.threads); // so no chain is in flight
+            }
+        }
+        if state.is_held || state.is_awaited {
+            self.changed.notify_all();
+        }
+        owed
+    }
+
+    /// Serves chains until none is available. A chain that becomes available while kicks are
+    /// disabled is found by the look after they are enabled. This thread sends an interrupt that it
+    /// owes after it has taken the next chain and released the lock: the ring's other threads don't
+    /// wait for that system call.
+    fn serve_all(
+        &self,
+        server: &mut impl Server,
+        memory: &impl Fn() -> Arc<Table>,
+        doing: &Doing,
+    ) -> Looked {
+        let (mut state, mut owed) = (self.lock(), None); // [Enters]
+        state.sleeping -= 1;
+        state.is_woken = false; // [Hears]
+        let mut rounds = 0;
+        loop {
+            if state.is_held {
+                send(&mut owed);
+            }
+            state = self.wait_while(state, |state| state.is_held);
+            // Get the memory under the lock: the front-end's thread has the lock while it changes
+            // it.
+            let table = memory();
+            let looked = self.take(&mut state, server, &table);
+            if looked == Looked::Taken {
+                state.taken += 1;
+                doing.begin(state.taken);
+            }
+            if state.is_awaited {
+                self.changed.notify_all();
+            }
+            if looked == Looked::Taken {
+                let wakes = Ring::hand_on(&mut state, server, &table);
+                drop(state);
+                send(&mut owed);
+                if wakes {
+                    self.look();
+                }
+                server.answer(doing);
+                state = self.lock(); // [Comes, Enters]
+                doing.end();
+                owed = self.give_back(&mut state, server);
+                rounds = 0;
+                continue;
+            }
+            send(&mut owed);
+            // [Wishes], and one more round, whose pop is the look once more: [SleepsNow] or
+            // [WalksOn]. Or [HasWished] before this round, whose pop was that look
+            let looked = match looked {
+                Looked::Missing => looked,
+                _ => match state.want_kicks(true, server, &table) {
+                    Ok(true) => continue,
+                    Ok(false) => looked,
+                    Err(Status::NotMapped) if table.iommu().is_on() => Looked::Missing,
+                    Err(status) => {
+                        debug!("queue {}: the driver isn't told yet to kick: {status}", self.index);
+                        Looked::Again
+                    }
+                },
+            };
+            if looked == Looked::Missing && rounds < MOST_ROUNDS {
+                // It doesn't sleep: it pops again when this is answered, and else in a moment. A
+                // thread that is woken meanwhile misses the same.
+                rounds += 1;
+                drop(state);
+                let is_answered = server.ask(&table, &self.asking);
+                state = self.lock();
+                if is_answered {
+                    continue;
+                }
+            }
+            state.sleeping += 1; // [SleepsNow]
+            return if looked == Looked::Missing { Looked::Again } else { looked };
+        }
+    }
+
+    /// The loop of each of the ring's threads, until the process ends. It begins with a look for
+    /// chains: an earlier thread that has a chain may have disabled kicks, since none slept.
+    pub fn run(&self, server: &mut impl Server, memory: impl Fn() -> Arc<Table>) {
+        let mut state = self.lock();
+        (state.sleeping, state.served_by) = (state.sleeping + 1, state.served_by + 1);
+        let doing = &self.doing[state.served_by - 1]; // at most `threads` run
+        drop(state);
+        let mut wait = 0;
+        loop {
+            if let Err(e) = self.wait(wait) {
+                error!("queue {} isn't served any more: {e}", self.index);
+                return;
+            }
+            wait = if self.serve_all(server, &memory, doing) == Looked::Again {
+                AGAIN_MILLISECONDS
+            } else {
+                -1
+            };
+        }
+    }
+}
+
+#[cfg(test)]
+mod tests {
+    use super::*;
+    use crate::iommu::Cancel;
+    use pitskhomu::Queue;
+    use std::sync::mpsc::{channel, Sender};
+    use std::thread;
+    use std::time::Duration;
+
+    /// Has no chain, and `set_notification` fails this many times.
+    struct Failing(usize);
+
+    impl Server for Failing {
+        fn take(&mut self, _queue: &mut Queue, _memory: &Arc<Table>) -> Result<Taken, Status> {
+            Ok(Taken::Idle)
+        }
+
+        fn ask(&mut self, _memory: &Table, _cancel: &Cancel) -> bool {
+            false
+        }
+
+        fn answer(&mut self, _doing: &Doing) {}
+
+        fn give_back(&mut self, _queue: &mut Queue) -> Result<bool, Status> {
+            Ok(false)
+        }
+
+        fn set_notification(
+            &mut self,
+            _queue: &Queue,
+            _wanted: bool,
+            _memory: &Arc<Table>,
+        ) -> Result<bool, Status> {
+            let failing = self.0 > 0;
+            self.0 = self.0.saturating_sub(1);
+            if failing {
+                Err(Status::OutOfMemory)
+            } else {
+                Ok(true)
+            }
+        }
+    }
+
+    #[test]
+    fn what_could_not_be_said_of_kicks_is_said_again() {
+        let (ring, memory, mut server) =
+            (Ring::new(0, 1).expect("a ring"), Arc::new(Table::default()), Failing(1));
+        *ring.lock() =
+            State { is_started: true, is_enabled: true, sleeping: 1, ..State::default() };
+        assert_eq!(
+            ring.serve_all(&mut server, &|| memory.clone(), &Doing::default()),
+            Looked::Again
+        );
+        assert_eq!(ring.lock().told, None);
+        assert_eq!(
+            ring.serve_all(&mut server, &|| memory.clone(), &Doing::default()),
+            Looked::Idle
+        );
+        assert_eq!(ring.lock().told, Some((true, 0)));
+    }
+
+    /// Has no chain, and sends a message for each `take`.
+    struct Asked(Sender<()>);
+
+    impl Server for Asked {
+        fn take(&mut self, _queue: &mut Queue, _memory: &Arc<Table>) -> Result<Taken, Status> {
+            self.0.send(()).expect("who listens");
+            Ok(Taken::Idle)
+        }
+
+        fn ask(&mut self, _memory: &Table, _cancel: &Cancel) -> bool {
+            false
+        }
+
+        fn answer(&mut self, _doing: &Doing) {}
+
+        fn give_back(&mut self, _queue: &mut Queue) -> Result<bool, Status> {
+            Ok(false)
+        }
+
+        fn set_notification(
+            &mut self,
+            _queue: &Queue,
+            _wanted: bool,
+            _memory: &Arc<Table>,
+        ) -> Result<bool, Status> {
+            Ok(false)
+        }
+    }
+
+    #[test]
+    fn a_thread_looks_before_it_sleeps() {
+        let (ring, (asked, answers)) = (Ring::new(0, 2).expect("a ring"), channel());
+        *ring.lock() = State { is_started: true, is_enabled: true, ..State::default() };
+        // it ends with the process
+        thread::spawn(move || ring.run(&mut Asked(asked), Arc::default));
+        assert_eq!(answers.recv_timeout(Duration::from_secs(20)), Ok(()));
+    }
+
+    #[test]
+    fn one_thread_at_a_time_is_woken() {
+        let (ring, memory) = (Ring::new(0, 3).expect("a ring"), Arc::new(Table::default()));
+        let mut server = Failing(0);
+        *ring.lock() =
+            State { is_started: true, is_enabled: true, sleeping: 2, ..State::default() };
+        let hands_on = |server: &mut Failing| Ring::hand_on(&mut ring.lock(), server, &memory);
+        assert!(hands_on(&mut server) && !hands_on(&mut server));
+        ring.serve_all(&mut server, &|| memory.clone(), &Doing::default()); // it has come
+        assert!(hands_on(&mut server));
+    }
+}

@@ -1,0 +1,179 @@
+//! The push of a worker's chain, and the notifications of both sides.
+use super::{Served, Worker};
+use crate::chain::Replied;
+use crate::data::store_room;
+use crate::memory::{self, GuestMemory, GuestRange, Window};
+use crate::queue::Queue;
+use crate::status::{Fault, RequestFault, Status};
+use crate::sys;
+use core::mem;
+use core::sync::atomic::{fence, Ordering};
+
+/// Ends a push unless it is forgotten. So a push doesn't block the queue's other chains if the
+/// memory panics at one of its stores.
+struct Pushing<'w>(&'w mut Worker, &'w mut Queue);
+
+impl Drop for Pushing<'_> {
+    fn drop(&mut self) {
+        let _ = self.0.chain.pushed(self.1, 0);
+        self.0.abandon();
+    }
+}
+
+impl Worker {
+    /// Returns the chain to the driver: stores the reply, the used element and the used index, in
+    /// this order (VIRTIO 1.2, 2.7.8). The result is a summary of the chain.
+    ///
+    /// # Errors
+    /// - `WrongOrder`: the worker has no chain, or one without an answer, or one that was popped
+    ///   with a table ([`Lent::give_back`](crate::Lent::give_back)), which it keeps. After other
+    ///   errors it has no chain.
+    /// - `OtherQueue`: the chain is of another queue, or its queue was reset.
+    /// - `NotMapped`: the worker got regions without the queue's rings. Reset the queue.
+    pub fn give_back(
+        &mut self,
+        queue: &mut Queue,
+        memory: &dyn GuestMemory,
+    ) -> Result<Served, Status> {
+        if self.chain.is_translated() {
+            return Err(Status::WrongOrder);
+        }
+        self.push(queue, memory)
+    }
+
+    /// The same, with a table that is lent, or without one.
+    pub(super) fn push(
+        &mut self,
+        queue: &mut Queue,
+        memory: &dyn GuestMemory,
+    ) -> Result<Served, Status> {
+        if !self.is_answered() {
+            return Err(Status::WrongOrder);
+        }
+        let pushing = Pushing(self, queue);
+        let stores = pushing.0.chain.push(pushing.1, &mut pushing.0.front)?;
+        let notify = pushing.0.store(pushing.1, memory, &stores)?;
+        mem::forget(pushing);
+        self.progress = None;
+        self.chain.forget_windows();
+        Ok(self.served(stores.len, notify))
+    }
+
+    /// Makes the stores of a push, and returns whether to notify the driver.
+    fn store(
+        &mut self,
+        queue: &mut Queue,
+        memory: &dyn GuestMemory,
+        stores: &sys::Stores,
+    ) -> Result<bool, Status> {
+        if self.replied == Replied::Entries {
+            let len = (stores.len as usize).saturating_sub(stores.front_len);
+            store_room(&mut self.chain, memory, sys::HEADER, &self.list[..len]);
+        }
+        store_room(&mut self.chain, memory, 0, &self.front[..stores.front_len]);
+        memory::store(memory, stores.id_at, &stores.id.to_le_bytes());
+        memory::store(memory, stores.len_at, &stores.len.to_le_bytes());
+        fence(Ordering::Release);
+        memory::store_u16(memory, stores.index_at, stores.index);
+        if memory.is_logging() {
+            self.mark_written(memory, stores);
+        }
+        // The driver's flags or `used_event` must be loaded after the driver can see the index, or
+        // a notification is lost.
+        fence(Ordering::SeqCst);
+        self.chain.pushed(queue, memory::load_u16(memory, stores.seen_at))
+    }
+
+    /// Enables or disables available buffer notifications of the driver (VIRTIO 1.2, 2.7.10).
+    /// Enable them before you sleep. They may be disabled while a worker looks for chains. The
+    /// worker may have a chain. Returns whether something was stored.
+    ///
+    /// After enabling, call `take` once more, since the driver may have made a chain available
+    /// before it could see the store. If several workers serve the queue, hold its lock from here
+    /// to the end of that `take`.
+    ///
+    /// A worker that takes a chain while another worker of the queue sleeps must enable
+    /// notifications again before it releases the lock, with an event index and without one. Then
+    /// it must load the available index again: an index that was loaded before may show that a
+    /// chain is available, but never that none is. If one is available, it wakes a worker that
+    /// sleeps, or takes the chain. The driver notifies once for several chains, and with an event
+    /// index only for the next chain.
+    ///
+    /// # Errors
+    /// - `WrongOrder`: no memory was set.
+    /// - `BadArgument`: the queue isn't set up.
+    /// - `NotMapped`: the flags, or `avail_event`, aren't in the worker's regions.
+    pub fn set_notification(
+        &mut self,
+        queue: &Queue,
+        enabled: bool,
+        memory: &dyn GuestMemory,
+    ) -> Result<bool, Status> {
+        self.store_notification(queue, enabled, memory, false)
+    }
+
+    /// The same, with a table that is lent, or without one.
+    pub(super) fn store_notification(
+        &mut self,
+        queue: &Queue,
+        enabled: bool,
+        memory: &dyn GuestMemory,
+        is_lent: bool,
+    ) -> Result<bool, Status> {
+        let store = self.chain.set_notification(queue, enabled)?;
+        if store.len == 0 {
+            return Ok(false);
+        }
+        memory::store_u16(memory, store.at, store.value);
+        if memory.is_logging() {
+            let len = store.len.into();
+            if is_lent {
+                self.mark_at(memory, Window { at: store.at, len: store.len.into() });
+            } else {
+                memory.mark(GuestRange { guest: queue.notification_address(), len });
+            }
+        }
+        fence(Ordering::SeqCst); // the next load of the available index comes after the store
+        Ok(true)
+    }
+
+    /// Reports the written bytes: the reply buffer up to the end of the reply and of the bytes that
+    /// the file system may have written, the used element and the used index.
+    fn mark_written(&mut self, memory: &dyn GuestMemory, stores: &sys::Stores) {
+        let written = u64::from(stores.len).max(self.written);
+        if self.chain.is_translated() {
+            return self.mark_windows(memory, written, stores);
+        }
+        let mut ranges = [GuestRange::default(); 16];
+        let mut done = 0;
+        while done < written {
+            let found = self.chain.reply_ranges(done, written - done, &mut ranges);
+            if found.is_empty() {
+                break;
+            }
+            for range in found {
+                memory.mark(*range);
+                done += range.len;
+            }
+        }
+        memory.mark(GuestRange { guest: stores.element_guest, len: 8 });
+        memory.mark(GuestRange { guest: stores.index_guest, len: 2 });
+    }
+
+    fn served(&self, reply_len: u32, notify: bool) -> Served {
+        Served {
+            head: self.pop.head,
+            request_len: self.pop.request_len,
+            room_len: self.pop.reply_len,
+            opcode: self.call.opcode,
+            unique: self.call.unique,
+            reply_len,
+            fault: Some(self.pop.fault).filter(|&number| number != 0).map(Fault::of),
+            request_fault: Some(self.call.fault)
+                .filter(|&number| number != 0)
+                .map(RequestFault::of),
+            had_no_room: self.replied == Replied::NoRoom,
+            notify,
+        }
+    }
+}
