@@ -35,9 +35,9 @@ class Guest:
         self.rng = rng
         self.lines = []
         self.base = rng.choice(BASES)
-        # The handle has no IOMMU, and regions of whole pages.
+        # The handle has regions and mappings of whole pages.
         self.for_handle = rng.random() < 0.4
-        self.iommu = not self.for_handle and rng.random() < 0.6
+        self.iommu = rng.random() < (0.4 if self.for_handle else 0.6)
         self.start = self.base
         if self.iommu:
             self.start = rng.choice([0, 0x1000, 2**20, 2**64 - SPAN - 0x1000])
@@ -177,7 +177,7 @@ class Guest:
         permissions."""
         rng = self.rng
         if not self.iommu:
-            if not self.for_handle and self.chance(0.1):
+            if self.chance(0.1):
                 self.change_mappings()
             return
         pages = SPAN // 0x1000
@@ -192,8 +192,21 @@ class Guest:
         for begin, target, length in parts:
             self.pieces.append((self.start + begin, self.base + target, length))
             may = rng.choice(["rw"] * 30 + ["r", "w", "none"])
-            self.say(f"map {self.start + begin:#x} {self.base + target:#x} {length:#x} {may}")
+            self.map(self.start + begin, self.base + target, length, may)
         self.say("iommu on")
+
+    def in_pages(self, *numbers):
+        """Numbers of a mapping: of whole pages, if the handle has to play it."""
+        page = 0x1000 if self.for_handle else 1
+        return " ".join(f"{value % 2**64 // page * page:#x}" for value in numbers)
+
+    def map(self, iova, target, length, may):
+        """A line that maps addresses."""
+        self.say(f"map {self.in_pages(iova, target, length)} {may}")
+
+    def unmap(self, iova, length):
+        """A line that removes mappings."""
+        self.say(f"unmap {self.in_pages(iova, length)}")
 
     # Chains.
 
@@ -374,8 +387,7 @@ class Guest:
     def disturb(self):
         """Something that isn't a kick."""
         rng = self.rng
-        change = self.change_regions if self.for_handle else self.change_mappings
-        kinds = [self.change_regions, change, self.overwrite, self.overwrite]
+        kinds = [self.change_regions, self.change_mappings, self.overwrite, self.overwrite]
         rng.choice([*kinds, self.other, self.other])()
 
     def change_regions(self):
@@ -410,22 +422,23 @@ class Guest:
         rng = self.rng
         kind = rng.randrange(8)
         address = self.somewhere() if self.chance(0.7) else self.start + rng.randrange(SPAN)
-        if kind < 4:
-            if kind < 2:
-                target = (self.in_guest(address) or 0) + rng.choice([0, 0, 1])
-            else:
-                target = self.base + rng.randrange(SPAN)
-            length = rng.choice([0, 1, 2, 16, 0x100, 0x1000, number(rng)])
-            self.say(f"map {address % 2**64:#x} {target % 2**64:#x} {length:#x} "
-                f"{rng.choice(['rw', 'rw', 'r', 'w', 'none'])}")
+        may = rng.choice(["rw", "rw", "r", "w", "none"])
+        lengths, step = [0, 1, 2, 16, 0x100, 0x1000, number(rng)], 1
+        if self.for_handle:
+            lengths, step = [0, 0x1000, 0x1000, 0x2000, number(rng)], 0x1000
+        length = rng.choice(lengths)
+        if kind < 2:
+            target = (self.in_guest(address) or 0) + rng.choice([0, 0, step])
+            self.map(address, target, length, may)
+        elif kind < 4:
+            self.map(address, self.base + rng.randrange(SPAN), length, may)
         elif kind < 6:
-            self.say(f"unmap {address % 2**64:#x} {rng.choice([0, 1, 16, 0x100, number(rng)]):#x}")
+            self.unmap(address, length)
         elif kind == 6 and self.chance(0.5):
             self.say(rng.choice(["iommu on", "iommu off"]))
             self.spoil_queues()
         else:
-            self.say(f"map {number(rng)} {number(rng)} {number(rng)} "
-                f"{rng.choice(['rw', 'r', 'w', 'none'])}")
+            self.map(number(rng), number(rng), number(rng), may)
         if self.iommu:
             self.spoil_queues()
 

@@ -56,7 +56,7 @@ class Hostile(Guest):
         super().make_mappings()
         if self.iommu and self.start < 2**63 and self.chance(0.3):
             for iova, target, length in list(self.pieces):
-                self.say(f"map {iova + 2**20:#x} {target:#x} {length:#x} rw")
+                self.map(iova + 2**20, target, length, "rw")
             self.twin = (self.start, SPAN)
 
     def area(self):
@@ -249,15 +249,15 @@ class Hostile(Guest):
         target = self.in_guest(address)
         if target is None:
             return
-        length = rng.choice([1, 1, 2, 16])
+        length = 0x1000 if self.for_handle else rng.choice([1, 1, 2, 16])
         self.offer(self.queue)
         self.put(self.queue.avail + 2, struct.pack("<H", self.queue.index))
         if self.chance(0.5):
-            self.say(f"unmap {address:#x} {length}")
+            self.unmap(address, length)
         else:
-            self.say(f"map {address:#x} {target:#x} {length} {rng.choice(PERMISSIONS)}")
+            self.map(address, target, length, rng.choice(PERMISSIONS))
         self.say(f"kick {number_of} {rng.choice([1, 1, 2])}")
-        self.say(f"map {address:#x} {target:#x} {length} rw")
+        self.map(address, target, length, "rw")
         if self.chance(0.5):
             self.reset(number_of)
             self.put(self.queue.avail, struct.pack("<HH", 0, 0))

@@ -296,7 +296,7 @@ static void note_named(const struct pk_call *c) {
     case PK_CALL_RMDIR: CALL("rmdir", c->node); break;
     case PK_CALL_RENAME: CALL("rename", c->node, c->node2, c->flags); break;
     case PK_CALL_LINK: CALL("link", c->node, c->node2); break;
-    case PK_CALL_SETXATTR: CALL("setxattr", c->node, c->flags), note(" ?"); break;
+    case PK_CALL_SETXATTR: CALL("setxattr", c->node, c->flags, c->setxattr_flags); break;
     case PK_CALL_GETXATTR: CALL("getxattr", c->node, c->size); break;
     default: CALL("removexattr", c->node);
     }
@@ -306,6 +306,7 @@ static void note_named(const struct pk_call *c) {
     if (c->kind == PK_CALL_SYMLINK || c->kind == PK_CALL_MKNOD || c->kind == PK_CALL_MKDIR ||
         c->kind == PK_CALL_CREATE)
         note_number(c->has_group, c->group);
+    if (c->has_label) note_text(c->label_name), note_text(c->label);
 }
 
 static void note_file(const struct pk_call *c) {
@@ -581,7 +582,6 @@ static struct row with(const struct row *written, enum variant variant) {
     if (is_unserved(&row)) {
         *row.calls = 0;
         if (!*row.fault) set_error(&row, ENOSYS);
-        if (variant == SHORT_BUFFER) *row.fault = 0; /* the library doesn't report it */
     }
     return row;
 }
@@ -594,24 +594,11 @@ static void hide(char *call, unsigned k) {
     sprintf(call, "?%s", copy);
 }
 
-/* Removes the label behind the group of a new node, which follows so many quotes. */
-static void cut_label(char *call, unsigned quotes) {
-    char *end = call;
-    while (quotes-- > 0) end = strchr(end, '"') + 1;
-    end += 1 + strcspn(end + 1, " \n");
-    memmove(end, strchr(end, '\n'), strlen(strchr(end, '\n')) + 1);
-}
-
 /* What the library doesn't pass on is hidden in the calls that are wanted. */
 static void adapt(char *wanted) {
     for (char *call = wanted; *call; call = strchr(call, '\n') + 1) {
         if (!strncmp(call, "setattr ", 8)) hide(call, 7), hide(call, 8);
-        if (!strncmp(call, "setxattr ", 9)) hide(call, 6);
         if (!strncmp(call, "copy_file_range ", 16)) hide(call, 11);
-        if (!strncmp(call, "symlink ", 8)) cut_label(call, 4);
-        if (!strncmp(call, "mknod ", 6) || !strncmp(call, "mkdir ", 6) ||
-            !strncmp(call, "create ", 7))
-            cut_label(call, 2);
     }
 }
 

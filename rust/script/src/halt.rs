@@ -21,7 +21,10 @@ pub enum Halt {
 /// What the handle lacks for a line.
 #[derive(Clone, Copy, Debug)]
 pub enum Missing {
-    Iommu,
+    /// A number of a mapping isn't a multiple of 4096.
+    PartOfAnIoPage,
+    /// A pop needs an I/O address of the last page, which the table can't refuse.
+    LastIoPage,
     /// A region's address or length isn't a multiple of 4096.
     PartOfAPage,
     ManyRegions,
@@ -61,7 +64,12 @@ impl From<Status> for Stuck {
 impl fmt::Display for Missing {
     fn fmt(&self, f: &mut fmt::Formatter<'_>) -> fmt::Result {
         match self {
-            Missing::Iommu => f.write_str("the handle has no IOMMU"),
+            Missing::PartOfAnIoPage => {
+                f.write_str("a mapping of the handle is made of whole pages of 4096 bytes")
+            }
+            Missing::LastIoPage => {
+                f.write_str("the handle's IOMMU can't refuse addresses from 2^64 - 4096 on")
+            }
             Missing::PartOfAPage => {
                 f.write_str("a region of the handle is made of whole pages of 4096 bytes")
             }

@@ -1,5 +1,5 @@
 //! The commands of a script, and the reasons that a line isn't a command.
-use pitskhomu::QueueLayout;
+use pitskhomu::{Access, QueueLayout};
 use std::fmt;
 
 /// A command of a script.
@@ -26,9 +26,18 @@ pub enum Command {
         address: u64,
         len: u64,
     },
-    /// `map`, `unmap` and `iommu on`.
-    Iommu,
-    IommuOff,
+    Map {
+        iova: u64,
+        target: u64,
+        len: u64,
+        access: Access,
+    },
+    Unmap {
+        iova: u64,
+        len: u64,
+    },
+    /// Whether it is turned on.
+    Iommu(bool),
     Kick {
         queue: u64,
         most: u16,
@@ -120,9 +129,12 @@ impl<'a> Words<'a> {
         Ok(QueueLayout { size, descriptors, available, used })
     }
 
-    fn permissions(&mut self) -> Result<(), WrongLine> {
+    fn permissions(&mut self) -> Result<Access, WrongLine> {
         match self.word()? {
-            b"none" | b"r" | b"w" | b"rw" => Ok(()),
+            b"none" => Ok(Access::None),
+            b"r" => Ok(Access::Read),
+            b"w" => Ok(Access::Write),
+            b"rw" => Ok(Access::ReadWrite),
             _ => Err(WrongLine::NotPermissions),
         }
     }
@@ -145,16 +157,13 @@ impl<'a> Words<'a> {
             b"write" => self.write(),
             b"read" => Ok(Command::Read { address: self.number()?, len: self.number()? }),
             b"map" => {
-                let _mapping = (self.number()?, self.number()?, self.number()?);
-                self.permissions().map(|()| Command::Iommu)
+                let (iova, target, len) = (self.number()?, self.number()?, self.number()?);
+                Ok(Command::Map { iova, target, len, access: self.permissions()? })
             }
-            b"unmap" => {
-                let _range = (self.number()?, self.number()?);
-                Ok(Command::Iommu)
-            }
+            b"unmap" => Ok(Command::Unmap { iova: self.number()?, len: self.number()? }),
             b"iommu" => match self.word()? {
-                b"on" => Ok(Command::Iommu),
-                b"off" => Ok(Command::IommuOff),
+                b"on" => Ok(Command::Iommu(true)),
+                b"off" => Ok(Command::Iommu(false)),
                 _ => Err(WrongLine::NotASwitch),
             },
             b"kick" => Ok(Command::Kick { queue: self.number()?, most: self.short()? }),

@@ -1,8 +1,11 @@
 //! The guest with its device: queues, worker, memory and files.
 use crate::files::{Calls, Files};
 use crate::halt::{Missing, Stuck};
+use crate::iommu::Iommu;
 use crate::memory::{Memory, Refusal};
-use pitskhomu::{Device, Fault, Queue, QueueLayout, RequestFault, Served, Status, Worker};
+use pitskhomu::{
+    Device, Fault, Miss, Queue, QueueLayout, RequestFault, Served, Status, Taken, Worker,
+};
 
 /// The bytes of a reply's header (struct fuse_out_header).
 const HEADER: usize = 16;
@@ -15,6 +18,7 @@ pub const QUEUES_MAX: usize = Device::MOST_QUEUES;
 
 pub struct Machine {
     pub memory: Memory,
+    pub iommu: Iommu,
     device: Device,
     queues: Vec<Queue>,
     worker: Worker,
@@ -89,14 +93,15 @@ fn request_fault_name(fault: RequestFault) -> &'static str {
 
 impl Machine {
     /// A device without queues, and a guest without memory.
-    pub fn new() -> Machine {
-        Machine {
+    pub fn new() -> Result<Machine, Status> {
+        Ok(Machine {
             memory: Memory::default(),
+            iommu: Iommu::new()?,
             device: Device::default(),
             queues: Vec::new(),
             worker: Worker::new(),
             files: Files::new(),
-        }
+        })
     }
 
     pub fn queue_count(&self) -> usize {
@@ -134,12 +139,49 @@ impl Machine {
         Ok(self.worker.set_memory(&self.device, &regions)?)
     }
 
+    /// Takes a queue's next chain, whose addresses are I/O addresses. Addresses that the table
+    /// doesn't map are refused for this pop: so the chain gets its fault, or the queue its refusal.
+    fn take_translated(&mut self, queue: usize) -> Result<Result<Taken, Status>, Stuck> {
+        let mut refused: Vec<Miss> = Vec::new();
+        let taken = loop {
+            let mut lent = self.worker.lend(&mut self.iommu.table)?;
+            let taken = lent.take(&mut self.queues[queue], &self.memory);
+            drop(lent);
+            if taken != Ok(Taken::Missing) {
+                break taken;
+            }
+            for miss in self.worker.misses() {
+                self.iommu.refuse(miss)?;
+                refused.push(*miss);
+            }
+        };
+        refused.iter().try_for_each(|miss| self.iommu.end_refusal(miss))?;
+        Ok(taken)
+    }
+
+    /// Serves a queue's next chain behind the IOMMU.
+    fn serve_translated(&mut self, queue: usize) -> Result<Result<Option<Served>, Status>, Stuck> {
+        match self.take_translated(queue)? {
+            Ok(Taken::Chain) => {}
+            Ok(Taken::Idle | Taken::Missing) => return Ok(Ok(None)),
+            Err(status) => return Ok(Err(status)),
+        }
+        self.worker.answer(&self.device, &self.files, &self.memory)?;
+        let mut lent = self.worker.lend(&mut self.iommu.table)?;
+        Ok(Ok(Some(lent.give_back(&mut self.queues[queue], &self.memory)?)))
+    }
+
     /// Serves a queue's next chain.
     pub fn step(&mut self, queue: u64) -> Result<Step, Stuck> {
         self.set_memory()?;
-        let queue = &mut self.queues[queue as usize];
-        self.memory.begin_step();
-        match self.worker.serve(queue, &self.device, &self.files, &self.memory) {
+        let queue = queue as usize;
+        self.memory.begin_step(self.iommu.is_on);
+        let served = if self.iommu.is_on {
+            self.serve_translated(queue)?
+        } else {
+            self.worker.serve(&mut self.queues[queue], &self.device, &self.files, &self.memory)
+        };
+        match served {
             Ok(None) => Ok(Step::Idle),
             Ok(Some(served)) => {
                 let len = served.reply_len as usize;
@@ -156,8 +198,8 @@ impl Machine {
         }
     }
 
-    /// Replaces memory and device by copies, as after a migration. Returns the length of the
-    /// device's record in bytes; `None` if an allocation fails.
+    /// Replaces memory and device by copies, as after a migration. The IOMMU stays as it is.
+    /// Returns the length of the device's record in bytes; `None` if an allocation fails.
     pub fn move_on(&mut self) -> Result<Option<usize>, Stuck> {
         let record = self.device.save(&self.queues)?;
         let device = Device::default();

@@ -9,6 +9,7 @@
 #![forbid(unsafe_code)]
 mod files;
 mod halt;
+mod iommu;
 mod line;
 mod machine;
 mod memory;
@@ -38,7 +39,7 @@ fn read_script(reader: &mut dyn Read) -> Result<Vec<u8>, Halt> {
 
 fn play(reader: &mut dyn Read, writer: &mut dyn Write) -> Result<(), Halt> {
     let script = read_script(reader)?;
-    let mut session = Session::new();
+    let mut session = Session::new().map_err(|_| Halt::OutOfMemory)?;
     for (number, text) in (1..).zip(script.split(|&byte| byte == b'\n')) {
         session.run(number, text, writer)?;
     }

@@ -17,6 +17,7 @@ pub enum Refusal {
     BadRegion = 4,
     Overlap = 5,
     NoRegion = 6,
+    BadMapping = 7,
     NoSuchQueue = 8,
     OutOfMemory = 9,
 }
@@ -71,6 +72,8 @@ struct Mapping {
 
 /// A part of a range of guest addresses that lies in one region.
 struct Part {
+    /// The region's first address.
+    base: u64,
     block: usize,
     offset: usize,
     len: usize,
@@ -83,6 +86,9 @@ pub struct Memory {
     /// The bytes that the wrapper reported as written since `begin_step`, as ranges of the
     /// library's numbers. Those of the reply come first, in its order.
     stored: RefCell<Vec<Range<usize>>>,
+    /// Whether the device that writes them is behind the IOMMU: it marks I/O pages then, which
+    /// aren't kept.
+    is_translated: bool,
 }
 
 impl Memory {
@@ -139,7 +145,8 @@ impl Memory {
             let offset = at - base;
             let rest = mapping.size.checked_sub(offset).filter(|&rest| rest > 0);
             let len = rest.ok_or(Refusal::NoPlace)?.min(end - at);
-            parts.push(Part { block: mapping.block, offset: offset as usize, len: len as usize });
+            let (block, offset) = (mapping.block, offset as usize);
+            parts.push(Part { base, block, offset, len: len as usize });
             at += len;
         }
         Ok(parts)
@@ -192,9 +199,17 @@ impl Memory {
         Some(moved)
     }
 
-    /// Begins a new list of the bytes that the device writes.
-    pub fn begin_step(&self) {
-        self.stored.borrow_mut().clear();
+    /// Begins a new list of the bytes that the device writes, behind the IOMMU or not.
+    pub fn begin_step(&mut self, is_translated: bool) {
+        self.stored.get_mut().clear();
+        self.is_translated = is_translated;
+    }
+
+    /// Whether a region is the first one over its block.
+    fn is_first(&self, part: &Part) -> bool {
+        let mut regions = self.regions.iter();
+        regions.find(|(_, mapping)| mapping.block == part.block).map(|(&base, _)| base)
+            == Some(part.base)
     }
 
     /// Whether the reply's header and its data share a byte.
@@ -234,7 +249,11 @@ impl GuestMemory for Memory {
     fn mark(&self, written: GuestRange) {
         for part in self.parts(written.guest, written.len).unwrap_or_default() {
             let block = &self.blocks[part.block];
-            block.mark(part.offset, part.len);
+            if !self.is_translated {
+                block.mark(part.offset, part.len);
+            } else if !self.is_first(&part) {
+                continue; // the wrapper names the bytes in each region over the block
+            }
             let at = block.host + part.offset;
             self.stored.borrow_mut().push(at..at + part.len);
         }

@@ -1,9 +1,9 @@
 //! Runs a script's commands one after another, and prints their outcomes.
-use crate::halt::{Halt, Missing};
+use crate::halt::Halt;
 use crate::line::{self, Command, WrongLine};
 use crate::machine::{bad_layout, fault_name, Machine, Step, QUEUES_MAX};
 use crate::memory::Refusal;
-use pitskhomu::QueueLayout;
+use pitskhomu::{QueueLayout, Status};
 use std::io::{self, Write};
 
 /// The number of a kick's refusal: there is no such queue.
@@ -16,8 +16,8 @@ pub struct Session {
 }
 
 impl Session {
-    pub fn new() -> Session {
-        Session { machine: Machine::new(), began: false }
+    pub fn new() -> Result<Session, Status> {
+        Ok(Session { machine: Machine::new()?, began: false })
     }
 
     /// Runs the command of a line, if it has one.
@@ -50,8 +50,18 @@ impl Session {
                 let bytes = self.machine.memory.guest_read(address, len);
                 print(writer, bytes.map(|bytes| format!("bytes {}", digits(&bytes))))?;
             }
-            Command::Iommu => return Err(Halt::NotOnTheHandle(number, Missing::Iommu)),
-            Command::IommuOff => writeln!(writer, "ok")?,
+            Command::Map { iova, target, len, access } => {
+                let mapped = self.machine.iommu.map(iova, target, len, access);
+                print(writer, done(mapped.map_err(|stuck| stuck.at(number))?))?;
+            }
+            Command::Unmap { iova, len } => {
+                let unmapped = self.machine.iommu.unmap(iova, len);
+                print(writer, done(unmapped.map_err(|stuck| stuck.at(number))?))?;
+            }
+            Command::Iommu(is_on) => {
+                self.machine.iommu.is_on = is_on;
+                writeln!(writer, "ok")?;
+            }
             Command::Kick { queue, most } => self.kick(number, queue, most, writer)?,
             Command::Reset { queue, layout } => self.reset(number, queue, layout, writer)?,
             Command::Move => self.move_on(number, writer)?,

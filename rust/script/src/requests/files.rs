@@ -114,8 +114,14 @@ impl Files {
     }
 }
 
-fn group(context: &Context) -> String {
-    or_dash(context.supplementary_group.map(u64::from))
+/// A name of a new node, and the request's extensions: a group, and a label if there is one.
+fn named(context: &Context, child: &Child<'_>) -> Vec<String> {
+    let group = or_dash(context.supplementary_group.map(u64::from));
+    let mut words = vec![quoted(child.name.to_bytes()), group];
+    if let Some(label) = child.label {
+        words.extend([label.name.to_bytes(), label.value].map(quoted));
+    }
+    words
 }
 
 impl FileSystem for Files {
@@ -178,18 +184,17 @@ impl FileSystem for Files {
         self.done(context, "readlink", &[node.0], &[], fill(target, b"to"))
     }
     fn symlink(&self, context: &Context, link: Child<'_>, target: &CStr) -> Answer<Entry> {
-        let texts = [target, link.name].map(|text| quoted(text.to_bytes()));
-        let words = [&texts[..], &[group(context)]].concat();
+        let words = [vec![quoted(target.to_bytes())], named(context, &link)].concat();
         self.done(context, "symlink", &[link.parent.0], &words, self.entry())
     }
     fn mknod(&self, context: &Context, child: Child<'_>, make: MakeNode) -> Answer<Entry> {
         let numbers = [child.parent.0, make.mode.into(), make.rdev.into(), make.umask.into()];
-        let words = [quoted(child.name.to_bytes()), group(context)];
+        let words = named(context, &child);
         self.done(context, "mknod", &numbers, &words, self.entry())
     }
     fn mkdir(&self, context: &Context, child: Child<'_>, make: MakeDirectory) -> Answer<Entry> {
         let numbers = [child.parent.0, make.mode.into(), make.umask.into()];
-        let words = [quoted(child.name.to_bytes()), group(context)];
+        let words = named(context, &child);
         self.done(context, "mkdir", &numbers, &words, self.entry())
     }
     fn unlink(&self, context: &Context, child: Child<'_>) -> Answer<()> {
@@ -226,7 +231,7 @@ impl FileSystem for Files {
     ) -> Answer<(Entry, Opened)> {
         let Create { flags, mode, umask, kill_priv, .. } = create;
         let numbers = [child.parent.0, mode.into(), kill_priv.into(), flags.into(), umask.into()];
-        let words = [quoted(child.name.to_bytes()), group(context)];
+        let words = named(context, &child);
         self.done(context, "create", &numbers, &words, (self.entry(), self.opened()))
     }
     fn read(
@@ -294,10 +299,11 @@ impl FileSystem for Files {
         node: Node,
         name: &CStr,
         value: &[u8],
-        flags: u32,
+        set: SetXattr,
     ) -> Answer<()> {
-        let words = ["?".into(), quoted(name.to_bytes()), quoted(value)];
-        self.done(context, "setxattr", &[node.0, flags.into()], &words, ())
+        let words = [quoted(name.to_bytes()), quoted(value)];
+        let numbers = [node.0, set.flags.into(), set.kill_sgid.into()];
+        self.done(context, "setxattr", &numbers, &words, ())
     }
     fn getxattr(
         &self,

@@ -132,26 +132,18 @@ impl Row {
     }
 }
 
-/// A call with `?` for each argument that the wrapper doesn't pass on, and without a label.
+/// A call with `?` for each argument that the wrapper doesn't pass on.
 fn passed_on(call: &str) -> String {
     let mut words: Vec<&str> = call.split(' ').collect();
     let hidden: &[usize] = match words[0] {
         "forget" | "batch_forget" => &[1, 2, 3],
         "setattr" => &[7, 8],
-        "setxattr" => &[6],
         "getxattr" | "listxattr" => &[5],
         "copy_file_range" => &[11],
         _ => &[],
     };
     hidden.iter().for_each(|&k| words[k] = "?");
-    let len = match words[0] {
-        "symlink" => 8,
-        "mkdir" => 9,
-        "mknod" => 10,
-        "create" => 11,
-        _ => words.len(),
-    };
-    words[..len].join(" ")
+    words.join(" ")
 }
 
 impl Counts {
