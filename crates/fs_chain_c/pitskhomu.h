@@ -37,8 +37,9 @@
  *
  * THREADS. Calls may run at the same time if they share only arguments that all of them take as
  * const. Otherwise calls on one chain, queue or device need an order: a lock, or a join. A chain
- * may move between threads. Threads that have a chain and a queue each share only `device`: use a
- * reader-writer lock, since pk_reply_init and pk_restore write it, and pk_decode reads it.
+ * may move between threads. Threads that have a chain and a queue each share only `device`, and an
+ * IOMMU's table. Use a reader-writer lock: pk_reply_init and pk_restore write `device`, pk_decode
+ * reads it.
  *
  * RULES for the caller. The library can't check them; it does refuse calls in a wrong order.
  *  1. A pointer is valid for its length, and never NULL, not even with length 0. An argument that

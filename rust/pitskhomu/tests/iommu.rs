@@ -103,6 +103,20 @@ fn a_pop_names_all_that_it_misses() {
 }
 
 #[test]
+fn a_missed_event_field_names_no_buffer_of_an_earlier_chain() {
+    let (mut guest, mut iotlb) = guest();
+    let first = guest.queue.next_avail();
+    guest.queue = Queue::new(io_layout(), first).unwrap().with_event_index(true);
+    offer(&mut guest);
+    take_by_misses(&mut guest, &mut iotlb);
+    answer(&mut guest);
+    give_back(&mut guest, &mut iotlb).unwrap();
+    iotlb.clear();
+    assert_eq!(take(&mut guest, &mut iotlb), Ok(Taken::Missing));
+    assert_eq!(guest.worker.misses(), [miss(AVAILABLE, Access::Read)]);
+}
+
+#[test]
 fn a_chain_keeps_its_windows_whatever_becomes_of_the_table() {
     let (mut guest, mut iotlb) = guest();
     offer(&mut guest);

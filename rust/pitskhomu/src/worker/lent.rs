@@ -51,8 +51,8 @@ impl Drop for Lent<'_> {
 impl Lent<'_> {
     /// Takes the next chain of a queue whose addresses are I/O addresses, as [`Worker::take`] does.
     ///
-    /// The windows of a chain that was taken hold until it is given back, whatever becomes of the
-    /// table. Only the mappings of the queue's available and used ring must stay until then.
+    /// The windows of a chain that was taken are valid until it is given back, even if the table
+    /// changes. Only the mappings of the queue's available and used ring must stay until then.
     ///
     /// After [`Taken::Missing`] let go of the table, map the ranges of [`Worker::misses`], and take
     /// again. Map a range that the IOMMU refuses with [`Access::None`](crate::Access::None), for
@@ -159,10 +159,14 @@ impl Worker {
     }
 
     /// All misses of the pop that has just ended: its first, and those of the buffers of the
-    /// descriptors that it gathered.
-    pub(super) fn gather_misses(&mut self) -> Result<(), Status> {
+    /// descriptors that it gathered. It gathers none before it has found `used_event` and
+    /// `avail_event`: then the library has those of an earlier pop.
+    pub(super) fn gather_misses(&mut self, queue: &Queue) -> Result<(), Status> {
         let sys::Pop { miss_at: at, miss_len: len, miss_access: access, .. } = self.pop;
         self.miss(sys::Miss { at, len, access })?;
+        if queue.has_event_field_at(at) {
+            return Ok(());
+        }
         let (mut index, mut from) = (0, 0);
         while self.misses.len() < MISSES {
             match self.chain.miss(index, from) {
