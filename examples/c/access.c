@@ -145,6 +145,6 @@ void give_up(struct pk_chain *chain, struct pk_queue *queue, uint32_t ticket,
     if (pk_drop(chain, queue) == PK_DONE) return;
     uint32_t status = pk_reply_bytes(chain, ticket, 0); /* silence, unless it has a reply */
     status = give_back(chain, queue, marker, notify);
-    /* its queue was begun anew, or has to be, since a store had no place */
+    /* its queue was reset, or has to be, since a store isn't mapped */
     if (status != PK_DONE) pk_abandon(chain);
 }

@@ -52,14 +52,14 @@ uint32_t ask(struct pk_chain *chain, const struct pk_device *device, uint8_t *re
              struct pk_call *call);
 
 /* Gives a chain back in the order of VIRTIO 1.2, 2.7.8, and marks the stores and as much of the
- * room as the reply has (what else was put into the room, mark yourself); `marker` may be NULL.
- * `notify` becomes true if the driver wants to be told. */
+ * reply buffer as the reply has (mark other bytes that you put there yourself); `marker` may be
+ * NULL. `notify` becomes true if the driver is to be notified. */
 uint32_t give_back(struct pk_chain *chain, struct pk_queue *queue, const struct marker *marker,
                    bool *notify);
 
-/* Has this chain out of the queue no more, whatever it came to: one that wasn't asked waits as
- * before if it is the last that was taken, and any other goes back, with silence if it has no
- * reply. `ticket` is the step's, `notify` as with give_back. */
+/* Ends this chain in any state. A chain that wasn't decoded is available again, if it is the last
+ * one that was popped. Any other is returned, without a reply if it has none. `ticket` is the
+ * pop's, `notify` as with give_back. */
 void give_up(struct pk_chain *chain, struct pk_queue *queue, uint32_t ticket,
              const struct marker *marker, bool *notify);
 

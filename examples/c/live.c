@@ -36,8 +36,8 @@ static uint32_t serve_request(struct worker *worker, const struct pk_pop *step) 
                : pk_reply_err(&worker->chain, call.ticket, EIO);
 }
 
-/* Takes the next chain. PK_CHAIN_IN_FLIGHT: as many are out as the queue holds, and whoever gives
- * one back looks again. */
+/* Pops the next chain. PK_CHAIN_IN_FLIGHT: the queue's limit is in flight, and the thread that
+ * returns one looks again. */
 static uint32_t take(struct worker *worker, struct pk_pop *step) {
     struct live *live = worker->live;
     uint32_t status =

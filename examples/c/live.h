@@ -7,9 +7,9 @@
 #include "access.h"
 #include <pthread.h>
 
-/* What answers a call: PK_DONE or PK_NO_ROOM, or why the chain gets no such answer (it is told EIO
- * then). `device` is a copy of the device's numbers, whose options INIT may change. Threads of
- * other queues answer meanwhile. */
+/* Answers a call, and returns PK_DONE, PK_NO_ROOM, or an error (then the reply is EIO). `device` is
+ * a copy of the device's numbers, whose options INIT may change. Threads of other queues answer
+ * meanwhile. */
 typedef uint32_t answerer(void *files, struct pk_chain *chain, struct pk_device *device,
                           const struct pk_call *call, const uint8_t *request);
 

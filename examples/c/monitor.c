@@ -1,7 +1,6 @@
-/* A monitor over pitskhomu.h with a file system in memory. It is here to be copied: access.c stays
- * as it is, part 1 is yours, and part 2 gets the transport that you have; here a guest of the same
- * process draws a ring by hand (guest.h), and stands still while it is served. (live.c serves one
- * that runs.)
+/* A VMM over pitskhomu.h with a file system in memory. Copy it: access.c stays as it is, part 1 is
+ * yours, and part 2 gets your transport. Here a guest of the same process writes a ring by hand
+ * (guest.h), and doesn't run while it is served. (live.c serves one that runs.)
  *
  *     cc -std=c11 -o monitor monitor.c access.c $(pkg-config --cflags --libs pitskhomu)
  */
@@ -210,8 +209,8 @@ static void print_written(void) {
     printf("\n");
 }
 
-/* PK_DONE: answered. PK_NO_ROOM: the chain has no room for the reply, and goes back with none.
- * Others: the call waits still. */
+/* PK_DONE: answered. PK_NO_ROOM: the reply buffer is too small, and the chain is returned without a
+ * reply. Others: the call is still unanswered. */
 static uint32_t answer(const struct pk_call *call) {
     uint64_t node, count;
     switch (call->kind) {
