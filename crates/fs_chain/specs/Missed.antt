@@ -1,4 +1,4 @@
--- Theorems: a pop that misses addresses changes nothing, and says what it misses.
+-- Theorems: a pop that misses addresses changes nothing, and returns the missing addresses.
 use Rattle.std.specs.Prelude.{◌≡◌, ℕ, List, [], Some, None}
 use Rattle.vm_iotlb.specs.declared.iova.IovaRange.{IovaRange}
 use Rattle.vm_iotlb.specs.declared.permissions.Permissions.{Permissions}

@@ -67,7 +67,7 @@ abbrev pub told_of_table : {X : Type 0} → Result X IommuError → Result X Cha
 told_of_table (Ok done) = Ok done
 told_of_table (Err e) = Err (error_of e)
 
--- a table in its place maps whole pages; what is refused changes nothing
+-- a table in its place maps whole pages; a call that is refused changes nothing
 abbrev pub MapsIn : (old : Option (List IotlbRange)) → (iova len guest : ℕ) → Permissions →
     (new : Option (List IotlbRange)) → {X : Type 0} → Result X ChainError → Type 0
 MapsIn None iova len guest access new told = (told ≡ Err WrongOrder) × (new ≡ None)

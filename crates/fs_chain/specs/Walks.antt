@@ -149,8 +149,8 @@ GoesOn course pop_id walk bytes old new before after told =
 abbrev pub HasEvents : ChainHandle → QueueState → Type 0
 HasEvents w q = event_fault (places_in w.regions) q ≡ None
 
--- the result is neither a refusal nor a miss, or used_event and avail_event are mapped: a pop that begins
--- while they aren't mapped is refused, or misses them
+-- after a refusal or a miss, used_event and avail_event are mapped. A pop that begins while they aren't is
+-- refused, or misses them
 abbrev pub RefusalHasEvents : walked.PopOutcome → ChainHandle → QueueState → Type 0
 RefusalHasEvents (tells.Refused e) w q = HasEvents w q
 RefusalHasEvents (tells.Missing range access) w q = HasEvents w q

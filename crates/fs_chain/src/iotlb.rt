@@ -1,4 +1,4 @@
-//! An IOMMU's table, which the caller lends to a handle, and what is missing in it.
+//! An IOMMU's table, which the caller lends to a handle, and the addresses that it lacks.
 
 ghost use Rattle.std.specs.Prelude.{◌≡◌, All, Some, length, slice_get, true, false};
 ghost use Rattle.fs_regions.specs.Places.{places_in};
@@ -53,8 +53,8 @@ impl ChainHandle {
         self.descriptors.len()
     }
 
-    /// Of the buffer of one of the gathered descriptors: the first addresses from one on that the table
-    /// doesn't map, and the access that the buffer needs. None if there are none, or no such descriptor.
+    /// The first addresses of a gathered descriptor's buffer, from an address on, that the table doesn't
+    /// map, and the access that the buffer needs. None if all are mapped, or if there is no such descriptor.
     pub fn missing_at(&self, index: usize, from: u64) -> Option<(IovaRange, Permissions)>
         ensures { result ≡ miss_at (places_in self.now.regions)
             (slice_get self.now.descriptors.items index) from }

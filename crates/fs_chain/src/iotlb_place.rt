@@ -44,7 +44,7 @@ impl IotlbPlace {
         }
     }
 
-    /// Maps `len` I/O addresses to those from `guest` on, whatever they were mapped to. Errors: `WrongOrder`
+    /// Maps `len` I/O addresses to those from `guest` on, in place of earlier mappings. Errors: `WrongOrder`
     /// (no table is here), `BadArgument` (no whole pages, or an end that isn't below 2^64), `OutOfMemory`.
     pub fn map(
         &mut self,

@@ -82,8 +82,8 @@ PushReturnsOne =
 abbrev pub load : ℕ
 load = 32
 
--- calls of `pk_pop` on one handle and one queue, the last one first. The first call has no bytes; each later
--- one has the bytes that the call before it asked for, and finds the queue as that call left it
+-- calls of `pk_pop` on one handle and one queue, the last one first. The first call has no bytes. Each later
+-- one has the bytes that the call before it asked for, and finds the queue in the state that it left
 abbrev pub PopsBy : (given : List (List ℕ)) → (b b' : ChainHandle) → (q q' : FsQueue) → FsPop →
     (status : ℕ) → Type 0
 PopsBy [] b b' q q' step status = (b.state ≡ at.Free) × PopsHandle b q [] step status b' q'

@@ -405,8 +405,8 @@ word_at request at =
     if nat_lt (length request - at) 4 then 0 else from_le_bytes w32 (take 4 (drop at request))
 
 -- the offset of a label's name, by that of the first extension. An extension begins with its length and its
--- kind (struct fuse_ext_header), and a label's is of kind 1: it is the first one, or follows the group's.
--- Its name is behind that header and struct fuse_secctx, of 8 bytes each
+-- kind (struct fuse_ext_header). A label's is of kind 1: it is the first one, or follows the group's. The
+-- name follows that header and struct fuse_secctx, of 8 bytes each
 abbrev pub label_name_at : (request : List ℕ) → (at : ℕ) → ℕ
 label_name_at request at =
     past (if word_at request (past at 4) == 1 then at else past at (word_at request at)) 16

@@ -102,8 +102,8 @@ pub record CannotAsk (w : ChainHandle) (request : List ℕ) (e : ChainError) (w'
 abbrev pub IsDeviceSession : FsDevice → Session → Type 0
 IsDeviceSession d s = (s.page_size ≡ d.page_size) × (s.options.0 ≡ bit_and d.options known_options)
 
--- the result of decoding, as C gets it: the call, or the fault of its reply; how many bytes decoding needs
--- (34); nothing, if there is no call; or the fault
+-- the result of decoding, as C gets it: the call, or the fault of its reply. If more bytes are needed, it is
+-- their count, with 34; if there is no call, nothing; else the fault
 abbrev pub TellsAsked :
     ChainHandle → (request : List ℕ) → told.Decoded → FsCall → (status : ℕ) → ChainHandle → Type 0
 TellsAsked b request (tells.Call made) call status b' =

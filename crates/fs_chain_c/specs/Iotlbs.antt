@@ -96,7 +96,7 @@ Exchanges (Some b) (Some p) status after after' = ⊥
 Exchanges before place status after after' =
     (status ≡ chain_error_number WrongOrder) × (after ≡ before) × (after' ≡ place)
 
--- ---- what is missing
+-- ---- missing addresses
 
 -- neither addresses nor an access
 abbrev pub no_miss : FsMiss

@@ -61,7 +61,7 @@ RestoresARecord =
     × AllByRecursion IsEven ks
     × AllByRecursion MayBeOut ks
 
--- what is restored is what was saved: one record of these options and queues
+-- a device restores the options and queues that one saved, by one record
 abbrev pub MovesByRecord : Type 0
 MovesByRecord =
     (d there d' : FsDevice) (qs olds queues' : List FsQueue) (here ks : List QueueState)

@@ -1,4 +1,4 @@
-//! What is missing in an IOMMU's table, and what a chain uses of it.
+//! The addresses that an IOMMU's table lacks, and those of it that a chain uses.
 
 ghost use Rattle.std.specs.Prelude.{◌≡◌};
 ghost use Rattle.fs_chain.specs.Numbers.{chain_error_number};

@@ -18,8 +18,8 @@ pub record Area : Type 0 where
   pub len : ℕ
   pub access : Permissions
 
--- the ranges of n addresses from a on that the table doesn't map, as long as can be; none without a table, or
--- if the addresses end past 2^64 - 1
+-- the ranges of n addresses from a on that the table doesn't map, as long as can be. There are none without a
+-- table, or if the addresses end past 2^64 - 1
 abbrev pub missing_in : Memory → (a n : ℕ) → List IovaRange
 missing_in m a n = if m.translates && nat_lt (a + n) (2 ^ 64) then missing (table_of m) a n else []
 
@@ -55,8 +55,8 @@ areas_of access (d ∷ ds) = record { from = d.addr; len = d.len; access = acces
 abbrev pub buffers_of : List Descriptor → List Area
 buffers_of ds = areas_of Read (of_direction false ds) ++ areas_of Write (of_direction true ds)
 
--- the tests of a pop: that it has the available index, the ring's entry, what a push of the chain needs, an
--- entry of a table, and the chain's request and reply buffer
+-- the tests of a pop, each of whether addresses are mapped: the available index, the ring's entry, the fields
+-- that a push of the chain needs, an entry of a table, and the chain's buffers
 pub data Test : Type 0 where
   OfIndex : Test
   OfRingEntry : Test
@@ -64,7 +64,7 @@ pub data Test : Type 0 where
   OfEntry : Visit → Test
   OfBuffers : List Descriptor → Test
 
--- what is needed at each, in the order in which it is looked up
+-- the areas that each test needs, in the order in which they are looked up
 abbrev pub needed_at : Queue → Test → List Area
 needed_at q OfIndex = record { from = avail_index_at q; len = 2; access = Read } ∷ []
 needed_at q OfRingEntry = record { from = ring_entry_at q; len = 2; access = Read } ∷ []

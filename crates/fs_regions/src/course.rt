@@ -251,7 +251,7 @@ impl Course {
         }
     }
 
-    // The step if what the push of the chain needs isn't all mapped: a miss, or a refusal.
+    // The step if the fields that the push of the chain needs aren't all mapped: a miss, or a refusal.
     #[cold]
     #[inline(never)]
     fn without_return(&self, regions: &GuestMap, error: QueueError) -> CourseStep

@@ -36,8 +36,8 @@ impl GuestMap {
     }
 }
 
-/// The first miss among what the push of a chain needs: the used element, the used index, and the available
-/// flags.
+/// The first miss among the fields that the push of a chain needs: the used element, the used index, and the
+/// available flags.
 #[cold]
 #[inline(never)]
 pub(crate) fn return_miss(
