@@ -22,7 +22,7 @@ use fs_queue::{Chain, Taken};
 use fuse_fs::FileSystem;
 use plain_machine::Fault;
 use std::alloc::{AllocError, Global};
-use virtiofsd_fuse::{REQUEST_FRONT, Reader, Server, Writer, writes_data};
+use virtiofsd_fuse::{REQUEST_FRONT, Reader, Server, Writer, begins_a_write};
 use vm_memory_core::HostBlocks;
 
 // The server answers a request by a copy of its front and by the other bytes, which it reads in guest
@@ -72,7 +72,7 @@ fn answer_longer<F: FileSystem, H: HostBlocks>(
         (map (byte_in (H.host host.now)) (places chain.now.readable.items)) room.free result server.new }
     ensures page_size { server.new.page_size ≡ server.old.page_size }
 {
-    if writes_data(alloc, front) {
+    if begins_a_write(front) {
         return answer_behind(alloc, server, host, chain, front, room);
     }
     match host.fetch_windows(alloc, &chain.readable, chain.request_len()) {

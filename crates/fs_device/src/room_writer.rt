@@ -1,17 +1,18 @@
 //! A reply buffer in host memory that files fill.
 
-ghost use Rattle.std.specs.Prelude.{◌≡◌, ℕ, All, List, length, min};
+ghost use Rattle.std.specs.Prelude.{◌≡◌, All, length, refl};
+ghost use Rattle.std.proofs.Common.{◌∙◌};
 ghost use Rattle.std.proofs.Props.{props};
-ghost use Rattle.fuse_fs.specs.Lengths.{first, past};
-ghost use Rattle.fuse_fs.specs.Transfers.{ReadsOnce};
 ghost use Rattle.vm_memory_core.specs.Host.{lengths};
 ghost use Rattle.vm_memory_core.specs.Window.{LiesIn};
 ghost use Rattle.plain_machine.specs.Fills.{Fills};
+ghost use Rattle.plain_machine.specs.FillsProof.{fills_more, fills_none};
 
 use crate::room_left::RoomLeft;
 use crate::source::read_to_window;
 use fuse_base::Errno;
 use fuse_fs::{PositionedFile, ZeroCopyWriter};
+use server_segments::{SegmentBuffer, read_segments};
 use vm_memory_core::HostBlocks;
 
 /// A reply buffer in host memory that files fill from its first byte on, one read for each window. It
@@ -33,24 +34,36 @@ impl<'a, 'b, 'c, H: HostBlocks> RoomWriter<'a, 'b, 'c, H> {
             room: _room,
         } = self;
     }
+}
 
-    // Puts the bytes of one read of a file, at most `count`, into the first window with free bytes. It
-    // makes no call if nothing is free or `count` is 0.
+impl<'a, 'b, 'c, H: HostBlocks> SegmentBuffer for RoomWriter<'a, 'b, 'c, H> {
+    ghost Puts = { λ old bytes new. Fills (H.host old.host.now) old.room.now.places bytes
+        (H.host new.host.now) new.room.now.places
+        × (new.host.ghost_name ≡ old.host.ghost_name) };
+
+    ghost room = { λ w. length w.room.now.places };
+
+    ghost rooms = { λ w. w.room.now.rooms };
+
+    ghost puts_none = { λ w. (fills_none (H.host w.host.now) w.room.now.places, refl) };
+
+    ghost puts_more = { λ a b c xs ys first second. (
+      fills_more (H.host a.host.now) (H.host b.host.now) (H.host c.host.now) a.room.now.places
+          b.room.now.places c.room.now.places xs ys first.0 second.0,
+      second.1 ∙ first.1,
+    ) };
+
+    fn free_bytes(&self) -> usize {
+        self.room.len()
+    }
+
     #[tactic(auto, unfolding(vm_memory_core::specs::Window::AllLieIn))]
     fn read_once<F: PositionedFile>(
         &mut self,
         file: &mut F,
         count: usize,
         off: u64,
-    ) -> Result<usize, Errno>
-        ensures once { (bytes : List ℕ)
-            × Fills (H.host self.old.host.now) self.old.room.now.places bytes (H.host self.new.host.now)
-            self.new.room.now.places
-            × (self.new.room.now.rooms ≡ past (length bytes) self.old.room.now.rooms)
-            × ReadsOnce F.read_gives file.old (min count (first self.old.room.now.rooms)) off bytes
-            result file.new }
-        ensures name { self.new.host.ghost_name ≡ self.old.host.ghost_name }
-    {
+    ) -> Result<usize, Errno> {
         let most = count.min(self.room.len());
         if most == 0 {
             return Ok(0);
@@ -67,17 +80,11 @@ impl<'a, 'b, 'c, H: HostBlocks> RoomWriter<'a, 'b, 'c, H> {
 }
 
 impl<'a, 'b, 'c, H: HostBlocks> ZeroCopyWriter for RoomWriter<'a, 'b, 'c, H> {
-    ghost use Rattle.std.specs.Prelude.{refl, length};
-    ghost use Rattle.std.proofs.Common.{◌∙◌};
-    ghost use Rattle.plain_machine.specs.FillsProof.{fills_more, fills_none};
+    ghost Puts = { ⟦<RoomWriter<'a, 'b, 'c, H> as SegmentBuffer>⟧.Puts };
 
-    ghost Puts = { λ old bytes new. Fills (H.host old.host.now) old.room.now.places bytes
-        (H.host new.host.now) new.room.now.places
-        × (new.host.ghost_name ≡ old.host.ghost_name) };
+    ghost room = { ⟦<RoomWriter<'a, 'b, 'c, H> as SegmentBuffer>⟧.room };
 
-    ghost room = { λ w. length w.room.now.places };
-
-    ghost rooms = { λ w. w.room.now.rooms };
+    ghost rooms = { ⟦<RoomWriter<'a, 'b, 'c, H> as SegmentBuffer>⟧.rooms };
 
     ghost puts_none = { λ w. (fills_none (H.host w.host.now) w.room.now.places, refl) };
 
@@ -97,18 +104,6 @@ impl<'a, 'b, 'c, H: HostBlocks> ZeroCopyWriter for RoomWriter<'a, 'b, 'c, H> {
         count: usize,
         off: u64,
     ) -> Result<usize, Errno> {
-        let most = count.min(self.room.len());
-        let mut done = 0;
-        while done < most {
-            let Some(place) = off.checked_add(done as u64) else {
-                return Err(Errno::EIO);
-            };
-            let n = self.read_once(file, most - done, place)?;
-            if n == 0 {
-                return Ok(done);
-            }
-            done += n;
-        }
-        Ok(done)
+        read_segments(self, file, count, off)
     }
 }

@@ -52,8 +52,8 @@ pub fn return_fault<P: AddressMap>(
 ) -> Option<QueueError>
     ensures { result ≡ return_fault (P.places places.now) (at_position layout position) }
 {
-    let element = layout.used() + 4 + 8 * u64::from(position % layout.size());
-    let index = layout.used() + 2;
+    let element = layout.used_element_at(position);
+    let index = layout.used_index_at();
     if !places.has_places(element, 8, Permissions::Write)
         || !places.has_places(index, 2, Permissions::Write)
     {

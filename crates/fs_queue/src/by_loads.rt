@@ -18,7 +18,7 @@ use crate::access::{read, whole_bytes};
 use crate::chain_walk::{Progress, WalkEnd};
 use crate::descriptor::Descriptors;
 use crate::layout::QueueLayout;
-use crate::walk::{IndexWalk, Walk, entry_offset};
+use crate::walk::{IndexWalk, Walk};
 use crate::walk_step::{DescriptorTable, ENTRY, queue_table};
 use std::alloc::{AllocError, Global};
 use vm_memory::GuestMemory;
@@ -258,7 +258,7 @@ pub(crate) fn walk_ring<M: GuestMemory, H: HostBlocks>(
     let index = load_from_ring(alloc, layout, host, mem, ring, 2);
     match IndexWalk::new(layout, position).give(index) {
         Walk::RingEntry(walk) => {
-            let offset = entry_offset(layout, position);
+            let offset = layout.entry_offset(position);
             let entry = load_from_ring(alloc, layout, host, mem, ring, offset);
             walk.give(entry)
         }

@@ -1,6 +1,6 @@
 //! The layout of a queue: the addresses of its three parts, which the driver sets (VIRTIO 1.2, 2.7).
 
-ghost use Rattle.std.specs.Prelude.{◌≡◌, ◌+◌, ◌*◌, ◌<◌, ◌^◌, Ok, Err, MatchResult, None, Some, nat_le};
+ghost use Rattle.std.specs.Prelude.{◌≡◌, ◌+◌, ◌*◌, ◌<◌, ◌≤◌, ◌^◌, Ok, Err, MatchResult, None, Some, nat_le};
 ghost use Rattle.fs_queue.specs.Lawful.{layout_error};
 
 use crate::fault::QueueLayoutError;
@@ -89,5 +89,47 @@ impl QueueLayout {
         ensures { result ≡ self.now.used }
     {
         self.used
+    }
+}
+
+// The entries of a position.
+impl QueueLayout {
+    ghost use Rattle.fs_queue.specs.Queue.{element_at, index_at, ring_entry_at, slot};
+    ghost use Rattle.fs_queue.specs.WalkingView.{at_position};
+
+    // The index of a position's entry in a ring.
+    #[inline(always)]
+    fn slot(&self, position: u16) -> u16
+        ensures at { result ≡ slot (at_position self.now position) }
+        ensures inside { result < self.now.size }
+    {
+        position % self.size
+    }
+
+    /// The offset of a position's entry in the available ring, in bytes.
+    #[inline(always)]
+    pub(crate) fn entry_offset(&self, position: u16) -> u32
+        ensures at { self.now.avail + result ≡ ring_entry_at (at_position self.now position) }
+        ensures inside { result + 2 ≤ 4 + 2 * self.now.size }
+    {
+        4 + 2 * u32::from(self.slot(position))
+    }
+
+    /// The guest address of a position's used element. Its eight bytes end below 2^64.
+    #[inline(always)]
+    pub fn used_element_at(&self, position: u16) -> u64
+        ensures at { result ≡ element_at (at_position self.now position) }
+        ensures fits { result + 8 < 2 ^ 64 }
+    {
+        self.used + 4 + 8 * u64::from(self.slot(position))
+    }
+
+    /// The guest address of the used index. Its two bytes end below 2^64.
+    #[inline(always)]
+    pub fn used_index_at(&self) -> u64
+        ensures at { result ≡ index_at (at_position self.now 0) }
+        ensures fits { result + 2 < 2 ^ 64 }
+    {
+        self.used + 2
     }
 }

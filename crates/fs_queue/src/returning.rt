@@ -54,8 +54,7 @@ impl Return {
         ensures stores { stores_of result ≡ stores_after_reply (at_position layout position) head len }
         ensures flags { result.flags ≡ layout.avail }
     {
-        let slot = position % layout.size();
-        let element = layout.used() + 4 + 8 * u64::from(slot);
+        let element = layout.used_element_at(position);
         Return {
             head: ElementStore {
                 address: element,
@@ -66,7 +65,7 @@ impl Return {
                 value: len,
             },
             index: IndexStore {
-                address: layout.used() + 2,
+                address: layout.used_index_at(),
                 value: position.wrapping_add(1),
             },
             flags: layout.avail(),

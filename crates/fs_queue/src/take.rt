@@ -53,12 +53,11 @@ fn add_used<M: GuestMemory, H: HostBlocks>(
         ≡ (if found then Some (places windows.new.items) else None)) }
     ensures lie { AllLieIn (lengths (H.host host.now)) windows.new.items }
 {
-    let slot = position % layout.size();
-    let element = layout.used() + 4 + 8 * u64::from(slot);
+    let element = layout.used_element_at(position);
     if !add_windows(alloc, host, mem, element, 8, Permissions::Write, windows)? {
         return Ok(false);
     }
-    let index = layout.used() + 2;
+    let index = layout.used_index_at();
     add_windows(alloc, host, mem, index, 2, Permissions::Write, windows)
 }
 

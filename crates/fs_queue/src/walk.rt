@@ -97,22 +97,13 @@ impl IndexWalk {
     }
 }
 
-/// The offset of the position's entry in the available ring, in bytes.
-#[inline(always)]
-pub(crate) fn entry_offset(layout: QueueLayout, position: u16) -> u32
-    ensures at { layout.avail + result ≡ ring_entry_at (at_position layout position) }
-    ensures inside { result + 2 ≤ 4 + 2 * layout.size }
-{
-    4 + 2 * u32::from(position % layout.size())
-}
-
 impl RingEntryWalk {
     /// The guest address of the two bytes that it asks for. They end below 2^64.
     pub fn address(&self) -> u64
         ensures at { result ≡ ring_entry_at (at_position self.now.layout self.now.position) }
         ensures fits { result + 2 < 2 ^ 64 }
     {
-        self.layout.avail() + u64::from(entry_offset(self.layout, self.position))
+        self.layout.avail() + u64::from(self.layout.entry_offset(self.position))
     }
 
     /// Takes the entry's bytes, le16, or None if one of their addresses isn't mapped. Refused:

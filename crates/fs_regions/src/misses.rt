@@ -48,12 +48,12 @@ pub(crate) fn return_miss(
     ensures { result ≡ first_miss (places_in regions.now)
         (needed_at (at_position layout position) OfReturn) }
 {
-    let element = layout.used() + 4 + 8 * u64::from(position % layout.size());
+    let element = layout.used_element_at(position);
     match regions.miss(element, 8, Permissions::Write) {
         Some(miss) => return Some(miss),
         None => {}
     }
-    match regions.miss(layout.used() + 2, 2, Permissions::Write) {
+    match regions.miss(layout.used_index_at(), 2, Permissions::Write) {
         Some(miss) => Some(miss),
         None => regions.miss(layout.avail(), 2, Permissions::Read),
     }

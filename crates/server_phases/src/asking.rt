@@ -22,14 +22,14 @@ use fuse_fs::Context;
 use fuse_in::{InHeader, ReadIn, WriteIn};
 use fuse_values::FileCall;
 use fuse_wire::constants::READ_LOCKOWNER;
-use fuse_wire::{Errno, FsOptions, Opcode};
+use fuse_wire::{Errno, FsOptions};
 use server_calls::values::number_if;
 use server_calls::writes::write_flags;
 use server_replies::fronts::Front;
 use server_replies::replies::OUT_HEADER_LEN;
 use server_requests::source::{Flat, Source};
 use server_segments::Error;
-use virtiofsd_fuse::{MAX_REQUEST_LEN, REQUEST_FRONT, opcode_of};
+use virtiofsd_fuse::{MAX_REQUEST_LEN, REQUEST_FRONT};
 
 /// The length in bytes of a WRITE's record (`struct fuse_write_in`).
 pub(crate) const WRITE_IN_LEN: usize = 40;
@@ -274,24 +274,6 @@ pub(crate) fn ask_write_row<'a>(
     match source.record() {
         Ok(request) => write_asked(head, &request, len, room),
         Err(error) => DecodedRequest::Fault(error),
-    }
-}
-
-// Whether a header is that of a WRITE.
-fn is_write(header: &InHeader) -> bool
-    ensures { result ≡ is_write (opcode_of header.now.opcode) }
-{
-    matches!(opcode_of(header.opcode), Some(Opcode::Write))
-}
-
-/// Whether a request begins with the header of a WRITE.
-pub(crate) fn begins_a_write(front: &[u8]) -> bool
-    ensures { result ≡ begins_a_write front.now }
-{
-    let mut source = Flat { bytes: front };
-    match source.record::<InHeader>() {
-        Ok(header) => is_write(&header),
-        Err(_) => false,
     }
 }
 

@@ -7,12 +7,12 @@ ghost use Rattle.virtiofsd_fuse.specs.Serving.{setting};
 ghost use Rattle.server_phases.specs.Asking.{IsDecoded, HasAsker, HasAskerByFront, IsRequestFront};
 ghost use Rattle.server_phases.specs.Asking.{IsToldByFront, front_tells, is_told};
 
-use crate::asking::{AskedFront, DecodedRequest, ask_write_front, begins_a_write};
+use crate::asking::{AskedFront, DecodedRequest, ask_write_front};
 use bitflags::Flags;
 use fuse_in::InHeader;
 use fuse_wire::FsOptions;
 use server_requests::source::{Flat, Source};
-use virtiofsd_fuse::{REQUEST_FRONT, known};
+use virtiofsd_fuse::{REQUEST_FRONT, begins_a_write, known};
 
 /// The page size of the guest, and the options that client and server agreed on in INIT.
 #[derive(Drop)]

@@ -2,11 +2,13 @@
 #![tactic(auto)]
 
 mod error;
+mod file_reads;
 mod reader;
 mod writer;
 mod zero_copy;
 
 pub use error::Error;
+pub use file_reads::{SegmentBuffer, read_segments};
 pub use reader::Reader;
 pub use writer::Writer;
 pub use zero_copy::{ZcReader, ZcWriter};

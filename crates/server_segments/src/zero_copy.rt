@@ -5,6 +5,7 @@ ghost use Rattle.fuse_fs.specs.Lengths.{past, up_to};
 ghost use Rattle.fuse_fs.specs.Transfers.{ReadsSegments};
 ghost use Rattle.server_segments.specs.ReaderAndWriterView.{rooms};
 
+use crate::file_reads::read_segments;
 use crate::reader::Reader;
 use crate::writer::Writer;
 use fuse_fs::{PositionedFile, WritevFlags, ZeroCopyReader, ZeroCopyWriter};
@@ -94,18 +95,6 @@ impl ZeroCopyWriter for ZcWriter {
         ensures rejoin { self.new.writer.rejoin ≡ self.old.writer.rejoin }
         ensures spare { self.new.writer.spare ≡ self.old.writer.spare }
     {
-        let most = count.min(self.writer.available_bytes());
-        let mut done = 0;
-        while done < most {
-            let Some(place) = off.checked_add(done as u64) else {
-                return Err(Errno::EIO);
-            };
-            let n = self.writer.read_from_file_at(file, most - done, place)?;
-            if n == 0 {
-                return Ok(done);
-            }
-            done += n;
-        }
-        Ok(done)
+        read_segments(&mut self.writer, file, count, off)
     }
 }

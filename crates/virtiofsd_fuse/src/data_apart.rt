@@ -8,9 +8,7 @@ use crate::server::opcode_of;
 use fuse_in::InHeader;
 use fuse_wire::Opcode;
 use server_replies::replies::OUT_HEADER_LEN;
-use server_requests::records::read_record;
-use server_segments::Reader;
-use std::alloc::Global;
+use server_requests::source::{Flat, Source};
 
 /// The bytes of a request before its data: all of a READ, or the bytes before the data of a WRITE
 /// (linux/fuse.h: `struct fuse_in_header`, and `struct fuse_read_in` or `struct fuse_write_in`).
@@ -20,21 +18,19 @@ pub const REQUEST_FRONT: usize = 80;
 pub const REPLY_FRONT: usize = OUT_HEADER_LEN;
 
 // Whether a header is that of a WRITE.
-#[inline(always)]
 fn is_write(header: &InHeader) -> bool
     ensures { result ≡ is_write (opcode_of header.now.opcode) }
 {
     matches!(opcode_of(header.opcode), Some(Opcode::Write))
 }
 
-/// Whether the bytes behind the first `REQUEST_FRONT` of a request are data to write: its header,
-/// at the front of `front`, is that of a WRITE.
-#[inline(always)]
-pub fn writes_data(alloc: Global, front: &[u8]) -> bool
+/// Whether a request begins with the header of a WRITE: the bytes behind its first `REQUEST_FRONT`
+/// are then data to write.
+pub fn begins_a_write(front: &[u8]) -> bool
     ensures { result ≡ begins_a_write front.now }
 {
-    let mut r = Reader::of_slice(alloc, front);
-    match read_record::<InHeader>(&mut r) {
+    let mut source = Flat { bytes: front };
+    match source.record::<InHeader>() {
         Ok(header) => is_write(&header),
         Err(_) => false,
     }

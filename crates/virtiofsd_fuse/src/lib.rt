@@ -15,7 +15,7 @@ mod server;
 mod session;
 mod writes;
 
-pub use data_apart::{REPLY_FRONT, REQUEST_FRONT, writes_data};
+pub use data_apart::{REPLY_FRONT, REQUEST_FRONT, begins_a_write};
 pub use fuse_fs::{
     ChangeCalls, ChangesNothing, Context, DirEntry, DirectoryIterator, Entry, Extensions, FewCalls,
     FileNumber, FileSystem, FileSystemBase, GetxattrReply, ListxattrReply, NoEntries, OpenCalls,

@@ -16,18 +16,18 @@ returns-then-not-branch-clause-found g c =
     let q = at_position c.args.layout c.args.position in
     located-lost (addresses (element_at q) 8) (addresses (index_at q) 2) f
     (after_missing (located f (addresses (element_at q) 8))
-    (rw (c.requires.none, c.if-not-branch.true, c.used.ensures, c.from.ensures, c.size.ensures) at c.in_ok-add_windows.ensures.found))
+    (rw (c.requires.none, c.if-not-branch.true, c.used_element_at-element.ensures.at) at c.in_ok-add_windows.ensures.found))
 
 pub returns-clause-found : goal.returns-clause-found
 returns-clause-found g c =
     let f = location (g.M.GuestMemory.memory c.args.mem.now (g.H.HostBlocks.host c.args.host.now)) Write in
     let q = at_position c.args.layout c.args.position in
     let element = after_empty (located f (addresses (element_at q) 8)) _
-    (rw (c.requires.none, c.if-not-branch.false, c.used.ensures, c.from.ensures, c.size.ensures) at c.in_ok-add_windows.ensures.found) in
+    (rw (c.requires.none, c.if-not-branch.false, c.used_element_at-element.ensures.at) at c.in_ok-add_windows.ensures.found) in
     subst (λ (o : Option (List Place)). IfOk c.add_windows-2.result
     (λ (found : Bool). o ≡ (if found then Some (places c.add_windows-2.new.windows.items) else None)))
     (sym (located-append (addresses (element_at q) 8) (addresses (index_at q) 2) f _ element))
-    (rw c.used-index.ensures at c.add_windows-2.ensures.found)
+    (rw c.used_index_at-index.ensures.at at c.add_windows-2.ensures.found)
 
 pub returns-in_err-add_windows-clause-lie : goal.returns-in_err-add_windows-clause-lie
 returns-in_err-add_windows-clause-lie g c =
