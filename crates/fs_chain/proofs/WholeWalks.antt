@@ -25,7 +25,7 @@ use Rattle.fs_chain.specs.declared.popping.PopOutcome.TheVariants as says
 use Rattle.fs_chain.specs.declared.chain_handle.ChainHandle.{ChainHandle}
 use Rattle.fs_chain.specs.Events.{event_fault, event_miss}
 use Rattle.fs_chain.specs.Walks.{WalksOn, WalksFrom, BeginsPop, BeginsOn, BeginsUnless, BeginsWhere, GoesOn, GoesOnUnless, HasEvents}
-use Rattle.fs_chain.specs.Walks.{IsAllButPart, KeepsStep, LacksEvents, RefusalHasEvents, course_of, queue_after, state_after, told_of}
+use Rattle.fs_chain.specs.Walks.{DropsDescriptors, KeepsStep, LacksEvents, RefusalHasEvents, course_of, queue_after, state_after, told_of}
 use Rattle.fs_chain.specs.declared.loads.LoadOutcome as went
 use Rattle.fs_chain.specs.declared.loads.LoadOutcome.TheVariants as wents
 use Rattle.fs_chain.specs.Loads.{GoesSo, came, whole}
@@ -51,6 +51,7 @@ record Wants (loaded : Loaded) (old w : ChainHandle) (before q : QueueState) : T
   pub limit : w.limit ≡ old.limit
   pub serial : w.serial ≡ old.serial
   pub list_len : w.list_len ≡ old.list_len
+  pub session : w.session ≡ old.session
   pub few : came w < asked_len walk
   pub there : IsThere (places_in old.regions) walk
   pub stands : IsWalkAt (places_in old.regions) (queue_of (course_of before old.limit)) loaded w.descriptors.items walk
@@ -105,7 +106,8 @@ whole_of_none w free = rw (no_load w free) refl
 -- what a call of walk told comes to by the loads so far; a part of a load leaves it where it was
 abbrev Comes : Loaded → (old new : ChainHandle) → (before after : QueueState) → went.LoadOutcome → Type 0
 Comes loaded old new before after wents.Part = Wants loaded old new before after
-Comes loaded old new before after (wents.On told) = ComesSo loaded old new before after told × (new.part.items ≡ [])
+Comes loaded old new before after (wents.On told) =
+    ComesSo loaded old new before after told × (new.part.items ≡ []) × (new.session ≡ old.session)
 
 -- the first call of a walk through a queue that isn't stopped
 begun : (old new : ChainHandle) (before after : QueueState) (told : walked.PopOutcome) → before.stopped ≡ None
@@ -125,7 +127,7 @@ first old new before after (wents.On told) goes events by =
     let unless = begun old new before after told goes by in
     let on : BeginsOn (course_of before old.limit) (pop_id_of before) old new before after told =
     subst (λ (f : Option QueueError). BeginsWhere f old new before after told) events unless in
-    ((on.0, on.1, on.2), by.1.1)
+    ((on.0, on.1, on.2), by.1.1, by.1.2)
 
 -- the loads after a call, and what it comes to by them
 abbrev ComesAfter : (old w new : ChainHandle) → (before after : QueueState) → (l : Loaded) → (bs : List ℕ) → went.LoadOutcome → Type 0
@@ -145,6 +147,7 @@ on_load bs l old w new before q after wents.Part goes wants call =
       limit = call.3.0.1 ∙ wants.limit;
       serial = call.3.0.2 ∙ wants.serial;
       list_len = call.3.0.3 ∙ wants.list_len;
+      session = call.3.4 ∙ wants.session;
       few = few_still w new bs wants.walk (course_of before old.limit) (pop_id_of before) wants.state call.4 call.1;
       there = wants.there;
       stands = subst (λ (ds : List Descriptor). IsWalkAt (places_in old.regions) (queue_of (course_of before old.limit)) l ds wants.walk)
@@ -181,14 +184,15 @@ on_load bs l old w new before q after (wents.On told) goes wants call =
       ),
       came,
     ) in
-    (by.after, adds, (so, call.1))
+    (by.after, adds, (so, call.1, call.2 ∙ wants.session))
 
 -- what wants bytes asks for a load
-wants_so : (l : Loaded) (old w : ChainHandle) (before q : QueueState) (n : ℕ) (came : comes.CourseStep) → w.part.items ≡ []
+wants_so : (l : Loaded) (old w : ChainHandle) (before q : QueueState) (n : ℕ) (came : comes.CourseStep)
+    → w.part.items ≡ [] → w.session ≡ old.session
     → KeepsStep (course_of before old.limit) (pop_id_of before) came old w before q (says.Load n)
     → IsCourseStep (places_in old.regions) old.limit (queue_of (course_of before old.limit)) l w.descriptors.items came
     → Wants l old w before q
-wants_so l old w before q n (step.Load walk) none keeps comes =
+wants_so l old w before q n (step.Load walk) none same keeps comes =
     record {
       walk = walk;
       state = keeps.1;
@@ -197,20 +201,21 @@ wants_so l old w before q n (step.Load walk) none keeps comes =
       limit = keeps.4.1;
       serial = keeps.4.2;
       list_len = keeps.4.3;
+      session = same;
       few = subst (λ (part : List ℕ). length part < asked_len walk) (sym none) (some_asked walk);
       there = comes.1;
       stands = comes.0;
     }
-wants_so l old w before q n step.Idle none keeps comes = absurd (subst IsALoad keeps.0 tt)
-wants_so l old w before q n (step.Refused e) none keeps comes = absurd (subst IsALoad keeps.0 tt)
-wants_so l old w before q n (step.Chain head None) none keeps comes = absurd (subst IsALoad keeps.0 tt)
-wants_so l old w before q n (step.Chain head (Some fault)) none keeps comes = absurd (subst IsALoad keeps.0 tt)
-wants_so l old w before q n (step.Missing range access) none keeps comes = absurd (subst IsALoad keeps.0 tt)
+wants_so l old w before q n step.Idle none same keeps comes = absurd (subst IsALoad keeps.0 tt)
+wants_so l old w before q n (step.Refused e) none same keeps comes = absurd (subst IsALoad keeps.0 tt)
+wants_so l old w before q n (step.Chain head None) none same keeps comes = absurd (subst IsALoad keeps.0 tt)
+wants_so l old w before q n (step.Chain head (Some fault)) none same keeps comes = absurd (subst IsALoad keeps.0 tt)
+wants_so l old w before q n (step.Missing range access) none same keeps comes = absurd (subst IsALoad keeps.0 tt)
 
 wanted : (l : Loaded) (old w : ChainHandle) (before q : QueueState) (earlier : went.LoadOutcome) → WantsBytes earlier →
     Comes l old w before q earlier → Wants l old w before q
 wanted l old w before q wents.Part wants comes = comes
-wanted l old w before q (wents.On (says.Load n)) wants comes = wants_so l old w before q n comes.0.0 comes.1 comes.0.1 comes.0.2
+wanted l old w before q (wents.On (says.Load n)) wants comes = wants_so l old w before q n comes.0.0 comes.1 comes.2 comes.0.1 comes.0.2
 wanted l old w before q (wents.On says.Idle) wants comes = absurd wants
 wanted l old w before q (wents.On (says.Refused e)) wants comes = absurd wants
 wanted l old w before q (wents.On (says.Chain head n r)) wants comes = absurd wants
@@ -303,7 +308,7 @@ no_fault e is = cc
 first_refused : (e : QueueError) (old new : ChainHandle) (before after : QueueState) (told : went.LoadOutcome) → before.stopped ≡ None
     → event_fault (places_in old.regions) before ≡ Some e → event_miss (places_in old.regions) before ≡ None
     → BeginsPopBy old new before after told
-    → (told ≡ wents.On (says.Refused e)) × IsAllButPart old new × (new.part.items ≡ []) × (after ≡ record before { stopped = Some e })
+    → (told ≡ wents.On (says.Refused e)) × DropsDescriptors old new × (new.part.items ≡ []) × (after ≡ record before { stopped = Some e })
 first_refused e old new before after wents.Part goes fault none by = absurd (begins_whole old before new after by.0 by.1)
 first_refused e old new before after (wents.On told) goes fault none by =
     let unless = begun old new before after told goes by in
@@ -325,7 +330,7 @@ event_fault_refuses (bs ∷ given) e old new before after told goes fault none w
 first_missed : (e : QueueError) (range : IovaRange) (access : Permissions) (old new : ChainHandle) (before after : QueueState)
     (told : went.LoadOutcome) → before.stopped ≡ None → event_fault (places_in old.regions) before ≡ Some e
     → event_miss (places_in old.regions) before ≡ Some (range, access) → BeginsPopBy old new before after told
-    → (told ≡ wents.On (says.Missing range access)) × IsAllButPart old new × (new.part.items ≡ []) × (after ≡ before)
+    → (told ≡ wents.On (says.Missing range access)) × DropsDescriptors old new × (new.part.items ≡ []) × (after ≡ before)
 first_missed e range access old new before after wents.Part goes fault miss by = absurd (begins_whole old before new after by.0 by.1)
 first_missed e range access old new before after (wents.On told) goes fault miss by =
     let unless = begun old new before after told goes by in
@@ -372,14 +377,16 @@ pub miss_is_no_step : MissIsNoStep
 miss_is_no_step given range access old new before after goes events walks =
     let course = course_of before old.limit in
     let ds = new.descriptors.items in
-    let all = walk_comes given old new before after (says.Missing range access) goes events walks in
-    let came = all.2 in
+    let all = all_come given old new before after (wents.On (says.Missing range access)) goes events walks in
+    let came = all.2.0 in
     let is = missing_is ds came.0 range access came.1.0 in
     let misses : IsCourseStep (places_in old.regions) old.limit (queue_of course) all.0 ds (step.Missing range access) =
     subst (λ (c : comes.CourseStep). IsCourseStep (places_in old.regions) old.limit (queue_of course) all.0 ds c) is came.2 in (
       came.1.2 ∙ ap (queue_after before) is,
       came.1.1 ∙ ap (λ (c : comes.CourseStep). state_after course (pop_id_of before) ds c) is,
       came.1.4,
+      all.2.2,
+      all.2.1,
       all.0,
       all.1,
       misses,

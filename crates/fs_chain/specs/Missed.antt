@@ -11,12 +11,12 @@ use Rattle.fs_chain.specs.declared.loads.LoadOutcome as went
 use Rattle.fs_chain.specs.declared.loads.LoadOutcome.TheVariants as wents
 use Rattle.fs_chain.specs.declared.chain_handle.ChainHandle.{ChainHandle}
 use Rattle.fs_chain.specs.Events.{event_fault, event_miss}
-use Rattle.fs_chain.specs.Walks.{HasEvents, IsAllBut, IsAllButPart, course_of}
+use Rattle.fs_chain.specs.Walks.{DropsDescriptors, HasEvents, IsAllBut, course_of}
 use Rattle.fs_chain.specs.Whole.{LoadsOf, WalksBy}
 use Rattle.fs_queue.specs.declared.fault.QueueError.{QueueError}
 
--- a pop that misses addresses leaves the queue as it was and the handle free. By the loads that were made, it
--- needs an area whose first missing addresses are these, for this access
+-- a pop that misses addresses leaves the queue as it was, and the handle free and in its session. By the
+-- loads that were made, it needs an area whose first missing addresses are these, for this access
 abbrev pub MissIsNoStep : Type 0
 MissIsNoStep =
     (given : List (List ℕ)) (range : IovaRange) (access : Permissions) (old new : ChainHandle)
@@ -27,13 +27,15 @@ MissIsNoStep =
     (after ≡ before)
     × (new.state ≡ at.Free)
     × IsAllBut old new
+    × (new.session ≡ old.session)
+    × (new.part.items ≡ [])
     × (loaded : Loaded)
     × LoadsOf given old new before after (wents.On (says.Missing range access)) walks loaded
     × Misses (places_in old.regions) old.limit (queue_of (course_of before old.limit)) loaded
     new.descriptors.items range access
 
 -- if the table doesn't map used_event or avail_event, the first call of a pop misses the first of these
--- addresses. Nothing is loaded, and neither handle nor queue changes
+-- addresses. Nothing is loaded, the queue stays as it was, and the handle has no descriptors
 abbrev pub EventMissIsNoStep : Type 0
 EventMissIsNoStep =
     (given : List (List ℕ)) (e : QueueError) (range : IovaRange) (access : Permissions)
@@ -45,6 +47,6 @@ EventMissIsNoStep =
     (told ≡ wents.On (says.Missing range access))
     × (given ≡ [])
     × LoadsOf given old new before after told walks nothing
-    × IsAllButPart old new
+    × DropsDescriptors old new
     × (new.part.items ≡ [])
     × (after ≡ before)

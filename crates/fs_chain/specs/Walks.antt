@@ -115,6 +115,11 @@ IsAllButPart old new =
     × (new.state ≡ old.state)
     × (new.session ≡ old.session)
 
+-- the handle drops its descriptors, and all else stays but the part of a load
+abbrev pub DropsDescriptors : (old new : ChainHandle) → Type 0
+DropsDescriptors old new =
+    IsAllButPart (record old { descriptors = new.descriptors }) new × (new.descriptors.items ≡ [])
+
 -- handle and queue keep the result of a step on this course, and `told` is returned; of a faulty chain no
 -- descriptor is kept
 abbrev pub KeepsStep : Course → PopId → comes.CourseStep → (old new : ChainHandle) →
@@ -157,13 +162,14 @@ RefusalHasEvents (tells.Missing range access) w q = HasEvents w q
 RefusalHasEvents _ w q = Unit {0}
 
 -- used_event or avail_event of the queue isn't mapped. If the table doesn't map one of them, the pop misses
--- it, and nothing changes; else the pop is refused, and the queue stops
+-- it, and the queue stays as it was; else the pop is refused, and the queue stops. The handle drops the
+-- descriptors of an earlier pop
 abbrev pub LacksEvents : QueueError → (miss : Option (IovaRange × Permissions)) → (old new : ChainHandle) →
     (before after : QueueState) → walked.PopOutcome → Type 0
 LacksEvents e (Some miss) old new before after told =
-    (told ≡ tells.Missing miss.0 miss.1) × IsAllButPart old new × (after ≡ before)
+    (told ≡ tells.Missing miss.0 miss.1) × DropsDescriptors old new × (after ≡ before)
 LacksEvents e None old new before after told =
-    (told ≡ tells.Refused e) × IsAllButPart old new × (after ≡ record before { stopped = Some e })
+    (told ≡ tells.Refused e) × DropsDescriptors old new × (after ≡ record before { stopped = Some e })
 
 -- a pop begins, unless used_event or avail_event of the queue isn't mapped
 abbrev pub BeginsWhere : (fault : Option QueueError) → (old new : ChainHandle) → (before after : QueueState) →

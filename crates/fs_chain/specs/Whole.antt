@@ -51,7 +51,7 @@ use Rattle.fs_chain.specs.Events.{event_fault, event_miss, seen_at, tells_of}
 use Rattle.fs_chain.specs.Orders.{front_len}
 use Rattle.fs_chain.specs.Pushes.{PushesBy}
 use Rattle.fs_chain.specs.Loads.{GoesSo, HasNoPlace, came, whole}
-use Rattle.fs_chain.specs.Walks.{HasEvents, IsAllButPart, course_of, told_of}
+use Rattle.fs_chain.specs.Walks.{DropsDescriptors, HasEvents, course_of, told_of}
 use Rattle.fs_chain.specs.WholeListings.{Ending, IsListedBy, listing_calls}
 use Rattle.plain_machine.specs.declared.error.DeviceError.TheVariants as device
 use Rattle.plain_machine.specs.Step.{State, Exchange, Idle, Refused, Exchanged, Calls, Step, with_queue}
@@ -324,7 +324,7 @@ RefusalIsStepBy {F} may =
     (with_queue m i (after_refusal q e))
 
 -- if they aren't mapped, and that isn't a miss (`Missed`), the first call of the pop is refused, even if a
--- chain is available. Nothing is loaded or stored, the handle stays as it was, and the queue is stopped
+-- chain is available. Nothing is loaded or stored, the handle drops its descriptors, and the queue is stopped
 abbrev pub EventFaultRefuses : Type 0
 EventFaultRefuses =
     (given : List (List ℕ)) (e : QueueError) (old new : ChainHandle) (before after : QueueState)
@@ -336,7 +336,7 @@ EventFaultRefuses =
     (told ≡ wents.On (says.Refused e))
     × (given ≡ [])
     × LoadsOf given old new before after told walks nothing
-    × IsAllButPart old new
+    × DropsDescriptors old new
     × (new.part.items ≡ [])
     × (after ≡ record before { stopped = Some e })
 

@@ -2,6 +2,7 @@
 #![tactic(auto)]
 
 mod answering;
+mod beginning;
 mod chain_handle;
 mod decoding;
 mod error;

@@ -1,21 +1,15 @@
-//! The pop of the next available chain.
+//! The result of a pop of the next available chain, and how the handle keeps it.
 
-ghost use Rattle.std.specs.Prelude.{◌≡◌, [], true, Some, None, IfErr, IfOk, OnOk, OnErr, length};
-ghost use Rattle.fs_regions.specs.Places.{places_in};
-ghost use Rattle.fs_chain.specs.Events.{event_miss};
-ghost use Rattle.fs_chain.specs.Orders.{begin_error};
-ghost use Rattle.fs_chain.specs.Queues.{pop_id_of, took};
-ghost use Rattle.fs_chain.specs.Walks.{course_of, told_of, state_after, queue_after, left_of, BeginsPop};
-ghost use Rattle.fs_chain.specs.Walks.{BeginsOn, IsAllBut, LacksEvents};
+ghost use Rattle.std.specs.Prelude.{◌≡◌, [], Some, None};
+ghost use Rattle.fs_chain.specs.Queues.{took};
+ghost use Rattle.fs_chain.specs.Walks.{IsAllBut, left_of, queue_after, state_after, told_of};
 ghost use Rattle.fs_chain.specs.declared.state.ChainState.TheVariants as at;
 
 use crate::chain_handle::ChainHandle;
-use crate::error::ChainError;
 use crate::queue::QueueState;
 use crate::state::{ChainReply, ChainState, InFlight, PopId};
 use fs_queue::{ChainFault, QueueError, count_bytes};
-use fs_regions::{Course, CourseStep, QueueWalk};
-use std::mem;
+use fs_regions::{Course, CourseStep};
 use vm_memory_core::{IovaRange, Permissions};
 
 /// The result of a pop.
@@ -167,81 +161,6 @@ impl ChainHandle {
             CourseStep::Chain(head, Some(fault)) => {
                 self.take_faulty(queue, course, pop_id, head, fault)
             }
-        }
-    }
-
-    // Begins a pop at the queue's position, unless its used_event or avail_event isn't mapped.
-    #[inline(always)]
-    fn begin_course(&mut self, queue: &mut QueueState) -> PopOutcome
-        requires free { self.old.state ≡ at.Free }
-        requires goes { queue.old.stopped ≡ None }
-        ensures begins { BeginsPop self.old self.new queue.old queue.new result }
-        ensures apart { (self.new.part ≡ self.old.part) × (self.new.session ≡ self.old.session) }
-    {
-        match queue.event_fault(&self.regions) {
-            Some(error) => self.begin_without_events(queue, error),
-            None => self.begin_there(queue),
-        }
-    }
-
-    // The result of a pop if the queue's used_event or avail_event isn't mapped: a miss, or a refusal.
-    #[cold]
-    #[inline(never)]
-    fn begin_without_events(&self, queue: &mut QueueState, error: QueueError) -> PopOutcome
-        ensures { LacksEvents error (event_miss (places_in self.now.regions) queue.old) self.now self.now
-            queue.old queue.new result }
-    {
-        match queue.event_miss(&self.regions) {
-            Some((range, access)) => PopOutcome::Missing { range, access },
-            None => {
-                queue.stopped = Some(error);
-                PopOutcome::Refused(error)
-            }
-        }
-    }
-
-    // Begins a pop at the queue's position.
-    #[inline(always)]
-    fn begin_there(&mut self, queue: &mut QueueState) -> PopOutcome
-        requires { self.old.state ≡ at.Free }
-        ensures begins { BeginsOn (course_of queue.old self.old.limit) (pop_id_of queue.old) self.old self.new
-            queue.old queue.new result }
-        ensures apart { (self.new.part ≡ self.old.part) × (self.new.session ≡ self.old.session) }
-    {
-        let course = Course {
-            layout: queue.layout,
-            position: queue.next_avail,
-            limit: self.limit,
-        };
-        let step = course.begin(&self.regions, &mut self.descriptors);
-        let pop_id = queue.pop_id();
-        self.settle(queue, course, pop_id, step)
-    }
-
-    /// Begins a pop, without bytes. A stopped queue refuses it.
-    #[inline(always)]
-    pub(crate) fn begin_walk(
-        &mut self,
-        queue: &mut QueueState,
-        loaded: &[u8],
-    ) -> Result<PopOutcome, ChainError>
-        requires free { self.old.state ≡ at.Free }
-        ensures error { IfErr result (λ e. begin_error queue.old (length loaded.now) ≡ Some e) }
-        ensures ok { OnOk result (begin_error queue.old (length loaded.now) ≡ None) }
-        ensures memory { IfErr result (λ e. e ≡ ChainError.OutOfMemory → ⊥) }
-        ensures same { OnErr result ((self.new ≡ self.old) × (queue.new ≡ queue.old)) }
-        ensures begins { IfOk result (λ walked. BeginsPop self.old self.new queue.old queue.new walked) }
-        ensures apart { (self.new.part ≡ self.old.part) × (self.new.session ≡ self.old.session) }
-    {
-        if !loaded.is_empty() {
-            return Err(ChainError::BadArgument);
-        }
-        if !queue.may_take() {
-            return Err(ChainError::ChainInFlight);
-        }
-        match queue.stopped {
-            Some(_) => Ok(PopOutcome::Refused(QueueError::Stopped)),
-            None => Ok(self.begin_course(queue)),
         }
     }
 }

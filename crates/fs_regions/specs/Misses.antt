@@ -1,6 +1,7 @@
--- Misses of a pop: addresses that it needs and the IOMMU's table doesn't map at all. An address that is
--- mapped into no region, or without the permission, is no miss but a reason for a refusal or a fault.
-use Rattle.std.specs.Prelude.{ℕ, ◌+◌, ◌-◌, ◌^◌, ◌&&◌, max, nat_lt, List, [], ◌∷◌, ◌++◌, true, false}
+-- Misses of a pop: addresses that it needs and the IOMMU's table doesn't map at all. Two kinds of address
+-- are no miss, but a reason for a refusal or a fault. One is mapped into no region, or without the
+-- permission. The other is in the last page, which no table of whole pages maps.
+use Rattle.std.specs.Prelude.{ℕ, ◌+◌, ◌-◌, ◌^◌, ◌&&◌, max, nat_le, List, [], ◌∷◌, ◌++◌, true, false}
 use Rattle.std.specs.Prelude.{Option, Some, None, option_map, if◌then◌else◌}
 use Rattle.std.specs.Option.{option_or}
 use Rattle.vm_iotlb.specs.declared.iova.IovaRange.{IovaRange}
@@ -18,10 +19,15 @@ pub record Area : Type 0 where
   pub len : ℕ
   pub access : Permissions
 
+-- where the last page of the device's addresses begins. A table of whole pages of 4096 bytes never maps that
+-- page: it ends at 2^64, and a mapping ends below
+abbrev pub last_page : ℕ
+last_page = 2 ^ 64 - 4096
+
 -- the ranges of n addresses from a on that the table doesn't map, as long as can be. There are none without a
--- table, or if the addresses end past 2^64 - 1
+-- table, or if one of the addresses is in the last page or past it: nobody could map that one
 abbrev pub missing_in : Memory → (a n : ℕ) → List IovaRange
-missing_in m a n = if m.translates && nat_lt (a + n) (2 ^ 64) then missing (table_of m) a n else []
+missing_in m a n = if m.translates && nat_le (a + n) last_page then missing (table_of m) a n else []
 
 -- the first of some ranges
 abbrev pub first_of : List IovaRange → Option IovaRange

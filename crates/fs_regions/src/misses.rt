@@ -12,9 +12,14 @@ use crate::map::GuestMap;
 use fs_queue::{Descriptor, QueueLayout};
 use vm_memory_core::{IovaRange, Permissions};
 
+// Where the last page of the device's addresses begins. A table of whole pages of 4096 bytes never maps that
+// page: it ends at 2^64, and a mapping ends below.
+const LAST_PAGE: u64 = 0xffff_ffff_ffff_f000;
+
 impl GuestMap {
     /// The first of `len` addresses that the table doesn't map, with the unmapped ones right after it, and
-    /// the access that they are needed for. None if there is none, or the addresses end past 2^64 - 1.
+    /// the access that they are needed for. None if there is none, or one of the addresses is in the last
+    /// page: nobody could map it.
     #[cold]
     #[inline(never)]
     pub fn miss(
@@ -26,7 +31,7 @@ impl GuestMap {
         ensures { result ≡ miss_of (places_in self.now)
             (record { from = addr; len = len; access = access }) }
     {
-        if len as u64 > u64::MAX - addr {
+        if addr > LAST_PAGE || len as u64 > LAST_PAGE - addr {
             return None;
         }
         match self.first_miss(addr, len) {
