@@ -10,8 +10,7 @@
  *     pk_push     returns the stores that add the chain to the used ring
  *     pk_pushed   ends the push, and returns whether to notify the driver
  *
- * THE SMALLEST LOOP. examples/c/sketch.c has the rest of it (decoding, answers, the push), and
- * monitor.c shows more.
+ * THE SMALLEST LOOP. examples/c/sketch.c has the rest of it, and monitor.c shows more.
  *
  * <!-- examples/c/sketch.c: serve -->
  * ```
@@ -38,8 +37,7 @@
  * THREADS. Calls may run at the same time if they share only arguments that all of them take as
  * const. Otherwise calls on one chain, queue or device need an order: a lock, or a join. A chain
  * may move between threads. Threads that have a chain and a queue each share only `device`, and an
- * IOMMU's table. Use a reader-writer lock: pk_reply_init and pk_restore write `device`, pk_decode
- * reads it.
+ * IOMMU's table. Use a reader-writer lock: only pk_reply_init and pk_restore write `device`.
  *
  * RULES for the caller. The library can't check them; it does refuse calls in a wrong order.
  *  1. A pointer is valid for its length, and never NULL, not even with length 0. An argument that
@@ -123,7 +121,7 @@ extern "C" {
 #endif
 
 /* ---------------------------------------------------------------- numbers */
-#define PK_VERSION 9u            /* of this header; pk_version() is the archive's */
+#define PK_VERSION 10u           /* of this header; pk_version() is the archive's */
 #define PK_REGIONS_MAX 64u       /* regions of the guest's memory */
 #define PK_QUEUES_MAX 64u        /* queues in a saved record */
 #define PK_LOAD_MAX 4096u        /* bytes of the longest load of a pop */
@@ -144,7 +142,6 @@ enum pk_status {
     PK_AVAIL_FLAGS_UNREACHABLE = 7, /* the available flags, or used_event, aren't mapped */
     PK_DESCRIPTOR_UNREACHABLE = 8,  /* a descriptor of the queue's own table isn't mapped */
     PK_OUT_OF_MEMORY = 9,           /* an allocation failed. Nothing changed; call again later */
-    /* 32 to 63: how to go on. */
     PK_LOAD = 32,                   /* load these bytes, and call again with them */
     PK_IDLE = 33,                   /* no chain is available */
     PK_MORE = 34,                   /* pass `needed` bytes of the request, from its start */
@@ -244,8 +241,7 @@ enum pk_call_kind {
 
 /* The kinds of good answers: reply PK_ANSWER_X with pk_reply_x, DONE with pk_reply_err(.., 0).
  * NONE: make the call, if there is one, then pk_push. pk_reply_err is allowed for each call that
- * has a reply. For GETXATTR and LISTXATTR the library accepts pk_reply_data and pk_reply_xattr, so
- * look at `answer`. */
+ * has a reply. GETXATTR and LISTXATTR allow pk_reply_data and pk_reply_xattr: see `answer`. */
 enum pk_answer_kind {
     PK_ANSWER_NONE = 0, PK_ANSWER_DONE = 1, PK_ANSWER_ENTRY = 2, PK_ANSWER_ATTR = 3,
     PK_ANSWER_OPEN = 4, PK_ANSWER_CREATE = 5, PK_ANSWER_DATA = 6, PK_ANSWER_XATTR = 7,
@@ -253,17 +249,14 @@ enum pk_answer_kind {
     PK_ANSWER_INIT = 12,
 };
 
-/* The archive's PK_VERSION, to compare. */
-uint32_t pk_version(void);
+uint32_t pk_version(void); /* the archive's PK_VERSION, to compare */
 
-/* Returns 1 if a name is one component of a path (POSIX.1-2017, 3.170 and 4.13), else 0: if it is
- * empty, "." or "..", or has a slash or a zero byte. The guest may send any name: test each before
- * you use it in a directory of the host. */
+/* Returns 1 if a name is one component of a path (POSIX.1-2017, 3.170 and 4.13), else 0: "", ".",
+ * "..", or with a slash or a zero byte. Test each name of the guest before the host uses it. */
 uint8_t pk_is_name(const uint8_t *name, size_t name_len) PK_CHECK;
 
 /* ---------------------------------------------------------------- device and queues */
-/* The state that all queues share. */
-struct pk_device {
+struct pk_device { /* the state that all queues share */
     uint32_t page_size; /* bytes: a power of two, 4096 to 65536 */
     uint32_t limit;     /* bytes of a request or a reply buffer, PK_REQUEST_MAX to 2^31 */
     uint64_t options;   /* FUSE_ bits that INIT agreed on: 0 at first, set by pk_reply_init */
@@ -293,15 +286,26 @@ struct pk_queue {
  * Errors: PK_BAD_ARGUMENT (your fields are no queue's). */
 uint32_t pk_queue_begin(struct pk_queue *queue, uint16_t next_avail) PK_CHECK;
 
-/* A region of the guest's memory. All three numbers are multiples of 4096. */
-struct pk_region {
-    uint64_t guest, len; /* guest address, bytes */
-    uintptr_t host;      /* its first byte's address here. The library only adds to it */
-};
+/* A region of the guest's memory: its guest address, its bytes, and its first byte's address here,
+ * to which the library only adds. All three numbers are multiples of 4096. */
+struct pk_region { uint64_t guest, len; uintptr_t host; };
 
 /* ---------------------------------------------------------------- a chain: pop and drop */
 /* A handle for one chain. Its fields are the library's. */
-struct pk_chain { void *at; uint32_t full; };
+struct pk_chain { void *at; uint32_t state; };
+
+/* The states of a handle, each with the call that comes next. */
+enum pk_state {
+    PK_STATE_NONE = 0,    /* pk_chain_set_memory: no memory was set */
+    PK_STATE_FREE = 1,    /* pk_pop: it has no chain */
+    PK_STATE_POPPING = 2, /* pk_pop, with the bytes of its load */
+    PK_STATE_POPPED = 3,  /* pk_decode, or pk_reply_bytes */
+    PK_STATE_DECODED = 4, /* pk_reply_*: its call is unanswered */
+    PK_STATE_LISTING = 5, /* pk_add_direntry (or _plus), or pk_reply_*: the same of a listing */
+    PK_STATE_REPLIED = 6, /* pk_push: its reply is known, or it gets none */
+    PK_STATE_PUSHING = 7, /* pk_pushed */
+};
+uint32_t pk_chain_state(const struct pk_chain *chain) PK_CHECK; /* enum pk_state */
 
 /* Copies the regions and the device's limit for the chain's next pops. The regions, up to
  * PK_REGIONS_MAX in any order, aren't empty, don't overlap and end at 2^64 at most. Call it first,
@@ -316,8 +320,7 @@ uint32_t pk_chain_set_memory(struct pk_chain *chain, const struct pk_device *dev
 void pk_chain_free(struct pk_chain *chain) PK_NONNULL;
 
 /* Sets the ticket of the chain's next pop. Each pop takes the next number, modulo 2^32; the first
- * takes 1 without this call. Let handle k of n start at k * (2^32 / n): then an answer for another
- * handle's chain is refused.
+ * takes 1 without this call. If handle k of n starts at k * (2^32 / n), it refuses others' answers.
  * Errors: PK_WRONG_ORDER (no memory was set); PK_CHAIN_IN_FLIGHT (or a pop is under way). */
 uint32_t pk_chain_set_ticket(struct pk_chain *chain, uint32_t first) PK_CHECK;
 
@@ -359,11 +362,9 @@ uint32_t pk_drop(struct pk_chain *chain, struct pk_queue *queue) PK_NONNULL;
  * the queue counts the chain as in flight (pk_chain_free). */
 void pk_abandon(struct pk_chain *chain) PK_NONNULL;
 
-/* A piece of memory, laid out as struct iovec: cast an array of it for preadv and the like. */
-struct pk_window {
-    uintptr_t at; /* host address */
-    size_t len;   /* bytes */
-};
+/* A piece of memory: its host address, and its bytes. It is laid out as struct iovec: cast an array
+ * of it for preadv and the like. */
+struct pk_window { uintptr_t at; size_t len; };
 
 /* A range of guest addresses; of I/O addresses, if the chain has a table. */
 struct pk_range { uint64_t guest, len; };
@@ -494,8 +495,7 @@ struct pk_entry {
     struct pk_attr attr;
 };
 
-/* struct fuse_kstatfs. */
-struct pk_statfs {
+struct pk_statfs { /* struct fuse_kstatfs */
     uint64_t blocks, bfree, bavail; /* of frsize bytes */
     uint64_t files, ffree;          /* nodes */
     uint32_t bsize, namelen, frsize; /* bytes */

@@ -37,6 +37,14 @@ static inline const char *pk_status_name(uint32_t status) {
     default: return "";
     }
 }
+static inline const char *pk_state_name(uint32_t state) {
+    switch (state) {
+    PK_NAME(PK_STATE_NONE); PK_NAME(PK_STATE_FREE); PK_NAME(PK_STATE_POPPING);
+    PK_NAME(PK_STATE_POPPED); PK_NAME(PK_STATE_DECODED); PK_NAME(PK_STATE_LISTING);
+    PK_NAME(PK_STATE_REPLIED); PK_NAME(PK_STATE_PUSHING);
+    default: return "";
+    }
+}
 static inline const char *pk_fault_name(uint32_t fault) {
     switch (fault) {
     PK_NAME(PK_FAULT_NONE); PK_NAME(PK_FAULT_TOO_LONG); PK_NAME(PK_FAULT_NEXT_OUT_OF_TABLE);

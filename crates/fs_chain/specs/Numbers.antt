@@ -1,7 +1,9 @@
--- The numbers that distinguish errors.
+-- The numbers that distinguish errors, and those of a chain's states.
 use Rattle.std.specs.Prelude.{ℕ}
 use Rattle.fs_chain.specs.declared.error.ChainError.{ChainError}
 use Rattle.fs_chain.specs.declared.error.ChainError.TheVariants as error
+use Rattle.fs_chain.specs.declared.state.ChainState as state
+use Rattle.fs_chain.specs.declared.state.ChainState.TheVariants as at
 
 -- the number of each error
 abbrev pub chain_error_number : ChainError → ℕ
@@ -15,3 +17,13 @@ chain_error_number error.OtherCall = 79
 chain_error_number error.OtherKind = 75
 chain_error_number error.ChainInFlight = 76
 chain_error_number error.Pushing = 78
+
+-- the number of each state of a chain
+abbrev pub state_number : state.ChainState → ℕ
+state_number at.Free = 1
+state_number (at.Walking course pop_id walk) = 2
+state_number (at.Taken out) = 3
+state_number (at.Waits out waiting) = 4
+state_number (at.Lists out listing) = 5
+state_number (at.HasReply out reply) = 6
+state_number (at.Pushing out) = 7

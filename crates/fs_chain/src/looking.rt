@@ -7,6 +7,7 @@ ghost use Rattle.fs_queue.specs.Taking.{total_len, of_direction};
 ghost use Rattle.fs_regions.specs.Places.{left_in, places_in};
 ghost use Rattle.fs_regions.specs.Walks.{asked_len};
 ghost use Rattle.fs_regions.specs.Windows.{IsRangeFrom};
+ghost use Rattle.fs_chain.specs.Numbers.{state_number};
 ghost use Rattle.fs_chain.specs.Orders.{is_free, is_listing, is_out, load_len, room_len};
 
 use crate::chain_handle::ChainHandle;
@@ -32,6 +33,22 @@ impl ChainHandle {
         ensures { result ≡ is_free self.now.state }
     {
         matches!(self.state, ChainState::Free)
+    }
+
+    /// The number of the chain's state, 1 to 7: free, being popped, popped, its call in flight, its
+    /// listing in flight, its reply known, being pushed.
+    pub fn state_number(&self) -> u8
+        ensures { result ≡ state_number self.now.state }
+    {
+        match &self.state {
+            ChainState::Free => 1,
+            ChainState::Walking(_, _, _) => 2,
+            ChainState::Taken(_) => 3,
+            ChainState::Waits(_, _) => 4,
+            ChainState::Lists(_, _) => 5,
+            ChainState::HasReply(_, _) => 6,
+            ChainState::Pushing(_) => 7,
+        }
     }
 
     /// The session in which the chain was decoded.

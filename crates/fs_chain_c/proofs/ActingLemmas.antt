@@ -306,7 +306,7 @@ pop_finds_none given b b' q q' step s pops =
           let walks : WalksBy given b b' k walk.after (wents.On says.Idle) =
           subst (λ (told : went.LoadOutcome). WalksBy given b b' k walk.after told) (is_idle b' walk.told step walk.tells) walk.walks in
           let none = finds_none given b b' k walk.after s counted fits goes walks of asker shown in
-          (walk.after, walk.put_is, (given, walks, none.0, none.1, none.2, none.3, none.4)),
+          (walk.after, walk.put_is, (walks, none.0, none.1, none.2, none.3, none.4)),
     )
 
 pub pop_takes_one : PopTakesOne
@@ -321,7 +321,7 @@ pop_takes_one given b b' q q' step s pops =
           let walks : WalksBy given b b' k walk.after (wents.On out.0) =
           subst (λ (told : went.LoadOutcome). WalksBy given b b' k walk.after told) out.1 walk.walks in
           let took = takes given b b' k walk.after out.0 s counted goes out.2 walks of walker in
-          (walk.after, out.0, walk.put_is, out.2, (given, walks, took.0, took.1, took.2, took.3, took.4)),
+          (walk.after, out.0, walk.put_is, out.2, (walks, took.0, took.1, took.2, took.3, took.4)),
     )
 
 -- ---- as many as may be

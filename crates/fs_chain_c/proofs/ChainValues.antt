@@ -1,4 +1,4 @@
--- A handle, and the parts of a box of a `ChainHandle`, by value: what they own is taken out, and put in. Assumes `Logic`.
+-- A handle's box, and the parts of a box of a `ChainHandle`, by value: what they own is taken out, and put in. Assumes `Logic`.
 use Rattle.std.specs.Prelude.{Option, Some, None, is_some, if◌then◌else◌}
 use Rattle.std.specs.Global.{Global}
 use Rattle.std.proofs.Common.{lit<}
@@ -8,19 +8,18 @@ use Rattle.std_heap.specs.contracts.Global as Heap
 use Rattle.std_heap.specs.contracts.GlobalAllocator.TheImpl.{ghosts, dict}
 use Rattle.std_heap.proofs.Global.TheLaws as heap
 use Rattle.fs_chain.specs.contracts.chain_handle.ChainHandle as handle
-use Rattle.fs_chain_c.specs.contracts.handle.FsChain as chain
+use Rattle.fs_chain_c.specs.contracts.handle.ChainBox as chain
 use Rattle.fs_chain_c.specs.contracts.parts.BoxParts as parts
 use Rattle.fs_chain_c.specs.Owned.{chain_owns}
-use Prim.Native.Nat.{ℕ, ◌<◌, ◌^◌}
 use mathlib.Core.Path.{◌≡◌, refl, subst}
 use mathlib.Core.Bool.{Bool, true, false, ◌&&◌}
 use mathlib.Core.List.{List, [], ◌∷◌, ◌++◌}
 use lib.Dec.{T}
 use seplogic.Ra.Ura.{Ura}
-use mir.Syntax.{impl, tnil, dnil, ty_ptr, w32}
-use mir.Val.{Val, vint, vstruct, vcons, vnil, of_list, bits, has_ty, WT}
+use mir.Syntax.{impl, tnil, dnil, ty_ptr}
+use mir.Val.{Val, vstruct, vcons, vnil, of_list, has_ty, WT}
 use types.Logic.{Logic}
-use types.Kit.{Item, Goal, Seq, Step, step, ‵, ◌$◌, move, drop, fsplit, fjoin, fpick, fpack, feq_l, feq_i, flt_i}
+use types.Kit.{Item, Goal, Seq, Step, step, ‵, ◌$◌, move, drop, fsplit, fjoin, fpick, fpack, feq_l, feq_i}
 use denote.Builtin.{RawPtr}
 use denote.RattleType.{RattleType, Valss}
 use denote.RawPtr.{Ptr, block_ptr, null_ptr, ptr_val}
@@ -50,9 +49,6 @@ owns_box a p x = box_owns (ghosts.dealloc_token a) Work p x
 abbrev pub two : Ptr → Val → Val
 two p h = vstruct (vcons (ptr_val p) (vcons h vnil))
 
-abbrev pub three : Ptr → Val → ℕ → Val
-three p h n = vstruct (vcons (ptr_val p) (vcons h (vcons (vint w32 n) vnil)))
-
 -- they have their types
 pub good_ptr : (p : Ptr) → T (has_ty ty_ptr (ptr_val p)) × WT (ptr_val p)
 good_ptr (block_ptr b o) = (tt, tt)
@@ -65,10 +61,6 @@ both_tt false y s t = absurd s
 
 pub two_good : (p : Ptr) (h : Val) → Fits al h → T (has_ty ty_ptr (ptr_val p) && (has_ty (α al) h && true)) × WT (two p h)
 two_good p h fits = (both_tt _ _ (good_ptr p).0 fits.0, ((good_ptr p).1, (fits.1, tt)))
-
-pub three_good : (p : Ptr) (h : Val) (n : ℕ) → Fits al h → n < 2 ^ bits w32 →
-    T (has_ty ty_ptr (ptr_val p) && (has_ty (α al) h && true)) × WT (three p h n)
-three_good p h n fits low = (both_tt _ _ (good_ptr p).0 fits.0, ((good_ptr p).1, (fits.1, (record { fits = low }, tt))))
 
 module _ {M : Type 1} {𝓤 : Ura M} {𝓛 : Logic 𝓤} {K : Type 0} {Γ : List (Item 𝓤)} {G : Goal 𝓤 𝓛.H} where
   -- parts: [the box; the handle]
@@ -91,38 +83,34 @@ module _ {M : Type 1} {𝓤 : Ura M} {𝓛 : Logic 𝓤} {K : Type 0} {Γ : List
       fpack t (Valss (RawPtr ∷ Heap.the_row ∷ [])) (within (shape (parts.the_type Work Heap.the_row ghosts)) (p, (a, tt)) (two p h ∷ []))
       (ptr_val p ∷ [], (h ∷ [], tt)) $ fjoin t $ s)
 
-  -- a handle: [what it owns; the allocator's handle]
+  -- a handle's box: [what it owns; the allocator's handle]
   pub chain_out : K → (d : Chain.Denot) (vs : List Val)
-      → ((h : Val) → vs ≡ three d.at h d.full ∷ [] → Fits al h
+      → ((h : Val) → vs ≡ two d.at h ∷ [] → Fits al h
       → Seq K 𝓛 (‵ (chain_owns d.alloc d.at d.value) ∷ ‵ ((Heap.the_row).own_val d.alloc (h ∷ [])) ∷ Γ) G)
       → Seq K 𝓛 (‵ (Chain.own_val d vs) ∷ Γ) G
   chain_out t d vs k =
-      fsplit t $ fpick t (λ vss. fsplit t $ feq_l t
-      (λ ev. fsplit t $ feq_l t (λ ep. fsplit t $ handle_tells al t d.alloc vss.1.0 (λ h ea fits. move t (1 ∷ []) $ fsplit t $ fsplit t $
-      feq_l t (λ en. drop t $ drop t $ move t (1 ∷ []) $
-      k h (subst (λ (ns : List Val). vs ≡ vstruct (of_list (ptr_val d.at ∷ (h ∷ (ns ++ [])))) ∷ []) en
-      (subst (λ (ws : List Val). vs ≡ vstruct (of_list (ptr_val d.at ∷ (ws ++ (vss.1.1.0 ++ [])))) ∷ []) ea
-      (subst (λ (ps : List Val). vs ≡ vstruct (of_list (ps ++ (vss.1.0 ++ (vss.1.1.0 ++ [])))) ∷ []) ep ev))) fits)))))
+      fsplit t $ fpick t (λ vss. fsplit t $ feq_l t (λ ev.
+      fsplit t $ feq_l t (λ ep. fsplit t $ handle_tells al t d.alloc vss.1.0 (λ h ea fits. move t (1 ∷ []) $ drop t $ move t (1 ∷ []) $
+      k h (subst (λ (ws : List Val). vs ≡ vstruct (of_list (ptr_val d.at ∷ (ws ++ []))) ∷ []) ea
+      (subst (λ (ps : List Val). vs ≡ vstruct (of_list (ps ++ (vss.1.0 ++ []))) ∷ []) ep ev)) fits))))
 
-  pub chain_in : K → (d : Chain.Denot) (h : Val) → d.full < 2 ^ bits w32
-      → Step K 𝓛 (‵ (Chain.own_val d (three d.at h d.full ∷ [])) ∷ Γ) G
+  pub chain_in : K → (d : Chain.Denot) (h : Val)
+      → Step K 𝓛 (‵ (Chain.own_val d (two d.at h ∷ [])) ∷ Γ) G
       (‵ (chain_owns d.alloc d.at d.value) ∷ ‵ ((Heap.the_row).own_val d.alloc (h ∷ [])) ∷ Γ) G
-  chain_in t d h low = step (λ s. let v : Val = three d.at h d.full in
-      nothing t $ flt_i t d.full (2 ^ bits w32) low $ feq_i t (List Val) (vint w32 d.full ∷ []) (vint w32 d.full ∷ []) refl $ fjoin t $
-      fjoin t $ move t (2 ∷ 0 ∷ []) $ fjoin t $
-      feq_i t (List Val) (ptr_val d.at ∷ []) (ptr_val d.at ∷ []) refl $ fjoin t $ feq_i t (List Val) (v ∷ []) (v ∷ []) refl $ fjoin t $
+  chain_in t d h = step (λ s.
+      nothing t $ move t (2 ∷ 0 ∷ []) $ fjoin t $ feq_i t (List Val) (ptr_val d.at ∷ []) (ptr_val d.at ∷ []) refl $ fjoin t $
+      feq_i t (List Val) (two d.at h ∷ []) (two d.at h ∷ []) refl $ fjoin t $
       fpack t (Valss (fields chain.the_type))
-      (within (shape chain.the_type) (intos (chain.the_type).parts ((chain.the_type).as_values d)) (v ∷ []))
-      (ptr_val d.at ∷ [], (h ∷ [], (vint w32 d.full ∷ [], tt))) $ fjoin t $ s)
+      (within (shape chain.the_type) (intos (chain.the_type).parts ((chain.the_type).as_values d)) (two d.at h ∷ []))
+      (ptr_val d.at ∷ [], (h ∷ [], tt)) $ fjoin t $ s)
 
-  full_or_not : K → (a : Global) (p : Ptr) (value : Option Work.Denot) (full : ℕ) → full ≡ (if is_some value then 1 else 0)
-      → (value ≡ None → full ≡ 0 → Seq K 𝓛 Γ G)
-      → ((x : Work.Denot) → value ≡ Some x → full ≡ 1 → Seq K 𝓛 (‵ (owns_box a p x) ∷ Γ) G) → Seq K 𝓛 (‵ (chain_owns a p value) ∷ Γ) G
-  full_or_not t a p None full known none some = drop t $ none refl known
-  full_or_not t a p (Some x) full known none some = some x refl known
+  full_at : K → (a : Global) (p : Ptr) (value : Option Work.Denot) → is_some value ≡ true
+      → ((x : Work.Denot) → value ≡ Some x → Seq K 𝓛 (‵ (owns_box a p x) ∷ Γ) G) → Seq K 𝓛 (‵ (chain_owns a p value) ∷ Γ) G
+  full_at t a p None wrong k = absurd (subst (λ (b : Bool). T (if b then false else true)) wrong tt)
+  full_at t a p (Some x) is k = k x refl
 
-  -- it owns a box, or nothing, and its number says which
-  pub either : K → (d : Chain.Denot) → (d.value ≡ None → d.full ≡ 0 → Seq K 𝓛 Γ G)
-      → ((x : Work.Denot) → d.value ≡ Some x → d.full ≡ 1 → Seq K 𝓛 (‵ (owns_box d.alloc d.at x) ∷ Γ) G)
+  -- it owns a box, if it isn't null
+  pub full : K → (d : Chain.Denot) → is_some d.value ≡ true
+      → ((x : Work.Denot) → d.value ≡ Some x → Seq K 𝓛 (‵ (owns_box d.alloc d.at x) ∷ Γ) G)
       → Seq K 𝓛 (‵ (chain_owns d.alloc d.at d.value) ∷ Γ) G
-  either t d none some = full_or_not t d.alloc d.at d.value d.full d.known none some
+  full t d is k = full_at t d.alloc d.at d.value is k

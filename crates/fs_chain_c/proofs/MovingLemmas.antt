@@ -1,10 +1,11 @@
 -- Records that C saves and restores, by the core's queues.
-use Rattle.std.proofs.Common.{arith, ◌≡◌, ℕ, suc, ◌+◌, ◌-◌, ◌%◌, ◌^◌, ◌<◌, ◌≤◌, ◌==◌, max, All, Bool, true, false, not, List, [], ◌∷◌}
+use Rattle.std.proofs.Common.{arith, ◌≡◌, ℕ, suc, ◌+◌, ◌-◌, ◌%◌, ◌^◌, ◌<◌, ◌≤◌, ◌==◌, max, All, Bool, true, false, not, List, [], ◌∷◌, ◌++◌}
 use Rattle.std.proofs.Common.{drop, length, map, take, Option, Some, None, refl, subst, sym, ap, ◌∙◌, if◌then◌else◌}
 use Rattle.std.specs.Prelude.{IsTrue, is_some, unwrap_or}
 use Rattle.std.specs.List.{AllByRecursion}
 use Rattle.std.proofs.lemmas.Bool.Decides.{nat_tests}
 use Rattle.std.proofs.lemmas.List.{length-map}
+use Rattle.std.proofs.Math.Seq.{take-append_seam}
 use Rattle.std.proofs.lemmas.List.Elements.{All-cons, All-head, All-nil, All-tail}
 use Rattle.server_replies.specs.PageSizes.{is_page_size}
 use Rattle.fs_queue.specs.Queue.{Queue, resumed}
@@ -234,13 +235,17 @@ restores d d' queues queues' ks saved count restored are =
 -- ---- both
 
 pub moves : MovesByRecord
-moves d there d' qs olds queues' here ks buffer saved len count made bits are restored are' =
+moves d there d' qs olds queues' here ks buffer saved rest len count made bits are restored are' =
     let one = saves d qs here buffer saved len made bits are in
-    let two = restores there d' olds queues' ks saved count restored are' in
+    let two = restores there d' olds queues' ks (take len saved ++ rest) count restored are' in
     let bytes = one.0 in
+    let front : take len saved ≡ bytes =
+    ap (λ (l : List ℕ). take len l) one.2
+    ∙ ap (λ (n : ℕ). take n (bytes ++ drop len buffer)) one.3
+    ∙ take-append_seam bytes (drop len buffer) in
     let v = one.1 in
-    let same = one_reading v two.2 d.options d'.options (map recorded here) (map recorded ks) bytes two.0 (drop len buffer) two.1
-    one.4 two.4 (sym one.2 ∙ two.3) in (
+    let same = one_reading v two.2 d.options d'.options (map recorded here) (map recorded ks) bytes two.0 rest two.1
+    one.4 two.4 (ap (λ (l : List ℕ). l ++ rest) (sym front) ∙ two.3) in (
       bytes,
       v,
       one.4,

@@ -92,11 +92,12 @@ PopsBy (bs ∷ given) b b' q q' step status =
     × PopsBy given b w q mid earlier load
     × PopsHandle w mid bs step status b' q'
 
--- such calls are a pop of the core's queue with this result, which was given an index for which P holds
-abbrev pub PopsByIndex : (b b' : ChainHandle) → (k k' : QueueState) → PopOutcome → (ℕ → Type 0) → Type 0
-PopsByIndex b b' k k' told P =
-    (given : List (List ℕ))
-    × (walks : WalksBy given b b' k k' (wents.On told))
+-- calls with these bytes are a pop of the core's queue with this result, and P holds for the index among
+-- the bytes
+abbrev pub PopsByIndex : (given : List (List ℕ)) → (b b' : ChainHandle) → (k k' : QueueState) → PopOutcome →
+    (ℕ → Type 0) → Type 0
+PopsByIndex given b b' k k' told P =
+    (walks : WalksBy given b b' k k' (wents.On told))
     × (loaded : Loaded)
     × LoadsOf given b b' k k' (wents.On told) walks loaded
     × (index : ℕ)
@@ -118,7 +119,7 @@ PopFindsNone =
     → s.hidden ≡ false
     → (k' : QueueState)
     × (q' ≡ put q k')
-    × PopsByIndex b b' k k' PopOutcome.Idle (λ index. s.index ≡ index
+    × PopsByIndex given b b' k k' PopOutcome.Idle (λ index. s.index ≡ index
     → IsTrue (may_act (ways_of k) s SleepsNow) × IsOf k' (after_act (ways_of k) s SleepsNow)))
 
 -- a chain was popped (0): the model's thread may take it
@@ -135,7 +136,7 @@ PopTakesOne =
     → (k' : QueueState) × (told : PopOutcome)
     × (q' ≡ put q k')
     × HasTaken told
-    × PopsByIndex b b' k k' told (λ index. s.known ≡ index
+    × PopsByIndex given b b' k k' told (λ index. s.known ≡ index
     → IsTrue (may_act (ways_of k) s TakesOne) × IsOf k' (after_act (ways_of k) s TakesOne)))
 
 -- as many chains are in flight as may be: the model's thread may sleep too

@@ -35,7 +35,7 @@ OnHandle Does Nothing (Some b) (Some b') = Does b b'
 
 -- a handle without a `ChainHandle`: all its numbers are zero
 abbrev pub IsZeros : FsChain → Type 0
-IsZeros c = (c.value ≡ None) × (c.at ≡ null) × (c.full ≡ 0)
+IsZeros c = (c.held.value ≡ None) × (c.held.at ≡ null) × (c.state ≡ 0)
 
 -- ---- setting the memory
 

@@ -15,6 +15,7 @@ pub mod Records
 pub mod Replies
 pub mod Pushing
 pub mod Spans
+pub mod States
 pub mod Popping
 pub mod Windows
 pub mod Iotlbs

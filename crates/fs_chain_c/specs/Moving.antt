@@ -61,15 +61,16 @@ RestoresARecord =
     × AllByRecursion IsEven ks
     × AllByRecursion MayBeOut ks
 
--- a device restores the options and queues that one saved, by one record
+-- a device restores the options and queues that one saved, by one record: from any bytes that begin with the
+-- `len` bytes that `pk_save` wrote
 abbrev pub MovesByRecord : Type 0
 MovesByRecord =
     (d there d' : FsDevice) (qs olds queues' : List FsQueue) (here ks : List QueueState)
-    (buffer saved : List ℕ) (len count : ℕ)
+    (buffer saved rest : List ℕ) (len count : ℕ)
     → Saves d qs buffer 0 len saved
     → AllByRecursion HasItsBits qs
     → AreQueueStates qs here
-    → Restores there olds saved 0 count d' queues'
+    → Restores there olds (take len saved ++ rest) 0 count d' queues'
     → AreQueueStates (take count queues') ks
     → (bytes : List ℕ) × (v : Version)
     × IsRecord bytes v d.options (map recorded here)

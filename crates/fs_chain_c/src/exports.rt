@@ -4,6 +4,7 @@ ghost use Rattle.std.specs.Prelude.{◌≡◌, false, true, None};
 ghost use Rattle.fs_chain_c.specs.Handles.{AbandonsChain, DropsChain, EndsPush, IsZeros, Numbers};
 ghost use Rattle.fs_chain_c.specs.Handles.{NumbersHandle, Pushes, SetsMemory, TellsStretches, Pops};
 ghost use Rattle.fs_chain_c.specs.Queues.{BeginsQueue};
+ghost use Rattle.fs_chain_c.specs.States.{handle_state};
 
 use crate::device::FsDevice;
 use crate::handle::FsChain;
@@ -17,7 +18,7 @@ use fs_chain::{ChainError, ChainHandle};
 use std::alloc::Global;
 
 /// The version of the header (PK_VERSION).
-const VERSION: u32 = 9;
+const VERSION: u32 = 10;
 
 /// The status of a handle whose memory was never set: WrongOrder.
 pub(crate) fn wrong_order() -> u32
@@ -29,7 +30,7 @@ pub(crate) fn wrong_order() -> u32
 /// The version of the header that the archive was built with.
 #[unsafe(no_mangle)]
 pub extern "C" fn pk_version() -> u32
-    ensures { result ≡ 9 }
+    ensures { result ≡ 10 }
 {
     VERSION
 }
@@ -42,7 +43,7 @@ pub extern "C" fn pk_chain_set_memory(
     device: &FsDevice,
     regions: &[FsRegion],
 ) -> u32
-    ensures { SetsMemory chain.old.value device.now regions.now result chain.new.value }
+    ensures { SetsMemory chain.old.held.value device.now regions.now result chain.new.held.value }
 {
     match chain.take(alloc) {
         Some(mut handle) => {
@@ -72,6 +73,14 @@ pub extern "C" fn pk_chain_free(alloc: Global, chain: &mut FsChain)
     *chain = FsChain::empty(alloc);
 }
 
+/// Returns the number of the state of a handle's chain (PK_STATE_): 0 if its memory was never set.
+#[unsafe(no_mangle)]
+pub extern "C" fn pk_chain_state(chain: &FsChain) -> u32
+    ensures { result ≡ handle_state chain.now.held.value }
+{
+    chain.state()
+}
+
 // Sets the ticket of a handle's next chain, and returns a status.
 fn number_handle(handle: &mut ChainHandle, first: u32) -> u32
     ensures { NumbersHandle handle.old first result handle.new }
@@ -85,7 +94,7 @@ fn number_handle(handle: &mut ChainHandle, first: u32) -> u32
 /// Sets the ticket of a handle's next chain.
 #[unsafe(no_mangle)]
 pub extern "C" fn pk_chain_set_ticket(alloc: Global, chain: &mut FsChain, first: u32) -> u32
-    ensures { Numbers chain.old.value first result chain.new.value }
+    ensures { Numbers chain.old.held.value first result chain.new.held.value }
 {
     let Some(mut handle) = chain.take(alloc) else {
         return wrong_order();
@@ -104,7 +113,7 @@ pub extern "C" fn pk_pop(
     loaded: &[u8],
     pop: &mut FsPop,
 ) -> u32
-    ensures { Pops chain.old.value queue.old loaded.now result pop.new chain.new.value queue.new }
+    ensures { Pops chain.old.held.value queue.old loaded.now result pop.new chain.new.held.value queue.new }
 {
     let Some(mut handle) = chain.take(alloc) else {
         *pop = FsPop::nothing();
@@ -132,7 +141,7 @@ pub extern "C" fn pk_queue_begin(queue: &mut FsQueue, next_avail: u16) -> u32
 /// Frees a handle whose queue was reset: no queue is changed.
 #[unsafe(no_mangle)]
 pub extern "C" fn pk_abandon(alloc: Global, chain: &mut FsChain)
-    ensures { AbandonsChain chain.old.value chain.new.value }
+    ensures { AbandonsChain chain.old.held.value chain.new.held.value }
 {
     let Some(mut handle) = chain.take(alloc) else {
         return;
@@ -144,7 +153,7 @@ pub extern "C" fn pk_abandon(alloc: Global, chain: &mut FsChain)
 /// Drops a chain that wasn't decoded: the queue's next pop returns it again. Ends a pop under way.
 #[unsafe(no_mangle)]
 pub extern "C" fn pk_drop(alloc: Global, chain: &mut FsChain, queue: &mut FsQueue) -> u32
-    ensures { DropsChain chain.old.value queue.old result chain.new.value queue.new }
+    ensures { DropsChain chain.old.held.value queue.old result chain.new.held.value queue.new }
 {
     let Some(mut handle) = chain.take(alloc) else {
         return 0;
@@ -163,7 +172,8 @@ pub extern "C" fn pk_request_windows(
     len: u64,
     windows: &mut [FsWindow],
 ) -> usize
-    ensures { TellsStretches chain.old.value false from len windows.old result chain.new.value windows.new }
+    ensures { TellsStretches chain.old.held.value false from len windows.old result
+        chain.new.held.value windows.new }
 {
     let Some(handle) = chain.take(alloc) else {
         return 0;
@@ -182,7 +192,8 @@ pub extern "C" fn pk_reply_windows(
     len: u64,
     windows: &mut [FsWindow],
 ) -> usize
-    ensures { TellsStretches chain.old.value true from len windows.old result chain.new.value windows.new }
+    ensures { TellsStretches chain.old.held.value true from len windows.old result
+        chain.new.held.value windows.new }
 {
     let Some(handle) = chain.take(alloc) else {
         return 0;
@@ -202,7 +213,7 @@ pub extern "C" fn pk_push(
     front: &mut [u8],
     stores: &mut FsStores,
 ) -> u32
-    ensures { Pushes chain.old.value queue.old front.old result stores.new chain.new.value
+    ensures { Pushes chain.old.held.value queue.old front.old result stores.new chain.new.held.value
         queue.new front.new }
 {
     let Some(mut handle) = chain.take(alloc) else {
@@ -225,7 +236,7 @@ pub extern "C" fn pk_pushed(
     seen: u16,
     notify: &mut u8,
 ) -> u32
-    ensures { EndsPush chain.old.value queue.old seen result notify.new chain.new.value queue.new }
+    ensures { EndsPush chain.old.held.value queue.old seen result notify.new chain.new.held.value queue.new }
 {
     let Some(mut handle) = chain.take(alloc) else {
         *notify = 0;

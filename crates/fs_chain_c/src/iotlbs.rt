@@ -115,7 +115,7 @@ pub extern "C" fn pk_chain_exchange_iotlb(
     chain: &mut FsChain,
     iotlb: &mut FsIotlb,
 ) -> u32
-    ensures { Exchanges chain.old.value iotlb.old.value result chain.new.value iotlb.new.value }
+    ensures { Exchanges chain.old.held.value iotlb.old.value result chain.new.held.value iotlb.new.value }
 {
     let Some(mut handle) = chain.take(alloc) else {
         return wrong_order();

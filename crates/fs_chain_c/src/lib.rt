@@ -36,8 +36,8 @@ mod setting;
 mod windows;
 
 pub use exports::{
-    pk_abandon, pk_chain_free, pk_chain_set_memory, pk_chain_set_ticket, pk_drop, pk_pop, pk_push,
-    pk_pushed, pk_queue_begin, pk_reply_windows, pk_request_windows, pk_version,
+    pk_abandon, pk_chain_free, pk_chain_set_memory, pk_chain_set_ticket, pk_chain_state, pk_drop,
+    pk_pop, pk_push, pk_pushed, pk_queue_begin, pk_reply_windows, pk_request_windows, pk_version,
 };
 pub use iotlbs::{
     pk_chain_exchange_iotlb, pk_iotlb_free, pk_iotlb_map, pk_iotlb_new, pk_iotlb_unmap,

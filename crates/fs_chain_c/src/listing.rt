@@ -115,7 +115,7 @@ pub extern "C" fn pk_add_direntry(
     type_: u32,
 ) -> u32
     ensures { AddsEntry (is_entry name.now type_) (listed_as name.now ino next_offset type_) ticket
-        chain.old.value list.old result chain.new.value list.new }
+        chain.old.held.value list.old result chain.new.held.value list.new }
 {
     if !is_entry(name, type_) {
         return u32::from(ChainError::BadArgument.number());
@@ -143,8 +143,8 @@ fn add_node(
     entry: &DirEntry<'_>,
     node: Option<Entry<u64>>,
 ) -> u32
-    ensures { AddsNode true (listed entry.now) node ticket chain.old.value list.old result
-        chain.new.value list.new }
+    ensures { AddsNode true (listed entry.now) node ticket chain.old.held.value list.old result
+        chain.new.held.value list.new }
 {
     let Some(node) = node else {
         return u32::from(ChainError::BadArgument.number());
@@ -170,7 +170,7 @@ pub extern "C" fn pk_add_direntry_plus(
 ) -> u32
     ensures { AddsNode (is_entry name.now (type_of entry.now))
         (listed_as name.now entry.now.attr.ino next_offset (type_of entry.now)) (entry_of entry.now) ticket
-        chain.old.value list.old result chain.new.value list.new }
+        chain.old.held.value list.old result chain.new.held.value list.new }
 {
     let type_ = entry.attr.mode / 4096 % 16;
     if !is_entry(name, type_) {
@@ -203,7 +203,7 @@ pub extern "C" fn pk_reply_entries(
     ticket: u32,
     len: &mut u64,
 ) -> u32
-    ensures { EndsHandleList ticket chain.old.value result len.new chain.new.value }
+    ensures { EndsHandleList ticket chain.old.held.value result len.new chain.new.held.value }
 {
     let Some(mut handle) = chain.take(alloc) else {
         *len = 0;
@@ -246,7 +246,7 @@ fn errno_of(number: u32) -> Option<Errno>
 // A handle's call fails by an errno.
 fn fail_chain(alloc: Global, chain: &mut FsChain, ticket: u32, error: Errno) -> u32
     ensures { OnHandle (λ b b'. FailsHandle (is_listing b.state) error ticket b result b') (result ≡ 73)
-        chain.old.value chain.new.value }
+        chain.old.held.value chain.new.held.value }
 {
     let Some(mut handle) = chain.take(alloc) else {
         return wrong_order();
@@ -259,7 +259,7 @@ fn fail_chain(alloc: Global, chain: &mut FsChain, ticket: u32, error: Errno) -> 
 /// A chain's call is done (0), or fails by an errno.
 #[unsafe(no_mangle)]
 pub extern "C" fn pk_reply_err(alloc: Global, chain: &mut FsChain, ticket: u32, error: u32) -> u32
-    ensures { RepliesError error ticket chain.old.value result chain.new.value }
+    ensures { RepliesError error ticket chain.old.held.value result chain.new.held.value }
 {
     match errno_of(error) {
         Some(errno) => fail_chain(alloc, chain, ticket, errno),

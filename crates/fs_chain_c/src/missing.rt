@@ -74,7 +74,8 @@ pub extern "C" fn pk_miss(
     miss: &mut FsMiss,
 ) -> u32
     ensures { OnHandle (λ b b'. TellsMiss b index from result miss.new × (b' ≡ b))
-        ((result ≡ chain_error_number WrongOrder) × (miss.new ≡ no_miss)) chain.old.value chain.new.value }
+        ((result ≡ chain_error_number WrongOrder) × (miss.new ≡ no_miss))
+        chain.old.held.value chain.new.held.value }
 {
     let Some(handle) = chain.take(alloc) else {
         *miss = FsMiss::nothing();
@@ -97,7 +98,7 @@ fn use_of(handle: &ChainHandle, iova: u64, len: u64) -> u8
 #[unsafe(no_mangle)]
 pub extern "C" fn pk_uses(alloc: Global, chain: &mut FsChain, iova: u64, len: u64) -> u8
     ensures { OnHandle (λ b b'. TellsUse b iova len result × (b' ≡ b)) (result ≡ 0)
-        chain.old.value chain.new.value }
+        chain.old.held.value chain.new.held.value }
 {
     let Some(handle) = chain.take(alloc) else {
         return 0;

@@ -68,7 +68,7 @@ pub extern "C" fn pk_set_notification(
     enabled: u32,
     store: &mut FsStore,
 ) -> u32
-    ensures { AsksKicks chain.old.value queue.now enabled result store.new chain.new.value }
+    ensures { AsksKicks chain.old.held.value queue.now enabled result store.new chain.new.held.value }
 {
     let Some(handle) = chain.take(alloc) else {
         *store = FsStore::nothing();

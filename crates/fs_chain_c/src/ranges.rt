@@ -63,7 +63,7 @@ pub extern "C" fn pk_reply_ranges(
     len: u64,
     ranges: &mut [FsRange],
 ) -> usize
-    ensures { TellsRanges chain.old.value from len ranges.old result chain.new.value ranges.new }
+    ensures { TellsRanges chain.old.held.value from len ranges.old result chain.new.held.value ranges.new }
 {
     let Some(handle) = chain.take(alloc) else {
         return 0;

@@ -22,7 +22,7 @@ use std::alloc::Global;
 
 /// Answers the call of a handle's chain that has this ticket.
 pub(crate) fn reply(alloc: Global, chain: &mut FsChain, ticket: u32, said: FileAnswer) -> u32
-    ensures { RepliesWith said ticket chain.old.value result chain.new.value }
+    ensures { RepliesWith said ticket chain.old.held.value result chain.new.held.value }
 {
     let Some(mut handle) = chain.take(alloc) else {
         return wrong_order();
@@ -34,7 +34,7 @@ pub(crate) fn reply(alloc: Global, chain: &mut FsChain, ticket: u32, said: FileA
 
 // The same, if there is an answer.
 fn may_reply(alloc: Global, chain: &mut FsChain, ticket: u32, said: Option<FileAnswer>) -> u32
-    ensures { MayReply said ticket chain.old.value result chain.new.value }
+    ensures { MayReply said ticket chain.old.held.value result chain.new.held.value }
 {
     match said {
         Some(said) => reply(alloc, chain, ticket, said),
@@ -51,7 +51,7 @@ pub extern "C" fn pk_decode(
     request: &[u8],
     call: &mut FsCall,
 ) -> u32
-    ensures { AsksChain chain.old.value device.now request.now result call.new chain.new.value }
+    ensures { AsksChain chain.old.held.value device.now request.now result call.new chain.new.held.value }
 {
     let Some(mut handle) = chain.take(alloc) else {
         *call = FsCall::none();
@@ -70,7 +70,8 @@ pub extern "C" fn pk_reply_entry(
     ticket: u32,
     entry: &FsEntry,
 ) -> u32
-    ensures { MayReply (entry_said (entry_of entry.now)) ticket chain.old.value result chain.new.value }
+    ensures { MayReply (entry_said (entry_of entry.now)) ticket chain.old.held.value result
+        chain.new.held.value }
 {
     may_reply(alloc, chain, ticket, entry_said(entry_of(entry)))
 }
@@ -85,8 +86,8 @@ pub extern "C" fn pk_reply_create(
     handle: u64,
     open_flags: u32,
 ) -> u32
-    ensures { MayReply (create_said (entry_of entry.now) handle open_flags) ticket chain.old.value result
-        chain.new.value }
+    ensures { MayReply (create_said (entry_of entry.now) handle open_flags) ticket chain.old.held.value result
+        chain.new.held.value }
 {
     may_reply(
         alloc,
@@ -106,7 +107,8 @@ pub extern "C" fn pk_reply_attr(
     secs: u64,
     nanos: u32,
 ) -> u32
-    ensures { MayReply (attr_said attr.now secs nanos) ticket chain.old.value result chain.new.value }
+    ensures { MayReply (attr_said attr.now secs nanos) ticket chain.old.held.value result
+        chain.new.held.value }
 {
     may_reply(alloc, chain, ticket, attr_said(attr, secs, nanos))
 }
@@ -120,7 +122,8 @@ pub extern "C" fn pk_reply_open(
     handle: u64,
     open_flags: u32,
 ) -> u32
-    ensures { RepliesWith (open_said handle open_flags) ticket chain.old.value result chain.new.value }
+    ensures { RepliesWith (open_said handle open_flags) ticket chain.old.held.value result
+        chain.new.held.value }
 {
     reply(alloc, chain, ticket, open_said(handle, open_flags))
 }
@@ -128,7 +131,7 @@ pub extern "C" fn pk_reply_open(
 /// Answers a call with data: so many bytes, which lie in the reply buffer behind the header.
 #[unsafe(no_mangle)]
 pub extern "C" fn pk_reply_data(alloc: Global, chain: &mut FsChain, ticket: u32, len: u64) -> u32
-    ensures { RepliesWith (answer.Bytes len) ticket chain.old.value result chain.new.value }
+    ensures { RepliesWith (answer.Bytes len) ticket chain.old.held.value result chain.new.held.value }
 {
     let len = len as usize;
     reply(alloc, chain, ticket, FileAnswer::Bytes { len })
@@ -137,7 +140,7 @@ pub extern "C" fn pk_reply_data(alloc: Global, chain: &mut FsChain, ticket: u32,
 /// Answers GETXATTR and LISTXATTR with size 0: how many bytes there are.
 #[unsafe(no_mangle)]
 pub extern "C" fn pk_reply_xattr(alloc: Global, chain: &mut FsChain, ticket: u32, len: u32) -> u32
-    ensures { RepliesWith (answer.Count len) ticket chain.old.value result chain.new.value }
+    ensures { RepliesWith (answer.Count len) ticket chain.old.held.value result chain.new.held.value }
 {
     reply(alloc, chain, ticket, FileAnswer::Count(len))
 }
@@ -145,7 +148,7 @@ pub extern "C" fn pk_reply_xattr(alloc: Global, chain: &mut FsChain, ticket: u32
 /// Answers WRITE and COPY_FILE_RANGE: how many bytes were written.
 #[unsafe(no_mangle)]
 pub extern "C" fn pk_reply_write(alloc: Global, chain: &mut FsChain, ticket: u32, count: u32) -> u32
-    ensures { RepliesWith (answer.Wrote count) ticket chain.old.value result chain.new.value }
+    ensures { RepliesWith (answer.Wrote count) ticket chain.old.held.value result chain.new.held.value }
 {
     reply(alloc, chain, ticket, FileAnswer::Wrote(count))
 }
@@ -158,7 +161,7 @@ pub extern "C" fn pk_reply_statfs(
     ticket: u32,
     statfs: &FsStatfs,
 ) -> u32
-    ensures { RepliesWith (statfs_said statfs.now) ticket chain.old.value result chain.new.value }
+    ensures { RepliesWith (statfs_said statfs.now) ticket chain.old.held.value result chain.new.held.value }
 {
     reply(alloc, chain, ticket, statfs_said(statfs))
 }
@@ -171,7 +174,7 @@ pub extern "C" fn pk_reply_lseek(
     ticket: u32,
     offset: u64,
 ) -> u32
-    ensures { RepliesWith (answer.Offset offset) ticket chain.old.value result chain.new.value }
+    ensures { RepliesWith (answer.Offset offset) ticket chain.old.held.value result chain.new.held.value }
 {
     reply(alloc, chain, ticket, FileAnswer::Offset(offset))
 }
@@ -186,7 +189,8 @@ pub extern "C" fn pk_reply_init(
     device: &mut FsDevice,
     wanted: u64,
 ) -> u32
-    ensures { RepliesInit wanted ticket chain.old.value device.old result chain.new.value device.new }
+    ensures { RepliesInit wanted ticket chain.old.held.value device.old result
+        chain.new.held.value device.new }
 {
     let Some(mut handle) = chain.take(alloc) else {
         return wrong_order();
@@ -213,7 +217,7 @@ fn reply_own(handle: &mut ChainHandle, ticket: u32, len: usize) -> u32
 /// in place of `pk_decode`, or of an answer.
 #[unsafe(no_mangle)]
 pub extern "C" fn pk_reply_bytes(alloc: Global, chain: &mut FsChain, ticket: u32, len: u64) -> u32
-    ensures { RepliesBytes ticket len chain.old.value result chain.new.value }
+    ensures { RepliesBytes ticket len chain.old.held.value result chain.new.held.value }
 {
     let Some(mut handle) = chain.take(alloc) else {
         return wrong_order();

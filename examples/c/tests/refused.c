@@ -614,7 +614,7 @@ static void free_chains(void) {
         begin(FREE);
         pk_chain_free(chain);
         (void)again(PK_DONE, PK_DONE);
-        if (chain->at != NULL || chain->full != 0) wrong("the handle isn't zeros", "");
+        if (chain->at != NULL || chain->state != 0) wrong("the handle isn't zeros", "");
     }
     if (heap.held != 0) wrong("memory isn't freed", "");
 }

@@ -94,7 +94,7 @@ impl Drop for Chain {
 
 impl Chain {
     pub const fn new() -> Chain {
-        Chain { handle: sys::Chain { at: ptr::null_mut(), full: 0 }, ticket: 0, kept: None }
+        Chain { handle: sys::Chain { at: ptr::null_mut(), state: 0 }, ticket: 0, kept: None }
     }
 
     pub fn set_memory(&mut self, device: &sys::Device, regions: &[Region]) -> Result<(), Status> {

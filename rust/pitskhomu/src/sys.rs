@@ -6,7 +6,7 @@
 use crate::memory::{GuestRange as Range, Region, Window};
 use core::ffi::c_void;
 
-pub const VERSION: u32 = 9;
+pub const VERSION: u32 = 10;
 pub const REGIONS_MAX: usize = 64;
 pub const QUEUES_MAX: usize = 64;
 pub const FIRST: usize = 80;
@@ -69,6 +69,19 @@ pub mod kind {
     pub const SYNCFS: u32 = 50;
 }
 
+/// enum `pk_state`: the states of a handle.
+#[allow(dead_code)] // the worker keeps its own
+pub mod state {
+    pub const NONE: u32 = 0;
+    pub const FREE: u32 = 1;
+    pub const POPPING: u32 = 2;
+    pub const POPPED: u32 = 3;
+    pub const DECODED: u32 = 4;
+    pub const LISTING: u32 = 5;
+    pub const REPLIED: u32 = 6;
+    pub const PUSHING: u32 = 7;
+}
+
 /// enum `pk_access`.
 pub mod access {
     pub const NONE: u32 = 0;
@@ -112,7 +125,7 @@ pub struct Queue {
 #[derive(Debug)]
 pub struct Chain {
     pub at: *mut c_void,
-    pub full: u32,
+    pub state: u32,
 }
 
 #[repr(C)]
@@ -278,6 +291,8 @@ extern "C" {
     pub fn pk_chain_set_memory(chain: &mut Chain, device: &Device, regions: *const Region,
         region_count: usize) -> u32;
     pub fn pk_chain_free(chain: &mut Chain);
+    #[allow(dead_code)] // the worker keeps its own state
+    pub fn pk_chain_state(chain: &Chain) -> u32;
     #[allow(dead_code)] // a worker's answers go to its own chain
     pub fn pk_chain_set_ticket(chain: &mut Chain, first: u32) -> u32;
     pub fn pk_pop(chain: &mut Chain, queue: &mut Queue, loaded: *const u8, loaded_len: usize,

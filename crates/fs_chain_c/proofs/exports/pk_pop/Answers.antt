@@ -4,5 +4,6 @@ use Rattle.fs_chain_c.proofs.exports.pk_pop.Goals as goal
 
 pub returns : goal.returns
 returns c =
-    on_handle _ _ c.args.chain.now.value c.of_box.result.value c.deref_mut.result.now c.pop_handle-status.new.handle (search rules)
+    on_handle _ _ c.args.chain.now.held.value c.of_box.result.held.value
+    c.deref_mut.result.now c.pop_handle-status.new.handle (search rules)
     (search rules) c.pop_handle-status.ensures

@@ -7,8 +7,8 @@ pub returns : goal.returns
 returns c =
     let a = c.args in
     let adds = c.add_to_handle-status in
-    let P : Bool → Type 0 = λ is. AddsEntry is (listed_as a.name.now a.ino a.next_offset a.type_) a.ticket a.chain.now.value a.list.now
-    adds.result c.of_box.result.value adds.new.list in
+    let P : Bool → Type 0 = λ is. AddsEntry is (listed_as a.name.now a.ino a.next_offset a.type_) a.ticket a.chain.now.held.value
+    a.list.now adds.result c.of_box.result.held.value adds.new.list in
     let is : is_entry a.name.now a.type_ ≡ true = search rules in
-    subst P (sym is) (on_handle _ _ a.chain.now.value c.of_box.result.value c.deref_mut.result.now adds.new.handle (search rules)
+    subst P (sym is) (on_handle _ _ a.chain.now.held.value c.of_box.result.held.value c.deref_mut.result.now adds.new.handle (search rules)
     (search rules) adds.ensures)

@@ -9,5 +9,6 @@ returns c =
     let told = c.miss_of-status.result in
     let same : c.deref.result.now ≡ c.in-Some.handle.value = search rules in
     let tells = subst (λ (b : ChainHandle). TellsMiss b c.args.index c.args.from told.1 told.0) same c.miss_of-status.ensures in
-    on_handle _ _ c.args.chain.now.value c.of_box.result.value c.in-Some.handle.value c.in-Some.handle.value (search rules) (search rules)
+    on_handle _ _ c.args.chain.now.held.value c.of_box.result.held.value
+    c.in-Some.handle.value c.in-Some.handle.value (search rules) (search rules)
     (tells, refl)

@@ -9,5 +9,6 @@ returns c =
     let told = c.use_of-told.result in
     let same : c.deref.result.now ≡ c.in-Some.handle.value = search rules in
     let tells = subst (λ (b : ChainHandle). TellsUse b c.args.iova c.args.len told) same c.use_of-told.ensures in
-    on_handle _ _ c.args.chain.now.value c.of_box.result.value c.in-Some.handle.value c.in-Some.handle.value (search rules) (search rules)
+    on_handle _ _ c.args.chain.now.held.value c.of_box.result.held.value
+    c.in-Some.handle.value c.in-Some.handle.value (search rules) (search rules)
     (tells, refl)

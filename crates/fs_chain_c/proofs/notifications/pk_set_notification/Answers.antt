@@ -10,5 +10,6 @@ returns c =
     let same : c.deref.result.now ≡ c.in-Some.handle.value = search rules in
     let asks = subst (λ (b : ChainHandle). SetsNotification b c.args.queue.now c.args.enabled asked.0 asked.1) same
     c.set_notification-status.ensures in
-    on_handle _ _ c.args.chain.now.value c.of_box.result.value c.in-Some.handle.value c.in-Some.handle.value (search rules) (search rules)
+    on_handle _ _ c.args.chain.now.held.value c.of_box.result.held.value
+    c.in-Some.handle.value c.in-Some.handle.value (search rules) (search rules)
     (asks, refl)

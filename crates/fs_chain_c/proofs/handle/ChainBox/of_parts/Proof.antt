@@ -1,13 +1,12 @@
--- `of_parts` moves a pointer and a handle, puts 1 beside them, and what they own goes with them.
+-- `of_parts` moves a pointer and a handle, and what they own goes with them.
 use Rattle.std.specs.Prelude.{Some}
-use Rattle.std.proofs.Common.{lit<}
 use Rattle.std.proofs.raw_atomic.Walks.{proved_at}
 use Rattle.std_heap.specs.contracts.Global as Heap
-use Rattle.fs_chain_c.proofs.ChainValues.{Boxed, Chain, chain_in, good_ptr, owns_box, parts_out, three, three_good, two, two_good}
-use Rattle.fs_chain_c.specs.contracts.handle.FsChain.of_parts.{ended, clauses}
-use Rattle.fs_chain_c.specs.contracts.handle.FsChain.of_parts.Key.{name as #self}
-use Rattle.fs_chain_c.proofs.handle.FsChain.of_parts.Statement.{statement}
-use Rattle.fs_chain_c.proofs.handle.FsChain.of_parts.Code as code
+use Rattle.fs_chain_c.proofs.ChainValues.{Boxed, Chain, chain_in, good_ptr, owns_box, parts_out, two, two_good}
+use Rattle.fs_chain_c.specs.contracts.handle.ChainBox.of_parts.{ended, clauses}
+use Rattle.fs_chain_c.specs.contracts.handle.ChainBox.of_parts.Key.{name as #self}
+use Rattle.fs_chain_c.proofs.handle.ChainBox.of_parts.Statement.{statement}
+use Rattle.fs_chain_c.proofs.handle.ChainBox.of_parts.Code as code
 use mathlib.Core.Path.{refl, sym, subst}
 use mathlib.Core.List.{List, [], ◌∷◌, ◌++◌}
 use mir.Val.{Val}
@@ -16,7 +15,7 @@ use base.Fml.{ftrue, fsep}
 use prog.Wp.{WpFn}
 use types.Kit.{Item, ‵, raw, ◌⊛◌, ◌$◌, ◌∵◌, !, qed, by, move, drop, join, split, fsplit, fjoin, suffices, done}
 use types.Part.{whole, sub, agg}
-use types.Run.{stop, fld, lit, no_more, and_then, of_opd, returns, enter}
+use types.Run.{stop, fld, no_more, and_then, of_opd, returns, enter}
 use types.ByLocal.{alloc_all, pass_all, free_all, look_at, get, get_in, sets}
 use contract.Running.{tables}
 use denote.Exit.{yes}
@@ -31,7 +30,7 @@ of_parts_spec 𝓤 𝓛 𝓜 𝓡 wired =
     proved_at 𝓛 ended stayed c 𝓜 𝓡 (Goes-dropped 𝓛 0 (plain (λ κs. Boxed)) yes (λ κs x f. refl), tt) #self fn
     (code.unfolded 𝓤 H 𝓜 𝓡 wired) (λ y are.
     let d = y.0.3.0 in let us = y.0.4.0 in let Post = (walk_of 𝓛 ended stayed c).post y in
-    let made : Chain.Denot = record { at = d.ptr; alloc = d.alloc; full = 1; value = Some d.value; known = refl } in
+    let made : Chain.Denot = record { at = d.ptr; alloc = d.alloc; value = Some d.value } in
     qed 𝓛 ((‵ ftrue ⊛ ‵ (fsep (Boxed.own_val d us) ftrue)) ∷ raw (emp 𝓤) ∷ []) ∵ split ! $ drop ! $ fsplit ! $ parts_out ! d us
     (λ h ws fits.
     move ! (2 ∷ 3 ∷ []) $ drop ! $ drop ! $
@@ -41,8 +40,8 @@ of_parts_spec 𝓤 𝓛 𝓜 𝓡 wired =
     sets ! (of_opd ! (get_in ! (fld ! refl (stop !)) (sub ! 0 refl (whole !)))) refl (good_ptr d.ptr) $ sets !
     (of_opd ! (get_in ! (fld ! refl (stop !)) (sub ! 1 refl (whole !)))) refl fits $
     sets ! (of_opd ! (get ! refl)) refl (good_ptr d.ptr) $
-    sets ! (agg ! (and_then ! (get ! refl) (and_then ! (get ! refl) (and_then ! (lit ! tt) (no_more !))))) refl
-    (three_good d.ptr h 1 fits (lit< tt)) $
-    returns ! (look_at ! 0 refl) $ free_all ! refl $ chain_in ! made h (lit< tt) $
-    suffices ! _ (ends_at 𝓛 ended stayed c y (three d.ptr h 1) made (tt, tt) (tt, tt)) $ says ! refl $ nothing ! $ nothing ! $ fjoin ! $
+    sets ! (agg ! (and_then ! (get ! refl) (and_then ! (get ! refl) (no_more !)))) refl
+    (two_good d.ptr h fits) $
+    returns ! (look_at ! 0 refl) $ free_all ! refl $ chain_in ! made h $
+    suffices ! _ (ends_at 𝓛 ended stayed c y (two d.ptr h) made (tt, tt) (tt, tt)) $ says ! refl $ nothing ! $ nothing ! $ fjoin ! $
     join ! $ nothing ! $ join ! $ done !)))))

@@ -1,0 +1,49 @@
+-- `into_parts` moves a pointer and a handle, and what they own goes with them.
+use Rattle.std.specs.Prelude.{is_some, true}
+use Rattle.std.proofs.raw_atomic.Walks.{proved_at}
+use Rattle.std_heap.specs.contracts.Global as Heap
+use Rattle.fs_chain_c.proofs.ChainValues.{Boxed, Chain, chain_out, full, good_ptr, owns_box, parts_in, two, two_good}
+use Rattle.fs_chain_c.specs.contracts.handle.ChainBox.into_parts.{ended, clauses}
+use Rattle.fs_chain_c.specs.contracts.handle.ChainBox.into_parts.Key.{name as #self}
+use Rattle.fs_chain_c.proofs.handle.ChainBox.into_parts.Statement.{statement}
+use Rattle.fs_chain_c.proofs.handle.ChainBox.into_parts.Code as code
+use mathlib.Core.Path.{◌≡◌, refl, sym, subst}
+use mathlib.Core.List.{List, [], ◌∷◌, ◌++◌}
+use mir.Val.{Val}
+use base.Logic.{ent}
+use base.Fml.{ftrue, fsep}
+use prog.Wp.{WpFn}
+use types.Kit.{Item, ‵, raw, ◌⊛◌, ◌$◌, ◌∵◌, !, qed, by, move, drop, join, split, fsplit, fjoin, suffices, done}
+use types.Part.{whole, sub, agg}
+use types.Run.{stop, fld, no_more, and_then, of_opd, returns, enter}
+use types.ByLocal.{alloc_all, pass_all, free_all, look_at, get, get_in, sets}
+use contract.Monad.{fact}
+use contract.Running.{tables}
+use denote.Exit.{yes}
+use denote.Signature.{plain}
+use denote.Steps.{heard, nothing}
+use denote.Triple.Walked.{says, Stays, stay_dropped, walk_of, ends_at, Goes-dropped}
+
+pub into_parts_spec : {M : Type 1} → statement M
+into_parts_spec 𝓤 𝓛 𝓜 𝓡 wired =
+    let H = 𝓛.H in let 𝓣 = tables 𝓤 H 𝓜 𝓡 𝓡.env in let c = clauses 𝓛 𝓜.mem 𝓡.returns in let fn = code.function in
+    let stayed : Stays ended.signature.params ended.kept = (stay_dropped (plain (λ κs. Chain)) yes, tt) in
+    proved_at 𝓛 ended stayed c 𝓜 𝓡 (Goes-dropped 𝓛 0 (plain (λ κs. Chain)) yes (λ κs x f. refl), tt) #self fn
+    (code.unfolded 𝓤 H 𝓜 𝓡 wired) (λ y are.
+    let d = y.0.3.0 in let us = y.0.4.0 in let Post = (walk_of 𝓛 ended stayed c).post y in
+    qed 𝓛 ((‵ ftrue ⊛ ‵ (fsep (Chain.own_val d us) ftrue)) ∷ raw (fact 𝓤 (is_some d.value ≡ true)) ∷ []) ∵
+    move ! (1 ∷ []) $ heard ! _ (λ is. split ! $ drop ! $ fsplit ! $ chain_out ! d us
+    (λ h ws fits. full ! d is (λ x some.
+    move ! (0 ∷ 1 ∷ []) $
+    let Γ : List (Item 𝓤) = ‵ (owns_box d.alloc d.at x) ∷ ‵ ((Heap.the_row).own_val d.alloc (h ∷ [])) ∷ [] in
+    let parts : Boxed.Denot = record { ptr = d.at; alloc = d.alloc; value = x } in
+    move ! (2 ∷ []) $ drop ! $
+    by ! (subst (λ (us : List Val). ent 𝓤 (types.Kit.⋆ 𝓛 Γ) (WpFn 𝓤 H 𝓣.C 𝓣.Λ fn (us ++ []) Post)) (sym ws)
+    (qed 𝓛 Γ ∵ enter ! 𝓣.C 𝓣.Λ fn (two d.at h ∷ []) _ $ alloc_all ! (λ ls. pass_all ! refl (two_good d.at h fits, tt) $
+    sets ! (of_opd ! (get_in ! (fld ! refl (stop !)) (sub ! 0 refl (whole !)))) refl (good_ptr d.at) $ sets !
+    (of_opd ! (get_in ! (fld ! refl (stop !)) (sub ! 1 refl (whole !)))) refl fits $
+    sets ! (of_opd ! (get ! refl)) refl (good_ptr d.at) $
+    sets ! (agg ! (and_then ! (get ! refl) (and_then ! (get ! refl) (no_more !)))) refl (two_good d.at h fits) $
+    returns ! (look_at ! 0 refl) $ free_all ! refl $ parts_in ! d.alloc d.at x h $
+    suffices ! _ (ends_at 𝓛 ended stayed c y (two d.at h) parts (tt, tt) (tt, tt)) $ says ! some $ nothing ! $ nothing ! $ fjoin ! $
+    join ! $ nothing ! $ join ! $ done !)))))))
