@@ -322,7 +322,7 @@ uint32_t pk_chain_set_memory(struct pk_chain *chain, const struct pk_device *dev
     PK_CHECK PK_READS(3, 4);
 
 /* Frees the handle's memory, and zeroes it. Push its chain before: else the queue counts it as in
- * flight until a reset, and, between pk_push and pk_pushed, refuses to push others. */
+ * flight until a reset. Between pk_push and pk_pushed no other chain can be pushed until then. */
 void pk_chain_free(struct pk_chain *chain) PK_NONNULL;
 
 /* Sets the ticket of the chain's next pop. Each pop takes the next number, modulo 2^32; the first
