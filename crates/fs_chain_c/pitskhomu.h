@@ -37,9 +37,8 @@
  *
  * THREADS. Calls may run at the same time if they share only arguments that all of them take as
  * const. Otherwise calls on one chain, queue or device need an order: a lock, or a join. A chain
- * may move between threads. Threads with a chain and a queue of their own share only `device`, and
- * an IOMMU's table. For `device` use a reader-writer lock: pk_reply_init and pk_restore write it,
- * pk_decode reads it.
+ * may move between threads. Threads that have a chain and a queue each share only `device`, and an
+ * IOMMU's table. Use a reader-writer lock: only pk_reply_init and pk_restore write `device`.
  *
  * RULES for the caller. The library can't check them; it does refuse calls in a wrong order.
  *  1. A pointer is valid for its length, and never NULL, not even with length 0. An argument that
@@ -266,9 +265,8 @@ enum pk_answer_kind {
 /* The archive's PK_VERSION, to compare. */
 uint32_t pk_version(void);
 
-/* Returns 1 if a name is one component of a path (POSIX.1-2017, 3.170 and 4.13), else 0. It isn't
- * one if it is empty, "." or "..", or has a slash or a zero byte. The guest may send any name: test
- * each before you use it in a directory of the host. */
+/* Returns 1 if a name is one component of a path (POSIX.1-2017, 3.170 and 4.13), else 0: "", ".",
+ * "..", or with a slash or a zero byte. Test each name of the guest before the host uses it. */
 uint8_t pk_is_name(const uint8_t *name, size_t name_len) PK_CHECK;
 
 /* ---------------------------------------------------------------- device and queues */
