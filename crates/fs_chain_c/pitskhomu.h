@@ -348,8 +348,8 @@ struct pk_pop {
  * PK_IDLE, PK_MISS and errors 1 to 8: the handle is free. PK_MISS leaves the queue as it was. Other
  * errors leave the pop under way; pk_drop ends it. Two loads can be saved. A table entry that
  * crosses two regions is loaded in two parts: instead of the first you may pass the whole entry.
- * The first load is the available index: you may pass the bytes of an earlier load of it, if that
- * was made over the same memory since the queue's reset, and its number isn't `next_avail`.
+ * The first load is the available index. You may pass the bytes of an earlier load of it over the
+ * same memory since the queue's reset, if the number isn't `next_avail`.
  * Errors: PK_WRONG_ORDER (no memory was set); PK_BAD_ARGUMENT (the queue's fields are no queue's,
  * as zeros); PK_WRONG_ORDER (the chain is in flight); PK_BAD_ARGUMENT (`loaded_len` isn't the
  * load's); PK_OTHER_QUEUE (then drop or abandon the pop); PK_CHAIN_IN_FLIGHT; then, in no order,
@@ -583,7 +583,7 @@ uint32_t pk_reply_entries(struct pk_chain *chain, uint32_t ticket, uint64_t *len
 
 /* Replies with `len` bytes of your own, struct fuse_out_header included; 0 is no reply. Put them
  * into the reply buffer, from 0 on, before the used index is stored. Allowed in place of a call's
- * answer. Also in place of pk_decode, so that a FUSE server of yours may serve any request: the
+ * answer. Or in place of pk_decode, for a FUSE server of yours, which may serve any request: the
  * opcode is at byte 4 of the request, `unique` at 8. You then account for the guest's nodes, also
  * those of pk_add_direntry_plus that your bytes leave out, and set device->options after INIT. The
  * library doesn't read your header. pk_push returns no front, and `len` for the used element.
