@@ -346,10 +346,11 @@ struct pk_pop {
 /* Pops the next available chain, by several calls. The first one has `loaded_len` 0. After PK_LOAD
  * load the bytes and call again with them, at most size + 4 times. PK_DONE: the chain is in flight.
  * PK_IDLE, PK_MISS and errors 1 to 8: the handle is free. PK_MISS leaves the queue as it was. Other
- * errors leave the pop under way; pk_drop ends it. Two loads can be saved. A table entry that
- * crosses two regions is loaded in two parts: instead of the first you may pass the whole entry.
- * The first load is the available index. You may pass the bytes of an earlier load of it over the
- * same memory since the queue's reset, if the number isn't `next_avail`.
+ * errors leave the pop under way; pk_drop ends it.
+ * You can omit two loads. The first load is the available index: you may pass the bytes of an
+ * earlier load of it over the same memory since the queue's reset, if it isn't `next_avail`. An
+ * entry of a table that crosses two regions is loaded in two parts: in place of the first part you
+ * may pass the whole entry.
  * Errors: PK_WRONG_ORDER (no memory was set); PK_BAD_ARGUMENT (the queue's fields are no queue's,
  * as zeros); PK_WRONG_ORDER (the chain is in flight); PK_BAD_ARGUMENT (`loaded_len` isn't the
  * load's); PK_OTHER_QUEUE (then drop or abandon the pop); PK_CHAIN_IN_FLIGHT; then, in no order,
