@@ -44,16 +44,19 @@
  *     the call writes overlaps no other.
  *  2. Load each byte once: copy it, pass the copy, and don't read the guest's byte again.
  *  3. A load of 2 bytes is one atomic load with acquire order. Other loads need no order.
- *  4. To push, do in this order: copy the data into the reply buffer; copy the front (the reply
- *     without its data) over its first bytes; store the two halves of the used element; store the
- *     used index, atomically and with release order; issue a full barrier
- *     (atomic_thread_fence(memory_order_seq_cst)); load the 2 bytes at `seen_at`.
+ *  4. To push, do in this order:
+ *     - copy the data into the reply buffer, and then the front (the reply without its data) over
+ *       the buffer's first bytes;
+ *     - store the two halves of the used element;
+ *     - store the used index, atomically and with release order;
+ *     - issue a full barrier (atomic_thread_fence(memory_order_seq_cst));
+ *     - load the 2 bytes at `seen_at`.
  *  5. Use windows only until pk_pushed, pk_drop or pk_abandon. Store only into reply windows.
  *  6. A chain keeps the regions that it was popped with. While it is in flight, leave that memory
  *     mapped, and let new regions map the queue's rings as the old ones did.
  *  7. In a migration log each page that you stored into, after the store and before pk_pushed. Also
- *     log data that you put into the reply buffer, but that the reply leaves out. Behind an IOMMU
- *     log the pages of your regions by the host addresses of windows and stores.
+ *     log data in the reply buffer that isn't part of the reply. Behind an IOMMU log the pages of
+ *     your regions by the host addresses of windows and stores.
  *  8. Before a queue is reset (pk_queue_begin, pk_restore), end the loads, stores and file calls of
  *     its chains, and free them with pk_abandon.
  *  9. Answer each decoded chain, unless `answer` is NONE: at least by pk_reply_err(EIO).
@@ -61,40 +64,47 @@
  *     from the child of a fork of a process with threads.
  *
  * SEVERAL CHAINS IN FLIGHT: up to `max_in_flight` of a queue, each with its own `struct pk_chain`.
- * Push them in any order. Hold the queue's lock from a chain's first pk_pop to its last (if another
- * chain was popped or dropped between, the pop is refused: PK_OTHER_QUEUE), from pk_push to
- * pk_pushed, and from pk_set_notification to the end of the pop that follows.
+ * Push them in any order. Hold the queue's lock
+ *   - from a chain's first pk_pop to its last. If another chain was popped or dropped between, the
+ *     pop is refused (PK_OTHER_QUEUE);
+ *   - from pk_push to pk_pushed;
+ *   - from pk_set_notification to the end of the pop that follows.
  *
  * NOTIFICATIONS. None is lost, of the driver or the device, under these rules and VIRTIO's for the
- * driver (2.7.13, 2.7.14). Without a rule in brackets the model of crate notify loses one.
+ * driver (2.7.13, 2.7.14). Brackets have a rule's name in the model of crate notify, which loses a
+ * notification without it.
  *   - Before a thread sleeps, after its last pop: pk_set_notification(1), the store, a full
  *     barrier, and one more pop. That pop uses no earlier load of the available index (taker_waits,
  *     late). Sleep if it returns PK_IDLE, or if `max_in_flight` are in flight.
  *   - A thread that calls pk_pop or pk_set_notification while another thread of the queue sleeps
- *     also enables notifications so before it releases the lock, after any result, and without
- *     EVENT_IDX too (asks_again). If its handle holds a chain, it replaces the pop: it loads the
- *     available index again and compares it with `next_avail`. Without EVENT_IDX it may omit the
- *     store if the queue's last one was the same. If a chain is available then, it pops it or wakes
- *     a thread, since the driver doesn't notify again (wakes_another).
+ *     does the same before it releases the lock (asks_again). It does so after any result, and
+ *     without EVENT_IDX too, but may then omit the store if the queue's last one was the same. If
+ *     its handle holds a chain, it can't pop: then it loads the available index again and compares
+ *     it with `next_avail`. If a chain is available, it pops it or wakes a thread, since the driver
+ *     doesn't notify again (wakes_another).
  *   - A thread that pushes or drops a chain pops again, or wakes a thread (walks_after).
  *   - A push has its full barrier before its load (giver_waits), and is ended before the queue's
  *     next push (checks_often). A woken thread resets its event (eventfd), and then pops.
  *
- * FEATURES that you may offer: VERSION_1 (32; insist on it), INDIRECT_DESC (28), EVENT_IDX (29; set
- * `event_index`), IN_ORDER (35; push the chains of a queue in the order of their pops), and
- * ACCESS_PLATFORM (33): the driver's addresses are guest physical, or the chains have the IOMMU's
- * table. Not RING_PACKED (34).
+ * FEATURES that you may offer:
+ *   - VERSION_1 (32); refuse a driver without it
+ *   - INDIRECT_DESC (28)
+ *   - EVENT_IDX (29), with `event_index`
+ *   - ACCESS_PLATFORM (33), if addresses are guest physical, or the chains have the IOMMU's table
+ *   - IN_ORDER (35), if you push the chains of a queue in the order of their pops
+ * Not RING_PACKED (34).
+ *
  * STATUSES. 1 to 8: the queue can't be served; 2 to 8 stop it until its reset. 9: an allocation
  * failed. 32 to 63 say how to go on. 64 and more: the call changed no chain, queue or device, and
  * zeroed its results, unless its comment says otherwise. Errors are in the order of their checks.
  *
- * PROVED, for any arguments of these types: each function returns, never panics, accesses only the
- * memory of its arguments, and meets its contract in crates/fs_chain_c: it has the effect of the
+ * PROVED, for any arguments of these types: each function returns, never panics, and accesses only
+ * the memory of its arguments. It meets its contract in crates/fs_chain_c: it has the effect of the
  * call of the handle in crates/fs_chain. The handle's loads, calls, replies (but your own bytes)
- * and stores follow from the bytes passed, by VIRTIO 1.2 and the FUSE grammar: for one chain
- * (law_chains), and for many in flight (law_runs, law_handles). See PROVED.md.
+ * and stores follow from the bytes passed, by VIRTIO 1.2 and the FUSE grammar. This holds for one
+ * chain (law_chains), and for many in flight (law_runs, law_handles). See PROVED.md.
  * TESTED, not proved: that pk_chain_free frees all; calls on a chain that moves between threads;
- * the inline functions; which error is returned if PK_OUT_OF_MEMORY and a later one apply.
+ * the inline functions. Also which error is returned if PK_OUT_OF_MEMORY and a later one apply.
  */
 #ifndef PITSKHOMU_CHAIN_H
 #define PITSKHOMU_CHAIN_H
@@ -152,7 +162,7 @@ enum pk_status {
     PK_LIST_FAILS = 37, /* the entry fits in that size, but not in the reply buffer: undo its
                            look-up, and reply with pk_reply_err(EIO) */
     PK_ENTRIES = 38,    /* the listing failed, but the guest already holds nodes of its entries, so
-                           the reply has them: after pk_push copy the list's first `len - front_len`
+                           the reply has them. After pk_push copy the list's first `len - front_len`
                            bytes into the reply buffer from PK_HEADER on */
     PK_MISS = 39,       /* I/O addresses aren't mapped in the table: map them, and pop again */
     /* 64 and more: the call did nothing (but PK_NOT_MAPPED). */
@@ -316,7 +326,7 @@ uint32_t pk_chain_set_memory(struct pk_chain *chain, const struct pk_device *dev
     PK_CHECK PK_READS(3, 4);
 
 /* Frees the handle's memory, and zeroes it. Push its chain before: else the queue counts it as in
- * flight until a reset, and, between pk_push and pk_pushed, refuses to push others. */
+ * flight until a reset. Between pk_push and pk_pushed no other chain can be pushed until then. */
 void pk_chain_free(struct pk_chain *chain) PK_NONNULL;
 
 /* Sets the ticket of the chain's next pop. Each pop takes the next number, modulo 2^32; the first
@@ -341,10 +351,11 @@ struct pk_pop {
 /* Pops the next available chain, by several calls. The first one has `loaded_len` 0. After PK_LOAD
  * load the bytes and call again with them, at most size + 4 times. PK_DONE: the chain is in flight.
  * PK_IDLE, PK_MISS and errors 1 to 8: the handle is free. PK_MISS leaves the queue as it was. Other
- * errors leave the pop under way; pk_drop ends it. Two loads can be saved. A table entry that
- * crosses two regions is loaded in two parts: instead of the first you may pass the whole entry.
- * The first load is the available index: you may pass the bytes of an earlier load of it, if that
- * was made over the same memory since the queue's reset, and its number isn't `next_avail`.
+ * errors leave the pop under way; pk_drop ends it.
+ * You can omit two loads. The first load is the available index: you may pass the bytes of an
+ * earlier load of it over the same memory since the queue's reset, if it isn't `next_avail`. An
+ * entry of a table that crosses two regions is loaded in two parts: in place of the first part you
+ * may pass the whole entry.
  * Errors: PK_WRONG_ORDER (no memory was set); PK_BAD_ARGUMENT (the queue's fields are no queue's,
  * as zeros); PK_WRONG_ORDER (the chain is in flight); PK_BAD_ARGUMENT (`loaded_len` isn't the
  * load's); PK_OTHER_QUEUE (then drop or abandon the pop); PK_CHAIN_IN_FLIGHT; then, in no order,
@@ -573,12 +584,12 @@ uint32_t pk_add_direntry_plus(struct pk_chain *chain, uint32_t ticket, uint8_t *
 uint32_t pk_reply_entries(struct pk_chain *chain, uint32_t ticket, uint64_t *len)
     PK_CHECK PK_FILLS(3);
 
-/* Replies with `len` bytes of your own, struct fuse_out_header included, which you put into the
- * reply buffer from 0 on before the used index is stored; 0 is no reply. Allowed in place of
- * pk_decode (the opcode is at byte 4 of the request, `unique` at 8), so that a FUSE server of yours
- * may serve any request; or in place of a call's answer. You then account for the guest's nodes,
- * also those of pk_add_direntry_plus that your bytes leave out, and set device->options after INIT.
- * The library doesn't read your header. pk_push returns no front, and `len` for the used element.
+/* Replies with `len` bytes of your own, struct fuse_out_header included; 0 is no reply. Put them
+ * into the reply buffer, from 0 on, before the used index is stored. Allowed in place of a call's
+ * answer. Or in place of pk_decode, for a FUSE server of yours, which may serve any request: the
+ * opcode is at byte 4 of the request, `unique` at 8. You then account for the guest's nodes, also
+ * those of pk_add_direntry_plus that your bytes leave out, and set device->options after INIT. The
+ * library doesn't read your header. pk_push returns no front, and `len` for the used element.
  * Errors: PK_WRONG_ORDER (no chain, a faulty one, or one with a reply); PK_OTHER_CALL (`ticket`);
  * PK_LONG_REPLY (more than reply_len of the pop, or 2^32 and more). */
 uint32_t pk_reply_bytes(struct pk_chain *chain, uint32_t ticket, uint64_t len) PK_CHECK;

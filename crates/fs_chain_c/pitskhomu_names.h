@@ -1,7 +1,8 @@
 /* pitskhomu_names.h: inline functions of pitskhomu.h, which includes it. */
 #ifndef PITSKHOMU_NAMES_H
 #define PITSKHOMU_NAMES_H
-/* Pair `k`, below count, of BATCH_FORGET: the look-up count of `*node` falls by `*count`. */
+/* Fills in pair `k` of BATCH_FORGET, below call->count: `*node`, whose look-up count falls by
+ * `*count`. */
 static inline void pk_pair(const uint8_t *request, const struct pk_call *call, uint64_t k,
                            uint64_t *node, uint64_t *count) {
     const uint8_t *p = request + call->value.at + 16 * k;
@@ -12,12 +13,12 @@ static inline void pk_pair(const uint8_t *request, const struct pk_call *call, u
     }
 }
 
-/* The bytes that an entry takes of data_len. */
+/* Returns how many bytes of data_len an entry needs; `plus` is 1 with READDIRPLUS, else 0. */
 static inline uint64_t pk_direntry_len(size_t name_len, int plus) {
     return ((plus ? 152u : 24u) + (uint64_t)name_len + 7) & ~(uint64_t)7;
 }
 
-/* The names of numbers: "" for a number that has none. */
+/* The names of statuses, faults and kinds of calls, for logs. "": the number has no name. */
 static inline const char *pk_status_name(uint32_t status) {
 #define PK_NAME(name) case name: return #name
     switch (status) {

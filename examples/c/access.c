@@ -8,15 +8,15 @@ uint16_t load_index(uintptr_t at) {
     return atomic_load_explicit((_Atomic uint16_t *)at, memory_order_acquire);
 }
 
-/* Each byte once. The fence holds the compiler, which might look at the guest's bytes again in
- * place of the copy. */
+/* Loads each byte once. Without the fence the compiler might load a guest's byte again in place of
+ * its copy. */
 static void copy_out(void *to, uintptr_t at, size_t len) {
     memcpy(to, (const void *)at, len);
     atomic_signal_fence(memory_order_seq_cst);
 }
 
-/* Two bytes of a walk stand at an even place, and are one load: a ring's, or what a region's end
- * leaves of a table. */
+/* A pop's load of 2 bytes has an even address, and is atomic: a number of a ring, or the part of a
+ * table's entry at the end of a region. */
 static void load(void *to, uintptr_t at, size_t len) {
     uint16_t two = len == 2 ? load_index(at) : 0;
     if (len == 2)
@@ -25,13 +25,14 @@ static void load(void *to, uintptr_t at, size_t len) {
         copy_out(to, at, len);
 }
 
-/* The first load of a walk: the available index, unless the one that was loaded last tells of a
- * chain that wasn't taken yet. What it covers was stored before that load, which acquired. */
+/* The first load of a pop: the available index, unless the one that was loaded last has a chain
+ * that wasn't popped yet. The driver stored those chains before that load, which has acquire
+ * order. */
 static void load_offered(void *to, const struct pk_queue *queue, struct offered *offered,
                          uintptr_t at) {
-    bool tells_more = offered->at == at && offered->reset_count == queue->reset_count &&
-                      offered->index != queue->next_avail;
-    if (!tells_more) *offered = (struct offered){at, queue->reset_count, load_index(at)};
+    bool has_more = offered->at == at && offered->reset_count == queue->reset_count &&
+                    offered->index != queue->next_avail;
+    if (!has_more) *offered = (struct offered){at, queue->reset_count, load_index(at)};
     memcpy(to, &offered->index, 2);
 }
 
@@ -82,7 +83,7 @@ uint32_t ask(struct pk_chain *chain, const struct pk_device *device, uint8_t *re
              struct pk_call *call) {
     uint32_t status;
     while ((status = pk_decode(chain, device, request, have, call)) == PK_MORE) {
-        /* a limit above it wants a longer buffer */
+        /* a limit above it needs a longer buffer */
         if (call->needed > PK_REQUEST_MAX) return PK_SHORT_BUFFER;
         gather(chain, have, request + have, call->needed - have);
         have = call->needed;
@@ -121,7 +122,7 @@ uint32_t give_back(struct pk_chain *chain, struct pk_queue *queue, const struct 
     atomic_store_explicit((_Atomic uint32_t *)stores.len_at, stores.len, memory_order_relaxed);
     atomic_store_explicit((_Atomic uint16_t *)stores.index_at, stores.index, memory_order_release);
     if (marker) mark_stores(chain, marker, &stores);
-    /* Without a full barrier the flags may be read before the driver sees the index, and a
+    /* Without a full barrier the flags may be loaded before the driver sees the index, and a
      * notification is lost. */
     atomic_thread_fence(memory_order_seq_cst);
     status = pk_pushed(chain, queue, load_index(stores.seen_at), &wanted);
@@ -143,8 +144,8 @@ bool ask_kicks(struct pk_chain *chain, const struct pk_queue *queue, bool wanted
 void give_up(struct pk_chain *chain, struct pk_queue *queue, uint32_t ticket,
              const struct marker *marker, bool *notify) {
     if (pk_drop(chain, queue) == PK_DONE) return;
-    uint32_t status = pk_reply_bytes(chain, ticket, 0); /* silence, unless it has a reply */
+    uint32_t status = pk_reply_bytes(chain, ticket, 0); /* no reply, unless it has one */
     status = give_back(chain, queue, marker, notify);
-    /* its queue was reset, or has to be, since a store isn't mapped */
+    /* its queue was reset, or must be, since a store isn't mapped */
     if (status != PK_DONE) pk_abandon(chain);
 }

@@ -1,5 +1,5 @@
-/* A guest for monitor.c: a driver that draws a ring by hand (VIRTIO 1.2, 2.7), one chain at a time,
- * and asks for files. Not to be copied. Numbers are little-endian, as they are on x86-64. */
+/* A guest for monitor.c: a driver that writes its ring (VIRTIO 1.2, 2.7), one chain at a time, and
+ * uses files. Don't copy it. Numbers are little-endian, as on x86-64. */
 #include <fcntl.h>
 #include <linux/fuse.h>
 #include <linux/virtio_ring.h>
@@ -9,7 +9,7 @@
 #include <string.h>
 #include <sys/stat.h>
 
-/* Where things stand in the guest's memory, and how many descriptors its queue has. */
+/* Guest addresses, and the queue's size. */
 enum {
     PAGE = 4096,
     DESC = PAGE,
@@ -33,12 +33,13 @@ static void make_available(uint32_t at, uint16_t value) {
     atomic_store_explicit((_Atomic uint16_t *)(void *)(memory + at), value, memory_order_release);
 }
 
-/* An opcode that no FUSE has, and this monitor serves. */
+/* An opcode that no FUSE has, and this VMM serves. */
 enum { CAPITALS = 0x1000 };
 
-static void kick(void); /* the monitor's */
+static void kick(void); /* the VMM's */
 
-/* Offers so many bytes at REQUEST with so much room at ROOM, and kicks: how long the reply is. */
+/* Makes a request of `len` bytes and a reply buffer of `room` bytes available, and notifies the
+ * device. Returns the reply's length. */
 static uint32_t offer(uint32_t len, uint32_t room) {
     struct vring_used_elem used;
     uint32_t turn = offered++ % SIZE;
@@ -51,7 +52,7 @@ static uint32_t offer(uint32_t len, uint32_t room) {
     return used.len;
 }
 
-/* A request of FUSE: its arguments, and a name or data behind them. */
+/* A FUSE request: its arguments, and a name or data behind them. */
 struct asked {
     const char *what;
     uint32_t opcode;
@@ -62,7 +63,7 @@ struct asked {
     size_t text_len;
 };
 
-/* Asks, and prints what came back. Where it stands, behind its header. */
+/* Sends a request, and prints its reply. Returns the address of the reply behind its header. */
 static const void *guest_asks(struct asked it, uint32_t room) {
     struct fuse_in_header in = {.opcode = it.opcode, .unique = offered, .nodeid = it.node};
     struct fuse_out_header out;
@@ -114,7 +115,7 @@ static void guest_uses_a_file(void) {
     printf("The guest has in its memory: %.14s\n", text);
 }
 
-/* Requests that come to no good. */
+/* Requests that fail. */
 static void guest_errs(void) {
     struct asked lookup = {
         "LOOKUP greeting, and a room that is too short", FUSE_LOOKUP, 1, NULL, 0, "greeting", 9};

@@ -9,8 +9,7 @@
 
 enum { PAGE_SIZE = 4096, LIMIT = PK_REQUEST_MAX, RETRY_MILLISECONDS = 10 };
 
-/* What came of looking for a chain: one went back, none waits, or one waits for which there is no
- * memory yet. */
+/* A chain was pushed; none is available; or one is, but an allocation failed. */
 enum found { SERVED, NOTHING, LATER };
 
 static void signal_event(int fd) {
@@ -20,7 +19,7 @@ static void signal_event(int fd) {
 
 /* ------------------------------------------------------------- one chain */
 
-/* From the request to the reply, without the lock: a slow file holds its own chain alone. */
+/* From the request to the reply, without the lock: a slow file delays only its own chain. */
 static uint32_t serve_request(struct worker *worker, const struct pk_pop *step) {
     struct live *live = worker->live;
     struct pk_device device = {PAGE_SIZE, LIMIT, atomic_load(live->options)};
@@ -36,42 +35,41 @@ static uint32_t serve_request(struct worker *worker, const struct pk_pop *step) 
                : pk_reply_err(&worker->chain, call.ticket, EIO);
 }
 
-/* Pops the next chain. PK_CHAIN_IN_FLIGHT: the queue's limit is in flight, and the thread that
- * returns one looks again. */
+/* Pops the next chain. If `max_in_flight` are in flight, the thread that pushes one pops again. */
 static uint32_t take(struct worker *worker, struct pk_pop *step) {
     struct live *live = worker->live;
     uint32_t status =
         live->refused ? PK_IDLE : take_chain(&worker->chain, &live->queue, &live->offered, step);
-    uint16_t out = (uint16_t)(live->queue.next_avail - live->queue.next_used);
-    if (out > live->most) live->most = out;
+    uint16_t in_flight = (uint16_t)(live->queue.next_avail - live->queue.next_used);
+    if (in_flight > live->most) live->most = in_flight;
     return status == PK_CHAIN_IN_FLIGHT ? PK_IDLE : status;
 }
 
-/* Says to the driver whether it has to kick, if it doesn't know. Whether it had to be told: then
- * look once more, since a chain may have come before. */
-static bool want_kicks(struct worker *worker, bool wanted) {
+/* Enables or disables the driver's notifications, if they aren't so already. Returns whether there
+ * was a store: then pop once more, since a chain may have become available before. */
+static bool set_kicks(struct worker *worker, bool enabled) {
     struct live *live = worker->live;
-    uint16_t at = wanted && live->queue.event_index ? live->queue.next_avail : 0;
-    if (live->kicks == (wanted ? WANTED : UNWANTED) && live->told_at == at) return false;
-    live->kicks = wanted ? WANTED : UNWANTED;
-    live->told_at = at;
-    return ask_kicks(&worker->chain, &live->queue, wanted, live->marker);
+    uint16_t at = enabled && live->queue.event_index ? live->queue.next_avail : 0;
+    if (live->kicks == (enabled ? ENABLED : DISABLED) && live->enabled_at == at) return false;
+    live->kicks = enabled ? ENABLED : DISABLED;
+    live->enabled_at = at;
+    return ask_kicks(&worker->chain, &live->queue, enabled, live->marker);
 }
 
-/* What comes while a chain is answered is for a thread that sleeps. If none does, this one looks
- * again by itself, and a kick would cost the guest an exit for nothing. */
+/* A chain that becomes available while this one is answered is for a thread that sleeps. If none
+ * sleeps, this thread pops again by itself, and a notification would cost the guest an exit. */
 static void hand_on(struct worker *worker) {
     struct live *live = worker->live;
     bool is_for_another = live->sleeping > 0;
-    want_kicks(worker, is_for_another);
-    /* the index that was loaded last may tell of a chain behind it */
+    set_kicks(worker, is_for_another);
+    /* the index that was loaded last may have one more chain */
     uint16_t position = live->queue.next_avail;
     if (is_for_another &&
         (live->offered.index != position || load_index(live->avail_at + 2) != position))
         signal_event(live->kick);
 }
 
-/* The lock is held, but while the request is served. */
+/* The lock is held, except while the request is served. */
 static enum found serve_one(struct worker *worker) {
     struct live *live = worker->live;
     struct pk_pop step;
@@ -100,7 +98,7 @@ static enum found serve_one(struct worker *worker) {
 
 /* ------------------------------------------------------------- sleep and wake */
 
-/* Serves chains until none waits. */
+/* Serves chains until none is available. */
 static enum found serve_all(struct worker *worker) {
     struct live *live = worker->live;
     enum found found;
@@ -108,14 +106,14 @@ static enum found serve_all(struct worker *worker) {
     live->sleeping--;
     do {
         while ((found = serve_one(worker)) == SERVED) {}
-    } while (want_kicks(worker, true));
+    } while (set_kicks(worker, true));
     live->sleeping++;
     pthread_mutex_unlock(&live->lock);
     return found;
 }
 
-/* A kick wakes the threads that sleep, each of which goes on until no chain waits: what comes
- * behind the last walk brings a kick of its own. */
+/* A notification wakes the threads that sleep. Each serves chains until none is available. For a
+ * chain after the last pop the driver notifies again. */
 static void *work(void *at) {
     struct worker *worker = at;
     struct live *live = worker->live;
@@ -153,9 +151,8 @@ int live_start(struct live *live, const struct pk_region *regions, size_t region
     live->queue.max_in_flight =
         thread_count < live->queue.size ? (uint16_t)thread_count : live->queue.size;
     live->sleeping = (unsigned)thread_count;
-    /* the first thread that finds no chain tells the driver, whatever flags a device of before
-     * left */
-    live->kicks = UNTOLD;
+    /* an earlier device may have left any flags: the first thread that finds no chain sets them */
+    live->kicks = UNKNOWN;
     if (live->quit < 0 || !live->workers || pthread_mutex_init(&live->lock, NULL)) return ENOMEM;
     if (pk_queue_begin(&live->queue, live->queue.next_avail) != PK_DONE) return EINVAL;
     for (size_t k = 0; k < thread_count; k++) {

@@ -1,6 +1,6 @@
-/* A VMM over pitskhomu.h with a file system in memory. Copy it: access.c stays as it is, part 1 is
- * yours, and part 2 gets your transport. Here a guest of the same process writes a ring by hand
- * (guest.h), and doesn't run while it is served. (live.c serves one that runs.)
+/* A VMM over pitskhomu.h with a file system in memory. Copy it: replace part 1 by your file system,
+ * add your transport to part 2, and use access.c as it is. Here a guest in the same process writes
+ * its ring (guest.h), and doesn't run while it is served. live.c serves one that runs.
  *
  *     cc -std=c11 -o monitor monitor.c access.c $(pkg-config --cflags --libs pitskhomu)
  */
@@ -16,8 +16,8 @@
 
 enum { ROOT = FUSE_ROOT_ID, FILES = 8, CONTENTS = 0x4000, NAME_MOST = 255 };
 
-/* Device and queue are numbers. Each thread has a chain and buffers of its own; here there is
- * one. */
+/* Device and queue are numbers. Each thread needs a chain and buffers of its own; here one thread
+ * runs. */
 static struct pk_device device = PK_DEVICE;
 static struct pk_queue queue;
 static struct offered known; /* of that queue */
@@ -29,14 +29,14 @@ static uint8_t list[PAGE]; /* READDIR's entries */
 static uint64_t least(uint64_t a, uint64_t b) { return a < b ? a : b; }
 
 /* ------------------------------------------------------------- 1. a file system in memory
- * File k is node k + 2; all of them stand in the root, node 1. One that has no name lives as long
- * as the guest holds it. */
+ * File k is node k + 2; all files are in the root, node 1. An unlinked file exists as long as the
+ * guest holds its node. */
 
 struct file {
     uint8_t name[NAME_MOST];
-    size_t name_len;     /* 0: it has none */
-    uint64_t held;       /* how often the guest was told its node, less what it forgot */
-    uint64_t generation; /* no two files have had one node and one generation */
+    size_t name_len;     /* 0: unlinked */
+    uint64_t held;       /* its look-up count: entries that the guest got, less those it forgot */
+    uint64_t generation; /* no two files have the same node and generation */
     struct pk_attr attr;
     uint8_t contents[CONTENTS];
 };
@@ -47,7 +47,7 @@ static struct file *file_of(uint64_t node) {
     return f && (f->name_len || f->held) ? f : NULL;
 }
 
-/* A name is a place in the request's bytes. */
+/* A name lies in the request's bytes. */
 static struct file *named(const struct pk_call *call) {
     const uint8_t *name = request + call->name.at;
     size_t len = call->node == ROOT ? call->name.len : 0;
@@ -56,15 +56,14 @@ static struct file *named(const struct pk_call *call) {
     return NULL;
 }
 
-/* Times are seconds and nanoseconds since 1970, here none; `blocks` has units of 512 bytes,
- * whatever block_size is. */
+/* `blocks` has units of 512 bytes, for any block_size. */
 static void set_size(struct file *f, uint64_t size) {
     if (size > f->attr.size) memset(f->contents + f->attr.size, 0, size - f->attr.size);
     f->attr.size = size;
     f->attr.blocks = (size + 511) / 512;
 }
 
-/* What a name stands for. For a second the guest need not ask again for name or attributes. */
+/* A file's entry. The guest may keep name and attributes for a second. */
 static struct pk_entry entry_of(const struct file *f) {
     return (struct pk_entry){.node = f->attr.ino,
                              .generation = f->generation,
@@ -78,8 +77,8 @@ static void forget(uint64_t node, uint64_t count) {
     if (f) f->held -= least(f->held, count);
 }
 
-/* The guest holds the node of an entry once more, if it is told. */
-static uint32_t told(struct file *f, uint32_t status) {
+/* The guest holds the node of an entry once more, if the reply has it. */
+static uint32_t counted(struct file *f, uint32_t status) {
     if (status == PK_DONE) f->held++;
     return status;
 }
@@ -88,10 +87,10 @@ static uint32_t do_lookup(const struct pk_call *call) {
     struct file *f = named(call);
     if (!f) return pk_reply_err(&chain, call->ticket, ENOENT);
     struct pk_entry entry = entry_of(f);
-    return told(f, pk_reply_entry(&chain, call->ticket, &entry));
+    return counted(f, pk_reply_entry(&chain, call->ticket, &entry));
 }
 
-/* GETATTR, and SETATTR, whose `valid` says what is to be set. */
+/* GETATTR, and SETATTR, whose `valid` has a bit for each attribute to set. */
 static uint32_t do_attr(const struct pk_call *call) {
     struct pk_attr root = {.ino = ROOT, .mode = S_IFDIR | 0755, .nlink = 2, .block_size = PAGE};
     struct file *f = file_of(call->node);
@@ -102,7 +101,7 @@ static uint32_t do_attr(const struct pk_call *call) {
     if (call->valid & FATTR_SIZE) set_size(f, call->attr.size);
     /* kind and permissions, as st_mode */
     if (call->valid & FATTR_MODE) f->attr.mode = S_IFREG | (call->attr.mode & 07777);
-    /* good for 1 second and 0 nanoseconds */
+    /* the guest may keep them for 1 second and 0 nanoseconds */
     return pk_reply_attr(&chain, call->ticket, f ? &f->attr : &root, 1, 0);
 }
 
@@ -123,8 +122,8 @@ static uint32_t do_create(const struct pk_call *call) {
                                .gid = call->gid,
                                .block_size = PAGE};
     struct pk_entry entry = entry_of(f);
-    /* handle and FOPEN_ bits; files that are open need no number here */
-    return told(f, pk_reply_create(&chain, call->ticket, &entry, 0, 0));
+    /* handle and FOPEN_ bits; open files need no handle here */
+    return counted(f, pk_reply_create(&chain, call->ticket, &entry, 0, 0));
 }
 
 static uint32_t do_unlink(const struct pk_call *call) {
@@ -141,8 +140,8 @@ static uint32_t do_open(const struct pk_call *call) {
     return pk_reply_open(&chain, call->ticket, 0, 0);
 }
 
-/* Data goes from the file into the room, behind the header: no more than was asked for, nor than
- * there is room for. */
+/* Copies data from the file into the reply buffer, behind the header: at most the request's size,
+ * and as much as fits. */
 static uint32_t do_read(const struct pk_call *call) {
     const struct file *f = file_of(call->node);
     if (!f) return pk_reply_err(&chain, call->ticket, ENOENT);
@@ -162,8 +161,7 @@ static uint32_t do_write(const struct pk_call *call) {
     return pk_reply_write(&chain, call->ticket, (uint32_t)call->data_len);
 }
 
-/* From the offset on, which is that of the last entry that the guest has: here the place of the
- * next file. */
+/* Lists the entries from the offset on. An entry's offset is here the number of the next file. */
 static uint32_t do_readdir(const struct pk_call *call) {
     uint64_t most = least(call->data_len, sizeof list), used = 0, len = 0;
     bool plus = call->kind == PK_CALL_READDIRPLUS;
@@ -174,8 +172,8 @@ static uint32_t do_readdir(const struct pk_call *call) {
         used += pk_direntry_len(f->name_len, plus);
         if (used > most) break;
         uint32_t status =
-            plus ? told(f, pk_add_direntry_plus(&chain, call->ticket, list, sizeof list, f->name,
-                                                f->name_len, &entry, k + 1))
+            plus ? counted(f, pk_add_direntry_plus(&chain, call->ticket, list, sizeof list, f->name,
+                                                   f->name_len, &entry, k + 1))
                  : pk_add_direntry(&chain, call->ticket, list, sizeof list, f->name, f->name_len,
                                    k + 2, k + 1, DT_REG);
         if (status != PK_DONE) break;
@@ -188,9 +186,9 @@ static uint32_t do_readdir(const struct pk_call *call) {
     return status;
 }
 
-/* ------------------------------------------------------------- 2. the monitor */
+/* ------------------------------------------------------------- 2. the VMM */
 
-/* A migration's log: whether this monitor stored to a page. */
+/* A migration's log: whether this VMM stored to a page. */
 static bool written[MEMORY / PAGE];
 
 static void mark(void *log, uintptr_t at, uint64_t len) {
@@ -209,7 +207,7 @@ static void print_written(void) {
     printf("\n");
 }
 
-/* PK_DONE: answered. PK_NO_ROOM: the reply buffer is too small, and the chain is returned without a
+/* PK_DONE: answered. PK_NO_ROOM: the reply buffer is too small, and the chain is pushed without a
  * reply. Others: the call is still unanswered. */
 static uint32_t answer(const struct pk_call *call) {
     uint64_t node, count;
@@ -219,7 +217,7 @@ static uint32_t answer(const struct pk_call *call) {
         for (size_t k = 0; k < FILES; k++) files[k].held = 0;
         return pk_reply_init(&chain, call->ticket, &device, call->options & FUSE_DO_READDIRPLUS);
     case PK_CALL_DESTROY: device.options = 0; return pk_reply_err(&chain, call->ticket, 0);
-    /* there is no reply to it, nor to the next */
+    /* FORGET and BATCH_FORGET have no reply */
     case PK_CALL_FORGET: forget(call->node, call->count); return PK_DONE;
     case PK_CALL_BATCH_FORGET:
         for (uint64_t k = 0; k < call->count; k++)
@@ -242,13 +240,13 @@ static uint32_t answer(const struct pk_call *call) {
     }
 }
 
-/* A FUSE server of this monitor's own, for an opcode that the library doesn't serve: what was
- * asked, in capitals. The reply are bytes of the room, header and all (struct fuse_out_header). */
+/* A FUSE server of this VMM's own, for an opcode that the library doesn't serve: it replies with
+ * the request's bytes in capitals, behind a header (struct fuse_out_header). */
 static uint32_t reply_capitals(const struct pk_pop *step, const struct fuse_in_header *in,
                                uint64_t have) {
     uint64_t len = step->request_len - sizeof *in;
     struct fuse_out_header out = {.len = (uint32_t)(sizeof out + len), .unique = in->unique};
-    if (out.len > step->reply_len) return pk_reply_bytes(&chain, step->ticket, 0); /* silence */
+    if (out.len > step->reply_len) return pk_reply_bytes(&chain, step->ticket, 0); /* no reply */
     gather(&chain, have, request + have, step->request_len - have);
     for (uint64_t k = sizeof *in; k < step->request_len; k++)
         request[k] = (uint8_t)toupper(request[k]);
@@ -257,7 +255,7 @@ static uint32_t reply_capitals(const struct pk_pop *step, const struct fuse_in_h
     return pk_reply_bytes(&chain, step->ticket, out.len);
 }
 
-/* PK_DONE: the chain may go back. Each byte of the request is loaded once. */
+/* PK_DONE: the chain can be pushed. Each byte of the request is loaded once. */
 static uint32_t serve_request(const struct pk_pop *step) {
     size_t have = load_front(&chain, step, request);
     struct fuse_in_header in = {0};
@@ -271,8 +269,8 @@ static uint32_t serve_request(const struct pk_pop *step) {
                                                      : pk_reply_err(&chain, call.ticket, EIO);
 }
 
-/* Serves the chains that wait. PK_IDLE: none waits any more. PK_OUT_OF_MEMORY: one waits, call
- * again later. 1 to 8: the queue is stopped, so set DEVICE_NEEDS_RESET. `notify`: interrupt the
+/* Serves the available chains. PK_IDLE: none is left. PK_OUT_OF_MEMORY: one is left, call again
+ * later. 1 to 8: the queue is stopped, so set DEVICE_NEEDS_RESET. `notify`: interrupt the
  * driver. */
 static uint32_t serve(bool *notify) {
     struct pk_pop step;
@@ -286,7 +284,7 @@ static uint32_t serve(bool *notify) {
         if (status == PK_DONE) status = give_back(&chain, &queue, &marker, notify);
         if (status != PK_DONE) break;
     }
-    /* what was taken and isn't given back */
+    /* a chain that was popped and isn't pushed */
     if (status != PK_IDLE) give_up(&chain, &queue, step.ticket, &marker, notify);
     return status;
 }
@@ -297,15 +295,14 @@ static void expect(uint32_t status, uint32_t wanted) {
     exit(1);
 }
 
-/* The guest's driver kicks the queue, and wants to be interrupted. */
+/* The driver notifies the queue, and enables its interrupt. */
 static void kick(void) {
     bool notify;
     expect(serve(&notify), PK_IDLE);
     if (!notify) exit(1);
 }
 
-/* Device and queue go on from their record, as they would in another process that has the memory
- * and the files. */
+/* Device and queue go on from their record, as in another process that has memory and files. */
 static void move(void) {
     uint8_t record[64];
     size_t len, count;
@@ -324,7 +321,7 @@ int main(void) {
     queue = (struct pk_queue){.desc = DESC, .avail = AVAIL, .used = USED, .size = SIZE};
     expect(pk_queue_begin(&queue, 0), PK_DONE);
     expect(pk_chain_set_memory(&chain, &device, &region, 1), PK_DONE);
-    /* whatever flags a device of before left */
+    /* an earlier device may have left any flags */
     if (!ask_kicks(&chain, &queue, true, &marker)) return 1;
     guest_uses_a_file();
     guest_errs();

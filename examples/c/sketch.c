@@ -1,6 +1,6 @@
-/* The smallest loop over the library: it serves a queue until no chain is
- * available. Its guest looks a name up, and doesn't run meanwhile. monitor.c has a file system;
- * access.c, live.c and monitor.c are there to be copied. */
+/* The smallest loop over the library: it serves a queue until no chain is available. Its guest
+ * looks a name up, and doesn't run meanwhile. monitor.c has a file system. Copy monitor.c, access.c
+ * and live.c. */
 #include <errno.h>
 #include <pitskhomu.h>
 #include <stdatomic.h>
@@ -50,7 +50,7 @@ static void scatter(const uint8_t *front, size_t len) {
 
 /* ------------------------------------------------------------- one chain */
 
-/* Loads each byte of the request once: first PK_FIRST of them, then as many as are needed. */
+/* Loads each byte of the request once: first PK_FIRST of them, then the others that are needed. */
 static uint32_t decode(const struct pk_pop *pop, struct pk_call *call) {
     size_t have = 0, want = pop->request_len < PK_FIRST ? (size_t)pop->request_len : PK_FIRST;
     for (;;) {
@@ -61,7 +61,7 @@ static uint32_t decode(const struct pk_pop *pop, struct pk_call *call) {
     }
 }
 
-/* The file system: it has each name that is asked for. */
+/* The file system: it has every name. */
 static uint32_t answer(const struct pk_call *call) {
     const uint8_t *name = request + call->name.at;
     struct pk_entry entry = {.node = 2, .attr = {.ino = 2, .mode = 0100644, .nlink = 1}};
@@ -84,7 +84,7 @@ static uint32_t serve_request(const struct pk_pop *pop) {
     return s == PK_DONE || s == PK_NO_ROOM ? PK_DONE : pk_reply_err(&chain, call.ticket, EIO);
 }
 
-/* The reply's front, the used element, then the index, by which the driver finds the rest. */
+/* Stores the reply's front, the used element, and last the index, which the driver looks at. */
 static uint32_t push(bool *notify) {
     uint8_t front[PK_FRONT_MAX], now;
     struct pk_stores out;

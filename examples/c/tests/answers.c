@@ -8,8 +8,7 @@ enum { DATA_LEN = 4096, PERMISSION = 1 };
 static const struct pk_entry entry = {
     .node = 2, .entry_secs = 1, .attr = {.ino = 2, .mode = 0100644, .nlink = 1}};
 
-/* Names and values lie in the request's bytes that were loaded, whatever the guest writes over them
- * meanwhile. */
+/* Names and values lie in the loaded bytes of the request, over which the guest can't write. */
 static void look_at(const struct pk_call *call, const uint8_t *request) {
     const struct pk_span *names[] = {&call->name, &call->name2};
     for (size_t k = 0; k < 2; k++) {
@@ -27,7 +26,7 @@ static uint32_t reply_data(struct pk_chain *chain, const struct pk_call *call) {
     return pk_reply_data(chain, call->ticket, len);
 }
 
-/* What is written is copied out as it stands. */
+/* The data of a WRITE is copied out. */
 static uint32_t reply_write(struct pk_chain *chain, const struct pk_call *call) {
     uint8_t data[DATA_LEN];
     uint64_t len = call->data_len < DATA_LEN ? call->data_len : DATA_LEN;

@@ -16,7 +16,7 @@ uint64_t below(uint64_t n) { return chance() % n; }
 
 uint64_t one_of(const uint64_t *list, size_t count) { return list[below(count)]; }
 
-/* How long the record of an opcode is, so that names stand behind it as they should. */
+/* The length of an opcode's record, which names follow. */
 static const uint8_t records[52] = {
     [FUSE_FORGET] = 8,
     [FUSE_GETATTR] = 16,

@@ -1,10 +1,10 @@
-/* Numbers and requests by chance, for hostile.c and clumsy.c. */
+/* Random numbers and requests, for hostile.c and clumsy.c. */
 #ifndef CHANCE_H
 #define CHANCE_H
 #include <stddef.h>
 #include <stdint.h>
 
-/* Each thread has numbers of its own, from its seed on, which isn't 0. */
+/* Each thread has its own numbers, from its seed on, which isn't 0. */
 void chance_begin(uint64_t seed);
 uint64_t chance(void);
 uint64_t below(uint64_t n);
@@ -14,8 +14,8 @@ uint64_t one_of(const uint64_t *list, size_t count);
     one_of((const uint64_t[]){__VA_ARGS__}, \
            sizeof((const uint64_t[]){__VA_ARGS__}) / sizeof(uint64_t))
 
-/* A request of FUSE whose parts mostly fit: an opcode, numbers that may be there, names of a few
- * kinds. Its length, at most SOME_REQUEST. */
+/* A FUSE request whose parts mostly fit: an opcode, some numbers, names of a few kinds. Returns its
+ * length, at most SOME_REQUEST. */
 enum { SOME_REQUEST = 256 };
 size_t some_request(uint8_t *at);
 

@@ -1,7 +1,9 @@
-/* A clumsy author: calls of pitskhomu.h in any order, with numbers by chance, over a guest's memory
- * by chance. clumsy SECONDS Pointers are good for their lengths, as the header asks; nothing else
- * is. Checked after each call: the status has a name; what is to be loaded, stored and moved lies
- * in regions that were told; no buffer is written beyond its end; a refusal changes no number. */
+/* A clumsy author: calls of pitskhomu.h in any order, with random numbers, over a guest's random
+ * memory.
+ *     clumsy SECONDS
+ * Pointers are valid for their lengths, as the header requires; nothing else is. Checked after each
+ * call: the status has a name; loads, stores and data lie in the chain's regions; no buffer is
+ * written beyond its end; a refusal changes no number. */
 #include "../access.h"
 #include "chance.h"
 #include <stdio.h>
@@ -28,12 +30,12 @@ enum {
 };
 #define FAR_AWAY (1ull << 40)
 
-/* A chain with the regions that it was told last, and what it said last. */
+/* A chain with its regions, and its last results. */
 struct bench {
     struct pk_chain chain;
     struct pk_region regions[REGIONS];
     size_t region_count, have;
-    uint64_t request_len, room_len; /* of the chain that is out */
+    uint64_t request_len, room_len; /* of the chain in flight */
     bool replied;                   /* it has a reply of the author's own bytes, */
     uint64_t replied_len;           /* so many of them */
     uint32_t ticket;
@@ -47,7 +49,7 @@ static struct bench benches[CHAINS];
 static struct pk_queue queues[QUEUES];
 static struct pk_device device = PK_DEVICE;
 static uint64_t calls, taken, asked, replied, returned;
-static uint16_t at_once; /* so many chains were out */
+static uint16_t at_once; /* the most chains that were in flight */
 
 static _Noreturn void wrong(const char *what, uint64_t number) {
     fprintf(stderr, "FAILED: %s (%llu) after %llu calls\n", what, (unsigned long long)number,
@@ -61,8 +63,7 @@ static uint32_t named(uint32_t status) {
     return status;
 }
 
-/* ------------------------------------------------------------- buffers with a tail that nobody may
- * write to */
+/* ------------------------------------------------------------- buffers with a tail that stays */
 
 static uint8_t buffer[BUFFER + TAIL];
 
@@ -75,7 +76,7 @@ static void check_buffer(size_t len) {
 
 /* ------------------------------------------------------------- places */
 
-/* Whether each byte lies in a region: regions may touch here. */
+/* Whether each byte lies in a region. Neighbours count as one. */
 static bool is_told(const struct bench *b, uintptr_t at, uint64_t len) {
     for (size_t turn = 0; turn <= b->region_count && len > 0; turn++) {
         for (size_t k = 0; k < b->region_count; k++) {
@@ -177,8 +178,8 @@ static void some_queue(struct pk_queue *queue) {
     }
 }
 
-/* Regions over the memory, some with a second one far away for the guest, or with what none may
- * have. */
+/* Regions over the memory, some with a second one far away for the guest, or with numbers that
+ * aren't allowed. */
 static void tell_memory(struct bench *b) {
     struct pk_region regions[REGIONS] = {{0, MEMORY_LEN, (uintptr_t)memory}};
     size_t count = 1 + below(3);
@@ -209,7 +210,7 @@ static uint16_t out_of(const struct pk_queue *queue) {
     return (uint16_t)(queue->next_avail - queue->next_used);
 }
 
-/* Which of the two says that nothing was done leaves the numbers as they were. */
+/* A status that means that nothing was done leaves the numbers as they were. */
 static void check_same(uint32_t status, const struct pk_queue *before,
                        const struct pk_queue *after) {
     if (status >= 64 && memcmp(before, after, sizeof *before) != 0)
@@ -227,7 +228,7 @@ static uint32_t do_walk(struct bench *b, struct pk_queue *queue) {
         for (size_t k = 0; k < len; k++) bytes[k] = (uint8_t)chance();
     uint32_t status = named(pk_pop(&b->chain, queue, bytes, len, &step));
     check_same(status, &before, queue);
-    if (status != PK_BAD_ARGUMENT) b->step = step; /* else the load is wanted still */
+    if (status != PK_BAD_ARGUMENT) b->step = step; /* else the load is still needed */
     if (status == PK_LOAD && (b->step.load_len == 0 || b->step.load_len > PK_LOAD_MAX ||
                               !is_told(b, b->step.load_at, b->step.load_len)))
         wrong("a load lies outside", b->step.load_len);
@@ -247,7 +248,7 @@ static uint32_t do_walk(struct bench *b, struct pk_queue *queue) {
     return status;
 }
 
-/* Nothing is to be loaded after it. */
+/* No load follows it. */
 static void do_drop(struct bench *b, struct pk_queue *queue) {
     struct pk_queue before = *queue;
     uint16_t out = out_of(queue);
@@ -264,7 +265,7 @@ static void do_abandon(struct bench *b) {
     calls++;
 }
 
-/* Walks on until there is a chain or none. What stands in the way goes out of it now and then. */
+/* Pops until there is a chain or none. Now and then it ends what prevents the pop. */
 static void walk_on(struct bench *b, struct pk_queue *queue) {
     uint32_t status;
     while ((status = do_walk(b, queue)) == PK_LOAD) {}
@@ -298,7 +299,7 @@ static void do_ask(struct bench *b) {
         wrong("data is longer than the room", b->call.data_len);
 }
 
-/* Whether a stretch of the guest's addresses lies in the regions that were told. */
+/* Whether a range of guest addresses lies in the chain's regions. */
 static bool is_guests(const struct bench *b, uint64_t guest, uint64_t len) {
     for (size_t turn = 0; turn <= b->region_count && len > 0; turn++) {
         for (size_t k = 0; k < b->region_count; k++) {
@@ -339,13 +340,13 @@ static void do_windows(struct bench *b) {
     calls += 3;
 }
 
-/* That of the chain, or a late one. */
+/* The chain's ticket, or an old one. */
 static uint32_t some_ticket(const struct bench *b) {
     return below(30) ? b->ticket : (uint32_t)ONE_OF(b->ticket - 1, b->ticket + 1, 0, chance());
 }
 
-/* An answer with another ticket than that of the chain is taken for no call's, and one with its
- * ticket isn't refused for that. */
+/* An answer with another ticket than the chain's is refused for that, and one with its ticket
+ * isn't. */
 static void check_ticket(const struct bench *b, uint32_t ticket, uint32_t status) {
     bool is_mine = ticket == b->ticket;
     if (is_mine ? status == PK_OTHER_CALL
@@ -384,7 +385,7 @@ static uint32_t do_entries(struct bench *b, uint32_t ticket) {
     return status;
 }
 
-/* The answer that is waited for, or another one. */
+/* The answer that the call needs, or another one. */
 static void do_reply(struct bench *b) {
     struct pk_entry entry = some_entry();
     struct pk_attr attr = {.ino = 1};
@@ -419,8 +420,8 @@ static void do_reply(struct bench *b) {
     check_ticket(b, ticket, named(status));
 }
 
-/* A reply of the author's own bytes: in place of pk_decode or of an answer, behind one, or of a
- * chain that isn't out. */
+/* A reply of the author's own bytes: in place of pk_decode or of an answer, after one, or of a
+ * chain that isn't in flight. */
 static void do_bytes(struct bench *b) {
     uint64_t room = b->room_len, none;
     uint64_t len = ONE_OF(0, PK_HEADER, below(room + 1), room, room + 1, room + below(100),
@@ -445,7 +446,7 @@ static void do_bytes(struct bench *b) {
         wrong("a chain has two replies", len);
 }
 
-/* A chain goes back at `returned`, whichever was taken first. */
+/* A chain is pushed at `next_used`, in any order of the pops. */
 static void check_stores(const struct bench *b, const struct pk_queue *queue,
                          const struct pk_stores *stores) {
     uint64_t element = queue->used + 4 + 8 * (uint64_t)(queue->next_used & (queue->size - 1u));
@@ -494,7 +495,7 @@ static void do_return(struct bench *b, struct pk_queue *queue) {
     do_returned(b, queue);
 }
 
-/* Where the driver is told whether its kicks are wanted. */
+/* Enables or disables the driver's notifications. */
 static void do_kicks(struct bench *b, const struct pk_queue *queue) {
     struct pk_store store;
     uint32_t wanted = (uint32_t)(below(9) ? below(2) : chance()),
@@ -557,7 +558,7 @@ static void stumble(void) {
     case 11:
         if (below(8) == 0) do_abandon(b);
         break;
-    case 12: walk_on(b, queue); break; /* it stays out for a while */
+    case 12: walk_on(b, queue); break; /* it stays in flight for a while */
     case 13: do_kicks(b, queue); break;
     default:
         walk_on(b, queue);
@@ -585,8 +586,8 @@ int main(int argc, char **argv) {
     while (calls % 1024 > 40 || time(NULL) < end) stumble();
     for (size_t k = 0; k < CHAINS; k++) pk_chain_free(&benches[k].chain), free(benches[k].request);
     free(memory);
-    printf("clumsy author: %llu calls, %llu chains taken, up to %u out at once, %llu asked, %llu "
-           "replied with bytes, %llu returned\n",
+    printf("clumsy author: %llu calls, %llu chains popped, up to %u in flight, %llu decoded, %llu "
+           "replied with bytes, %llu pushed\n",
            (unsigned long long)calls, (unsigned long long)taken, at_once, (unsigned long long)asked,
            (unsigned long long)replied, (unsigned long long)returned);
     return 0;

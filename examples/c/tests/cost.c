@@ -1,9 +1,10 @@
-/* What a chain costs by the library, with plain loads and stores: requests as a Linux guest cuts
- * them, header, arguments and data in pieces of their own, by direct descriptors; one of 130
- * descriptors in a table, as a READ of 512 KiB has; and short ones in a table. Answers and data are
- * at hand. One chain is out at a time, or four or sixteen of a queue, each by a handle of its own:
- * all are taken, then answered, then given back. cost [CHAINS]: prints for each kind of request the
- * least of nine runs, in nanoseconds for a chain. */
+/* The cost of a chain by the library, with plain loads and stores:
+ *     cost [CHAINS]
+ * prints for each kind of request the least of nine runs, in nanoseconds for a chain. Requests are
+ * cut as a Linux guest cuts them: header, arguments and data in pieces of their own, by direct
+ * descriptors. One has 130 descriptors in a table, as a READ of 512 KiB; others are short ones in a
+ * table. Answers and data need no time. One chain is in flight at a time, or four or sixteen of a
+ * queue, each with its own handle: all are popped, then answered, then pushed. */
 #define _POSIX_C_SOURCE 200809L
 #include "../access.h"
 #include <stdio.h>
@@ -36,14 +37,14 @@ static _Alignas(4096) uint8_t memory[END];
 static uint8_t file[DATA];
 static struct offered offered; /* of the queue */
 
-/* A kind of request: its pieces and those of its room (0: none), how many pages of room stand
- * behind them in a table (0: no table), and what answers it. */
+/* A kind of request: its pieces and those of its reply buffer (0: none), the pages that follow
+ * these in a table (0: no table), and its answer. */
 struct row {
     const char *name;
     uint32_t opcode;
     size_t request[PIECES], room[PIECES], pages;
     uint32_t (*answer)(struct pk_chain *, const struct pk_call *);
-    size_t out; /* so many chains at a time */
+    size_t out; /* chains in flight at a time */
 };
 
 static void put(size_t at, uint64_t value, size_t len) {
@@ -96,7 +97,7 @@ static const struct row rows[] = {
     {"READ 4 KiB, sixteen out", 15, {40, 40}, {16, DATA}, 0, answer_read, MOST_OUT},
 };
 
-/* Lays the entry of an index in a table. */
+/* Writes the descriptor of an index in a table. */
 static void lay_entry(size_t table, size_t index, size_t at, size_t len, uint16_t flags) {
     size_t entry = table + ENTRY * index;
     put(entry, at, 8);
@@ -105,8 +106,8 @@ static void lay_entry(size_t table, size_t index, size_t at, size_t len, uint16_
     put(entry + 14, flags & NEXT ? index + 1 : 0, 2);
 }
 
-/* Lays the pieces of one direction, each 16 bytes behind the one before; answers the index behind
- * the last. */
+/* Writes the descriptors of one direction, each piece 16 bytes after the one before. Returns the
+ * index after the last. */
 static size_t lay_pieces(size_t table, const size_t pieces[PIECES], size_t index, size_t at,
                          uint16_t flags, bool ends) {
     for (size_t k = 0; k < PIECES && pieces[k]; k++, index++) {
@@ -117,7 +118,7 @@ static size_t lay_pieces(size_t table, const size_t pieces[PIECES], size_t index
     return index;
 }
 
-/* Lays a chain: direct, or in a table that one descriptor names. */
+/* Writes a chain: direct, or in a table that one descriptor names. */
 static void lay_chain(const struct row *row) {
     size_t table = row->pages ? TABLE : DESC;
     size_t index = lay_pieces(table, row->request, 0, REQUEST, 0, false);
@@ -127,7 +128,7 @@ static void lay_chain(const struct row *row) {
     if (row->pages) lay_entry(DESC, 0, TABLE, ENTRY * index, INDIRECT);
 }
 
-/* Lays a request: its header, and behind it zeros, a name, or the numbers of a transfer of one
+/* Writes a request: its header, and after it zeros, a name, or the numbers of a transfer of one
  * page. */
 static void lay_request(const struct row *row) {
     size_t len = 0, record = REQUEST + 40 + 16;

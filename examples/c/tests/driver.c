@@ -111,13 +111,13 @@ void offer(struct driver *driver, uint16_t head) {
     atomic_store_explicit(index_of(driver, AVAIL + 2), driver->offered, memory_order_release);
 }
 
-/* Whether `wanted`, an index that the device has named, is one of those from `from` on and before
- * `to`. */
+/* Whether `wanted`, an index that the device stored, lies from `from` on and before `to`. */
 static bool is_passed(uint16_t wanted, uint16_t from, uint16_t to) {
     return (uint16_t)(to - wanted - 1) < (uint16_t)(to - from);
 }
 
-/* Whether the device wants to be told of the chains that were offered since it was told last. */
+/* Whether the device has notifications enabled for the chains that became available since the last
+ * one. */
 static bool wants_kick(struct driver *driver) {
     uint16_t told = driver->told,
              flags = atomic_load_explicit(index_of(driver, USED), memory_order_relaxed);
@@ -140,7 +140,8 @@ static bool is_back(struct driver *driver) {
     return driver->seen == driver->offered;
 }
 
-/* Wants to be called when the next chain comes back, or not. Behind it the driver looks again. */
+/* Enables the device's notification of the next used buffer, or disables it. Then the driver looks
+ * again. */
 static void want_call(struct driver *driver, bool wanted) {
     _Atomic uint16_t *used_event = index_of(driver, AVAIL + 4 + 2 * RING_SIZE);
     if (!driver->event_index)
@@ -160,8 +161,8 @@ bool wait_for_all(struct driver *driver, int milliseconds) {
         uint16_t seen = driver->seen;
         want_call(driver, true);
         if (is_back(driver)) return true;
-        if (driver->seen != seen) continue; /* that one may have come back before it was wanted */
-        /* whether or not all is back: nobody said so */
+        if (driver->seen != seen) continue; /* it may have been used before the store */
+        /* even if all are used: there was no notification */
         if (poll(&event, 1, milliseconds) <= 0) return false;
         if (read(event.fd, &calls, sizeof calls) < 0 && errno != EAGAIN) die("no call");
     }

@@ -1,5 +1,5 @@
-/* A queue behind an IOMMU. Its table is empty at first: each pop misses what it needs next, the
- * test maps that page, and pops again. Then a mapping is removed, and another refused. */
+/* A queue behind an IOMMU. Its table is empty at first: each pop misses a page, the test maps it,
+ * and pops again. Then a mapping is removed, and another refused. */
 #include <pitskhomu.h>
 #include <stdbool.h>
 #include <stdio.h>

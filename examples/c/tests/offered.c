@@ -1,6 +1,6 @@
-/* The available index is loaded again only once all that it told of was taken (take_chain of
- * access.c): a guest that changes it meanwhile isn't met before that, and is refused then. No load
- * is counted: what a walk comes to says which index it went by. */
+/* take_chain of access.c loads the available index again only after all chains up to the last one
+ * were popped. A guest that changes the index meanwhile is refused then, and not before. The test
+ * counts no loads: a pop's result shows which index it used. */
 #include "../access.h"
 #include <stdio.h>
 #include <stdlib.h>
@@ -42,7 +42,7 @@ static void work_over(const uint8_t *bytes) {
 
 static uint32_t take(void) { return take_chain(&chain, &queue, &offered, &step); }
 
-/* The next chain is taken, and goes back with silence. */
+/* Pops the next chain, and pushes it without a reply. */
 static void serve(const char *what) {
     bool notify = false;
     expect(what, take(), PK_DONE);
@@ -51,7 +51,7 @@ static void serve(const char *what) {
     expect("the return", give_back(&chain, &queue, NULL, &notify), PK_DONE);
 }
 
-/* The queue begins at a position, with so many chains offered. */
+/* The queue starts at a position, with so many chains available. */
 static void begin(uint16_t position, uint16_t waiting) {
     expect("the beginning", pk_queue_begin(&queue, position), PK_DONE);
     set_index((uint16_t)(position + waiting));
@@ -73,7 +73,7 @@ static void loads_once_for_all(void) {
     expect("none", take(), PK_IDLE);
 }
 
-/* Where all that was told of is taken, the guest's index counts. */
+/* Once all known chains are popped, the guest's index counts. */
 static void refuses_by_the_next_load(void) {
     const uint16_t wrong[] = {SIZE + 1, 0x8000, 0xffff};
     for (size_t k = 0; k < sizeof wrong / sizeof *wrong; k++) {
@@ -86,7 +86,7 @@ static void refuses_by_the_next_load(void) {
     }
 }
 
-/* A queue that begins anew, or whose memory stands elsewhere, is loaded anew. */
+/* After a reset, or in other memory, the index is loaded again. */
 static void forgets_what_was(void) {
     begin(7, 3);
     serve("the first of three");
@@ -102,7 +102,7 @@ static void forgets_what_was(void) {
     serve("the second one");
 }
 
-/* What was dropped is taken again by the index that is known. */
+/* A dropped chain is popped again by the known index. */
 static void takes_again(void) {
     begin(100, 2);
     serve("the first of two");
@@ -123,6 +123,6 @@ int main(void) {
     forgets_what_was();
     takes_again();
     pk_chain_free(&chain);
-    printf("offered chains: the index is loaded once for all that it tells of\n");
+    printf("offered chains: the index is loaded once for all its chains\n");
     return 0;
 }

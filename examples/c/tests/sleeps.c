@@ -1,7 +1,8 @@
-/* No notification is lost: sleeps COUNT [THREADS [event]], with an event index or flags. A driver
- * sleeps as soon as it may (VIRTIO 1.2, 2.7.7), beside a device that is as fast as it can be, and
- * asks for no kick while it looks anyway (2.7.10). Each chain comes back once. With several threads
- * of the queue each has a handle of its own, and chains go back in any order. */
+/* No notification is lost, with an event index or flags:
+ *     sleeps COUNT [THREADS [event]]
+ * A driver sleeps as soon as it may (VIRTIO 1.2, 2.7.7). The device is as fast as it can be, and
+ * disables notifications while it pops anyway (2.7.10). Each chain is pushed once. Each thread of
+ * the queue has its own handle, and chains are pushed in any order. */
 #include "driver.h"
 #include <linux/fuse.h>
 #include <stdio.h>
@@ -12,7 +13,7 @@ enum { TOO_LONG = 20000 };
 
 static struct driver driver;
 
-/* A GETATTR at each even descriptor, and its room behind it. */
+/* A GETATTR at each even descriptor, and its reply buffer at the next. */
 static void draw_requests(void) {
     struct fuse_in_header head = {
         .len = 56, .opcode = FUSE_GETATTR, .unique = 1, .nodeid = FUSE_ROOT_ID};
@@ -42,7 +43,7 @@ int main(int argc, char **argv) {
     }
     driver_end(&driver);
     if (driver.served != chains) die("%llu chains came back", (unsigned long long)driver.served);
-    printf("%llu sleeps, %llu chains, up to %u out at once: none lost\n", (unsigned long long)slept,
+    printf("%llu sleeps, %llu chains, up to %u in flight: none lost\n", (unsigned long long)slept,
            (unsigned long long)chains, driver.most);
     return 0;
 }

@@ -1,7 +1,6 @@
 //! Plays a script (docs/SCRIPT.md) on the handle: on the C library, through the crate `pitskhomu`.
 //! It prints the same lines as the script program, which runs the other device (`fs_device`).
-//! vectors/README.md lists the few commands that the handle can't play. There the script ends with
-//! status 4.
+//! That page lists the few commands that the handle lacks. There the script ends with status 4.
 //!
 //! This program is the VMM and the guest. It keeps the guest's memory, marks the pages that are
 //! written, and has the small file system of the script language. The library reads the queues

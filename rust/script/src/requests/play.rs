@@ -82,7 +82,7 @@ impl Row {
         row
     }
 
-    /// The row as the wrapper serves it: vectors/README.md lists what is different.
+    /// The row as the wrapper serves it, which passes on less.
     fn of_the_wrapper(mut self, variant: Variant) -> Row {
         let opcode = self.opcode();
         if UNSERVED.contains(&opcode) {
