@@ -118,14 +118,13 @@
 #define PK_CHECK
 #endif
 #if defined(__GNUC__) && !defined(__clang__) && __GNUC__ >= 11
-#define PK_READS(pointer, length) __attribute__((access(read_only, pointer, length)))
-#define PK_WRITES(pointer, length) __attribute__((access(write_only, pointer, length)))
-#define PK_FILLS(pointer) __attribute__((access(write_only, pointer)))
+#define PK_USES(...) __attribute__((access(__VA_ARGS__)))
 #else
-#define PK_READS(pointer, length)
-#define PK_WRITES(pointer, length)
-#define PK_FILLS(pointer)
+#define PK_USES(...)
 #endif
+#define PK_READS(pointer, length) PK_USES(read_only, pointer, length)
+#define PK_WRITES(pointer, length) PK_USES(write_only, pointer, length)
+#define PK_FILLS(pointer) PK_USES(write_only, pointer)
 #ifdef __cplusplus
 extern "C" {
 #endif
@@ -248,7 +247,6 @@ enum pk_call_kind {
     PK_CALL_SYNCFS = 50,      /* -> done */
 };
 /* Not passed on: FATTR_LOCKOWNER, and the flags of COPY_FILE_RANGE. */
-
 /* The kinds of good answers: reply PK_ANSWER_X with pk_reply_x, DONE with pk_reply_err(.., 0).
  * NONE: make the call, if there is one, then pk_push. pk_reply_err is allowed for each call that
  * has a reply. GETXATTR and LISTXATTR allow pk_reply_data and pk_reply_xattr: see `answer`. */
@@ -352,10 +350,9 @@ struct pk_pop {
  * load the bytes and call again with them, at most size + 4 times. PK_DONE: the chain is in flight.
  * PK_IDLE, PK_MISS and errors 1 to 8: the handle is free. PK_MISS leaves the queue as it was. Other
  * errors leave the pop under way; pk_drop ends it.
- * You can omit two loads. The first load is the available index: you may pass the bytes of an
- * earlier load of it over the same memory since the queue's reset, if it isn't `next_avail`. An
- * entry of a table that crosses two regions is loaded in two parts: in place of the first part you
- * may pass the whole entry.
+ * You can omit two loads. In place of the first, the available index, you may pass an earlier one
+ * of it over the same memory since the queue's reset, if it isn't `next_avail`. An entry of a table
+ * that crosses two regions has two loads: instead of the first part you may pass the whole entry.
  * Errors: PK_WRONG_ORDER (no memory was set); PK_BAD_ARGUMENT (the queue's fields are no queue's,
  * as zeros); PK_WRONG_ORDER (the chain is in flight); PK_BAD_ARGUMENT (`loaded_len` isn't the
  * load's); PK_OTHER_QUEUE (then drop or abandon the pop); PK_CHAIN_IN_FLIGHT; then, in no order,
@@ -373,8 +370,7 @@ uint32_t pk_drop(struct pk_chain *chain, struct pk_queue *queue) PK_NONNULL;
  * the queue counts the chain as in flight (pk_chain_free). */
 void pk_abandon(struct pk_chain *chain) PK_NONNULL;
 
-/* A piece of memory: its host address, and its bytes. It is laid out as struct iovec: cast an array
- * of it for preadv and the like. */
+/* A piece of memory, laid out as struct iovec: cast an array of it for preadv and the like. */
 struct pk_window { uintptr_t at; size_t len; };
 
 /* A range of guest addresses; of I/O addresses, if the chain has a table. */
@@ -404,18 +400,17 @@ struct pk_iotlb { void *at; uint32_t full; };
 
 /* The numbers of VHOST_ACCESS_ (linux/vhost_types.h). */
 enum pk_access {
-    PK_ACCESS_NONE = 0, PK_ACCESS_READ = 1, PK_ACCESS_WRITE = 2, PK_ACCESS_READ_WRITE = 3,
-};
+    PK_ACCESS_NONE = 0, PK_ACCESS_READ = 1, PK_ACCESS_WRITE = 2, PK_ACCESS_READ_WRITE = 3 };
 
-/* Puts a table without a mapping into the place, instead of the one that is there.
- * Errors: PK_OUT_OF_MEMORY (only of zeros). */
+/* Puts an empty table into the place. Errors: PK_OUT_OF_MEMORY (only of zeros). */
 uint32_t pk_iotlb_new(struct pk_iotlb *iotlb) PK_CHECK;
 
 /* Frees the place with its table, and zeroes it. */
 void pk_iotlb_free(struct pk_iotlb *iotlb) PK_NONNULL;
 
 /* Maps `len` I/O addresses; earlier mappings of them end. With PK_ACCESS_NONE they are refused: a
- * pop that needs them has a refusal or a fault, and no miss. Unmap them after that pop.
+ * pop that needs them has a refusal or a fault, and no miss. Unmap them after that pop. The last
+ * page of addresses can't be mapped, so no pop misses it.
  * Errors: PK_WRONG_ORDER (no table is here); PK_BAD_ARGUMENT (not an access; not multiples of 4096;
  * `len` is 0; an end isn't below 2^64); PK_OUT_OF_MEMORY. */
 uint32_t pk_iotlb_map(struct pk_iotlb *iotlb, uint64_t iova, uint64_t len, uint64_t guest,
@@ -438,7 +433,6 @@ struct pk_miss { uint64_t at, len; uint32_t access; };
 /* After PK_MISS: the first I/O addresses that the buffer of descriptor `index` lacks, at or after
  * address `from`. Ask for each index from 0 on: first with `from` 0, then with the end of the miss.
  * PK_MISS: filled. PK_DONE: nothing is missing from there on. PK_IDLE: no such descriptor was read.
- * If the pop missed used_event or avail_event, don't ask: the descriptors are an earlier pop's.
  * Errors: PK_WRONG_ORDER (no memory was set). */
 uint32_t pk_miss(struct pk_chain *chain, size_t index, uint64_t from, struct pk_miss *miss)
     PK_CHECK PK_FILLS(4);
@@ -490,8 +484,7 @@ struct pk_call {
 
 /* Decodes a request from its first PK_FIRST bytes, or from all if it is shorter. After PK_MORE load
  * more, and pass its first `needed` bytes. A buffer of the device's limit holds every request; the
- * data of a WRITE stays in guest memory. If `answer` is PK_ANSWER_NONE, make the call, if there is
- * one, and pk_push. It never returns PK_OUT_OF_MEMORY.
+ * data of a WRITE stays in guest memory. It never returns PK_OUT_OF_MEMORY.
  * Errors: PK_WRONG_ORDER (no memory was set); PK_BAD_ARGUMENT (the device's fields); PK_WRONG_ORDER
  * (no chain, a faulty one, or a decoded one); PK_BAD_ARGUMENT (too many bytes). */
 uint32_t pk_decode(struct pk_chain *chain, const struct pk_device *device, const uint8_t *request,
@@ -507,32 +500,29 @@ struct pk_entry {
 };
 
 struct pk_statfs { /* struct fuse_kstatfs */
-    uint64_t blocks, bfree, bavail; /* of frsize bytes */
-    uint64_t files, ffree;          /* nodes */
-    uint32_t bsize, namelen, frsize; /* bytes */
+    uint64_t blocks, bfree, bavail, files, ffree; /* blocks of frsize bytes; files are nodes */
+    uint32_t bsize, namelen, frsize;              /* bytes */
 };
 
 /* Each answers the chain's call once. The ticket names the call, so a late answer is refused. They
  * access no guest memory and never return PK_OUT_OF_MEMORY. pk_push returns the reply.
- * Errors: the function's own; PK_WRONG_ORDER (no call is unanswered); PK_OTHER_CALL; PK_OTHER_KIND.
- * After an error the call is still unanswered. PK_NO_ROOM is no error. */
+ * Errors: PK_BAD_ARGUMENT (nanoseconds of 10^9 or more, or another errno); PK_WRONG_ORDER (no call
+ * is unanswered); PK_OTHER_CALL; PK_OTHER_KIND; the function's own. After an error the call is
+ * still unanswered. PK_NO_ROOM is no error. */
 
-/* Any call: an errno of Linux, 1 to 4095; or 0, if the kind of its answer is done.
- * Errors: PK_BAD_ARGUMENT (another number). It may return PK_ENTRIES. */
+/* Any call: an errno of Linux, 1 to 4095; or 0, if the kind of its answer is done. It may return
+ * PK_ENTRIES. */
 uint32_t pk_reply_err(struct pk_chain *chain, uint32_t ticket, uint32_t error) PK_CHECK;
 
-/* LOOKUP, SYMLINK, MKNOD, MKDIR, LINK: the node's look-up count grows by 1.
- * Errors: PK_BAD_ARGUMENT (nanoseconds of 10^9 or more). */
+/* LOOKUP, SYMLINK, MKNOD, MKDIR, LINK: the node's look-up count grows by 1. */
 uint32_t pk_reply_entry(struct pk_chain *chain, uint32_t ticket, const struct pk_entry *entry)
     PK_CHECK;
 
-/* CREATE: an entry, and an open file. After PK_NO_ROOM forget the node and close the file.
- * Errors: PK_BAD_ARGUMENT (nanoseconds of 10^9 or more). */
+/* CREATE: an entry, and an open file. After PK_NO_ROOM forget the node and close the file. */
 uint32_t pk_reply_create(struct pk_chain *chain, uint32_t ticket, const struct pk_entry *entry,
                          uint64_t handle, uint32_t open_flags) PK_CHECK;
 
-/* GETATTR, SETATTR: the guest may keep the attributes for secs and nanos.
- * Errors: PK_BAD_ARGUMENT (nanoseconds of 10^9 or more). */
+/* GETATTR, SETATTR: the guest may keep the attributes for secs and nanos. */
 uint32_t pk_reply_attr(struct pk_chain *chain, uint32_t ticket, const struct pk_attr *attr,
                        uint64_t secs, uint32_t nanos) PK_CHECK;
 
@@ -542,7 +532,7 @@ uint32_t pk_reply_open(struct pk_chain *chain, uint32_t ticket, uint64_t handle,
 
 /* READ, READLINK, GETXATTR, LISTXATTR: `len` bytes of data in the reply buffer from PK_HEADER on
  * (READ: data_len of the call at most, else PK_OTHER_KIND). Put them there (pk_reply_windows)
- * before the used index is stored. Errors after the common ones: PK_LONG_REPLY. */
+ * before the used index is stored. Errors: also PK_LONG_REPLY. */
 uint32_t pk_reply_data(struct pk_chain *chain, uint32_t ticket, uint64_t len) PK_CHECK;
 
 /* GETXATTR and LISTXATTR with size 0: the length of the value or list, in bytes. WRITE and
@@ -563,10 +553,10 @@ uint32_t pk_reply_init(struct pk_chain *chain, uint32_t ticket, struct pk_device
 /* READDIR: appends an entry to `list`, a buffer of yours of at most data_len bytes, the same one
  * for all entries of the reply. `next_offset` is the offset of the READDIR that continues after
  * this entry; `type` is DT_ of dirent.h. Returns PK_DONE, PK_FULL or PK_LIST_FAILS.
- * Errors: PK_BAD_ARGUMENT (the name is empty or has a slash, for which Linux would fail the
- * listing; it is longer than 255 bytes; or the type isn't DT_UNKNOWN, FIFO, CHR, DIR, BLK, REG, LNK
- * or SOCK); PK_WRONG_ORDER; PK_OTHER_CALL; PK_BAD_ARGUMENT (list_len isn't that of the earlier
- * entries); PK_OTHER_KIND; PK_SHORT_BUFFER (the list ends before the entry). */
+ * Errors: PK_BAD_ARGUMENT (the name is empty, has a slash or is longer than 255 bytes; the type
+ * isn't DT_UNKNOWN, FIFO, CHR, DIR, BLK, REG, LNK or SOCK); PK_WRONG_ORDER; PK_OTHER_CALL;
+ * PK_BAD_ARGUMENT (list_len isn't that of the earlier entries); PK_OTHER_KIND; PK_SHORT_BUFFER (the
+ * list ends before the entry). */
 uint32_t pk_add_direntry(struct pk_chain *chain, uint32_t ticket, uint8_t *list, size_t list_len,
                          const uint8_t *name, size_t name_len, uint64_t ino, uint64_t next_offset,
                          uint32_t type) PK_CHECK PK_READS(5, 6);
@@ -584,12 +574,11 @@ uint32_t pk_add_direntry_plus(struct pk_chain *chain, uint32_t ticket, uint8_t *
 uint32_t pk_reply_entries(struct pk_chain *chain, uint32_t ticket, uint64_t *len)
     PK_CHECK PK_FILLS(3);
 
-/* Replies with `len` bytes of your own, struct fuse_out_header included; 0 is no reply. Put them
- * into the reply buffer, from 0 on, before the used index is stored. Allowed in place of a call's
- * answer. Or in place of pk_decode, for a FUSE server of yours, which may serve any request: the
- * opcode is at byte 4 of the request, `unique` at 8. You then account for the guest's nodes, also
- * those of pk_add_direntry_plus that your bytes leave out, and set device->options after INIT. The
- * library doesn't read your header. pk_push returns no front, and `len` for the used element.
+/* Replies with `len` bytes of your own (with struct fuse_out_header), in place of a call's answer or
+ * of pk_decode; 0 is no reply. Put them into the reply buffer, from 0 on, before the used index is
+ * stored. So a FUSE server of yours may serve any request (opcode at byte 4, `unique` at 8). You
+ * then account for the guest's nodes, also those of pk_add_direntry_plus that your bytes leave out,
+ * and set device->options after INIT. pk_push returns no front, and `len` for the used element.
  * Errors: PK_WRONG_ORDER (no chain, a faulty one, or one with a reply); PK_OTHER_CALL (`ticket`);
  * PK_LONG_REPLY (more than reply_len of the pop, or 2^32 and more). */
 uint32_t pk_reply_bytes(struct pk_chain *chain, uint32_t ticket, uint64_t len) PK_CHECK;
