@@ -574,9 +574,9 @@ uint32_t pk_add_direntry_plus(struct pk_chain *chain, uint32_t ticket, uint8_t *
 uint32_t pk_reply_entries(struct pk_chain *chain, uint32_t ticket, uint64_t *len)
     PK_CHECK PK_FILLS(3);
 
-/* Replies with `len` bytes of your own (with struct fuse_out_header), in place of a call's answer or
- * of pk_decode; 0 is no reply. Put them into the reply buffer, from 0 on, before the used index is
- * stored. So a FUSE server of yours may serve any request (opcode at byte 4, `unique` at 8). You
+/* Replies with `len` bytes of your own (with struct fuse_out_header), in place of a call's answer,
+ * or of pk_decode; 0 is no reply. Put them into the reply buffer, from 0 on, before the used index
+ * is stored. So a FUSE server of yours may serve any request (opcode at byte 4, `unique` at 8). You
  * then account for the guest's nodes, also those of pk_add_direntry_plus that your bytes leave out,
  * and set device->options after INIT. pk_push returns no front, and `len` for the used element.
  * Errors: PK_WRONG_ORDER (no chain, a faulty one, or one with a reply); PK_OTHER_CALL (`ticket`);
