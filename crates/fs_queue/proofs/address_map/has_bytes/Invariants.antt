@@ -6,4 +6,4 @@ abbrev pub invariant-loop-descriptor : goal.invariant-loop-descriptor
 invariant-loop-descriptor g l =
     all_reach (g.P.AddressMap.places l.places) (access_of l.write_only) (of_direction l.write_only l.descriptors)
     ≡ all_reach (g.P.AddressMap.places l.places) (access_of l.write_only)
-        (of_direction l.write_only (drop l.descriptor-index l.descriptors))
+    (of_direction l.write_only (drop l.descriptor-index l.descriptors))
