@@ -30,12 +30,7 @@ use Rattle.fs_chain.specs.Loads.{AreDue, AreWanted, AreWhole, RefusesWalk, came,
 within : (s : state.ChainState) (P : QueueWalk → Type 0) (n : ℕ) → IsWalking s → IfWalking s P →
     ((walk : QueueWalk) → P walk → n ≤ asked_len walk) → n ≤ load_len s
 within (at.Walking course pop_id walk) P n is p h = h walk p
-within at.Free P n is p h = absurd is
-within (at.Taken out) P n is p h = absurd is
-within (at.Waits out waiting) P n is p h = absurd is
-within (at.Lists out listing) P n is p h = absurd is
-within (at.HasReply out reply) P n is p h = absurd is
-within (at.Pushing out) P n is p h = absurd is
+within s P n is p h = absurd is
 
 -- with those that came before
 pub fits : (w : ChainHandle) (n : ℕ) → AreWanted w n → came w + n ≤ load_len w.state
@@ -48,12 +43,7 @@ some_len : (s : state.ChainState) → 0 < entries_asked s → 0 < load_len s
 some_len (at.Walking course pop_id (walks.Entries w)) asks = omega (arith, asks)
 some_len (at.Walking course pop_id (walks.Index w)) asks = omega arith
 some_len (at.Walking course pop_id (walks.RingEntry w)) asks = omega arith
-some_len at.Free asks = absurd (omega (arith, asks))
-some_len (at.Taken out) asks = absurd (omega (arith, asks))
-some_len (at.Waits out waiting) asks = absurd (omega (arith, asks))
-some_len (at.Lists out listing) asks = absurd (omega (arith, asks))
-some_len (at.HasReply out reply) asks = absurd (omega (arith, asks))
-some_len (at.Pushing out) asks = absurd (omega (arith, asks))
+some_len s asks = absurd (omega (arith, asks))
 
 some_asked : (n : ℕ) → 0 < n → (n == 0) ≡ false
 some_asked n some = grind (arith, nat_tests)
@@ -116,11 +106,7 @@ module _ (w w' : ChainHandle) (aside kept : Vec ℕ) (q q' : QueueState) (told :
   walks_from : (s : state.ChainState) (bytes : List ℕ) → WalksFrom s bytes before w' q q' told → WalksFrom s bytes w after q q' told
   walks_from at.Free bytes h = begins q.stopped h
   walks_from (at.Walking course pop_id walk) bytes h = goes_on q.stopped course pop_id walk bytes h
-  walks_from (at.Taken out) bytes h = h
-  walks_from (at.Waits out waiting) bytes h = h
-  walks_from (at.Lists out listing) bytes h = h
-  walks_from (at.HasReply out reply) bytes h = h
-  walks_from (at.Pushing out) bytes h = h
+  walks_from s bytes h = h
 
 -- by the same bytes, from a handle to one that are these but for that part
 pub walks_apart : (w before w' after : ChainHandle) (q q' : QueueState) (told : walked.PopOutcome) (bytes all : List ℕ)

@@ -26,12 +26,8 @@ use Rattle.fs_chain.specs.Walks.{RefusalHasEvents, WalksFrom, WalksOn, left_of}
 -- of a faulty chain none are kept, and none are spoken of
 pub comes_left : (m : Memory) (limit : ℕ) (q : Queue) (loaded : Loaded) (ds : List Descriptor) (came : comes.CourseStep)
     → IsCourseStep m limit q loaded ds came → IsCourseStep m limit q loaded (left_of came ds) came
-comes_left m limit q loaded ds (step.Load w) h = h
-comes_left m limit q loaded ds step.Idle h = h
-comes_left m limit q loaded ds (step.Refused e) h = h
 comes_left m limit q loaded ds (step.Chain head None) h = h
-comes_left m limit q loaded ds (step.Chain head (Some fault)) h = h
-comes_left m limit q loaded ds (step.Missing range access) h = h
+comes_left m limit q loaded ds came h = h
 
 pub by_left : (m : Memory) (limit : ℕ) (q : Queue) (loaded : Loaded) (walk : QueueWalk) (bytes : List ℕ) (ds : List Descriptor)
     (came : comes.CourseStep)
@@ -40,12 +36,8 @@ by_left m limit q loaded walk bytes ds came h =
     record { after = h.after; adds = h.adds; comes = comes_left m limit q h.after ds came h.comes }
 
 pub leaves_none : (came : comes.CourseStep) (ds : List Descriptor) → LeavesNone came (left_of came ds)
-leaves_none (step.Load w) ds = tt
-leaves_none step.Idle ds = tt
-leaves_none (step.Refused e) ds = tt
-leaves_none (step.Chain head None) ds = tt
 leaves_none (step.Chain head (Some fault)) ds = refl
-leaves_none (step.Missing range access) ds = tt
+leaves_none came ds = tt
 
 -- a walk comes to the same that was taken out of its place
 pub comes_taken : (course : Course) (walk taken : QueueWalk) (bytes : List ℕ) (came : comes.CourseStep) (regions : Mapped)

@@ -104,12 +104,8 @@ request_in _ = 0
 
 pub came_is : (ds : List Descriptor) (came : comes.CourseStep) (head n r : ℕ) → says.Chain head n r ≡ told_of ds came →
     (came ≡ step.Chain head None) × (n ≡ count false ds) × (r ≡ count true ds)
-came_is ds (step.Load walk) head n r e = absurd (subst IsAChain e tt)
-came_is ds (step.Missing range access) head n r e = absurd (subst IsAChain e tt)
-came_is ds step.Idle head n r e = absurd (subst IsAChain e tt)
-came_is ds (step.Refused error) head n r e = absurd (subst IsAChain e tt)
 came_is ds (step.Chain h None) head n r e = (ap (λ (x : ℕ). step.Chain x None) (sym (ap head_in e)), ap request_in e, ap room_in e)
-came_is ds (step.Chain h (Some fault)) head n r e = absurd (subst IsAChain e tt)
+came_is ds came head n r e = absurd (subst IsAChain e tt)
 
 -- ---- what was told of the request, and how it was answered
 
@@ -330,32 +326,22 @@ fault_in (says.Faulty head fault) f = fault
 fault_in _ f = f
 
 idle_is : (ds : List Descriptor) (came : comes.CourseStep) → says.Idle ≡ told_of ds came → came ≡ step.Idle
-idle_is ds (step.Load walk) e = absurd (subst IsIdle e tt)
-idle_is ds (step.Missing range access) e = absurd (subst IsIdle e tt)
 idle_is ds step.Idle e = refl
-idle_is ds (step.Refused error) e = absurd (subst IsIdle e tt)
 idle_is ds (step.Chain h None) e = absurd (subst IsIdle e tt)
-idle_is ds (step.Chain h (Some fault)) e = absurd (subst IsIdle e tt)
+idle_is ds came e = absurd (subst IsIdle e tt)
 
 refusal_is :
     (ds : List Descriptor) (came : comes.CourseStep) (error : QueueError) → says.Refused error ≡ told_of ds came → came ≡ step.Refused error
-refusal_is ds (step.Load walk) error e = absurd (subst IsRefusal e tt)
-refusal_is ds (step.Missing range access) error e = absurd (subst IsRefusal e tt)
-refusal_is ds step.Idle error e = absurd (subst IsRefusal e tt)
 refusal_is ds (step.Refused why) error e = ap (λ (x : QueueError). step.Refused x) (sym (ap error_in e))
 refusal_is ds (step.Chain h None) error e = absurd (subst IsRefusal e tt)
-refusal_is ds (step.Chain h (Some fault)) error e = absurd (subst IsRefusal e tt)
+refusal_is ds came error e = absurd (subst IsRefusal e tt)
 
 pub faulty_is : (ds : List Descriptor) (came : comes.CourseStep) (head : ℕ) (fault : ChainFault) →
     says.Faulty head fault ≡ told_of ds came → came ≡ step.Chain head (Some fault)
-faulty_is ds (step.Load walk) head fault e = absurd (subst IsFaulty e tt)
-faulty_is ds (step.Missing range access) head fault e = absurd (subst IsFaulty e tt)
-faulty_is ds step.Idle head fault e = absurd (subst IsFaulty e tt)
-faulty_is ds (step.Refused error) head fault e = absurd (subst IsFaulty e tt)
-faulty_is ds (step.Chain h None) head fault e = absurd (subst IsFaulty e tt)
 faulty_is ds (step.Chain h (Some why)) head fault e =
     ap (λ (x : ℕ). step.Chain x (Some why)) (sym (ap faulty_head_in e))
     ∙ ap (λ (x : ChainFault). step.Chain head (Some x)) (sym (ap (λ (w : walked.PopOutcome). fault_in w fault) e))
+faulty_is ds came head fault e = absurd (subst IsFaulty e tt)
 
 pub idle_is_step_by : {F : Type 0} (may : May F) → IdleIsStepBy may
 idle_is_step_by {F} may given i old new before after m first walks =
@@ -383,14 +369,7 @@ idle_is_step_by {F} may given i old new before after m first walks =
 refused_so : {F : Type 0} (may : May F) (m : State F) (i : ℕ) (q : Queue) (e : QueueError) → (e ≡ stop.OutOfMemory → ⊥)
     → ActsBy may m i q (Refuses e) [] (Refused (device.Queue e)) no_effects (with_queue m i (after_refusal q e))
 refused_so may m i q stop.OutOfMemory isnt = absurd (isnt refl)
-refused_so may m i q stop.Stopped isnt = (refl, refl, refl, refl)
-refused_so may m i q stop.AvailIndexUnreachable isnt = (refl, refl, refl, refl)
-refused_so may m i q stop.AvailTooFar isnt = (refl, refl, refl, refl)
-refused_so may m i q stop.RingEntryUnreachable isnt = (refl, refl, refl, refl)
-refused_so may m i q stop.HeadOutOfTable isnt = (refl, refl, refl, refl)
-refused_so may m i q stop.UsedUnreachable isnt = (refl, refl, refl, refl)
-refused_so may m i q stop.AvailFlagsUnreachable isnt = (refl, refl, refl, refl)
-refused_so may m i q stop.DescriptorUnreachable isnt = (refl, refl, refl, refl)
+refused_so may m i q e isnt = (refl, refl, refl, refl)
 
 pub refusal_is_step_by : {F : Type 0} (may : May F) → RefusalIsStepBy may
 refusal_is_step_by {F} may given e i old new before after m first events walks =

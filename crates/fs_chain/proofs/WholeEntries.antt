@@ -50,12 +50,9 @@ outcome_in (Ok a) = outcome_of a
 outcome_in (Err e) = Err not_added.OtherKind
 
 outcome_is : (r : Outcome) (a : Added) → Ok a ≡ told_added r → r ≡ outcome_of a
-outcome_is (Ok done) a told = sym (ap outcome_in told)
 outcome_is (Err not_added.OtherKind) a told = absurd (cc)
-outcome_is (Err not_added.Full) a told = sym (ap outcome_in told)
-outcome_is (Err not_added.NoRoom) a told = sym (ap outcome_in told)
-outcome_is (Err not_added.TooLong) a told = sym (ap outcome_in told)
 outcome_is (Err not_added.ShortList) a told = absurd (cc)
+outcome_is r a told = sym (ap outcome_in told)
 
 -- an entry was brought to a listing, of which this was told
 abbrev pub IsBrought : InFlight → Listing → (new : state.ChainState) → (list list' : List ℕ) → Brought → Added → Type 0

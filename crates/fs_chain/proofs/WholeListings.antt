@@ -164,12 +164,7 @@ list_served s l unique a list es (Unreadable errno) w after out len is holds st 
 from_lists :
     (st : state.ChainState) (P : Listing → Type 0) → FromLists st P → (out : InFlight) × (l : Listing) × (st ≡ at.Lists out l) × P l
 from_lists (at.Lists out l) P p = (out, l, refl, p)
-from_lists at.Free P p = absurd p
-from_lists (at.Walking course pop_id walk) P p = absurd p
-from_lists (at.Taken out) P p = absurd p
-from_lists (at.Waits out w) P p = absurd p
-from_lists (at.HasReply out reply) P p = absurd p
-from_lists (at.Pushing out) P p = absurd p
+from_lists st P p = absurd p
 
 abbrev IsListCommand : Listing → (room : ℕ) → FileCommand → Type 0
 IsListCommand l room command = (unique : ℕ) × (a : asked.ListRequest) × (command ≡ Lists unique a) × IsListingFor l room (Lists unique a)

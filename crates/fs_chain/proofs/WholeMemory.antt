@@ -68,12 +68,7 @@ acts_back : (back : QueueState) (room behind flags : List ℕ) (acts : List Act)
     → (stores : List Store) × (acts ≡ return_acts stores flags)
 acts_back back room behind flags acts last (at.HasReply out reply) used goes =
     (reply_stores room (reply_bytes reply behind) (front_len reply) ++ stores_of used.used, goes.1.1)
-acts_back back room behind flags acts last at.Free used goes = absurd goes
-acts_back back room behind flags acts last (at.Walking course pop_id walk) used goes = absurd goes
-acts_back back room behind flags acts last (at.Taken out) used goes = absurd goes
-acts_back back room behind flags acts last (at.Waits out w) used goes = absurd goes
-acts_back back room behind flags acts last (at.Lists out l) used goes = absurd goes
-acts_back back room behind flags acts last (at.Pushing out) used goes = absurd goes
+acts_back back room behind flags acts last st used goes = absurd goes
 
 seen_in :
     (m : Memory) (q : Queue) (stores : List Store) (seen : List ℕ) (acts : List Act) → acts ≡ return_acts stores seen → FindFlags m q acts

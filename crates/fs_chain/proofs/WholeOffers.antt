@@ -65,12 +65,9 @@ NoWant _ = Unit {0}
 next_tests : (a b c d e : Bool) (head : ℕ) →
     NoWant (if a then avail.Refused stop.AvailIndexUnreachable else if b then avail.Idle else if c then avail.Refused stop.AvailTooFar
     else if d then avail.Refused stop.RingEntryUnreachable else if e then avail.Refused stop.HeadOutOfTable else avail.Head head)
-next_tests true b c d e head = λ is. cc
 next_tests false true c d e head = tt
-next_tests false false true d e head = λ is. cc
-next_tests false false false true e head = λ is. cc
-next_tests false false false false true head = λ is. cc
 next_tests false false false false false head = tt
+next_tests a b c d e head = λ is. cc
 
 next_is : (m : Memory) (q : Queue) → NoWant (next_avail m q)
 next_is m q = next_tests _ _ _ _ _ _

@@ -65,13 +65,7 @@ seen_answered : (s : Setting) (room_setting : ℕ → Setting) (m : Meaning) (be
     → FromReplied kq after P used → IsSeenThere kq out used
 seen_answered s room_setting m behind kq P out made a options replied (at.Waits kept w) after used keeps waits given back =
     seen_back kq P after out kept (reply_of given.0.sent (data_len a)) used given.2 keeps.0 back
-seen_answered s room_setting m behind kq P out made a options replied (at.Lists kept l) after used keeps waits given back = absurd waits
-seen_answered s room_setting m behind kq P out made a options replied at.Free after used keeps waits given back = absurd waits
-seen_answered s room_setting m behind kq P out made a options replied (at.Walking course pop_id walk) after used keeps waits given back =
-    absurd waits
-seen_answered s room_setting m behind kq P out made a options replied (at.Taken o) after used keeps waits given back = absurd waits
-seen_answered s room_setting m behind kq P out made a options replied (at.HasReply o reply) after used keeps waits given back = absurd waits
-seen_answered s room_setting m behind kq P out made a options replied (at.Pushing o) after used keeps waits given back = absurd waits
+seen_answered s room_setting m behind kq P out made a options replied st after used keeps waits given back = absurd waits
 
 -- of one whose reply was kept as it was asked
 seen_kept : (s : Setting) (m : Meaning) (behind : List ℕ) (kq : QueueState) (P : ChainReply → PushStores
@@ -79,12 +73,7 @@ seen_kept : (s : Setting) (m : Meaning) (behind : List ℕ) (kq : QueueState) (P
     → FromReplied kq st P used → IsSeenThere kq out used
 seen_kept s m behind kq P out (at.HasReply kept reply) used keeps back =
     seen_back kq P (at.HasReply kept reply) out kept reply used refl keeps.0 back
-seen_kept s m behind kq P out (at.Waits o w) used keeps back = absurd keeps
-seen_kept s m behind kq P out (at.Lists o l) used keeps back = absurd keeps
-seen_kept s m behind kq P out at.Free used keeps back = absurd keeps
-seen_kept s m behind kq P out (at.Walking course pop_id walk) used keeps back = absurd keeps
-seen_kept s m behind kq P out (at.Taken o) used keeps back = absurd keeps
-seen_kept s m behind kq P out (at.Pushing o) used keeps back = absurd keeps
+seen_kept s m behind kq P out st used keeps back = absurd keeps
 
 -- the same state, if nothing was answered
 unanswered : (kq : QueueState) (P : ChainReply → PushStores → Type 0) (asked answered : ChainHandle) (used : PushStores) →
@@ -101,16 +90,11 @@ seen_so s m behind kq P out (asks.Call c) asked answered (OneAnswer a bytes repl
 seen_so s m behind kq P out (asks.Call c) asked answered (ByEntries b es ending bytes) used meant has back =
     let listed = listed_out s m behind c b es ending bytes out asked answered meant has in
     seen_back kq P answered.state out out listed.0 used listed.1 refl back
-seen_so s m behind kq P out (asks.Call c) asked answered NoAnswer used meant has back = absurd has
-seen_so s m behind kq P out (asks.More n) asked answered given used meant has back = absurd has
 seen_so s m behind kq P out asks.Nothing asked answered NoAnswer used meant has back =
     seen_kept s m behind kq P out asked.state used meant (unanswered kq P asked answered used has back)
-seen_so s m behind kq P out asks.Nothing asked answered (OneAnswer a bytes replied) used meant has back = absurd has
-seen_so s m behind kq P out asks.Nothing asked answered (ByEntries b es ending bytes) used meant has back = absurd has
 seen_so s m behind kq P out (asks.Fault e) asked answered NoAnswer used meant has back =
     seen_back kq P asked.state out out no_reply used meant.0 refl (unanswered kq P asked answered used has back)
-seen_so s m behind kq P out (asks.Fault e) asked answered (OneAnswer a bytes replied) used meant has back = absurd has
-seen_so s m behind kq P out (asks.Fault e) asked answered (ByEntries b es ending bytes) used meant has back = absurd has
+seen_so s m behind kq P out made asked answered given used meant has back = absurd has
 
 -- ---- what they tell
 

@@ -206,21 +206,14 @@ wants_so l old w before q n (step.Load walk) none same keeps comes =
       there = comes.1;
       stands = comes.0;
     }
-wants_so l old w before q n step.Idle none same keeps comes = absurd (subst IsALoad keeps.0 tt)
-wants_so l old w before q n (step.Refused e) none same keeps comes = absurd (subst IsALoad keeps.0 tt)
 wants_so l old w before q n (step.Chain head None) none same keeps comes = absurd (subst IsALoad keeps.0 tt)
-wants_so l old w before q n (step.Chain head (Some fault)) none same keeps comes = absurd (subst IsALoad keeps.0 tt)
-wants_so l old w before q n (step.Missing range access) none same keeps comes = absurd (subst IsALoad keeps.0 tt)
+wants_so l old w before q n came none same keeps comes = absurd (subst IsALoad keeps.0 tt)
 
 wanted : (l : Loaded) (old w : ChainHandle) (before q : QueueState) (earlier : went.LoadOutcome) → WantsBytes earlier →
     Comes l old w before q earlier → Wants l old w before q
 wanted l old w before q wents.Part wants comes = comes
 wanted l old w before q (wents.On (says.Load n)) wants comes = wants_so l old w before q n comes.0.0 comes.1 comes.2 comes.0.1 comes.0.2
-wanted l old w before q (wents.On says.Idle) wants comes = absurd wants
-wanted l old w before q (wents.On (says.Refused e)) wants comes = absurd wants
-wanted l old w before q (wents.On (says.Chain head n r)) wants comes = absurd wants
-wanted l old w before q (wents.On (says.Faulty head fault)) wants comes = absurd wants
-wanted l old w before q (wents.On (says.Missing range access)) wants comes = absurd wants
+wanted l old w before q earlier wants comes = absurd wants
 
 -- a walk has told no refusal, or the queue's event index has its places
 abbrev HasNoneRefused : went.LoadOutcome → ChainHandle → QueueState → Type 0
@@ -230,11 +223,7 @@ HasNoneRefused (wents.On told) w q = RefusalHasEvents told w q
 wants_unrefused : (w : ChainHandle) (q : QueueState) (told : went.LoadOutcome) → WantsBytes told → HasNoneRefused told w q
 wants_unrefused w q wents.Part wants = tt
 wants_unrefused w q (wents.On (says.Load n)) wants = tt
-wants_unrefused w q (wents.On says.Idle) wants = absurd wants
-wants_unrefused w q (wents.On (says.Refused e)) wants = absurd wants
-wants_unrefused w q (wents.On (says.Chain head n r)) wants = absurd wants
-wants_unrefused w q (wents.On (says.Faulty head fault)) wants = absurd wants
-wants_unrefused w q (wents.On (says.Missing range access)) wants = absurd wants
+wants_unrefused w q told wants = absurd wants
 
 first_has_events :
     (old new : ChainHandle) (before after : QueueState) (told : went.LoadOutcome) → before.stopped ≡ None → HasNoneRefused told old before
@@ -364,14 +353,11 @@ access_in a _ = a
 
 missing_is : (ds : List Descriptor) (came : comes.CourseStep) (range : IovaRange) (access : Permissions) →
     says.Missing range access ≡ told_of ds came → came ≡ step.Missing range access
-missing_is ds (step.Load walk) range access e = absurd (subst IsMissing e tt)
-missing_is ds step.Idle range access e = absurd (subst IsMissing e tt)
-missing_is ds (step.Refused error) range access e = absurd (subst IsMissing e tt)
-missing_is ds (step.Chain h None) range access e = absurd (subst IsMissing e tt)
-missing_is ds (step.Chain h (Some fault)) range access e = absurd (subst IsMissing e tt)
 missing_is ds (step.Missing r a) range access e =
     ap (λ (x : IovaRange). step.Missing x a) (sym (ap (range_in range) e))
     ∙ ap (λ (x : Permissions). step.Missing range x) (sym (ap (access_in access) e))
+missing_is ds (step.Chain h None) range access e = absurd (subst IsMissing e tt)
+missing_is ds came range access e = absurd (subst IsMissing e tt)
 
 pub miss_is_no_step : MissIsNoStep
 miss_is_no_step given range access old new before after goes events walks =

@@ -1,12 +1,13 @@
 //! Theorems about the definitions, as contracts of functions that do nothing.
 
+ghost use Rattle.fs_regions.specs.Laws.{MissesCanBeMapped};
 ghost use Rattle.fs_chain.specs.Laws.{WalksAreOffers};
 ghost use Rattle.fs_chain.specs.Missed.{EventMissIsNoStep, MissIsNoStep};
 ghost use Rattle.fs_chain.specs.Whole.{ChainIsAnsweredBy, ChainIsStep, ChainIsStepBy, EventFaultRefuses};
 ghost use Rattle.fs_chain.specs.Whole.{FaultyIsAnsweredBy, FaultyIsStepBy, IdleIsStepBy, RefusalIsStepBy};
 ghost use Rattle.fs_chain.specs.Whole.{ReturnsAreToldBySeen, WantedHasAPlace};
 
-use fs_regions::laws::law_offers;
+use fs_regions::laws::{law_misses_can_be_mapped, law_offers};
 use fuse_fs::FileSystem;
 
 /// For a queue that wasn't stopped, the result of `pop` is the offer of each memory that has all its
@@ -20,11 +21,15 @@ pub fn law_walks()
 }
 
 /// A pop that misses addresses changes neither the queue nor the settings of the handle, which is free for
-/// another pop. It returns the addresses that it needs first and the table doesn't map, with the access.
+/// another pop. It returns the addresses that it needs first and the table doesn't map, with the access. A
+/// table of whole pages can map them: none of them is in the last page.
 pub fn law_misses()
     ensures missed { MissIsNoStep }
     ensures events { EventMissIsNoStep }
-{}
+    ensures mapped { MissesCanBeMapped }
+{
+    law_misses_can_be_mapped();
+}
 
 /// The calls of a handle, from the begin of a pop to the push of its chain, are a step of the plain
 /// machine by the loaded bytes: the same file calls, stores and notification of the driver. The guest

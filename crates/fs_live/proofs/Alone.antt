@@ -76,13 +76,12 @@ new_walked s i w loaded ds head (Some why) h = (h, tt)
 walk_keeps : {F : Type 0} (s after : LiveState F) (i : ℕ) (w : LiveQueue) (loaded : Loaded) (ds : List Descriptor) (came : comes.CourseStep)
     → WalksIn s i w loaded ds came after
     → AllWalked s → AllWalked after
-walk_keeps s after i w loaded ds (step.Load walk) h all = absurd h
-walk_keeps s after i w loaded ds (step.Missing range access) h all = absurd h
 walk_keeps {F} s after i w loaded ds step.Idle h all = subst (λ (k : LiveState F). AllWalked k) (sym h.1) all
 walk_keeps {F} s after i w loaded ds (step.Refused e) h all = subst (λ (k : LiveState F). AllWalked k) (sym h.1) all
 walk_keeps {F} s after i w loaded ds (step.Chain head fault) h all =
     subst (λ (k : LiveState F). AllWalked k) (sym h.1)
     (all_both (Walked s.limit) s.outs (new_chain s i w loaded ds head fault ∷ []) all (new_walked s i w loaded ds head fault h.0, tt))
+walk_keeps s after i w loaded ds came h all = absurd h
 
 -- a chain that is out, and the others
 pub one_walked : {F : Type 0} (s : LiveState F) (before behind : List OutChain) (c : OutChain) → s.outs ≡ before ++ c ∷ behind → AllWalked s
@@ -106,7 +105,6 @@ lost_walked limit c h = (h.0, tt)
 own_walked : (limit : ℕ) (c : OutChain) (p : Phase) (request reply : List ℕ) → c.phase ≡ p → IsUnreplied c p request
     → length reply ≤ length (room_of c) → Walked limit c
     → Walked limit (record c { phase = Own request reply })
-own_walked limit c (Faulty why) request reply is un few h = absurd un
 own_walked limit c Fetched request reply is un few h = (
   subst (λ (f : Option ChainFault). FetchesBy c.places limit c.taken c.loaded c.descriptors c.head f) (ap fault_of is) h.0,
   (un, subst (λ (p : Phase). length reply ≤ length (room_in p c.descriptors)) is few),
@@ -118,8 +116,7 @@ own_walked limit c (Asked asked options calls) request reply is un few h = (
     subst (λ (p : Phase). length reply ≤ length (room_in p c.descriptors)) is few,
   ),
 )
-own_walked limit c (Own a b) request reply is un few h = absurd un
-own_walked limit c (Lost fault) request reply is un few h = absurd un
+own_walked limit c p request reply is un few h = absurd un
 
 keeps : {F : Type 0} (may : May F) (s after : LiveState F) (e : LiveEvent) → Happens may s e after → AllWalked s → AllWalked after
 keeps may s after (Walks i loaded ds came) h all = walk_keeps s after i h.w loaded ds came h.walks all

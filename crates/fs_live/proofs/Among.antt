@@ -42,7 +42,7 @@ use Rattle.fs_live.specs.Handles.{IsPopDone, live_of}
 use Rattle.fs_live.specs.Live.{why_declined, with_live}
 use Rattle.fs_live.specs.Several.{LiveQueue, avail_event_at, used_event_at}
 use Rattle.fs_live.proofs.Declined.{goes_there}
-use Rattle.fs_live.proofs.Handles.{IsUnrefused, begins_whole, begun_room, event_of, held_by, walked_events}
+use Rattle.fs_live.proofs.Popped.{IsUnrefused, begins_whole, begun_room, event_of, held_by, walked_events}
 use Rattle.fs_live.proofs.Loads.{IsInside, inside_of}
 use Rattle.fs_live.proofs.Queues.{none_some, there_same}
 
@@ -249,12 +249,8 @@ load_stands l old new before now after n (step.Load walk) told state_is regions 
   inside = inside_of (places_in old.regions) (queue_of (course_of before old.limit)) new.descriptors.items walk comes.2;
   stands = comes.0;
 }
-load_stands l old new before now after n step.Idle told state_is regions limit part comes = absurd (subst IsALoad told tt)
-load_stands l old new before now after n (step.Missing range access) told state_is regions limit part comes = absurd (subst IsALoad told tt)
-load_stands l old new before now after n (step.Refused e) told state_is regions limit part comes = absurd (subst IsALoad told tt)
 load_stands l old new before now after n (step.Chain head None) told state_is regions limit part comes = absurd (subst IsALoad told tt)
-load_stands l old new before now after n (step.Chain head (Some fault)) told state_is regions limit part comes =
-    absurd (subst IsALoad told tt)
+load_stands l old new before now after n came told state_is regions limit part comes = absurd (subst IsALoad told tt)
 
 -- one that wants bytes stands somewhere
 pub standing : (stopped : Option QueueError) (given : List (List ℕ)) (old new : ChainHandle) (before now after : QueueState)
@@ -265,20 +261,12 @@ standing stopped given old new before now after wents.Part walks wants so = so
 standing (Some why) given old new before now after (wents.On (says.Load n)) walks wants so = absurd (subst IsALoad so tt)
 standing None given old new before now after (wents.On (says.Load n)) walks wants so =
     let c = so.2 in (so.0, so.1, load_stands so.0 old new before now after n c.came c.told_is c.state c.regions c.limit c.part c.comes)
-standing stopped given old new before now after (wents.On says.Idle) walks wants so = absurd wants
-standing stopped given old new before now after (wents.On (says.Missing range access)) walks wants so = absurd wants
-standing stopped given old new before now after (wents.On (says.Refused e)) walks wants so = absurd wants
-standing stopped given old new before now after (wents.On (says.Chain head n r)) walks wants so = absurd wants
-standing stopped given old new before now after (wents.On (says.Faulty head fault)) walks wants so = absurd wants
+standing stopped given old new before now after told walks wants so = absurd wants
 
 pub wants_unrefused : (w : ChainHandle) (q : QueueState) (told : went.LoadOutcome) → WantsBytes told → IsUnrefused told w q
 wants_unrefused w q wents.Part wants = tt
 wants_unrefused w q (wents.On (says.Load n)) wants = tt
-wants_unrefused w q (wents.On says.Idle) wants = absurd wants
-wants_unrefused w q (wents.On (says.Missing range access)) wants = absurd wants
-wants_unrefused w q (wents.On (says.Refused e)) wants = absurd wants
-wants_unrefused w q (wents.On (says.Chain head n r)) wants = absurd wants
-wants_unrefused w q (wents.On (says.Faulty head fault)) wants = absurd wants
+wants_unrefused w q told wants = absurd wants
 
 -- the first call
 first : (old new : ChainHandle) (before after : QueueState) (told : went.LoadOutcome)
@@ -403,22 +391,12 @@ ended_at (at.Walking course pop_id walk) bs w new now after told why walking sto
     let unless : GoesOnUnless (Some why) course pop_id walk bs w new now after told =
     subst (λ (x : Option QueueError). GoesOnUnless x course pop_id walk bs w new now after told) stopped walks in
     (unless.0, unless.1.3, unless.2)
-ended_at at.Free bs w new now after told why walking stopped walks = absurd walking
-ended_at (at.Taken o) bs w new now after told why walking stopped walks = absurd walking
-ended_at (at.Waits o k) bs w new now after told why walking stopped walks = absurd walking
-ended_at (at.Lists o k) bs w new now after told why walking stopped walks = absurd walking
-ended_at (at.HasReply o reply) bs w new now after told why walking stopped walks = absurd walking
-ended_at (at.Pushing o) bs w new now after told why walking stopped walks = absurd walking
+ended_at st bs w new now after told why walking stopped walks = absurd walking
 
 walking_room : (st : state.ChainState) (now : QueueState) (len : ℕ) → IsWalking st → walk_error st now len ≡ None → may_take now ≡ true
 walking_room (at.Walking course pop_id walk) now len walking clear =
     (give_tests (len == asked_len walk) (is_at now course pop_id) (may_take now) clear).1
-walking_room at.Free now len walking clear = absurd walking
-walking_room (at.Taken o) now len walking clear = absurd walking
-walking_room (at.Waits o k) now len walking clear = absurd walking
-walking_room (at.Lists o k) now len walking clear = absurd walking
-walking_room (at.HasReply o reply) now len walking clear = absurd walking
-walking_room (at.Pushing o) now len walking clear = absurd walking
+walking_room st now len walking clear = absurd walking
 
 pub handle_finds_stopped : {F : Type 0} (may : May F) → HandleFindsStopped may
 handle_finds_stopped {F} may s i bs w new now after told why there walking stopped call =

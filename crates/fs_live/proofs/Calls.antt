@@ -7,47 +7,25 @@ use Rattle.fs_regions.specs.Walks.{Loaded}
 use Rattle.fuse_fs.specs.Calls.{FileRun}
 use Rattle.virtiofsd_fuse.specs.Serving.{May}
 use Rattle.fs_live.specs.Several.{LiveQueue}
-use Rattle.fs_live.specs.Live.{LiveState, LiveEvent, Walks, Declines, Asks, Answers, Returns, Sleeps, Begins, Fills, Drops, Abandons}
-use Rattle.fs_live.specs.Live.{Replies, Maps, Moves, Happens, WalksIn, calls_among}
+use Rattle.fs_live.specs.Live.{LiveState, LiveEvent, Walks, Answers}
+use Rattle.fs_live.specs.Live.{Happens, WalksIn, calls_among}
 use Rattle.fs_live.specs.Runs.{CallsAreARun}
 
 walk_files : {F : Type 0} (s after : LiveState F) (i : ℕ) (w : LiveQueue) (loaded : Loaded) (ds : List Descriptor)
     (came : comes.CourseStep) → WalksIn s i w loaded ds came after → after.files ≡ s.files
 walk_files s after i w loaded ds (step.Load walk) h = absurd h
 walk_files s after i w loaded ds (step.Missing range access) h = absurd h
-walk_files {F} s after i w loaded ds step.Idle h = ap (λ (k : LiveState F). k.files) h.1
-walk_files {F} s after i w loaded ds (step.Refused e) h = ap (λ (k : LiveState F). k.files) h.1
-walk_files {F} s after i w loaded ds (step.Chain head fault) h = ap (λ (k : LiveState F). k.files) h.1
+walk_files {F} s after i w loaded ds came h = ap (λ (k : LiveState F). k.files) h.1
 
 one_event : {F : Type 0} (may : May F) (s mid : LiveState F) (end : F) (e : LiveEvent) (es : List LiveEvent) → Happens may s e mid
     → FileRun may mid.files (calls_among es) end
     → FileRun may s.files (calls_among (e ∷ es)) end
 one_event {F} may s mid end (Walks i loaded ds came) es h run =
     subst (λ (f : F). FileRun may f (calls_among es) end) (walk_files s mid i h.w loaded ds came h.walks) run
-one_event {F} may s mid end (Declines i e) es h run =
-    subst (λ (f : F). FileRun may f (calls_among es) end) (ap (λ (k : LiveState F). k.files) h.state) run
-one_event {F} may s mid end (Asks c request told) es h run =
-    subst (λ (f : F). FileRun may f (calls_among es) end) (ap (λ (k : LiveState F). k.files) h.state) run
 one_event {F} may s mid end (Answers c call answer) es h run =
     let is : mid.files ≡ h.files = ap (λ (k : LiveState F). k.files) h.state in
     (mid.files, h.is_one, subst (λ (f : F). may s.files call answer f) (sym is) h.may_so, run)
-one_event {F} may s mid end (Returns c x notice last used seen) es h run =
-    subst (λ (f : F). FileRun may f (calls_among es) end) (ap (λ (k : LiveState F). k.files) h.state) run
-one_event {F} may s mid end (Sleeps i store) es h run =
-    subst (λ (f : F). FileRun may f (calls_among es) end) (ap (λ (k : LiveState F). k.files) h.state) run
-one_event {F} may s mid end (Begins i w) es h run =
-    subst (λ (f : F). FileRun may f (calls_among es) end) (ap (λ (k : LiveState F). k.files) h.state) run
-one_event {F} may s mid end (Fills c stores) es h run =
-    subst (λ (f : F). FileRun may f (calls_among es) end) (ap (λ (k : LiveState F). k.files) h.state) run
-one_event {F} may s mid end (Drops c) es h run =
-    subst (λ (f : F). FileRun may f (calls_among es) end) (ap (λ (k : LiveState F). k.files) h.state) run
-one_event {F} may s mid end (Abandons c) es h run =
-    subst (λ (f : F). FileRun may f (calls_among es) end) (ap (λ (k : LiveState F). k.files) h.state) run
-one_event {F} may s mid end (Replies c request reply options) es h run =
-    subst (λ (f : F). FileRun may f (calls_among es) end) (ap (λ (k : LiveState F). k.files) h.state) run
-one_event {F} may s mid end (Maps m) es h run =
-    subst (λ (f : F). FileRun may f (calls_among es) end) (ap (λ (k : LiveState F). k.files) h.state) run
-one_event {F} may s mid end (Moves m queues) es h run =
+one_event {F} may s mid end e es h run =
     subst (λ (f : F). FileRun may f (calls_among es) end) (ap (λ (k : LiveState F). k.files) h.state) run
 
 pub calls_are_a_run : {F : Type 0} (may : May F) → CallsAreARun may

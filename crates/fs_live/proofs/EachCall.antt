@@ -58,21 +58,9 @@ one_undo who node n = ap (λ (l : List FileCall). undo_call who node ∷ l) (tak
 
 looked_leads : (l : ListRequest) (d : Listed) (next : Next) (left room : ℕ) (few more : List FileAnswer) → NextLeads next
     → Leads (length few) (looked_up l d next left room few) (looked_up l d next left room (few ++ more))
-looked_leads l d next left room [] more leads = refl
 looked_leads l d next left room (file.HasEntry e ∷ few) more leads =
     entry_leads true d e (undo_call l.context e.inode ∷ []) next left room few more (one_undo l.context e.inode (length few)) leads
-looked_leads l d next left room (file.Failed errno ∷ few) more leads = refl
-looked_leads l d next left room (file.Done ∷ few) more leads = refl
-looked_leads l d next left room (file.HasAttr a t ∷ few) more leads = refl
-looked_leads l d next left room (file.Opened h o ∷ few) more leads = refl
-looked_leads l d next left room (file.Created e h o ∷ few) more leads = refl
-looked_leads l d next left room (file.Bytes b ∷ few) more leads = refl
-looked_leads l d next left room (file.Count n ∷ few) more leads = refl
-looked_leads l d next left room (file.Stats st ∷ few) more leads = refl
-looked_leads l d next left room (file.Wrote n ∷ few) more leads = refl
-looked_leads l d next left room (file.Offset n ∷ few) more leads = refl
-looked_leads l d next left room (file.Entries ds ∷ few) more leads = refl
-looked_leads l d next left room (file.Wants o ∷ few) more leads = refl
+looked_leads l d next left room few more leads = refl
 
 list_leads : (l : ListRequest) (ds : List Listed) → NextLeads (list_entries l ds)
 unfolding list_entries
@@ -121,17 +109,7 @@ list_first s unique l (file.Failed errno) answers = same_first s.room (readdir_c
 list_first s unique l (file.Entries ds) answers =
     let w = list_entries l ds l.size (s.room - 16) answers in
     same_first s.room (readdir_call l) w.calls s.options (listing_bytes unique l.with_nodes w.bytes w.error)
-list_first s unique l file.Done answers = refl
-list_first s unique l (file.HasEntry e) answers = refl
-list_first s unique l (file.HasAttr a t) answers = refl
-list_first s unique l (file.Opened h o) answers = refl
-list_first s unique l (file.Created e h o) answers = refl
-list_first s unique l (file.Bytes b) answers = refl
-list_first s unique l (file.Count n) answers = refl
-list_first s unique l (file.Stats st) answers = refl
-list_first s unique l (file.Wrote n) answers = refl
-list_first s unique l (file.Offset n) answers = refl
-list_first s unique l (file.Wants o) answers = refl
+list_first s unique l a answers = refl
 
 one_readdir : (l : ListRequest) (n : ℕ) → readdir_call l ∷ [] ≡ take (suc (suc n)) (readdir_call l ∷ [])
 one_readdir l n = refl
@@ -148,17 +126,7 @@ list_more s unique l (file.Entries ds) few more =
     (reply_calls s.room (readdir_call l ∷ w.calls) s.options (listing_bytes unique l.with_nodes w.bytes w.error)))
 list_more s unique l (file.Failed errno) few more =
     same_reply s.room (readdir_call l ∷ []) s.options (error_bytes unique errno) (suc (suc (length few))) (one_readdir l (length few))
-list_more s unique l file.Done few more = refl
-list_more s unique l (file.HasEntry e) few more = refl
-list_more s unique l (file.HasAttr a t) few more = refl
-list_more s unique l (file.Opened h o) few more = refl
-list_more s unique l (file.Created e h o) few more = refl
-list_more s unique l (file.Bytes b) few more = refl
-list_more s unique l (file.Count n) few more = refl
-list_more s unique l (file.Stats st) few more = refl
-list_more s unique l (file.Wrote n) few more = refl
-list_more s unique l (file.Offset n) few more = refl
-list_more s unique l (file.Wants o) few more = refl
+list_more s unique l a few more = refl
 
 -- ---- an entry that is given back
 
@@ -167,50 +135,13 @@ give_short who None n = refl
 give_short who (Some node) n = one_undo who node n
 
 back_short : (call : FileCall) (answer : FileAnswer) (n : ℕ) → given_back call answer ≡ take (suc n) (given_back call answer)
-back_short (file.Init a) answer n = refl
-back_short file.Destroy answer n = refl
 back_short (file.Lookup a b c) answer n = give_short a (entry_node answer) n
-back_short (file.Forget a b c) answer n = refl
-back_short (file.BatchForget a b) answer n = refl
-back_short (file.Getattr a b c) answer n = refl
-back_short (file.Setattr a b c d e) answer n = refl
-back_short (file.Readlink a b) answer n = refl
 back_short (file.Symlink a b c d e) answer n = give_short a (entry_node answer) n
 back_short (file.Mknod a b c d e f g) answer n = give_short a (entry_node answer) n
 back_short (file.Mkdir a b c d e f) answer n = give_short a (entry_node answer) n
-back_short (file.Unlink a b c) answer n = refl
-back_short (file.Rmdir a b c) answer n = refl
-back_short (file.Rename a b c d e f) answer n = refl
 back_short (file.Link a b c d) answer n = give_short a (entry_node answer) n
-back_short (file.Open a b c d) answer n = refl
-back_short (file.Read a b c d e f g h) answer n = refl
-back_short (file.Write a b c d e f g h i j) answer n = refl
-back_short (file.Statfs a b) answer n = refl
-back_short (file.Release a b c d e f g) answer n = refl
-back_short (file.Fsync a b c d) answer n = refl
-back_short (file.Fsyncdir a b c d) answer n = refl
-back_short (file.Setxattr a b c d e f) answer n = refl
-back_short (file.Getxattr a b c d) answer n = refl
-back_short (file.Listxattr a b c) answer n = refl
-back_short (file.Removexattr a b c) answer n = refl
-back_short (file.Flush a b c d) answer n = refl
-back_short (file.Opendir a b c) answer n = refl
-back_short (file.Readdir a b c d e) answer n = refl
-back_short (file.Releasedir a b c d) answer n = refl
-back_short file.Getlk answer n = refl
-back_short file.Setlk answer n = refl
-back_short file.Setlkw answer n = refl
-back_short file.Bmap answer n = refl
-back_short file.Ioctl answer n = refl
-back_short file.Poll answer n = refl
-back_short file.NotifyReply answer n = refl
-back_short (file.Access a b c) answer n = refl
 back_short (file.Create a b c d e f g h) answer n = give_short a (entry_node answer) n
-back_short (file.Fallocate a b c d e f) answer n = refl
-back_short (file.Lseek a b c d e) answer n = refl
-back_short (file.CopyFileRange a b c d e f g h i) answer n = refl
-back_short (file.Syncfs a b) answer n = refl
-back_short file.TmpFile answer n = refl
+back_short call answer n = refl
 
 undone_short :
     (b : Bool) (undo : List FileCall) (n : ℕ) → undo ≡ take (suc n) undo → (if b then undo else []) ≡ take (suc n) (if b then undo else [])

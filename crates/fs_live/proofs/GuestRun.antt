@@ -7,26 +7,16 @@ use Rattle.plain_machine.specs.MarkedPages.{Marks}
 use Rattle.plain_machine.specs.StepBy.{after_stores, stores_among}
 use Rattle.plain_machine.proofs.PageLemmas.{marks_join, none_written, ways_stay, writes_mark}
 use Rattle.fs_live.specs.Guest.{Device, PagesOfRun, StaysThere, Writes, after_moments, over_places, told_through}
-use Rattle.fs_live.specs.Live.{Abandons, Answers, Asks, Begins, Declines, Drops, Fills, LiveEvent, Maps, Moves, Replies, Returns, Sleeps}
-use Rattle.fs_live.specs.Live.{Walks, acts_of}
+use Rattle.fs_live.specs.Live.{LiveEvent, Maps, Moves}
+use Rattle.fs_live.specs.Live.{acts_of}
 use Rattle.fs_live.specs.Runs.{told_by}
 use Rattle.fs_live.proofs.Pages.{event_told}
 
 -- an event that leaves the places
 stays_laid : (e : LiveEvent) (m : Memory) → StaysThere e → over_places e m ≡ m
-stays_laid (Walks i loaded ds came) m stays = refl
-stays_laid (Declines i e) m stays = refl
-stays_laid (Asks c request told) m stays = refl
-stays_laid (Answers c call answer) m stays = refl
-stays_laid (Returns c x notice last used seen) m stays = refl
-stays_laid (Sleeps i store) m stays = refl
-stays_laid (Begins i w) m stays = refl
-stays_laid (Fills c stores) m stays = refl
-stays_laid (Drops c) m stays = refl
-stays_laid (Abandons c) m stays = refl
-stays_laid (Replies c request reply options) m stays = refl
 stays_laid (Maps p) m stays = absurd stays
 stays_laid (Moves p queues) m stays = absurd stays
+stays_laid e m stays = refl
 
 pub pages_of_run : {F : Type 0} (may : May F) → PagesOfRun may
 pages_of_run may s after [] m run stay = none_written m

@@ -45,22 +45,12 @@ out_answered : (s : Setting) (m : Meaning) (behind : List ℕ) (page_size now op
     → IfWaits st (λ kept u. IsGiven (setting page_size now u.room) u a kept options told after) → IsOf out after
 out_answered s m behind page_size now options made a told out (at.Waits kept u) after keeps waits given =
     same_out out kept (reply_of given.0.sent (data_len a)) after keeps.0 given.2
-out_answered s m behind page_size now options made a told out (at.Lists kept l) after keeps waits given = absurd waits
-out_answered s m behind page_size now options made a told out at.Free after keeps waits given = absurd waits
-out_answered s m behind page_size now options made a told out (at.Walking course pop_id walk) after keeps waits given = absurd waits
-out_answered s m behind page_size now options made a told out (at.Taken o) after keeps waits given = absurd waits
-out_answered s m behind page_size now options made a told out (at.HasReply o reply) after keeps waits given = absurd waits
-out_answered s m behind page_size now options made a told out (at.Pushing o) after keeps waits given = absurd waits
+out_answered s m behind page_size now options made a told out st after keeps waits given = absurd waits
 
 out_kept :
     (s : Setting) (m : Meaning) (behind : List ℕ) (out : InFlight) (st : state.ChainState) → KeepsReply s m behind out st → IsOf out st
 out_kept s m behind out (at.HasReply kept reply) keeps = same_out out kept reply (at.HasReply kept reply) keeps.0 refl
-out_kept s m behind out (at.Waits o w) keeps = absurd keeps
-out_kept s m behind out (at.Lists o l) keeps = absurd keeps
-out_kept s m behind out at.Free keeps = absurd keeps
-out_kept s m behind out (at.Walking course pop_id walk) keeps = absurd keeps
-out_kept s m behind out (at.Taken o) keeps = absurd keeps
-out_kept s m behind out (at.Pushing o) keeps = absurd keeps
+out_kept s m behind out st keeps = absurd keeps
 
 unanswered : (out : InFlight) (w w' : ChainHandle) → w' ≡ w → IsOf out w.state → IsOf out w'.state
 unanswered out w w' same is = subst (λ (v : ChainHandle). IsOf out v.state) (sym same) is
@@ -73,14 +63,9 @@ out_left s m behind (asks.Call made) (OneAnswer a bytes replied) out w w' tells 
     tells has.0 has.3
 out_left s m behind (asks.Call made) (ByEntries b es ending bytes) out w w' tells has =
     let listed = listed_out s m behind made b es ending bytes out w w' tells has in (listed.0, listed.1)
-out_left s m behind (asks.Call made) NoAnswer out w w' tells has = absurd has
-out_left s m behind (asks.More n) given out w w' tells has = absurd has
 out_left s m behind asks.Nothing NoAnswer out w w' tells has = unanswered out w w' has (out_kept s m behind out w.state tells)
-out_left s m behind asks.Nothing (OneAnswer a bytes replied) out w w' tells has = absurd has
-out_left s m behind asks.Nothing (ByEntries b es ending bytes) out w w' tells has = absurd has
 out_left s m behind (asks.Fault e) NoAnswer out w w' tells has = unanswered out w w' has (no_reply, tells.0)
-out_left s m behind (asks.Fault e) (OneAnswer a bytes replied) out w w' tells has = absurd has
-out_left s m behind (asks.Fault e) (ByEntries b es ending bytes) out w w' tells has = absurd has
+out_left s m behind made given out w w' tells has = absurd has
 
 -- the two bytes that are seen as it goes back
 pub seen_left : (kept : QueueState) (out : InFlight) (P : ChainReply → PushStores → Type 0) (st : state.ChainState) (stores : PushStores)
@@ -112,13 +97,7 @@ one_left page_size options n left m behind bytes made a told out (at.Waits kept 
     (ap (λ (x : ServedMessage). x.options)
     (serves_call s m command made bytes behind a given.0 left calls.1 calls.2 (keeps.2 command calls.4) gives)
     ∙ by_options (calls_alone mine) left given.0.sent bytes)
-one_left page_size options n left m behind bytes made a told out (at.Lists kept l) after keeps waits data_told given = absurd waits
-one_left page_size options n left m behind bytes made a told out at.Free after keeps waits data_told given = absurd waits
-one_left page_size options n left m behind bytes made a told out (at.Walking course pop_id walk) after keeps waits data_told given =
-    absurd waits
-one_left page_size options n left m behind bytes made a told out (at.Taken o) after keeps waits data_told given = absurd waits
-one_left page_size options n left m behind bytes made a told out (at.HasReply o reply) after keeps waits data_told given = absurd waits
-one_left page_size options n left m behind bytes made a told out (at.Pushing o) after keeps waits data_told given = absurd waits
+one_left page_size options n left m behind bytes made a told out st after keeps waits data_told given = absurd waits
 
 list_left : (s : Setting) (m : Meaning) (behind bytes : List ℕ) (made : made_call.FileCall) (b : Bool) (es : List Brought) (ending : Ending)
     (out : InFlight) (w after : ChainHandle) (calls : Calls)
@@ -153,13 +132,8 @@ options_left_by page_size options n m behind (asks.Call made) (ByEntries b es en
     list_left (setting page_size options n) m behind bytes made b es ending out w w'
     (file_calls behind (asks.Call made) (ByEntries b es ending bytes)) tells has
     ∙ sym (ap (λ (k : Session). k.options.0) (listed_session w w' b es ending bytes has) ∙ session.1)
-options_left_by page_size options n m behind (asks.Call made) NoAnswer out w w' session tells has = absurd has
-options_left_by page_size options n m behind (asks.More k) given out w w' session tells has = absurd has
 options_left_by page_size options n m behind asks.Nothing NoAnswer out w w' session tells has =
     none_left page_size options n m w w' has session.1
-options_left_by page_size options n m behind asks.Nothing (OneAnswer a bytes replied) out w w' session tells has = absurd has
-options_left_by page_size options n m behind asks.Nothing (ByEntries b es ending bytes) out w w' session tells has = absurd has
 options_left_by page_size options n m behind (asks.Fault e) NoAnswer out w w' session tells has =
     none_left page_size options n m w w' has session.1
-options_left_by page_size options n m behind (asks.Fault e) (OneAnswer a bytes replied) out w w' session tells has = absurd has
-options_left_by page_size options n m behind (asks.Fault e) (ByEntries b es ending bytes) out w w' session tells has = absurd has
+options_left_by page_size options n m behind made given out w w' session tells has = absurd has

@@ -1,12 +1,12 @@
 pub mod Alone
 pub mod Among
 pub mod AmongLoads
+pub mod Answered
 pub mod Calls
 pub mod Declined
 pub mod EachCall
 pub mod Filling
 pub mod GuestRun
-pub mod Handles
 pub mod InitBesideRun
 pub mod Left
 pub mod Listed
@@ -18,6 +18,8 @@ pub mod Others
 pub mod OverlapRun
 pub mod Pages
 pub mod Placed
+pub mod Popped
+pub mod Pushed
 pub mod Queues
 pub mod Refusals
 pub mod RewrittenRun

@@ -64,13 +64,7 @@ one_served page_size options n left m behind bytes made a told out (at.Waits kep
     (ap (λ (x : ServedMessage). x.calls)
     (serves_call s m command made bytes behind a given.0 left calls.1 calls.2 (keeps.2 command calls.4) gives)
     ∙ by_calls (calls_alone mine) left given.0.sent bytes)
-one_served page_size options n left m behind bytes made a told out (at.Lists kept l) after keeps waits data_told given = absurd waits
-one_served page_size options n left m behind bytes made a told out at.Free after keeps waits data_told given = absurd waits
-one_served page_size options n left m behind bytes made a told out (at.Walking course pop_id walk) after keeps waits data_told given =
-    absurd waits
-one_served page_size options n left m behind bytes made a told out (at.Taken o) after keeps waits data_told given = absurd waits
-one_served page_size options n left m behind bytes made a told out (at.HasReply o reply) after keeps waits data_told given = absurd waits
-one_served page_size options n left m behind bytes made a told out (at.Pushing o) after keeps waits data_told given = absurd waits
+one_served page_size options n left m behind bytes made a told out st after keeps waits data_told given = absurd waits
 
 -- ---- a listing
 
@@ -129,12 +123,7 @@ list_served s l unique a list es (Unreadable errno) w after out len is holds st 
 pub from_lists :
     (st : state.ChainState) (P : Listing → Type 0) → FromLists st P → (out : InFlight) × (l : Listing) × (st ≡ at.Lists out l) × P l
 from_lists (at.Lists out l) P p = (out, l, refl, p)
-from_lists at.Free P p = absurd p
-from_lists (at.Walking course pop_id walk) P p = absurd p
-from_lists (at.Taken out) P p = absurd p
-from_lists (at.Waits out w) P p = absurd p
-from_lists (at.HasReply out reply) P p = absurd p
-from_lists (at.Pushing out) P p = absurd p
+from_lists st P p = absurd p
 
 pub list_command : (l : Listing) (room : ℕ) (command : FileCommand) → IsListingFor l room command →
     (unique : ℕ) × (a : asked.ListRequest) × (command ≡ Lists unique a) × IsListingFor l room (Lists unique a)

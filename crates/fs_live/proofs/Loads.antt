@@ -385,11 +385,7 @@ standing : (k : ℕ) (old w : ChainHandle) (before q : QueueState) (earlier : we
     After k old w before q earlier → Stands k old w before q
 standing k old w before q wents.Part wants h = h
 standing k old w before q (wents.On (says.Load n)) wants h = h
-standing k old w before q (wents.On says.Idle) wants h = absurd wants
-standing k old w before q (wents.On (says.Missing range access)) wants h = absurd wants
-standing k old w before q (wents.On (says.Refused e)) wants h = absurd wants
-standing k old w before q (wents.On (says.Chain head n r)) wants h = absurd wants
-standing k old w before q (wents.On (says.Faulty head fault)) wants h = absurd wants
+standing k old w before q earlier wants h = absurd wants
 
 after_all : (given : List (List ℕ)) (old new : ChainHandle) (before after : QueueState) (told : went.LoadOutcome) → before.stopped ≡ None
     → (walks : WalksBy given old new before after told)
@@ -410,11 +406,7 @@ few_after : (k : ℕ) (old new : ChainHandle) (before after : QueueState) (told 
     k ≤ before.layout.size + 4
 few_after k old new before after wents.Part h = few_standing_at k old new before after h
 few_after k old new before after (wents.On (says.Load n)) h = few_standing_at k old new before after h
-few_after k old new before after (wents.On says.Idle) h = h
-few_after k old new before after (wents.On (says.Missing range access)) h = h
-few_after k old new before after (wents.On (says.Refused e)) h = h
-few_after k old new before after (wents.On (says.Chain head n r)) h = h
-few_after k old new before after (wents.On (says.Faulty head fault)) h = h
+few_after k old new before after told h = h
 
 pub handle_loads : HandleLoads
 handle_loads given old new before after told goes walks =

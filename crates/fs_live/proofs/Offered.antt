@@ -158,9 +158,7 @@ fetched_fits m limit q loaded ds head None h =
 return_tests : (a b c : Bool) → (if not (a && b) then Some stop.UsedUnreachable else if not c then Some stop.AvailFlagsUnreachable
     else None) ≡ None → (a ≡ true) × (b ≡ true) × (c ≡ true)
 return_tests true true true is = (refl, refl, refl)
-return_tests true true false is = absurd (cc)
-return_tests true false c is = absurd (cc)
-return_tests false b c is = absurd (cc)
+return_tests a b c is = absurd (cc)
 
 pub goes_back : (m : Memory) (q : Queue) → return_fault m q ≡ None →
     (reach m Write (element_at q) 8 ≡ true) × (reach m Write (index_at q) 2 ≡ true) × (reach m Read q.avail 2 ≡ true)

@@ -36,7 +36,7 @@ use Rattle.fs_live.specs.Handles.{live_of}
 use Rattle.fs_live.specs.Others.{AskedIsHeld, HandleAbandons, HandleDrops, HandleMaps, HandleMoves, HandleReplies, HandleRepliesInstead}
 use Rattle.fs_live.specs.Others.{HandleReturnsOwn, IfOut, IsOwn, recorded}
 use Rattle.fs_live.proofs.Alone.{Walked, walked_there}
-use Rattle.fs_live.proofs.Handles.{seen_of}
+use Rattle.fs_live.proofs.Pushed.{seen_of}
 use Rattle.fs_live.proofs.Queues.{none_some, there_same}
 
 -- ---- giving up
@@ -143,20 +143,13 @@ held_so out (at.Waits kept w) mine serial len P is none more =
 held_so out (at.Lists kept l) mine serial len P is none more =
     let few : Fits out.room_len len = subst (λ (o : InFlight). Fits o.room_len len) is (chain_fits mine serial kept.room_len len none) in
     (few, subst P (sym is) (more few))
-held_so out at.Free mine serial len P is none more = absurd is
-held_so out (at.Walking course pop_id walk) mine serial len P is none more = absurd is
-held_so out (at.HasReply o reply) mine serial len P is none more = absurd is
-held_so out (at.Pushing o) mine serial len P is none more = absurd is
+held_so out st mine serial len P is none more = absurd is
 
 keeps_out : (s : Setting) (m : Meaning) (behind : List ℕ) (made : made_call.FileCall) (out : InFlight) (st : state.ChainState) →
     KeepsCall s m behind made out st → IfOut st (λ o. o ≡ out)
 keeps_out s m behind made out (at.Waits kept w) keeps = keeps.0
 keeps_out s m behind made out (at.Lists kept l) keeps = keeps.0
-keeps_out s m behind made out at.Free keeps = absurd keeps
-keeps_out s m behind made out (at.Walking course pop_id walk) keeps = absurd keeps
-keeps_out s m behind made out (at.Taken o) keeps = absurd keeps
-keeps_out s m behind made out (at.HasReply o reply) keeps = absurd keeps
-keeps_out s m behind made out (at.Pushing o) keeps = absurd keeps
+keeps_out s m behind made out st keeps = absurd keeps
 
 pub asked_is_held : AskedIsHeld
 asked_is_held page_size options request c made w kept =

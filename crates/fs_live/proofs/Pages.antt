@@ -20,29 +20,7 @@ use Rattle.plain_machine.specs.StepBy.{reply_stores, stores_among}
 use Rattle.plain_machine.proofs.PageLemmas.{writes_mark}
 use Rattle.plain_machine.proofs.StepByLemmas.{reply_writes}
 use Rattle.fs_live.specs.Several.{LiveQueue, avail_event_at, returning, sleep_store}
-use Rattle.fs_live.specs.Live.{
-  Abandons,
-  Answers,
-  Asks,
-  Begins,
-  Declines,
-  Drops,
-  Fills,
-  Happens,
-  LiveEvent,
-  LiveState,
-  Maps,
-  Moves,
-  OutChain,
-  Replies,
-  Returns,
-  ReturnsSo,
-  Sleeps,
-  SleepsSo,
-  Walks,
-  acts_of,
-  room_of,
-}
+use Rattle.fs_live.specs.Live.{Fills, Happens, LiveEvent, LiveState, OutChain, Returns, ReturnsSo, Sleeps, SleepsSo, acts_of, room_of}
 use Rattle.fs_live.specs.Runs.{LogsAsTold, MarksAsTold, PagesAreTold, ReturnsTell, page_of, told_by, told_of_queue, written_by}
 use Rattle.fs_live.proofs.Stored.{among_return, among_stores}
 
@@ -167,10 +145,6 @@ fills_told (store ∷ stores) =
 
 one_event : {F : Type 0} (may : May F) (s mid : LiveState F) (e : LiveEvent) → Happens may s e mid → (p : ℕ → Bool) →
     list_any p (written_by (acts_of e)) ≡ list_any p (told_by s e)
-one_event may s mid (Walks i loaded ds came) h p = refl
-one_event may s mid (Declines i e) h p = refl
-one_event may s mid (Asks c request told) h p = refl
-one_event may s mid (Answers c call answer) h p = refl
 one_event may s mid (Returns c x notice last used seen) h p =
     let so : ReturnsSo s c x notice last used seen mid = h in
     ap (λ (l : List Store). list_any p (firsts (flat_map writes_of l))) (among_return (reply_stores (room_of c) x.reply last ++ used) seen)
@@ -179,14 +153,9 @@ one_event may s mid (Returns c x notice last used seen) h p =
 one_event may s mid (Sleeps i store) h p =
     let so : SleepsSo s i store mid = h in
     ap (list_any p) (subst TellsTwo so.stores (sleep_told so.w.queue so.w.next_used so.w.max_in_flight so.w.event_index so.wanted))
-one_event may s mid (Begins i w) h p = refl
 one_event may s mid (Fills c stores) h p =
     ap (list_any p) (ap (λ (l : List Store). firsts (flat_map writes_of l)) (among_stores stores) ∙ fills_told stores)
-one_event may s mid (Drops c) h p = refl
-one_event may s mid (Abandons c) h p = refl
-one_event may s mid (Replies c request reply options) h p = refl
-one_event may s mid (Maps m) h p = refl
-one_event may s mid (Moves m queues) h p = refl
+one_event may s mid e h p = refl
 
 pub pages_are_told : {F : Type 0} (may : May F) → PagesAreTold may
 pages_are_told may s after [] run = tt

@@ -14,7 +14,7 @@ use Rattle.fs_regions.specs.declared.step.CourseStep.TheVariants as step
 use Rattle.fs_regions.specs.Walks.{Loaded}
 use Rattle.virtiofsd_fuse.specs.Serving.{May}
 use Rattle.fs_live.specs.Several.{LiveQueue, InFlightId, took, untook, gave, returning}
-use Rattle.fs_live.specs.Live.{Phase, Faulty, Fetched, Asked, Own, Lost, OutChain, LiveState, LiveEvent, Walks, Declines, Asks, Answers}
+use Rattle.fs_live.specs.Live.{Phase, Faulty, Own, Lost, OutChain, LiveState, LiveEvent, Walks, Declines, Asks, Answers}
 use Rattle.fs_live.specs.Live.{Returns, Sleeps, Begins, Fills, Drops, Abandons, Replies, Maps, Moves, Happens, LiveRun}
 use Rattle.fs_live.specs.Live.{IfKeepsReturns, KeepsQueue, KeepsReturns, WalksIn, after_answer, after_asking, after_beginning, after_drop}
 use Rattle.fs_live.specs.Live.{after_giving, after_loss, after_own, asked_chain, fault_of, lost_chain, new_chain}
@@ -459,10 +459,8 @@ run_ties may s now (e ∷ es) run all = run_ties may run.0 now es run.2 (ties ma
 -- its room
 room_fits : (m : Memory) (ds : List Descriptor) (p : Phase) → RoomFits m ds (fault_of p) → has_places m (room_in p ds) ≡ true
 room_fits m ds (Faulty why) fits = refl
-room_fits m ds Fetched fits = fits
-room_fits m ds (Asked request options calls) fits = fits
-room_fits m ds (Own request reply) fits = fits
 room_fits m ds (Lost fault) fits = refl
+room_fits m ds p fits = fits
 
 -- its return has places by those of its walk, as it has by those of now
 back_there : (now m : Memory) (w : LiveQueue) → KeepsReturns m now w → Next now w → Next m w

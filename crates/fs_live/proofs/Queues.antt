@@ -43,11 +43,9 @@ there_same {A} (y ∷ ys) (suc j) zero f x same there = absurd (omega arith)
 there_same {A} (y ∷ ys) (suc j) (suc i) f x same there = let less : j ≡ i = omega arith in there_same ys j i f x less there
 
 pub there_other : {A : Type 0} (xs : List A) (j i : ℕ) (f : A → A) → (j ≡ i → ⊥) → slice_get (changed_at xs j f) i ≡ slice_get xs i
-there_other [] j i f apart = refl
 there_other (y ∷ ys) zero zero f apart = absurd (apart refl)
-there_other (y ∷ ys) zero (suc i) f apart = refl
-there_other (y ∷ ys) (suc j) zero f apart = refl
 there_other (y ∷ ys) (suc j) (suc i) f apart = there_other ys j i f (λ same. apart (ap suc same))
+there_other xs j i f apart = refl
 
 abbrev Holds : Bool → Type 0
 Holds true = Unit {0}

@@ -44,12 +44,9 @@ NextMayStop None = Unit {0}
 next_tests : (a b c d e : Bool) (head : ℕ) →
     NextStops (if a then avail.Refused stop.AvailIndexUnreachable else if b then avail.Idle else if c then avail.Refused stop.AvailTooFar
     else if d then avail.Refused stop.RingEntryUnreachable else if e then avail.Refused stop.HeadOutOfTable else avail.Head head)
-next_tests true b c d e head = refl
 next_tests false true c d e head = tt
-next_tests false false true d e head = refl
-next_tests false false false true e head = refl
-next_tests false false false false true head = refl
 next_tests false false false false false head = tt
+next_tests a b c d e head = refl
 
 next_stops : (m : Memory) (q : Queue) → NextStops (next_avail m q)
 next_stops m q = next_tests _ _ _ _ _ _

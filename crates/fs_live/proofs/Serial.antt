@@ -26,8 +26,8 @@ use Rattle.plain_machine.specs.Step.{State, Exchange, Exchanged, Step, Calls, an
 use Rattle.plain_machine.specs.StepBy.{Act, Effects, StepBy, StepOfBy, ExchangesBy, AreStepLoadsOf, IsOfMemory, FindFlags, MayStoreLast}
 use Rattle.plain_machine.specs.StepBy.{after_stores, stores_among, offered_by, reply_stores, return_acts}
 use Rattle.plain_machine.proofs.StepByLemmas.{step_by_is_step}
-use Rattle.fs_live.specs.Live.{Phase, Faulty, Fetched, Asked, OutChain, LiveState, LiveEvent, Walks, Declines, Asks, Answers, Returns}
-use Rattle.fs_live.specs.Live.{Sleeps, Begins, Fills, Drops, Abandons, Replies, Maps, Moves, Happens, LiveRun}
+use Rattle.fs_live.specs.Live.{Phase, Faulty, Fetched, Asked, OutChain, LiveState, LiveEvent, Asks, Answers}
+use Rattle.fs_live.specs.Live.{Happens, LiveRun}
 use Rattle.fs_live.specs.Live.{WalksSo, AsksSo, AnswersSo, ReturnsSo, calls_in, fault_of, new_chain, after_take, room_of, serving, acts_of}
 use Rattle.fs_live.specs.Live.{GoesBackWith}
 use Rattle.fs_live.specs.Runs.{IsAskedIn, IsServedPhase, options_left, after_alone, chain_loads, request_in}
@@ -173,17 +173,7 @@ between_alone may s queues c k after (Asks d request told ∷ es) back of a run 
     between_alone may s queues c run.0 after es back of.1 (asks_alone may s queues c k run.0 d request told a run.1) run.2
 between_alone may s queues c k after (Answers d call answer ∷ es) back of a run =
     between_alone may s queues c run.0 after es back of.1 (answers_alone_too may s queues c k run.0 d call answer a run.1) run.2
-between_alone may s queues c k after (Walks i l ds came ∷ es) back of a run = absurd of.0
-between_alone may s queues c k after (Declines i e ∷ es) back of a run = absurd of.0
-between_alone may s queues c k after (Returns d x notice last used seen ∷ es) back of a run = absurd of.0
-between_alone may s queues c k after (Sleeps i store ∷ es) back of a run = absurd of.0
-between_alone may s queues c k after (Begins i w ∷ es) back of a run = absurd of.0
-between_alone may s queues c k after (Fills d stores ∷ es) back of a run = absurd of.0
-between_alone may s queues c k after (Drops d ∷ es) back of a run = absurd of.0
-between_alone may s queues c k after (Abandons d ∷ es) back of a run = absurd of.0
-between_alone may s queues c k after (Replies d request reply options ∷ es) back of a run = absurd of.0
-between_alone may s queues c k after (Maps m ∷ es) back of a run = absurd of.0
-between_alone may s queues c k after (Moves m ws ∷ es) back of a run = absurd of.0
+between_alone may s queues c k after es back of a run = absurd of.0
 
 start_alone : {F : Type 0} (may : May F) (s mid : LiveState F) (i : ℕ) (v : LiveQueue) (loaded : Loaded) (ds : List Descriptor) (head : ℕ)
     (fault : Option ChainFault)

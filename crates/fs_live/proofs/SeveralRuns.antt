@@ -34,17 +34,13 @@ used_in_order w w' outs outs' (Returns t len stores ∷ es) run = (run.3, used_i
 pub one_at_a_time : (w w' : LiveQueue) (outs outs' : List InFlightId) (es : List QueueEvent) → w.next_used ≡ w.queue.position →
     IsSerial es → RunsOver w outs es w' outs' → StoresAsTaken (w.queue) es
 one_at_a_time w w' outs outs' [] same serial run = tt
-one_at_a_time w w' outs outs' (Takes head ∷ []) same serial run = absurd serial
-one_at_a_time w w' outs outs' (Takes head ∷ Takes other ∷ es) same serial run = absurd serial
-one_at_a_time w w' outs outs' (Takes head ∷ Drops t ∷ es) same serial run = absurd serial
 one_at_a_time w w' outs outs' (Takes head ∷ Returns t len stores ∷ es) same serial run =
     let inner = run.1 in (
       inner.3 ∙ ap (λ (p : ℕ). stores_after_reply (record (w.queue) { position = p }) t.1 len) same
           ∙ ap (λ (h : ℕ). stores_after_reply (w.queue) h len) serial.0,
       one_at_a_time (gave (took w)) w' (inner.0 ++ inner.1) outs' es (ap (λ (p : ℕ). (p + 1) % 2 ^ 16) same) serial.1 inner.4,
     )
-one_at_a_time w w' outs outs' (Drops t ∷ es) same serial run = absurd serial
-one_at_a_time w w' outs outs' (Returns t len stores ∷ es) same serial run = absurd serial
+one_at_a_time w w' outs outs' es same serial run = absurd serial
 
 -- ---- each chain once
 

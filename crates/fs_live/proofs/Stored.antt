@@ -14,8 +14,8 @@ use Rattle.virtiofsd_fuse.specs.Serving.{May}
 use Rattle.plain_machine.specs.StepBy.{Stores, reply_stores, return_acts, stores_among}
 use Rattle.plain_machine.proofs.StepByLemmas.{reply_writes}
 use Rattle.fs_live.specs.Several.{LiveQueue, avail_event_at, returning, sleep_store}
-use Rattle.fs_live.specs.Live.{OutChain, LiveState, LiveEvent, Walks, Declines, Asks, Answers, Returns, Sleeps, Begins, Fills, Drops}
-use Rattle.fs_live.specs.Live.{Abandons, Replies, Maps, Moves, FillsSo, Happens, IsStoredIn, ReturnsSo, SleepsSo, acts_of, room_of}
+use Rattle.fs_live.specs.Live.{OutChain, LiveState, LiveEvent, Returns, Sleeps, Fills}
+use Rattle.fs_live.specs.Live.{FillsSo, Happens, IsStoredIn, ReturnsSo, SleepsSo, acts_of, room_of}
 use Rattle.fs_live.specs.Runs.{StoresStayThere, StoresThere, queue_addresses, sleep_addresses}
 
 abbrev AllThere : List ℕ → List (ℕ × ℕ) → Type 0
@@ -107,10 +107,6 @@ stores_within room (store ∷ stores) all =
     (stores_within room stores all.1)
 
 one_event : {F : Type 0} (may : May F) (s mid : LiveState F) (e : LiveEvent) → Happens may s e mid → StoresThere s e
-one_event may s mid (Walks i loaded ds came) h = (tt, tt)
-one_event may s mid (Declines i e) h = (tt, tt)
-one_event may s mid (Asks c request told) h = (tt, tt)
-one_event may s mid (Answers c call answer) h = (tt, tt)
 one_event may s mid (Returns c x notice last used seen) h =
     let out : ReturnsSo s c x notice last used seen mid = h in (
       subst (λ (l : List OutChain). Contains l c) (sym out.out)
@@ -126,18 +122,13 @@ one_event may s mid (Sleeps i store) h =
           (subst (λ (k : Option Store). LandsThere so.w k) so.stores
           (sleep_there so.w.queue so.w.next_used so.w.max_in_flight so.w.event_index so.wanted)),
     )
-one_event may s mid (Begins i w) h = (tt, tt)
 one_event may s mid (Fills c stores) h =
     let so : FillsSo s c stores mid = h in (
       subst (λ (l : List OutChain). Contains l c) (sym so.out) (Contains-append_right so.before (c ∷ so.behind) c (0, omega arith, refl)),
       subst (λ (l : List Store). AllThere (room_of c) (flat_map writes_of l)) (sym (among_stores stores))
           (stores_within (room_of c) stores so.within),
     )
-one_event may s mid (Drops c) h = (tt, tt)
-one_event may s mid (Abandons c) h = (tt, tt)
-one_event may s mid (Replies c request reply options) h = (tt, tt)
-one_event may s mid (Maps m) h = (tt, tt)
-one_event may s mid (Moves m queues) h = (tt, tt)
+one_event may s mid e h = (tt, tt)
 
 pub stores_stay_there : {F : Type 0} (may : May F) → StoresStayThere may
 stores_stay_there may s after [] run = tt

@@ -48,10 +48,8 @@ whole : (head : ℕ) (over lost_request lost_room : Bool) (loaded request room :
     length loaded ≡ length request →
     option_map (Offers head) (with_request loaded (fetched_by over lost_request lost_room request room))
     ≡ Some (Offers head (IsRequest loaded room))
-whole head true b c loaded request room e long = absurd (cc)
-whole head false true c loaded request room e long = absurd (cc)
-whole head false false true loaded request room e long = absurd (cc)
 whole head false false false loaded request room e long = rw (eq-eqb (length loaded) (length request) long) refl
+whole head over lost_request lost_room loaded request room e long = absurd (cc)
 
 -- what is fetched of a chain that was found
 pub fetches : (m : Memory) (limit : ℕ) (q : Queue) (loaded : Loaded) (ds : List Descriptor) (head : ℕ) (o : Option ChainFault) →

@@ -1,4 +1,5 @@
 pub mod Finding
+pub mod Mappable
 pub mod Mapping
 pub mod Missing
 pub mod Touching

@@ -51,12 +51,8 @@ IsRingError _ = Unit {0}
 by_tests : (a b c d e : Bool) (h : ℕ) →
     IsRingError (if not a then Refused stop.AvailIndexUnreachable else if b then Idle else if c then Refused stop.AvailTooFar
     else if not d then Refused stop.RingEntryUnreachable else if e then Refused stop.HeadOutOfTable else Head h)
-by_tests false b c d e h = tt
-by_tests true true c d e h = tt
-by_tests true false true d e h = tt
-by_tests true false false false e h = tt
-by_tests true false false true true h = tt
 by_tests true false false true false h = tt
+by_tests a b c d e h = tt
 
 next_error : (m : Memory) (q : Queue) → IsRingError (next_avail m q)
 next_error m q =
@@ -65,11 +61,9 @@ next_error m q =
 
 by_loads : (a b c : Bool) (x y n : NextAvail) (entry : Option (List ℕ)) → IsRingError x → IsRingError y →
     (if not a then None else if not b then without_entry entry x else if not c then None else Some y) ≡ Some n → IsRingError n
-by_loads false b c x y n entry hx hy e = absurd (cc)
 by_loads true false c x y n None hx hy e = let same : x ≡ n = cc in subst IsRingError same hx
-by_loads true false c x y n (Some bs) hx hy e = absurd (cc)
-by_loads true true false x y n entry hx hy e = absurd (cc)
 by_loads true true true x y n entry hx hy e = let same : y ≡ n = cc in subst IsRingError same hy
+by_loads a b c x y n entry hx hy e = absurd (cc)
 
 waits_error : (q : Queue) (index entry : Option (List ℕ)) (n : NextAvail) → waits_by q index entry ≡ Some n → IsRingError n
 waits_error q index entry n by =
@@ -79,15 +73,10 @@ waits_error q index entry n by =
 
 by_error : (m : Memory) (limit : ℕ) (q : Queue) (loaded : Loaded) (e : QueueError) → IsRingError (Refused e) → RingIsNoMiss m q loaded →
     RefusalIsNoMiss m limit q loaded e
-by_error m limit q loaded stop.Stopped is none = none
-by_error m limit q loaded stop.AvailIndexUnreachable is none = none
-by_error m limit q loaded stop.AvailTooFar is none = none
-by_error m limit q loaded stop.RingEntryUnreachable is none = none
-by_error m limit q loaded stop.HeadOutOfTable is none = none
 by_error m limit q loaded stop.UsedUnreachable is none = absurd is
 by_error m limit q loaded stop.AvailFlagsUnreachable is none = absurd is
 by_error m limit q loaded stop.DescriptorUnreachable is none = absurd is
-by_error m limit q loaded stop.OutOfMemory is none = none
+by_error m limit q loaded e is none = none
 
 pub ring_no_miss : (m : Memory) (limit : ℕ) (q : Queue) (loaded : Loaded) (e : QueueError) →
     waits_by q loaded.index loaded.entry ≡ Some (Refused e) → RingIsNoMiss m q loaded → RefusalIsNoMiss m limit q loaded e
@@ -109,15 +98,9 @@ return_error true true e is = absurd (cc)
 
 by_return : (m : Memory) (limit : ℕ) (q : Queue) (loaded : Loaded) (e : QueueError) → IsReturnError e →
     MissesNothing m limit q loaded [] OfReturn → RefusalIsNoMiss m limit q loaded e
-by_return m limit q loaded stop.Stopped is none = absurd is
-by_return m limit q loaded stop.AvailIndexUnreachable is none = absurd is
-by_return m limit q loaded stop.AvailTooFar is none = absurd is
-by_return m limit q loaded stop.RingEntryUnreachable is none = absurd is
-by_return m limit q loaded stop.HeadOutOfTable is none = absurd is
 by_return m limit q loaded stop.UsedUnreachable is none = none
 by_return m limit q loaded stop.AvailFlagsUnreachable is none = none
-by_return m limit q loaded stop.DescriptorUnreachable is none = absurd is
-by_return m limit q loaded stop.OutOfMemory is none = absurd is
+by_return m limit q loaded e is none = absurd is
 
 pub return_no_miss : (m : Memory) (limit : ℕ) (q : Queue) (loaded : Loaded) (e : QueueError) → return_fault m q ≡ Some e →
     MissesNothing m limit q loaded [] OfReturn → RefusalIsNoMiss m limit q loaded e
@@ -144,16 +127,10 @@ buffer_fault false true true f is = absurd (cc)
 
 by_buffers : (m : Memory) (limit : ℕ) (q : Queue) (loaded : Loaded) (ds : List Descriptor) (f : ChainFault) → IsBufferFault f →
     MissesNothing m limit q loaded ds (OfBuffers ds) → TestIsNoMiss m limit q loaded f
-by_buffers m limit q loaded ds fault.TooLong is none = absurd is
-by_buffers m limit q loaded ds fault.NextOutOfTable is none = absurd is
-by_buffers m limit q loaded ds fault.AddressOverflow is none = absurd is
-by_buffers m limit q loaded ds fault.IndirectWithNext is none = absurd is
-by_buffers m limit q loaded ds fault.IndirectNested is none = absurd is
-by_buffers m limit q loaded ds fault.IndirectLength is none = absurd is
-by_buffers m limit q loaded ds fault.TableUnreachable is none = absurd is
 by_buffers m limit q loaded ds fault.OverLimit is none = tt
 by_buffers m limit q loaded ds fault.RequestUnreachable is none = (ds, none)
 by_buffers m limit q loaded ds fault.RoomUnreachable is none = (ds, none)
+by_buffers m limit q loaded ds f is none = absurd is
 
 pub buffers_no_miss : (m : Memory) (limit : ℕ) (q : Queue) (loaded : Loaded) (ds : List Descriptor) (f : ChainFault) →
     chain_fault m limit ds ≡ Some f → MissesNothing m limit q loaded ds (OfBuffers ds) → TestIsNoMiss m limit q loaded f

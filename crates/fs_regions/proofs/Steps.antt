@@ -116,11 +116,8 @@ told_or_asks true next s not_entry e = absurd (not_entry e)
 told_or_asks false next s not_entry e = (e, refl)
 
 not_entry_of : (w : code.Walk) → ((x : RingEntryWalk) → w ≡ says.RingEntry x → ⊥) → stage_of w ≡ AsksEntry → ⊥
-not_entry_of (says.Index x) other e = cc
 not_entry_of (says.RingEntry x) other e = other x refl
-not_entry_of (says.Chain head progress) other e = cc
-not_entry_of says.Idle other e = cc
-not_entry_of (says.Refused r) other e = cc
+not_entry_of w other e = cc
 
 by_alone : (q : Queue) (index : Option (List ℕ)) → is_whole 2 index ≡ true → asks_entry (by_index q index) ≡ false →
     waits_by q index None ≡ Some (by_index q index)
@@ -171,11 +168,8 @@ tells_both m q index entry w whole asks_it whole_entry no_index no_entry index_t
 
 pub begins_of :
     (l : QueueLayout) (position : ℕ) (q : Queue) (w : code.Walk) → at_position l position ≡ q → BeginsChain l w → BeginsIfChain q w
-begins_of l position q (says.Index x) is begins = tt
-begins_of l position q (says.RingEntry x) is begins = tt
 begins_of l position q (says.Chain head progress) is begins = subst (λ (x : Queue). BeginsAtHead x head progress) is begins
-begins_of l position q says.Idle is begins = tt
-begins_of l position q (says.Refused e) is begins = tt
+begins_of l position q w is begins = tt
 
 pub index_begins : (l : QueueLayout) (position : ℕ) (x : IndexWalk) → BeginsAt l position (says.Index x) →
     at_position x.layout x.position ≡ at_position l position
@@ -211,11 +205,8 @@ waits_on m q loaded entries head waits = record { by_loads = waits.by_loads; ask
 ring_same : (l : QueueLayout) (position : ℕ) (q : Queue) (w : code.Walk) → at_position l position ≡ q →
     IfRingEntry w (λ x. (x.layout ≡ l) × (x.position ≡ position)) →
     IfRingEntry w (λ x. at_position x.layout x.position ≡ q)
-ring_same l position q (says.Index x) is same = tt
 ring_same l position q (says.RingEntry x) is same = rw (same.0, same.1) is
-ring_same l position q (says.Chain head progress) is same = tt
-ring_same l position q says.Idle is same = tt
-ring_same l position q (says.Refused e) is same = tt
+ring_same l position q w is same = tt
 
 -- what comes of the index, by what the code answers
 pub after_index : (m : Memory) (q : Queue) (l : QueueLayout) (position : ℕ) (index : Option (List ℕ)) (w : code.Walk) →

@@ -242,10 +242,7 @@ uses_up : (walk : ChainWalk) (bs : List ℕ) (old new : List Descriptor) (after 
 uses_up walk bs old new (says.Wants w) r (step.Load next) asks =
     subst (λ a. (is_in (entry_address (visit_of walk)) (length bs) a ≡ false) ⊎ (16 * length r.reads ≡ length bs)) (sym asks) r.uses_up
 uses_up walk bs old new (says.Ends walked) r (step.Load next) asks = absurd asks
-uses_up walk bs old new after r step.Idle asks = tt
-uses_up walk bs old new after r (step.Refused e) asks = tt
-uses_up walk bs old new after r (step.Chain head fault) asks = tt
-uses_up walk bs old new after r (step.Missing range access) asks = tt
+uses_up walk bs old new after r came asks = tt
 
 same_size : (p : code.Progress) (a b : ℕ) → IfWants p (λ w. w.size ≡ a) → a ≡ b → IfWants p (λ w. w.size ≡ b)
 same_size (says.Wants w) a b h e = h ∙ e

@@ -1,5 +1,7 @@
 -- Theorems: a pop over regions is a pop in each memory that has its loads.
-use Rattle.std.specs.Prelude.{◌≡◌, ℕ, ◌<◌, false, List, length, Some}
+use Rattle.std.specs.Prelude.{◌≡◌, ℕ, ◌+◌, ◌<◌, ◌≤◌, false, List, length, Some}
+use Rattle.vm_iotlb.specs.declared.iova.IovaRange.{IovaRange}
+use Rattle.vm_iotlb.specs.declared.permissions.Permissions.{Permissions}
 use Rattle.vm_memory_core.specs.Host.{Host}
 use Rattle.vm_memory.specs.Memory.{Memory}
 use Rattle.fs_queue.specs.Queue.{Queue}
@@ -8,6 +10,7 @@ use Rattle.fs_queue.specs.Chain.{chain}
 use Rattle.fs_queue.specs.Loads.{Load, AreEntriesOf, IsLoadOf, index_load, entry_load}
 use Rattle.fs_queue.specs.OfferLoads.{request_in}
 use Rattle.fs_queue.specs.Taking.{Offer, offer}
+use Rattle.fs_regions.specs.Misses.{Area, first_miss, last_page}
 use Rattle.fs_regions.specs.Places.{Mapped, memory_over, places_in}
 use Rattle.fs_regions.specs.Walks.{Loaded, OffersBy, ReadOutOf}
 
@@ -36,3 +39,11 @@ ReadOutIsTheMemorys =
     IsLoadOf m (length bs) (record { address = from; came = Some bs }) →
     ReadOutOf from bs ls →
     AreEntriesOf m ls
+
+-- theorem: a table of whole pages can map the first miss of some areas. The miss has an address, and none in
+-- the last page
+abbrev pub MissesCanBeMapped : Type 0
+MissesCanBeMapped =
+    (m : Memory) (areas : List Area) (range : IovaRange) (access : Permissions) →
+    first_miss m areas ≡ Some (range, access) →
+    (0 < range.length) × (range.base.0 + range.length ≤ last_page)
