@@ -1,4 +1,4 @@
--- A pop whose loads the caller makes in parts, where one crosses the end of a region.
+-- A pop whose loads the caller makes in parts, where one crosses the end of a region or of a mapping.
 use Rattle.std.specs.Prelude.{◌≡◌, ◌<◌, ◌+◌, ◌-◌, ◌⊎◌, ◌==◌, ℕ, List, [], ◌++◌, length, min, Some, None}
 use Rattle.std.specs.Prelude.{if◌then◌else◌, vec_capacity}
 use Rattle.memory_requests.specs.Refused.{RoomWasRefused}
@@ -18,7 +18,7 @@ use Rattle.fs_chain.specs.Orders.{IfWalking, IsWalking, load_len, walk_error}
 use Rattle.fs_chain.specs.Walks.{IsAllBut, IsAllButPart, LacksRoom, WalksOn}
 
 -- the window of the bytes that a pop still needs, after the first `from` bytes of its load: it ends with
--- their region at the latest
+-- their region and mapping at the latest
 abbrev pub IsLoadWindow : ChainHandle → (from : ℕ) → Window → Type 0
 IsLoadWindow w from v = IsWalking w.state × IfWalking w.state (λ walk.
     (from < asked_len walk)
@@ -40,7 +40,7 @@ came w = length w.part.items
 abbrev pub AreWhole : ChainHandle → (len : ℕ) → Type 0
 AreWhole w len = (w.part.items ≡ []) × (len ≡ load_len w.state)
 
--- `len` bytes are those that a pop still needs, up to the end of their region
+-- `len` bytes are those that a pop still needs, up to the end of their region or mapping
 abbrev pub AreWanted : ChainHandle → (len : ℕ) → Type 0
 AreWanted w len = (v : Window) × IsLoadWindow w (came w) v × (v.len ≡ len)
 

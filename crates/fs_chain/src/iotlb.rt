@@ -45,8 +45,8 @@ impl ChainHandle {
         Ok(())
     }
 
-    /// How many descriptors the last pop gathered: those of the chain in flight, unless it is faulty, or
-    /// those up to a miss.
+    /// How many descriptors the last pop gathered, up to a miss if there was one. It has a meaning after a
+    /// miss, and while a chain without a fault is in flight.
     pub fn gathered(&self) -> usize
         ensures { result ≡ length self.now.descriptors.items }
     {
@@ -54,7 +54,8 @@ impl ChainHandle {
     }
 
     /// The first addresses of a gathered descriptor's buffer, from an address on, that the table doesn't
-    /// map, and the access that the buffer needs. None if all are mapped, or if there is no such descriptor.
+    /// map, and the access that the buffer needs. None if all are mapped, if one of them is in the last page
+    /// of addresses, or if there is no such descriptor.
     pub fn missing_at(&self, index: usize, from: u64) -> Option<(IovaRange, Permissions)>
         ensures { result ≡ miss_at (places_in self.now.regions)
             (slice_get self.now.descriptors.items index) from }

@@ -43,7 +43,7 @@ pub fn law_misses()
 /// The machine has no event index, and takes the two bytes loaded after the stores as its flags.
 /// Without the event index they are the flags, and decide whether to notify the driver. With it they
 /// are used_event: the driver is notified if they equal the position of the push. If used_event or
-/// avail_event isn't mapped, a pop is refused as it begins, and the queue is stopped.
+/// avail_event isn't mapped, a pop ends as it begins: it misses it, or is refused, and the queue is stopped.
 pub fn law_chains<F: FileSystem>()
     ensures places { WantedHasAPlace }
     ensures idle { IdleIsStepBy F.may }

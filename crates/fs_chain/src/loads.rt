@@ -1,4 +1,4 @@
-//! A pop whose loads the caller makes: in parts, if one crosses the end of a region.
+//! A pop whose loads the caller makes: in parts, if one crosses the end of a region or of a mapping.
 
 ghost use Rattle.std.specs.Prelude.{◌≡◌, ◌⊎◌, ◌<◌, ◌+◌, ◌++◌, [], Some, None, true, false, length, take};
 ghost use Rattle.std.specs.Prelude.{IfOk, IfErr, IfSome, OnOk, OnErr, vec_capacity};
@@ -187,8 +187,8 @@ impl ChainHandle {
     }
 
     /// Pops the next chain of a queue: first without bytes, then with the bytes of each load that it asks
-    /// for. The caller gives a load whole, even if it crosses the end of a region, or in parts. A part is
-    /// the window that is still needed (`still_wanted`), until the pop goes on.
+    /// for. The caller gives a load whole, even if it crosses the end of a region or of a mapping, or in
+    /// parts. A part is the window that is still needed (`still_wanted`), until the pop goes on.
     ///
     /// After an error nothing changed:
     /// - `WrongOrder`: a chain is in flight.

@@ -31,7 +31,8 @@ pub enum PopOutcome {
         room_len: usize,
     },
     /// The pop needs a range of addresses for an access, and the table doesn't map it. Nothing was popped:
-    /// the handle is free, and the queue as it was. `missing_at` returns the other missing ranges.
+    /// the handle is free, and the queue as it was. `missing_at` returns the missing ranges of the buffers
+    /// of the descriptors that were read.
     Missing {
         /// The first missing addresses.
         range: IovaRange,

@@ -28,7 +28,7 @@ pub struct QueueState {
     /// How often a chain was popped or given up, modulo 2^32.
     pub pop_count: u32,
     /// Whether VIRTIO_F_EVENT_IDX was negotiated. Then a pop is refused if used_event
-    /// (`AvailFlagsUnreachable`) or avail_event (`UsedUnreachable`) isn't mapped.
+    /// (`AvailFlagsUnreachable`) or avail_event (`UsedUnreachable`) isn't mapped, unless it misses it.
     pub event_index: bool,
     /// The refusal that stopped it.
     pub stopped: Option<QueueError>,

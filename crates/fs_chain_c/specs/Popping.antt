@@ -1,4 +1,4 @@
--- A pop by loads that C makes: in parts, if a load crosses the end of a region.
+-- A pop by loads that C makes: in parts, if a load crosses the end of a region or of a mapping.
 use Rattle.std.specs.Prelude.{◌≡◌, ◌+◌, ◌%◌, ◌^◌, ◌⊎◌, ℕ, List}
 use Rattle.vm_memory_core.specs.Window.{Window}
 use Rattle.fs_queue.specs.Numbers.{chain_fault_number, queue_number}
