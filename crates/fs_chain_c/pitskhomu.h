@@ -82,7 +82,8 @@
  *     its handle holds a chain, it can't pop: then it loads the available index again and compares
  *     it with `next_avail`. If a chain is available, it pops it or wakes a thread, since the driver
  *     doesn't notify again (wakes_another).
- *   - A thread that pushes or drops a chain pops again, or wakes a thread (walks_after).
+ *   - A thread that pushes or drops a chain pops again, or wakes a thread (walks_after). So does
+ *     one that had PK_MISS, once the table has the addresses.
  *   - A push has its full barrier before its load (giver_waits), and is ended before the queue's
  *     next push (checks_often). A woken thread resets its event (eventfd), and then pops.
  *
@@ -333,7 +334,7 @@ void pk_chain_free(struct pk_chain *chain) PK_NONNULL;
 uint32_t pk_chain_set_ticket(struct pk_chain *chain, uint32_t first) PK_CHECK;
 
 /* The result of pk_pop: with PK_LOAD a load, with PK_DONE a chain. After an error it is the load
- * that the pop still needs, if there is one, else zeros. */
+ * that the pop still needs, if there is one and the queue's fields are valid, else zeros. */
 struct pk_pop {
     uintptr_t load_at;    /* host address */
     size_t load_len;      /* bytes, 1 to PK_LOAD_MAX */
@@ -347,12 +348,12 @@ struct pk_pop {
 };
 
 /* Pops the next available chain, by several calls. The first one has `loaded_len` 0. After PK_LOAD
- * load the bytes and call again with them, at most size + 4 times. PK_DONE: the chain is in flight.
+ * load the bytes and call again with them, at most 2 * size + 6 times. PK_DONE: it is in flight.
  * PK_IDLE, PK_MISS and errors 1 to 8: the handle is free. PK_MISS leaves the queue as it was. Other
  * errors leave the pop under way; pk_drop ends it.
  * You can omit two loads. In place of the first, the available index, you may pass an earlier one
  * of it over the same memory since the queue's reset, if it isn't `next_avail`. An entry of a table
- * that crosses two regions has two loads: instead of the first part you may pass the whole entry.
+ * that crosses two regions or mappings has two loads: for the first you may pass the whole entry.
  * Errors: PK_WRONG_ORDER (no memory was set); PK_BAD_ARGUMENT (the queue's fields are no queue's,
  * as zeros); PK_WRONG_ORDER (the chain is in flight); PK_BAD_ARGUMENT (`loaded_len` isn't the
  * load's); PK_OTHER_QUEUE (then drop or abandon the pop); PK_CHAIN_IN_FLIGHT; then, in no order,
@@ -372,14 +373,13 @@ void pk_abandon(struct pk_chain *chain) PK_NONNULL;
 
 /* A piece of memory, laid out as struct iovec: cast an array of it for preadv and the like. */
 struct pk_window { uintptr_t at; size_t len; };
-
-/* A range of guest addresses; of I/O addresses, if the chain has a table. */
+/* A range of guest addresses; of I/O addresses, if the chain was popped with a table. */
 struct pk_range { uint64_t guest, len; };
 
 /* Three functions find `len` bytes of a chain's request or reply buffer, from byte `from` on: their
  * windows, or guest ranges for a migration's log. Each returns how many it filled: 0 past the end,
- * or if no chain is in flight. A window ends where its descriptor or region ends, a range where its
- * descriptor does. If they cover fewer than `len` bytes, call again from there. Each call goes
+ * or if no chain is in flight. A window ends with its descriptor, region or mapping, a range with
+ * its descriptor. If they cover fewer than `len` bytes, call again from there. Each call goes
  * through all descriptors of the chain, so ask for many windows at once. */
 size_t pk_request_windows(struct pk_chain *chain, uint64_t from, uint64_t len,
                           struct pk_window *windows, size_t window_count)
@@ -398,8 +398,7 @@ size_t pk_reply_ranges(struct pk_chain *chain, uint64_t from, uint64_t len, stru
  * pk_chain_set_memory and pk_chain_free free a table that the chain has. */
 struct pk_iotlb { void *at; uint32_t full; };
 
-/* The numbers of VHOST_ACCESS_ (linux/vhost_types.h). */
-enum pk_access {
+enum pk_access { /* VHOST_ACCESS_ of linux/vhost_types.h */
     PK_ACCESS_NONE = 0, PK_ACCESS_READ = 1, PK_ACCESS_WRITE = 2, PK_ACCESS_READ_WRITE = 3 };
 
 /* Puts an empty table into the place. Errors: PK_OUT_OF_MEMORY (only of zeros). */
@@ -410,9 +409,10 @@ void pk_iotlb_free(struct pk_iotlb *iotlb) PK_NONNULL;
 
 /* Maps `len` I/O addresses; earlier mappings of them end. With PK_ACCESS_NONE they are refused: a
  * pop that needs them has a refusal or a fault, and no miss. Unmap them after that pop. The last
- * page of addresses can't be mapped, so no pop misses it.
- * Errors: PK_WRONG_ORDER (no table is here); PK_BAD_ARGUMENT (not an access; not multiples of 4096;
- * `len` is 0; an end isn't below 2^64); PK_OUT_OF_MEMORY. */
+ * page of addresses can't be mapped, and is refused in the same way.
+ * Errors: PK_WRONG_ORDER (the place is zeros); PK_BAD_ARGUMENT (not an access); PK_WRONG_ORDER (the
+ * table is lent); PK_BAD_ARGUMENT (not multiples of 4096; `len` is 0; an end isn't below 2^64);
+ * PK_OUT_OF_MEMORY. */
 uint32_t pk_iotlb_map(struct pk_iotlb *iotlb, uint64_t iova, uint64_t len, uint64_t guest,
                       uint32_t access) PK_CHECK;
 
@@ -430,8 +430,9 @@ uint32_t pk_chain_exchange_iotlb(struct pk_chain *chain, struct pk_iotlb *iotlb)
 /* I/O addresses that the table doesn't map, and the access that is needed (enum pk_access). */
 struct pk_miss { uint64_t at, len; uint32_t access; };
 
-/* After PK_MISS: the first I/O addresses that the buffer of descriptor `index` lacks, at or after
- * address `from`. Ask for each index from 0 on: first with `from` 0, then with the end of the miss.
+/* After PK_MISS, before you take the table back: the first I/O addresses that the buffer of
+ * descriptor `index` lacks, at or after address `from`. Ask for each index from 0 on: first with
+ * `from` 0, then with the end of the miss.
  * PK_MISS: filled. PK_DONE: nothing is missing from there on. PK_IDLE: no such descriptor was read.
  * Errors: PK_WRONG_ORDER (no memory was set). */
 uint32_t pk_miss(struct pk_chain *chain, size_t index, uint64_t from, struct pk_miss *miss)
@@ -614,7 +615,6 @@ uint32_t pk_pushed(struct pk_chain *chain, struct pk_queue *queue, uint16_t seen
 /* ---------------------------------------------------------------- notifications of the driver */
 /* A store of 2 bytes at a host address, or none (`len` 0). */
 struct pk_store { uintptr_t at; uint16_t value; uint8_t len; };
-
 /* Returns the store that enables (1) or disables (0) available buffer notifications (VIRTIO 1.2,
  * 2.7.10). It is to the used ring's flags at guest address `used`, or with event_index to
  * avail_event at used + 4 + 8 * size. With event_index nothing is stored to disable them. Of the
