@@ -168,12 +168,12 @@ same_self w = ((refl, refl, refl, refl), refl, refl, refl, refl)
 -- ---- the pop by its other calls
 
 -- a pop that wants bytes, without the refused calls
-record Straight (given : List (List ℕ)) (old new : ChainHandle) (before after : QueueState) (told : went.LoadOutcome)
+pub record Straight (given : List (List ℕ)) (old new : ChainHandle) (before after : QueueState) (told : went.LoadOutcome)
     (walks : WalksAmid given old new before after told) : Type 0 where
-  n : ChainHandle
-  by : WalksBy given old n before after told
-  same : IsSame n new
-  loads : (loaded : Loaded) → LoadsOf given old n before after told by loaded → LoadsAmid given old new before after told walks loaded
+  pub n : ChainHandle
+  pub by : WalksBy given old n before after told
+  pub same : IsSame n new
+  pub loads : (loaded : Loaded) → LoadsOf given old n before after told by loaded → LoadsAmid given old new before after told walks loaded
 
 -- a call's loads are the same
 adds_same : (w v : ChainHandle) → IsSame w v → (told : went.LoadOutcome) (ds : List Descriptor) (l loaded : Loaded) (bs : List ℕ)
@@ -211,7 +211,7 @@ module _ (bs : List ℕ) (given : List (List ℕ)) (old new : ChainHandle) (befo
     adds_same earlier.n walks.1 reached (wents.On told) new.descriptors.items loads.0 loaded bs loads.2,
   )
 
-straight : (given : List (List ℕ)) (old new : ChainHandle) (before after : QueueState) (told : went.LoadOutcome) → WantsBytes told
+pub straight : (given : List (List ℕ)) (old new : ChainHandle) (before after : QueueState) (told : went.LoadOutcome) → WantsBytes told
     → (walks : WalksAmid given old new before after told) → Straight given old new before after told walks
 straight [] old new before after told wants walks = record { n = new; by = walks; same = same_self new; loads = λ loaded is. is }
 straight (bs ∷ given) old new before after wents.Part wants walks =
