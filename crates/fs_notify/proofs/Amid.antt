@@ -101,7 +101,7 @@ module _ (w v : ChainHandle) (same : IsSame w v) where
         goes.0,
         goes.1,
         subst (λ (ds : List Descriptor). (loaded : Loaded) → IsWalkAt (places_in w.regions) (queue_of course) loaded ds walk
-        → ComesBy (places_in w.regions) course.limit (queue_of course) loaded walk bytes new.descriptors.items goes.0) same.2 goes.2,
+            → ComesBy (places_in w.regions) course.limit (queue_of course) loaded walk bytes new.descriptors.items goes.0) same.2 goes.2,
       )
   walks_from (at.Taken out) bytes new q after told kept walks = absurd walks
   walks_from (at.Waits out waiting) bytes new q after told kept walks = absurd walks

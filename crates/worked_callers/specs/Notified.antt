@@ -12,6 +12,7 @@ use Rattle.fs_chain.specs.declared.queue.QueueState.{QueueState}
 use Rattle.fs_chain.specs.declared.chain_handle.ChainHandle.{ChainHandle}
 use Rattle.notify.specs.Threads.{ThreadedQueue, ThreadStep, ActsOver, after_act}
 use Rattle.notify.specs.Threads.{Wishes, WishIsThere}
+use Rattle.fs_notify.specs.Amid.{LoadsAmid, WalksAmid}
 use Rattle.fs_notify.specs.Takers.{IsIndex, IsOf, SaysWish, ways_of, wish_at}
 
 -- the store that was returned is the wish in memory, after two acts of the model's thread
@@ -41,6 +42,22 @@ PopsByIndex given old new before after told P =
     (walks : WalksBy given old new before after (wents.On told))
     × (loaded : Loaded)
     × LoadsOf given old new before after (wents.On told) walks loaded
+    × (index : ℕ)
+    × IsIndex loaded index
+    × P index
+
+-- the same of a pop some calls of which were refused
+abbrev pub IsWalkedAmid : List (Bor (List ℕ)) → (old new : ChainHandle) → (before after : QueueState) →
+    went.LoadOutcome → Type 0
+IsWalkedAmid bytes old new before after told =
+    (n : ℕ) × WalksAmid (calls_of n bytes) old new before after told
+
+abbrev pub PopsAmid : (given : List (List ℕ)) → (old new : ChainHandle) → (before after : QueueState) →
+    PopOutcome → (ℕ → Type 0) → Type 0
+PopsAmid given old new before after told P =
+    (walks : WalksAmid given old new before after (wents.On told))
+    × (loaded : Loaded)
+    × LoadsAmid given old new before after (wents.On told) walks loaded
     × (index : ℕ)
     × IsIndex loaded index
     × P index

@@ -7,8 +7,7 @@ use Rattle.worked_callers.proofs.wholes.walk_by.Goals as goal
 pub loop-bytes-preserved : goal.loop-bytes-preserved
 loop-bytes-preserved c =
     let wants = c.if-not-wants_bytes.ensures refl in
-    let call = c.in_ok-told-2.ensures.goes in
-    (
+    let call = c.in_ok-told-2.ensures.goes in (
       goes_on_by c.args.handle.now c.loop-bytes.handle c.pop-in-loop-bytes.new.self c.args.queue.now c.loop-bytes.queue
           c.pop-in-loop-bytes.new.queue
           c.loop-bytes.told c.in_ok-told-2.told _ wants c.loop-bytes.invariant.0 call,
