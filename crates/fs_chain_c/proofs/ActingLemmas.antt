@@ -32,8 +32,9 @@ use Rattle.fs_chain.specs.declared.state.InFlight.{InFlight}
 use Rattle.fs_chain.proofs.WholeWalks.{walk_comes}
 use Rattle.notify.specs.Threads.{ThreadedQueue, DropsOne, Returns, Silences, Walker, after_act, may_act}
 use Rattle.fs_notify.proofs.Drops.{drops, ends_return, full}
-use Rattle.fs_notify.proofs.Walks.{finds_none, takes}
+use Rattle.fs_notify.proofs.Amid.{finds_none_amid, straight, takes_amid}
 use Rattle.fs_notify.proofs.Wishes.{mutes}
+use Rattle.fs_notify.specs.Amid.{WalksAmid}
 use Rattle.fs_notify.specs.Takers.{HasTaken, IsCounted, IsOf, MutesBy, SaysWish, ways_of}
 use Rattle.fs_chain_c.specs.Acting.{DropsAChain, PopFindsFull, PopFindsNone, PopTakesOne, PopsBy, PushReturnsOne, SilencesBy}
 use Rattle.fs_chain_c.specs.Acting.{StoresSilence}
@@ -211,12 +212,18 @@ keeps_queue given old new before after (wents.On (says.Refused e)) goes wants wa
 keeps_queue given old new before after (wents.On (says.Chain head n r)) goes wants walks = absurd wants
 keeps_queue given old new before after (wents.On (says.Faulty head fault)) goes wants walks = absurd wants
 
+-- also if some calls were refused
+keeps_amid : (given : List (List ℕ)) (old new : ChainHandle) (before after : QueueState) (told : went.LoadOutcome)
+    → before.stopped ≡ None → WantsBytes told → WalksAmid given old new before after told → after ≡ before
+keeps_amid given old new before after told goes wants walks =
+    let so = straight given old new before after told wants walks in keeps_queue given old so.n before after told goes wants so.by
+
 -- ---- C's calls are a pop of the core's queue
 
 pub record Walked (given : List (List ℕ)) (b b' : ChainHandle) (q q' : FsQueue) (k : QueueState) (step : FsPop) (status : ℕ) : Type 0 where
   pub told : went.LoadOutcome
   pub after : QueueState
-  pub walks : WalksBy given b b' k after told
+  pub walks : WalksAmid given b b' k after told
   pub tells : TellsWent b' told step status
   pub put_is : q' ≡ put q after
 
@@ -272,18 +279,19 @@ pops_walk [] b b' q q' k step status never is goes pops =
     record { told = call.0; after = call.1; walks = (pops.0, call.2); tells = call.3; put_is = call.4 }
 pops_walk (bs ∷ given) b b' q q' k step status never is goes pops =
     let w = pops.0 in
-    let mid = pops.1 in
-    let before = pops_walk given b w q mid k pops.2 32 no_error_load is goes pops.3 in
-    let wants = load_wants w before.told pops.2 before.tells in
-    let same : before.after ≡ k = keeps_queue given b w k before.after before.told goes wants before.walks in
+    let v = pops.1 in
+    let mid = pops.2 in
+    let before = pops_walk given b w q mid k pops.3 32 no_error_load is goes pops.4 in
+    let wants = load_wants w before.told pops.3 before.tells in
+    let same : before.after ≡ k = keeps_amid given b w k before.after before.told goes wants before.walks in
     let mid_is : IsQueueState mid k =
     subst (λ (x : FsQueue). IsQueueState x k) (sym (before.put_is ∙ ap (λ (j : QueueState). put q j) same)) (put_back q k is goes) in
-    let call = call_goes w b' mid q' k bs step status never mid_is pops.4 in
-    let found : GoesSo w before.after bs call.0 b' call.1 = subst (λ (j : QueueState). GoesSo w j bs call.0 b' call.1) (sym same) call.2 in
+    let call = call_goes v b' mid q' k bs step status never mid_is pops.6 in
+    let found : GoesSo v before.after bs call.0 b' call.1 = subst (λ (j : QueueState). GoesSo v j bs call.0 b' call.1) (sym same) call.2 in
     record {
       told = call.0;
       after = call.1;
-      walks = (w, before.after, before.told, before.walks, wants, found);
+      walks = (w, v, before.after, before.told, before.walks, wants, pops.5, found);
       tells = call.3;
       put_is = call.4 ∙ ap (λ (x : FsQueue). put x call.1) before.put_is;
     }
@@ -293,7 +301,7 @@ first_state : (given : List (List ℕ)) (b b' : ChainHandle) (q q' : FsQueue) (s
     → PopsBy given b b' q q' step status → (k : QueueState) × IsQueueState q k
 first_state [] b b' q q' step status never pops =
     elim pops.1 [ inl none ↦ absurd (never error.BadArgument none.1) | inr is ↦ (is.1, is.2) ]
-first_state (bs ∷ given) b b' q q' step status never pops = first_state given b pops.0 q pops.1 pops.2 32 no_error_load pops.3
+first_state (bs ∷ given) b b' q q' step status never pops = first_state given b pops.0 q pops.2 pops.3 32 no_error_load pops.4
 
 pub pop_finds_none : PopFindsNone
 pop_finds_none given b b' q q' step s pops =
@@ -303,9 +311,9 @@ pop_finds_none given b b' q q' step s pops =
       first.1,
       λ counted fits goes of asker shown.
           let walk = pops_walk given b b' q q' k step 33 no_error_idle first.1 goes pops in
-          let walks : WalksBy given b b' k walk.after (wents.On says.Idle) =
-          subst (λ (told : went.LoadOutcome). WalksBy given b b' k walk.after told) (is_idle b' walk.told step walk.tells) walk.walks in
-          let none = finds_none given b b' k walk.after s counted fits goes walks of asker shown in
+          let walks : WalksAmid given b b' k walk.after (wents.On says.Idle) =
+          subst (λ (told : went.LoadOutcome). WalksAmid given b b' k walk.after told) (is_idle b' walk.told step walk.tells) walk.walks in
+          let none = finds_none_amid given b b' k walk.after s counted fits goes walks of asker shown in
           (walk.after, walk.put_is, (walks, none.0, none.1, none.2, none.3, none.4)),
     )
 
@@ -318,9 +326,9 @@ pop_takes_one given b b' q q' step s pops =
       λ counted goes of walker.
           let walk = pops_walk given b b' q q' k step 0 no_error first.1 goes pops in
           let out = is_taken b' walk.told step walk.tells in
-          let walks : WalksBy given b b' k walk.after (wents.On out.0) =
-          subst (λ (told : went.LoadOutcome). WalksBy given b b' k walk.after told) out.1 walk.walks in
-          let took = takes given b b' k walk.after out.0 s counted goes out.2 walks of walker in
+          let walks : WalksAmid given b b' k walk.after (wents.On out.0) =
+          subst (λ (told : went.LoadOutcome). WalksAmid given b b' k walk.after told) out.1 walk.walks in
+          let took = takes_amid given b b' k walk.after out.0 s counted goes out.2 walks of walker in
           (walk.after, out.0, walk.put_is, out.2, (walks, took.0, took.1, took.2, took.3, took.4)),
     )
 

@@ -4,10 +4,10 @@ use Rattle.std.specs.Prelude.{◌≡◌, ℕ, ◌^◌, ◌<◌, Bool, true, fals
 use Rattle.std.specs.Int.{w16, to_le_bytes}
 use Rattle.vm_iotlb.specs.declared.permissions.Permissions.TheVariants.{Write}
 use Rattle.fs_regions.specs.Walks.{Loaded}
+use Rattle.fs_chain.specs.Loads.{IsSame}
 use Rattle.fs_chain.specs.Numbers.{chain_error_number}
 use Rattle.fs_chain.specs.Orders.{is_out}
 use Rattle.fs_chain.specs.Queues.{gave, untook}
-use Rattle.fs_chain.specs.Whole.{LoadsOf, WalksBy}
 use Rattle.fs_chain.specs.declared.chain_handle.ChainHandle.{ChainHandle}
 use Rattle.fs_chain.specs.declared.error.ChainError.TheVariants.{ChainInFlight}
 use Rattle.fs_chain.specs.declared.loads.LoadOutcome.TheVariants as wents
@@ -16,6 +16,7 @@ use Rattle.fs_chain.specs.declared.queue.QueueState.{QueueState}
 use Rattle.fs_chain.specs.declared.state.ChainState.TheVariants as at
 use Rattle.notify.specs.Threads.{ThreadedQueue, Asker, DropsOne, Returns, Silences, SleepsNow, TakesOne}
 use Rattle.notify.specs.Threads.{Walker, after_act, may_act}
+use Rattle.fs_notify.specs.Amid.{LoadsAmid, WalksAmid}
 use Rattle.fs_notify.specs.Takers.{HasTaken, IsCounted, IsIndex, IsOf, SaysWish, ways_of, wish_at}
 use Rattle.fs_chain_c.specs.declared.notifications.FsStore.{FsStore}
 use Rattle.fs_chain_c.specs.declared.popping.FsPop.{FsPop}
@@ -83,23 +84,25 @@ abbrev pub load : ℕ
 load = 32
 
 -- calls of `pk_pop` on one handle and one queue, the last one first. The first call has no bytes. Each later
--- one has the bytes that the call before it asked for, and finds the queue in the state that it left
+-- one has the bytes that the call before it asked for, and finds the queue in the state that it left. Between
+-- two of them, calls may have been refused: these leave the queue, and the handle `w` as `v` (`PopsHandle`)
 abbrev pub PopsBy : (given : List (List ℕ)) → (b b' : ChainHandle) → (q q' : FsQueue) → FsPop →
     (status : ℕ) → Type 0
 PopsBy [] b b' q q' step status = (b.state ≡ at.Free) × PopsHandle b q [] step status b' q'
 PopsBy (bs ∷ given) b b' q q' step status =
-    (w : ChainHandle) × (mid : FsQueue) × (earlier : FsPop)
+    (w : ChainHandle) × (v : ChainHandle) × (mid : FsQueue) × (earlier : FsPop)
     × PopsBy given b w q mid earlier load
-    × PopsHandle w mid bs step status b' q'
+    × IsSame w v
+    × PopsHandle v mid bs step status b' q'
 
 -- calls with these bytes are a pop of the core's queue with this result, and P holds for the index among
 -- the bytes
 abbrev pub PopsByIndex : (given : List (List ℕ)) → (b b' : ChainHandle) → (k k' : QueueState) → PopOutcome →
     (ℕ → Type 0) → Type 0
 PopsByIndex given b b' k k' told P =
-    (walks : WalksBy given b b' k k' (wents.On told))
+    (walks : WalksAmid given b b' k k' (wents.On told))
     × (loaded : Loaded)
-    × LoadsOf given b b' k k' (wents.On told) walks loaded
+    × LoadsAmid given b b' k k' (wents.On told) walks loaded
     × (index : ℕ)
     × IsIndex loaded index
     × P index

@@ -3,6 +3,7 @@ pub mod Decoding
 pub mod Calls
 pub mod Handles
 pub mod Notifications
+pub mod LawsCalled
 pub mod Listing
 pub mod Memory
 pub mod Names

@@ -15,22 +15,24 @@ use Rattle.fs_chain_c.specs.Notifications.{SetsNotification}
 use Rattle.fs_chain_c.specs.Queues.{IsQueueState}
 use Rattle.fs_chain_c.specs.Pushing.{EndsHandlePush, StandsHere}
 
--- the store that C makes before a thread sleeps is the model's wish for the next chain: once it has reached
--- memory, it is where the device has the wish
+-- a store is the model's wish for the next chain, once it has reached memory: it is where the device has the
+-- wish
+abbrev pub IsWish : ChainHandle → QueueState → ThreadedQueue → FsStore → Type 0
+IsWish b k s told =
+    let asked = after_act (ways_of k) (after_act (ways_of k) s Wishes) WishIsThere in
+    StandsHere b.regions Write (wish_at k) 2 told.at
+    × (told.len ≡ 2)
+    × SaysWish k.event_index (to_le_bytes w16 told.value) asked.event asked.muted
+    × IsOf k asked
+
+-- the store that C makes before a thread sleeps is the model's wish for the next chain
 abbrev pub StoresAWish : Type 0
 StoresAWish =
     (b : ChainHandle) (q : FsQueue) (told : FsStore) (s : ThreadedQueue)
     → SetsNotification b q 1 told 0
     → (k : QueueState)
     × IsQueueState q k
-    × (IsCounted k
-    → IsOf k s
-    → s.holder ≡ Walker
-    → let asked = after_act (ways_of k) (after_act (ways_of k) s Wishes) WishIsThere in
-    StandsHere b.regions Write (wish_at k) 2 told.at
-    × (told.len ≡ 2)
-    × SaysWish k.event_index (to_le_bytes w16 told.value) asked.event asked.muted
-    × IsOf k asked)
+    × (IsCounted k → IsOf k s → s.holder ≡ Walker → IsWish b k s told)
 
 -- `notify` is the result of the check by the model's giver, of the two bytes that C has loaded behind the
 -- barrier

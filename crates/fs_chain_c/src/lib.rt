@@ -17,6 +17,7 @@ mod iotlbs;
 mod labels;
 pub mod laws;
 pub mod laws_acting;
+pub mod laws_called;
 pub mod laws_moving;
 mod listing;
 mod memory;

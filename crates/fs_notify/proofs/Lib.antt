@@ -1,3 +1,4 @@
+pub mod Amid
 pub mod Drops
 pub mod Returns
 pub mod Walks

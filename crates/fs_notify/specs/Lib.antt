@@ -1,2 +1,3 @@
+pub mod Amid
 pub mod Givers
 pub mod Takers

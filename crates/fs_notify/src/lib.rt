@@ -19,18 +19,21 @@
 #![tactic(auto)]
 
 ghost use Rattle.fs_notify.specs.Givers.{ChecksBySeen, MachineChecks, PublishesByStore, ReturnsInOrder};
+ghost use Rattle.fs_notify.specs.Amid.{FindsNoneAmidRefusals, TakesAmidRefusals};
 ghost use Rattle.fs_notify.specs.Takers.{AsksByStore, DropIsAnAct, FindsNoneByWalk, FullIsAnAct};
 ghost use Rattle.fs_notify.specs.Takers.{MutesByStore, ReturnIsAnAct};
 ghost use Rattle.fs_notify.specs.Takers.{SleepsInOrder, TakesByWalk};
 
 /// The acts of a thread that holds the queue's lock: a call's result allows the act, and the call makes
-/// it. A wish and a later pop that finds no chain, in this order, are a run of the model after which
-/// the thread sleeps.
+/// it. Calls of a pop may have been refused between its others. A wish and a later pop that finds no
+/// chain, in this order, are a run of the model after which the thread sleeps.
 pub fn law_takers()
     ensures asks { AsksByStore }
     ensures mutes { MutesByStore }
     ensures takes { TakesByWalk }
     ensures none { FindsNoneByWalk }
+    ensures takes_amid { TakesAmidRefusals }
+    ensures none_amid { FindsNoneAmidRefusals }
     ensures full { FullIsAnAct }
     ensures drops { DropIsAnAct }
     ensures returns { ReturnIsAnAct }

@@ -1,5 +1,6 @@
 pub mod Ended
 pub mod FilledRuns
+pub mod GivenBytes
 pub mod InARowRun
 pub mod Looks
 pub mod LostAsked

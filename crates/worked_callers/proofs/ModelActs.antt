@@ -14,7 +14,7 @@ use Rattle.fs_chain.specs.Orders.{begin_error, give_up_error, is_out, load_len, 
 use Rattle.fs_chain.specs.Pushes.{IfHasReply, PushesBy}
 use Rattle.fs_chain.specs.Queues.{gave, took, untook}
 use Rattle.fs_chain.specs.Walks.{queue_after, told_of}
-use Rattle.fs_chain.specs.Whole.{FromTaken, IsWalked}
+use Rattle.fs_chain.specs.Whole.{FromTaken, IsWalked, WalksBy}
 use Rattle.fs_chain.specs.declared.error.ChainError.TheVariants as error
 use Rattle.fs_chain.specs.declared.event_index.NotificationStore.{NotificationStore}
 use Rattle.fs_chain.specs.declared.loads.LoadOutcome.TheVariants as wents
@@ -57,19 +57,19 @@ wish_is law q (Some n) is counted s of walker =
 
 -- ---- a pop that finds no chain
 
-pub sleeps_so : AsksByStore → FindsNoneByWalk → (old new : ChainHandle) (before after : QueueState) → IsCounted before
-    → before.stopped ≡ None → IsWalked old new before after (wents.On says.Idle) → (s : ThreadedQueue) → IsOf before s
+pub sleeps_so : AsksByStore → FindsNoneByWalk → (given : List (List ℕ)) (old new : ChainHandle) (before after : QueueState)
+    → IsCounted before
+    → before.stopped ≡ None → WalksBy given old new before after (wents.On says.Idle) → (s : ThreadedQueue) → IsOf before s
     → s.holder ≡ Walker → s.index < 2 ^ 16
-    → PopsByIndex old new before after says.Idle
+    → PopsByIndex given old new before after says.Idle
     (ActsTo before s (Wishes ∷ WishIsThere ∷ SleepsNow ∷ [])
     (after_act (ways_of before) (after_act (ways_of before) (after_act (ways_of before) s Wishes) WishIsThere) SleepsNow) after)
-sleeps_so asks finds old new before after counted goes walked s of walker fits =
+sleeps_so asks finds given old new before after counted goes by s of walker fits =
     let ways = ways_of before in
     let asked = asks before s counted of walker in
     let wished : ThreadedQueue = after_act ways (after_act ways s Wishes) WishIsThere in
-    let none = finds walked.0 old new before after wished counted fits goes walked.1 asked.6 refl refl in (
-      walked.0,
-      walked.1,
+    let none = finds given old new before after wished counted fits goes by asked.6 refl refl in (
+      by,
       none.0,
       none.1,
       none.2,
@@ -97,16 +97,17 @@ took_is old new before after head n r goes walked =
     let came = walk_comes walked.0 old new before after (says.Chain head n r) goes tt walked.1 in
     came.2.1.2 ∙ chain_took before new.descriptors.items came.2.0 head n r came.2.1.0
 
-pub takes_so : TakesByWalk → (old new : ChainHandle) (before after : QueueState) (head n r : ℕ) → IsCounted before
-    → before.stopped ≡ None → IsWalked old new before after (wents.On (says.Chain head n r)) → (s : ThreadedQueue) → IsOf before s
-    → s.holder ≡ Walker
-    → PopsByIndex old new before after (says.Chain head n r)
+pub takes_so : TakesByWalk → (given : List (List ℕ)) (old new : ChainHandle) (before after : QueueState) (head n r : ℕ)
+    → IsCounted before
+    → before.stopped ≡ None → WalksBy given old new before after (wents.On (says.Chain head n r)) → (s : ThreadedQueue)
+    → IsOf before s → s.holder ≡ Walker
+    → PopsByIndex given old new before after (says.Chain head n r)
     (ActsTo before s (Loads ∷ TakesOne ∷ [])
     (after_act (ways_of before) (after_act (ways_of before) s Loads) TakesOne) after)
-takes_so law old new before after head n r counted goes walked s of walker =
+takes_so law given old new before after head n r counted goes by s of walker =
     let loaded : ThreadedQueue = after_act (ways_of before) s Loads in
-    let t = law walked.0 old new before after (says.Chain head n r) loaded counted goes tt walked.1 of walker in
-    (walked.0, walked.1, t.0, t.1, t.2, t.3, λ is. ((ap walks walker, ((t.4 is).0, refl)), (t.4 is).1))
+    let t = law given old new before after (says.Chain head n r) loaded counted goes tt by of walker in
+    (by, t.0, t.1, t.2, t.3, λ is. ((ap walks walker, ((t.4 is).0, refl)), (t.4 is).1))
 
 taken_out : (st : state.ChainState) (P : InFlight → Type 0) → FromTaken st P → (out : InFlight) × (st ≡ at.Taken out)
 taken_out (at.Taken out) P is = (out, refl)
@@ -121,28 +122,28 @@ took_counted : (p : ℕ) → (p + 1) % 2 ^ 16 < 2 ^ 16
 took_counted p = omega arith
 
 -- a chain that was taken is dropped
-pub drops_so : TakesByWalk → DropIsAnAct → (old one : ChainHandle) (before mid last : QueueState) (head n r : ℕ) → IsCounted before
-    → before.stopped ≡ None → IsWalked old one before mid (wents.On (says.Chain head n r))
+pub drops_so : TakesByWalk → DropIsAnAct → (given : List (List ℕ)) (old one : ChainHandle) (before mid last : QueueState)
+    (head n r : ℕ) → IsCounted before
+    → before.stopped ≡ None → WalksBy given old one before mid (wents.On (says.Chain head n r))
     → FromTaken one.state (λ out. out.request_len ≡ n) → give_up_error one.state mid ≡ None
     → last ≡ (if is_out one.state then untook mid else mid) → (s : ThreadedQueue) → IsOf before s → s.holder ≡ Walker
-    → PopsByIndex old one before mid (says.Chain head n r)
+    → PopsByIndex given old one before mid (says.Chain head n r)
     (ActsTo before s (Loads ∷ TakesOne ∷ DropsOne ∷ [])
     (after_act (ways_of before) (after_act (ways_of before) (after_act (ways_of before) s Loads) TakesOne) DropsOne) last)
-drops_so takes drops old one before mid last head n r counted goes walked taken clear left s of walker =
+drops_so takes drops given old one before mid last head n r counted goes by taken clear left s of walker =
     let ways = ways_of before in
     let loaded : ThreadedQueue = after_act ways s Loads in
     let two : ThreadedQueue = after_act ways loaded TakesOne in
     let three : ThreadedQueue = after_act ways two DropsOne in
-    let t = takes walked.0 old one before mid (says.Chain head n r) loaded counted goes tt walked.1 of walker in
+    let t = takes given old one before mid (says.Chain head n r) loaded counted goes tt by of walker in
     let out = taken_out one.state (λ out. out.request_len ≡ n) taken in
-    let mid_is = took_is old one before mid head n r goes walked in
+    let mid_is = took_is old one before mid head n r goes (given, by) in
     let clear' : give_up_error (at.Taken out.0) (took before) ≡ None =
     subst (λ (q : QueueState). give_up_error (at.Taken out.0) q ≡ None) mid_is
     (subst (λ (st : state.ChainState). give_up_error st mid ≡ None) out.1 clear) in
     let last_is : untook (took before) ≡ last =
     sym (left ∙ ap (λ (b : Bool). if b then untook mid else mid) (ap is_out out.1) ∙ ap untook mid_is) in (
-      walked.0,
-      walked.1,
+      by,
       t.0,
       t.1,
       t.2,

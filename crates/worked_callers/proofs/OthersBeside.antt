@@ -34,7 +34,7 @@ use Rattle.fs_live.specs.Live.{Abandons, Drops, Happens, IsEven, LiveEvent, Live
 use Rattle.fs_live.specs.Live.{Returns, Walks, after_drop, after_giving, after_loss, after_own, after_walk, calls_among, new_chain, room_of}
 use Rattle.fs_live.specs.Others.{AreBegunBy, GoesBackOwn, HandleAbandons, HandleDrops, HandleMoves, HandleReplies, HandleReturnsOwn, IfOut}
 use Rattle.fs_live.specs.Others.{IsOwn, recorded}
-use Rattle.fs_live.specs.Several.{LiveQueue, took}
+use Rattle.fs_live.specs.Several.{took}
 use Rattle.fs_live.proofs.Queues.{same_some, there_same}
 use Rattle.worked_callers.proofs.ServedBeside.{chain_is, reached_by, taken_of}
 

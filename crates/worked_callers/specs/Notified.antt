@@ -1,15 +1,18 @@
 -- Calls of a handle as acts of the model's threads (crate notify), and the index that a pop was given.
-use Rattle.std.specs.Prelude.{◌≡◌, ℕ, List, [], ◌∷◌, Option, Some, None}
+use Rattle.std.specs.Prelude.{◌≡◌, ℕ, List, [], ◌∷◌, Option, Some, None, map, reverse, take}
+use Rattle.std.specs.Borrow.{Bor}
 use Rattle.std.specs.Int.{w16, to_le_bytes}
 use Rattle.fs_regions.specs.Walks.{Loaded}
 use Rattle.fs_chain.specs.Whole.{LoadsOf, WalksBy}
 use Rattle.fs_chain.specs.declared.event_index.NotificationStore.{NotificationStore}
+use Rattle.fs_chain.specs.declared.loads.LoadOutcome as went
 use Rattle.fs_chain.specs.declared.loads.LoadOutcome.TheVariants as wents
 use Rattle.fs_chain.specs.declared.popping.PopOutcome.{PopOutcome}
 use Rattle.fs_chain.specs.declared.queue.QueueState.{QueueState}
 use Rattle.fs_chain.specs.declared.chain_handle.ChainHandle.{ChainHandle}
 use Rattle.notify.specs.Threads.{ThreadedQueue, ThreadStep, ActsOver, after_act}
 use Rattle.notify.specs.Threads.{Wishes, WishIsThere}
+use Rattle.fs_notify.specs.Amid.{LoadsAmid, WalksAmid}
 use Rattle.fs_notify.specs.Takers.{IsIndex, IsOf, SaysWish, ways_of, wish_at}
 
 -- the store that was returned is the wish in memory, after two acts of the model's thread
@@ -22,14 +25,39 @@ IsWish q s (Some store) =
     × ActsOver (ways_of q) s (Wishes ∷ WishIsThere ∷ []) wished
     × IsOf q wished
 
--- a pop with this result was given an available index for which P holds
-abbrev pub PopsByIndex : (old new : ChainHandle) → (before after : QueueState) → PopOutcome →
-    (ℕ → Type 0) → Type 0
-PopsByIndex old new before after told P =
-    (given : List (List ℕ))
-    × (walks : WalksBy given old new before after (wents.On told))
+-- the first `n` of these bytes, the last ones first, as the calls of a pop were given them
+abbrev pub calls_of : ℕ → List (Bor (List ℕ)) → List (List ℕ)
+calls_of n bytes = reverse (take n (map (λ b. b.now) bytes))
+
+-- a pop that was given the first of these bytes has this result
+abbrev pub IsWalkedBy : List (Bor (List ℕ)) → (old new : ChainHandle) → (before after : QueueState) →
+    went.LoadOutcome → Type 0
+IsWalkedBy bytes old new before after told =
+    (n : ℕ) × WalksBy (calls_of n bytes) old new before after told
+
+-- calls with these bytes are a pop with this result, and P holds for the index among the bytes
+abbrev pub PopsByIndex : (given : List (List ℕ)) → (old new : ChainHandle) → (before after : QueueState) →
+    PopOutcome → (ℕ → Type 0) → Type 0
+PopsByIndex given old new before after told P =
+    (walks : WalksBy given old new before after (wents.On told))
     × (loaded : Loaded)
     × LoadsOf given old new before after (wents.On told) walks loaded
+    × (index : ℕ)
+    × IsIndex loaded index
+    × P index
+
+-- the same of a pop some calls of which were refused
+abbrev pub IsWalkedAmid : List (Bor (List ℕ)) → (old new : ChainHandle) → (before after : QueueState) →
+    went.LoadOutcome → Type 0
+IsWalkedAmid bytes old new before after told =
+    (n : ℕ) × WalksAmid (calls_of n bytes) old new before after told
+
+abbrev pub PopsAmid : (given : List (List ℕ)) → (old new : ChainHandle) → (before after : QueueState) →
+    PopOutcome → (ℕ → Type 0) → Type 0
+PopsAmid given old new before after told P =
+    (walks : WalksAmid given old new before after (wents.On told))
+    × (loaded : Loaded)
+    × LoadsAmid given old new before after (wents.On told) walks loaded
     × (index : ℕ)
     × IsIndex loaded index
     × P index

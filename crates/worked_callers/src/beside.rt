@@ -23,6 +23,7 @@ ghost use Rattle.fs_live.specs.Live.{LiveState, NoneWaits, OutChain, Sleeps, cal
 ghost use Rattle.fs_live.specs.Live.{why_declined};
 ghost use Rattle.fs_live.specs.Runs.{EachStoresThere, events_on, going, tickets_on};
 ghost use Rattle.fs_live.specs.Several.{LiveQueue, RunsOver, UsedFrom, returns_among};
+ghost use Rattle.worked_callers.specs.Notified.{IsWalkedBy};
 
 use crate::wholes::{give_back, reply, walk_by, walk_chain};
 use fs_chain::{ChainError, ChainHandle, LoadOutcome, NotificationStore, PopOutcome, QueueState};
@@ -113,6 +114,8 @@ pub fn walk_to_end(
     requires free { handle.old.state ≡ at.Free }
     ensures walked { IfOk result
         (λ told. IsWalked handle.old handle.new queue.old queue.new (LoadOutcome.On told)) }
+    ensures given { IfOk result (λ told.
+        IsWalkedBy given.now handle.old handle.new queue.old queue.new (LoadOutcome.On told)) }
 {
     match walk_by(handle, queue, given)? {
         LoadOutcome::On(told) => Ok(told),

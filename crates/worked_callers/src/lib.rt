@@ -2,6 +2,7 @@
 //! calls are a step or a run. So real calls meet the hypotheses of these theorems. `chain_tests` runs them.
 #![tactic(auto)]
 
+pub mod amid;
 pub mod among;
 pub mod answers;
 pub mod beside;

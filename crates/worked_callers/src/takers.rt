@@ -4,7 +4,6 @@
 ghost use Rattle.std.specs.Prelude.{◌≡◌, ◌<◌, ◌^◌, ℕ, false, IfOk, IsTrue, [], ◌∷◌, None, OnOk, option_map};
 ghost use Rattle.std.specs.Prelude.{Err};
 ghost use Rattle.fs_chain.specs.Events.{store_of};
-ghost use Rattle.fs_chain.specs.Whole.{IsWalked};
 ghost use Rattle.fs_chain.specs.declared.error.ChainError.{ChainError};
 ghost use Rattle.fs_chain.specs.declared.popping.PopOutcome.{PopOutcome};
 ghost use Rattle.fs_chain.specs.declared.chain_handle.ChainHandle.{ChainHandle};
@@ -14,7 +13,7 @@ ghost use Rattle.notify.specs.Threads.{ActsOver, Asker, DropsOne, Loads, Nobody,
 ghost use Rattle.notify.specs.Threads.{TakesOne, ThreadedQueue, Walker, WishIsThere, Wishes, after_act};
 ghost use Rattle.notify.specs.Threads.{may_act};
 ghost use Rattle.fs_notify.specs.Takers.{IsCounted, IsOf, MutesBy, ways_of};
-ghost use Rattle.worked_callers.specs.Notified.{ActsTo, IsWish, PopsByIndex};
+ghost use Rattle.worked_callers.specs.Notified.{ActsTo, IsWalkedBy, IsWish, PopsByIndex, calls_of};
 
 use crate::beside::walk_to_end;
 use crate::wholes::walk_chain;
@@ -58,7 +57,7 @@ pub fn walk_idle(
     given: &[&[u8]],
 ) -> Result<(), ChainError>
     requires free { handle.old.state ≡ at.Free }
-    ensures walked { OnOk result (IsWalked handle.old handle.new queue.old queue.new
+    ensures walked { OnOk result (IsWalkedBy given.now handle.old handle.new queue.old queue.new
         (LoadOutcome.On PopOutcome.Idle)) }
 {
     match walk_to_end(handle, queue, given)? {
@@ -80,14 +79,15 @@ pub fn sleep_if_idle(
         → IsOf queue.old s
         → s.holder ≡ Walker
         → IsWish queue.old s store) }
-    ensures sleeps { OnOk result ((s : ThreadedQueue)
+    ensures sleeps { OnOk result ((n : ℕ)
+        × ((s : ThreadedQueue)
         → IsOf queue.old s
         → s.holder ≡ Walker
         → s.index < 2 ^ 16
         → (let ways = ways_of queue.old in
         let end = after_act ways (after_act ways (after_act ways s Wishes) WishIsThere) SleepsNow in
-        PopsByIndex handle.old handle.new queue.old queue.new PopOutcome.Idle
-        (ActsTo queue.old s (Wishes ∷ WishIsThere ∷ SleepsNow ∷ []) end queue.new))) }
+        PopsByIndex (calls_of n given.now) handle.old handle.new queue.old queue.new PopOutcome.Idle
+        (ActsTo queue.old s (Wishes ∷ WishIsThere ∷ SleepsNow ∷ []) end queue.new)))) }
     ensures order { OnOk result ((s : ThreadedQueue)
         → IsOf queue.old s
         → s.holder ≡ Walker
@@ -112,13 +112,15 @@ pub fn take_one(
 ) -> Result<(u16, usize, usize), ChainError>
     requires free { handle.old.state ≡ at.Free }
     requires goes { queue.old.stopped ≡ None }
-    ensures takes { IfOk result (λ c. (s : ThreadedQueue)
+    ensures takes { IfOk result (λ c. (n : ℕ)
+        × ((s : ThreadedQueue)
         → IsOf queue.old s
         → s.holder ≡ Walker
         → (let ways = ways_of queue.old in
-        PopsByIndex handle.old handle.new queue.old queue.new (PopOutcome.Chain c.0 c.1 c.2)
+        PopsByIndex (calls_of n given.now) handle.old handle.new queue.old queue.new
+        (PopOutcome.Chain c.0 c.1 c.2)
         (ActsTo queue.old s (Loads ∷ TakesOne ∷ []) (after_act ways (after_act ways s Loads) TakesOne)
-        queue.new))) }
+        queue.new)))) }
 {
     law_takers();
     are_counted(queue);
@@ -133,14 +135,16 @@ pub fn drop_one(
 ) -> Result<(), ChainError>
     requires free { handle.old.state ≡ at.Free }
     requires goes { queue.old.stopped ≡ None }
-    ensures drops { OnOk result ((s : ThreadedQueue)
+    ensures drops { OnOk result ((n : ℕ) × (taken : ChainHandle) × (mid : QueueState) × (head : ℕ)
+        × (request : ℕ) × (room : ℕ)
+        × ((s : ThreadedQueue)
         → IsOf queue.old s
         → s.holder ≡ Walker
-        → (taken : ChainHandle) × (mid : QueueState) × (head : ℕ) × (request : ℕ) × (room : ℕ)
-        × (let ways = ways_of queue.old in
+        → (let ways = ways_of queue.old in
         let end = after_act ways (after_act ways (after_act ways s Loads) TakesOne) DropsOne in
-        PopsByIndex handle.old taken queue.old mid (PopOutcome.Chain head request room)
-        (ActsTo queue.old s (Loads ∷ TakesOne ∷ DropsOne ∷ []) end queue.new))) }
+        PopsByIndex (calls_of n given.now) handle.old taken queue.old mid
+        (PopOutcome.Chain head request room)
+        (ActsTo queue.old s (Loads ∷ TakesOne ∷ DropsOne ∷ []) end queue.new)))) }
 {
     law_takers();
     are_counted(queue);

@@ -18,6 +18,7 @@ ghost use Rattle.fs_chain.specs.Whole.{IsMachineBefore, IsSession, IsWalked, Wan
 ghost use Rattle.fs_chain.specs.Whole.{data_behind, no_effects};
 ghost use Rattle.fs_chain.specs.declared.decoding.Decoded as told;
 ghost use Rattle.fs_chain.specs.declared.state.ChainState.TheVariants as at;
+ghost use Rattle.worked_callers.specs.Notified.{IsWalkedBy};
 
 use fs_chain::laws::law_chains;
 use fs_chain::{ChainError, ChainHandle, Decoded, LoadOutcome, PopOutcome, QueueState};
@@ -44,6 +45,8 @@ pub fn walk_by(
 ) -> Result<LoadOutcome, ChainError>
     requires free { handle.old.state ≡ at.Free }
     ensures walks { IfOk result (λ told. IsWalked handle.old handle.new queue.old queue.new told) }
+    ensures given { IfOk result (λ told.
+        IsWalkedBy given.now handle.old handle.new queue.old queue.new told) }
 {
     let mut told = handle.pop(queue, &[])?;
     for bytes in given {
@@ -95,6 +98,8 @@ pub fn walk_chain(
 ) -> Result<(u16, usize, usize), ChainError>
     requires free { handle.old.state ≡ at.Free }
     ensures walked { IfOk result (λ c. IsWalked handle.old handle.new queue.old queue.new
+        (LoadOutcome.On (PopOutcome.Chain c.0 c.1 c.2))) }
+    ensures given { IfOk result (λ c. IsWalkedBy given.now handle.old handle.new queue.old queue.new
         (LoadOutcome.On (PopOutcome.Chain c.0 c.1 c.2))) }
 {
     match walk_by(handle, queue, given)? {

@@ -14,17 +14,20 @@ returns c =
     let r = c.in_ok-_len.field-0-2 in
     let goes = c.requires.goes in
     let walked = c.in_ok-_len.ensures.walked in
+    let by = c.in_ok-_len.ensures.given in
     let counted = c.are_counted.ensures in
     record {
       drops = on_ok_two c.give_up.result _ _ _
-          (λ clear left s of walker. (
+          (λ clear left. (
+            by.0,
             one,
             mid,
             head,
             n,
             r,
-            drops_so c.law_takers.ensures.takes c.law_takers.ensures.drops old one q mid c.give_up.new.queue head n r counted goes walked
-                (taken_so old one q mid head n r goes walked) clear left s of walker,
+            λ s of walker.
+                drops_so c.law_takers.ensures.takes c.law_takers.ensures.drops _ old one q mid c.give_up.new.queue head n r counted goes
+                by.1 (taken_so old one q mid head n r goes walked) clear left s of walker,
           ))
           c.give_up.ensures.ok c.give_up.ensures.queue;
     }

@@ -4,12 +4,15 @@ use Rattle.worked_callers.proofs.takers.sleep_if_idle.Goals as goal
 pub returns : goal.returns
 returns c =
     let q = c.args.queue.now in
-    let walked = c.in_ok-walk_idle.ensures.walked in
+    let by = c.in_ok-walk_idle.ensures.walked in
     let counted = c.are_counted.ensures in
     record {
       wish = c.store_wish-store.ensures;
-      sleeps = sleeps_so c.law_takers.ensures.asks c.law_takers.ensures.none c.args.handle.now c.walk_idle.new.handle q
-          c.walk_idle.new.queue counted c.requires.goes walked;
+      sleeps = (
+        by.0,
+        sleeps_so c.law_takers.ensures.asks c.law_takers.ensures.none _ c.args.handle.now c.walk_idle.new.handle q
+            c.walk_idle.new.queue counted c.requires.goes by.1,
+      );
       order = λ s of walker at.
           let law = c.law_takers.ensures.order q s of walker at in
           (law.0, law.2);

@@ -8,7 +8,10 @@ returns c =
     let counted = c.are_counted.ensures in
     record {
       takes = if_ok c.walk_chain.result _ _
-          (λ k walked. takes_so c.law_takers.ensures.takes c.args.handle.now c.walk_chain.new.handle q c.walk_chain.new.queue k.0 k.1 k.2
-          counted c.requires.goes walked)
-          c.walk_chain.ensures.walked;
+          (λ k by. (
+            by.0,
+            takes_so c.law_takers.ensures.takes _ c.args.handle.now c.walk_chain.new.handle q c.walk_chain.new.queue k.0 k.1 k.2
+                counted c.requires.goes by.1,
+          ))
+          c.walk_chain.ensures.given;
     }

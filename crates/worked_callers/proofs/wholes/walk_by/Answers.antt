@@ -1,9 +1,18 @@
-use Rattle.std.proofs.Common.{refl}
+use Rattle.std.proofs.Common.{ℕ, List, refl, rules, subst, sym}
+use Rattle.fs_chain.specs.Whole.{WalksBy}
 use Rattle.fs_chain.proofs.WholeWalks.{goes_on_by}
+use Rattle.worked_callers.proofs.GivenBytes.{calls_next}
 use Rattle.worked_callers.proofs.wholes.walk_by.Goals as goal
 
 pub loop-bytes-preserved : goal.loop-bytes-preserved
 loop-bytes-preserved c =
-    goes_on_by c.args.handle.now c.loop-bytes.handle c.pop-in-loop-bytes.new.self c.args.queue.now c.loop-bytes.queue
-    c.pop-in-loop-bytes.new.queue
-    c.loop-bytes.told c.in_ok-told-2.told _ (c.if-not-wants_bytes.ensures refl) c.loop-bytes.invariant c.in_ok-told-2.ensures.goes
+    let wants = c.if-not-wants_bytes.ensures refl in
+    let call = c.in_ok-told-2.ensures.goes in (
+      goes_on_by c.args.handle.now c.loop-bytes.handle c.pop-in-loop-bytes.new.self c.args.queue.now c.loop-bytes.queue
+          c.pop-in-loop-bytes.new.queue
+          c.loop-bytes.told c.in_ok-told-2.told _ wants c.loop-bytes.invariant.0 call,
+      subst (λ (given : List (List ℕ)). WalksBy given c.args.handle.now c.pop-in-loop-bytes.new.self c.args.queue.now
+          c.pop-in-loop-bytes.new.queue c.in_ok-told-2.told)
+          (sym (calls_next c.args.given.now c.loop-bytes.bytes-index _ c.loop-bytes-test.true (search rules)))
+          (c.loop-bytes.handle, c.loop-bytes.queue, c.loop-bytes.told, c.loop-bytes.invariant.1, wants, call),
+    )

@@ -19,8 +19,8 @@ use contract.Monad.{fact}
 use contract.Running.{tables}
 use denote.Exit.{yes}
 use denote.Signature.{plain}
-use denote.Steps.{heard, nothing}
-use denote.Triple.Walked.{says, Stays, stay_dropped, walk_of, ends_at, Goes-dropped}
+use denote.Steps.{nothing}
+use denote.Triple.Walked.{Stays, stay_dropped, walk_of, ends_at, Goes-dropped}
 
 pub end_spec : {M : Type 1} → statement M
 end_spec 𝓤 𝓛 𝓜 𝓡 wired =

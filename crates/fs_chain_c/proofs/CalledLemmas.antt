@@ -1,0 +1,98 @@
+-- Calls of the exports meet the hypotheses of the laws of notifications.
+use Rattle.std.proofs.Common.{arith, ◌≡◌, ◌<◌, ◌==◌, ◌||◌, ◌^◌, ◌∙◌, inl, inr, ℕ, max, Bool, true, false, List, Option, Some, None}
+use Rattle.std.proofs.Common.{refl, subst, sym}
+use Rattle.std.specs.Int.{w16, from_le_bytes, to_le_bytes}
+use Rattle.fs_queue.specs.Queue.{has_bit}
+use Rattle.fs_chain.specs.Numbers.{chain_error_number}
+use Rattle.fs_chain.specs.Queues.{gave}
+use Rattle.fs_chain.specs.declared.chain_handle.ChainHandle.{ChainHandle}
+use Rattle.fs_chain.specs.declared.error.ChainError.TheVariants.{BadArgument, WrongOrder}
+use Rattle.fs_chain.specs.declared.queue.QueueState.{QueueState}
+use Rattle.notify.specs.Kicks.{NotifyState, Checks, after}
+use Rattle.notify.specs.Threads.{ThreadedQueue, Walker}
+use Rattle.fs_notify.specs.Givers.{rules_of}
+use Rattle.fs_notify.specs.Takers.{IsCounted, IsOf, SaysWish}
+use Rattle.fs_chain_c.specs.declared.notifications.FsStore.{FsStore}
+use Rattle.fs_chain_c.specs.declared.queue.FsQueue.{FsQueue}
+use Rattle.fs_chain_c.specs.Handles.{EndsPush}
+use Rattle.fs_chain_c.specs.LawsCalled.{ChecksSo, WishesSo, published_by, walked_by}
+use Rattle.fs_chain_c.specs.Notifications.{AsksKicks, SetsNotification}
+use Rattle.fs_chain_c.specs.Notifying.{IsWish, NotifyIsACheck, StoresAWish}
+use Rattle.fs_chain_c.specs.Pushing.{EndsHandlePush}
+use Rattle.fs_chain_c.specs.Queues.{IsQueueState}
+use Rattle.fs_chain_c.proofs.SameQueues.{state_same}
+
+no_order : 0 ≡ chain_error_number WrongOrder → ⊥
+no_order is = cc
+
+most : (n : ℕ) → n < 2 ^ 16 → max 1 n < 2 ^ 16
+most n low = grind arith
+
+counted : (q : FsQueue) (k : QueueState) → IsQueueState q k → q.next_avail < 2 ^ 16 → q.next_used < 2 ^ 16 → q.max_in_flight < 2 ^ 16
+    → IsCounted k
+counted q k is avail used few = (
+  subst (λ (n : ℕ). n < 2 ^ 16) (sym is.next_avail) avail,
+  subst (λ (n : ℕ). n < 2 ^ 16) (sym is.next_used) used,
+  subst (λ (n : ℕ). n < 2 ^ 16) (sym is.max_in_flight) (most q.max_in_flight few),
+)
+
+no_argument : 0 ≡ chain_error_number BadArgument → ⊥
+no_argument is = cc
+
+wishes_by : StoresAWish → (b : ChainHandle) (q : FsQueue) (told : FsStore) → SetsNotification b q 1 told 0
+    → q.next_avail < 2 ^ 16 → q.next_used < 2 ^ 16 → q.max_in_flight < 2 ^ 16 → WishesSo (Some b) q told
+wishes_by law b q told (inl none) avail used few = absurd (no_argument none.1)
+wishes_by law b q told (inr is) avail used few =
+    let k = is.1 in
+    let small = counted q k is.2 avail used few in (
+      b,
+      k,
+      refl,
+      is.2,
+      λ s.
+          let walked : ThreadedQueue = walked_by k s in
+          let made = law b q told walked (inr is) in
+          let same : made.0 ≡ k = state_same q made.0 k made.1 is.2 in
+          subst (λ (j : QueueState). IsCounted j → IsOf j walked → walked.holder ≡ Walker → IsWish b j walked told) same made.2 small
+          (refl, refl) refl,
+    )
+
+pub wishes_so : StoresAWish → (before after : Option ChainHandle) (q : FsQueue) (told : FsStore) (status : ℕ)
+    → AsksKicks before q 1 status told after → q.next_avail < 2 ^ 16 → q.next_used < 2 ^ 16 → q.max_in_flight < 2 ^ 16
+    → status ≡ 0 → WishesSo before q told
+wishes_so law None None q told status asks avail used few done = absurd (no_order (sym done ∙ asks.0))
+wishes_so law None (Some b') q told status asks avail used few done = absurd asks
+wishes_so law (Some b) None q told status asks avail used few done = absurd asks
+wishes_so law (Some b) (Some b') q told status asks avail used few done =
+    wishes_by law b q told (subst (λ (n : ℕ). SetsNotification b q 1 told n) done asks.0) avail used few
+
+-- the driver's two bytes are its wish, as flags and as an event
+says_so : (event_index : Bool) (bytes : List ℕ)
+    → SaysWish event_index bytes (from_le_bytes w16 bytes) (has_bit (from_le_bytes w16 bytes) 0)
+says_so true bytes = refl
+says_so false bytes = refl
+
+checks_by : NotifyIsACheck → (b b' : ChainHandle) (q q' : FsQueue) (seen notify : ℕ) → EndsHandlePush b q seen notify 0 b' q'
+    → seen < 2 ^ 16 → q.next_used < 2 ^ 16 → ChecksSo q seen notify
+checks_by law b b' q q' seen notify (inl none) fits used = absurd (no_argument none.2.0)
+checks_by law b b' q q' seen notify (inr is) fits used =
+    let k = is.1 in (
+      k,
+      is.2,
+      λ u.
+          let at : NotifyState = published_by k seen u in
+          let made = law b b' q q' seen notify at (inr is) fits in
+          let same : made.0 ≡ k = state_same q made.0 k made.1 is.2 in
+          subst (λ (j : QueueState). j.next_used < 2 ^ 16 → at.published ≡ (gave j).next_used → at.unchecked ≡ 1
+          → SaysWish j.event_index (to_le_bytes w16 seen) at.event at.muted
+          → (after (rules_of j) at Checks).owes ≡ (at.owes || notify == 1)) same
+          made.2 (subst (λ (n : ℕ). n < 2 ^ 16) (sym is.2.next_used) used) refl refl (says_so k.event_index (to_le_bytes w16 seen)),
+    )
+
+pub checks_so : NotifyIsACheck → (before now : Option ChainHandle) (q q' : FsQueue) (seen notify status : ℕ)
+    → EndsPush before q seen status notify now q' → seen < 2 ^ 16 → q.next_used < 2 ^ 16 → status ≡ 0 → ChecksSo q seen notify
+checks_so law None None q q' seen notify status ends fits used done = absurd (no_order (sym done ∙ ends.0))
+checks_so law None (Some b') q q' seen notify status ends fits used done = absurd ends
+checks_so law (Some b) None q q' seen notify status ends fits used done = absurd ends
+checks_so law (Some b) (Some b') q q' seen notify status ends fits used done =
+    checks_by law b b' q q' seen notify (subst (λ (n : ℕ). EndsHandlePush b q seen notify n b' q') done ends) fits used

@@ -1,0 +1,25 @@
+use Rattle.std.proofs.Common.{◌≡◌, ap, subst, ◌∙◌}
+use Rattle.fs_chain.specs.declared.loads.LoadOutcome as went
+use Rattle.fs_chain.specs.declared.loads.LoadOutcome.TheVariants as wents
+use Rattle.fs_chain.specs.declared.popping.PopOutcome as walked
+use Rattle.fs_chain.specs.declared.popping.PopOutcome.TheVariants as says
+use Rattle.worked_callers.specs.Notified.{IsWalkedAmid, calls_of}
+use Rattle.worked_callers.proofs.amid.sleep_amid.Goals as goal
+
+pub returns-in-On-Idle : goal.returns-in-On-Idle
+returns-in-On-Idle c =
+    let old = c.args.handle.now in
+    let new = c.walk_amid.new.handle in
+    let q = c.args.queue.now in
+    let after = c.walk_amid.new.queue in
+    let given = c.args.given.now in
+    let told : c.in_ok-walk_amid.field-0 ≡ wents.On says.Idle =
+    c.in-On-Idle.is ∙ ap (λ (o : walked.PopOutcome). wents.On o) c.in-On-Idle.field-0-is in
+    let by : IsWalkedAmid given old new q after (wents.On says.Idle) =
+    subst (λ (t : went.LoadOutcome). IsWalkedAmid given old new q after t) told c.in_ok-walk_amid.ensures in (
+      by.0,
+      λ s is asker shown fits.
+          let none = c.law_takers.ensures.none_amid (calls_of by.0 given) old new q after s c.are_counted.ensures fits c.requires.goes
+          by.1 is asker shown in
+          (by.1, none.0, none.1, none.2, none.3, none.4),
+    )

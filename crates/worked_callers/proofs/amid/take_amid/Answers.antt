@@ -1,0 +1,26 @@
+use Rattle.std.proofs.Common.{◌≡◌, ap, subst, ◌∙◌}
+use Rattle.fs_chain.specs.declared.loads.LoadOutcome as went
+use Rattle.fs_chain.specs.declared.loads.LoadOutcome.TheVariants as wents
+use Rattle.fs_chain.specs.declared.popping.PopOutcome as walked
+use Rattle.fs_chain.specs.declared.popping.PopOutcome.TheVariants as says
+use Rattle.worked_callers.specs.Notified.{IsWalkedAmid, calls_of}
+use Rattle.worked_callers.proofs.amid.take_amid.Goals as goal
+
+pub returns-in-On-Chain : goal.returns-in-On-Chain
+returns-in-On-Chain c =
+    let old = c.args.handle.now in
+    let new = c.walk_amid.new.handle in
+    let q = c.args.queue.now in
+    let after = c.walk_amid.new.queue in
+    let given = c.args.given.now in
+    let chain : walked.PopOutcome = says.Chain c.in-On-Chain.head c.in-On-Chain.request_len c.in-On-Chain.room_len in
+    let told : c.in_ok-head.field-0 ≡ wents.On chain =
+    c.in-On-Chain.is ∙ ap (λ (o : walked.PopOutcome). wents.On o) c.in-On-Chain.field-0-is in
+    let by : IsWalkedAmid given old new q after (wents.On chain) =
+    subst (λ (t : went.LoadOutcome). IsWalkedAmid given old new q after t) told c.in_ok-head.ensures in (
+      by.0,
+      λ s is walker.
+          let took = c.law_takers.ensures.takes_amid (calls_of by.0 given) old new q after chain s c.are_counted.ensures c.requires.goes tt
+          by.1 is walker in
+          (by.1, took.0, took.1, took.2, took.3, took.4),
+    )

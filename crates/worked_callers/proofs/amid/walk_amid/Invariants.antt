@@ -1,0 +1,7 @@
+use Rattle.worked_callers.specs.Notified.{calls_of}
+use Rattle.fs_notify.specs.Amid.{WalksAmid}
+use Rattle.worked_callers.proofs.amid.walk_amid.Given as goal
+
+-- the calls so far are a pop, by the first of the bytes
+abbrev pub invariant-loop-bytes : goal.invariant-loop-bytes
+invariant-loop-bytes l = WalksAmid (calls_of l.bytes-index l.given) l.fn.handle l.handle l.fn.queue l.queue l.told

@@ -1,0 +1,116 @@
+//! Pops some calls of which are refused, as acts of the model in which no notification is lost (crate
+//! `notify`).
+
+ghost use Rattle.std.specs.Prelude.{◌≡◌, ◌<◌, ◌^◌, ℕ, false, IfOk, IsTrue, None, OnOk};
+ghost use Rattle.fs_chain.specs.Loads.{IsSame};
+ghost use Rattle.fs_chain.specs.declared.popping.PopOutcome.{PopOutcome};
+ghost use Rattle.fs_chain.specs.declared.state.ChainState.TheVariants as at;
+ghost use Rattle.notify.specs.Threads.{Asker, SleepsNow, TakesOne, ThreadedQueue, Walker, after_act, may_act};
+ghost use Rattle.fs_notify.specs.Takers.{IsOf, ways_of};
+ghost use Rattle.worked_callers.specs.Notified.{IsWalkedAmid, PopsAmid, calls_of};
+
+use crate::takers::are_counted;
+use crate::wholes::wants_bytes;
+use fs_chain::{ChainError, ChainHandle, LoadOutcome, PopOutcome, QueueState};
+use fs_notify::law_takers;
+
+/// A call that is refused. Fails with `BadArgument` if it isn't.
+pub fn refuse(
+    handle: &mut ChainHandle,
+    queue: &mut QueueState,
+    wrong: &[u8],
+) -> Result<(), ChainError>
+    ensures same { OnOk result (IsSame handle.old handle.new) }
+    ensures queue { OnOk result (queue.new ≡ queue.old) }
+{
+    match handle.pop(queue, wrong) {
+        Ok(_) => Err(ChainError::BadArgument),
+        Err(_) => Ok(()),
+    }
+}
+
+/// A pop with these bytes, one call for each, as long as it asks for bytes. Before each of them a call with
+/// other bytes is refused.
+pub fn walk_amid(
+    handle: &mut ChainHandle,
+    queue: &mut QueueState,
+    wrong: &[u8],
+    given: &[&[u8]],
+) -> Result<LoadOutcome, ChainError>
+    requires free { handle.old.state ≡ at.Free }
+    ensures { IfOk result (λ told.
+        IsWalkedAmid given.now handle.old handle.new queue.old queue.new told) }
+{
+    let mut told = handle.pop(queue, &[])?;
+    for bytes in given {
+        if !wants_bytes(&told) {
+            return Ok(told);
+        }
+        refuse(handle, queue, wrong)?;
+        told = handle.pop(queue, bytes)?;
+    }
+    Ok(told)
+}
+
+/// Such a pop that finds no chain: the model's thread, which stored its wish, sleeps. Fails with
+/// `WrongOrder` if a chain is available.
+pub fn sleep_amid(
+    handle: &mut ChainHandle,
+    queue: &mut QueueState,
+    wrong: &[u8],
+    given: &[&[u8]],
+) -> Result<(), ChainError>
+    requires free { handle.old.state ≡ at.Free }
+    requires goes { queue.old.stopped ≡ None }
+    ensures { OnOk result ((n : ℕ)
+        × ((s : ThreadedQueue)
+        → IsOf queue.old s
+        → s.holder ≡ Asker
+        → s.hidden ≡ false
+        → s.index < 2 ^ 16
+        → PopsAmid (calls_of n given.now) handle.old handle.new queue.old queue.new PopOutcome.Idle
+        (λ index. s.index ≡ index
+        → IsTrue (may_act (ways_of queue.old) s SleepsNow)
+        × IsOf queue.new (after_act (ways_of queue.old) s SleepsNow)))) }
+{
+    law_takers();
+    are_counted(queue);
+    match walk_amid(handle, queue, wrong, given)? {
+        LoadOutcome::On(PopOutcome::Idle) => Ok(()),
+        _ => Err(ChainError::WrongOrder),
+    }
+}
+
+/// Such a pop that returns a chain: its head, and the lengths of request and reply buffer. The model's thread
+/// takes one.
+pub fn take_amid(
+    handle: &mut ChainHandle,
+    queue: &mut QueueState,
+    wrong: &[u8],
+    given: &[&[u8]],
+) -> Result<(u16, usize, usize), ChainError>
+    requires free { handle.old.state ≡ at.Free }
+    requires goes { queue.old.stopped ≡ None }
+    ensures { IfOk result (λ c. (n : ℕ)
+        × ((s : ThreadedQueue)
+        → IsOf queue.old s
+        → s.holder ≡ Walker
+        → PopsAmid (calls_of n given.now) handle.old handle.new queue.old queue.new
+        (PopOutcome.Chain c.0 c.1 c.2)
+        (λ index. s.known ≡ index
+        → IsTrue (may_act (ways_of queue.old) s TakesOne)
+        × IsOf queue.new (after_act (ways_of queue.old) s TakesOne)))) }
+{
+    law_takers();
+    are_counted(queue);
+    match walk_amid(handle, queue, wrong, given)? {
+        LoadOutcome::On(
+            PopOutcome::Chain {
+                head,
+                request_len,
+                room_len,
+            },
+        ) => Ok((head, request_len, room_len)),
+        _ => Err(ChainError::WrongOrder),
+    }
+}
