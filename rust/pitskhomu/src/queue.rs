@@ -213,13 +213,6 @@ impl Queue {
             .map(|number| Status::of(number.into()))
     }
 
-    /// Whether `used_event` or `avail_event` is at an address (VIRTIO 1.2, 2.7.7 and 2.7.10).
-    pub(crate) fn has_event_field_at(&self, at: u64) -> bool {
-        let QueueLayout { size, available, used, .. } = self.layout();
-        let fields = [available + 4 + 2 * u64::from(size), used + 4 + 8 * u64::from(size)];
-        self.has_event_index() && fields.contains(&at)
-    }
-
     /// The guest address of the field that enables available buffer notifications: `avail_event`,
     /// or the flags of the used ring (VIRTIO 1.2, 2.7.8 and 2.7.10).
     pub(crate) const fn notification_address(&self) -> u64 {

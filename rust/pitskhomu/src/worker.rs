@@ -273,7 +273,7 @@ impl Worker {
         match popping.0.pop(queue, memory)? {
             Popped::InFlight if is_lent => popping.0.keep_windows(queue)?,
             Popped::InFlight => {}
-            Popped::Missed => return popping.0.gather_misses(queue).map(|()| Taken::Missing),
+            Popped::Missed => return popping.0.gather_misses().map(|()| Taken::Missing),
             Popped::Idle | Popped::Load => return Ok(Taken::Idle),
         }
         mem::forget(popping);

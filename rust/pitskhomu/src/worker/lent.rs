@@ -159,14 +159,10 @@ impl Worker {
     }
 
     /// All misses of the pop that has just ended: its first, and those of the buffers of the
-    /// descriptors that it gathered. It gathers none before it has found `used_event` and
-    /// `avail_event`: then the library has those of an earlier pop.
-    pub(super) fn gather_misses(&mut self, queue: &Queue) -> Result<(), Status> {
+    /// descriptors that it gathered.
+    pub(super) fn gather_misses(&mut self) -> Result<(), Status> {
         let sys::Pop { miss_at: at, miss_len: len, miss_access: access, .. } = self.pop;
         self.miss(sys::Miss { at, len, access })?;
-        if queue.has_event_field_at(at) {
-            return Ok(());
-        }
         let (mut index, mut from) = (0, 0);
         while self.misses.len() < MISSES {
             match self.chain.miss(index, from) {
