@@ -10,7 +10,7 @@ use Rattle.vm_memory.specs.Memory.{located, location}
 use Rattle.fs_queue.specs.Chain.{Descriptor, is_writable}
 use Rattle.fs_queue.specs.Taking.{all_reach, total_len, access_of, of_direction}
 use Rattle.fs_regions.specs.Places.{Mapped, places_in}
-use Rattle.fs_regions.specs.Windows.{IsWindowFrom, StandsIn}
+use Rattle.fs_regions.specs.Windows.{HasNoWindowFrom, IsWindowFrom, StandsIn}
 use Rattle.fs_regions.proofs.Directions.{Skips, skips_begin, skips_on, skips_other}
 use Rattle.fs_chain.specs.declared.window_cursor.WindowCursor.{WindowCursor}
 use Rattle.fs_chain.specs.Passing.{HasPassed}
@@ -127,3 +127,11 @@ end_passed l b ds rest p from passed below left none all =
     let under = s.below in
     let end = none (s.there all) in
     omega (arith, count, under, end)
+
+-- and where there is no window behind it, the whole chain has none
+pub no_window_passed : (l : Mapped) (b : Bool) (ds rest : List Descriptor) (p : WindowCursor) (from : ℕ) → HasPassed b ds p → p.bytes ≤ from
+    → rest ≡ drop p.index ds → HasNoWindowFrom l b rest (from - p.bytes) → HasNoWindowFrom l b ds from
+no_window_passed l b ds rest p from passed below left none = λ a more is small.
+    let s : Skips l b ds from (from - p.bytes) rest =
+    subst (λ (xs : List Descriptor). Skips l b ds from (from - p.bytes) xs) (sym left) (passed_skips l b ds p from passed below) in
+    none a more (sym s.bytes ∙ is) small

@@ -4,7 +4,7 @@ ghost use Rattle.std.specs.Prelude.{◌≡◌, ◌≤◌, [], Some, None, IfErr,
 ghost use Rattle.std.specs.Prelude.{false};
 ghost use Rattle.fs_queue.specs.Taking.{all_reach, total_len, access_of, of_direction};
 ghost use Rattle.fs_regions.specs.Places.{places_in, untranslated};
-ghost use Rattle.fs_regions.specs.Windows.{IsWindowFrom};
+ghost use Rattle.fs_regions.specs.Windows.{HasNoWindowFrom, IsWindowFrom};
 ghost use Rattle.fs_chain.specs.Orders.{is_out, memory_error};
 ghost use Rattle.fs_chain.specs.Passing.{HasPassed};
 ghost use Rattle.fs_chain.specs.declared.state.ChainState.TheVariants as at;
@@ -114,7 +114,8 @@ impl ChainHandle {
 
     /// The longest window of one direction of a chain, from byte `from` on. The cursor passes the
     /// descriptors before that byte, so the windows of a whole chain take time for its descriptors once.
-    /// None past the end of the direction's bytes, or if no chain is in flight.
+    /// None past the end of the direction's bytes, or if byte `from` isn't mapped or its address exceeds 64
+    /// bits, or if no chain is in flight.
     pub fn next_window(
         &self,
         write_only: bool,
@@ -131,6 +132,9 @@ impl ChainHandle {
             → all_reach (places_in self.now.regions) (access_of write_only)
             (of_direction write_only self.now.descriptors.items) ≡ true
             → total_len (of_direction write_only self.now.descriptors.items) ≤ from }
+        ensures unmapped { result ≡ None
+            → is_out self.now.state ≡ true
+            → HasNoWindowFrom self.now.regions write_only self.now.descriptors.items from }
     {
         if !self.is_out() {
             return None;
@@ -150,6 +154,9 @@ impl ChainHandle {
             → all_reach (places_in self.now.regions) (access_of write_only)
             (of_direction write_only self.now.descriptors.items) ≡ true
             → total_len (of_direction write_only self.now.descriptors.items) ≤ from }
+        ensures unmapped { result ≡ None
+            → is_out self.now.state ≡ true
+            → HasNoWindowFrom self.now.regions write_only self.now.descriptors.items from }
     {
         if !self.is_out() {
             return None;
@@ -157,8 +164,8 @@ impl ChainHandle {
         window_from(&self.regions, &self.descriptors, write_only, from)
     }
 
-    /// The longest window of a chain's request from byte `from` on; none past its end, or if no chain is
-    /// in flight.
+    /// The longest window of a chain's request from byte `from` on; none past its end, or if that byte isn't
+    /// mapped, or if no chain is in flight.
     pub fn request_window(&self, from: u64) -> Option<VolatileSlice>
         ensures some { IfSome result (IsWindowFrom self.now.regions false self.now.descriptors.items from) }
         ensures out { OnSome result (is_out self.now.state ≡ true) }
@@ -167,12 +174,15 @@ impl ChainHandle {
             → all_reach (places_in self.now.regions) (access_of false)
             (of_direction false self.now.descriptors.items) ≡ true
             → total_len (of_direction false self.now.descriptors.items) ≤ from }
+        ensures unmapped { result ≡ None
+            → is_out self.now.state ≡ true
+            → HasNoWindowFrom self.now.regions false self.now.descriptors.items from }
     {
         self.window(false, from)
     }
 
-    /// The longest window of a chain's reply buffer from byte `from` on; none past its end, or if no chain
-    /// is in flight.
+    /// The longest window of a chain's reply buffer from byte `from` on; none past its end, or if that byte
+    /// isn't mapped, or if no chain is in flight.
     pub fn room_window(&self, from: u64) -> Option<VolatileSlice>
         ensures some { IfSome result (IsWindowFrom self.now.regions true self.now.descriptors.items from) }
         ensures out { OnSome result (is_out self.now.state ≡ true) }
@@ -181,6 +191,9 @@ impl ChainHandle {
             → all_reach (places_in self.now.regions) (access_of true)
             (of_direction true self.now.descriptors.items) ≡ true
             → total_len (of_direction true self.now.descriptors.items) ≤ from }
+        ensures unmapped { result ≡ None
+            → is_out self.now.state ≡ true
+            → HasNoWindowFrom self.now.regions true self.now.descriptors.items from }
     {
         self.window(true, from)
     }

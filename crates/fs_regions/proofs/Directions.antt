@@ -1,6 +1,6 @@
 -- the bytes of one direction, from one on
 use Rattle.std.proofs.Common.{◌≡◌, ℕ, zero, suc, Bool, true, false, ◌+◌, ◌-◌, ◌<◌, ◌≤◌, ◌^◌, ◌++◌, List, [], ◌∷◌, take, drop, length}
-use Rattle.std.proofs.Common.{Option, Some, None, refl, ap, sym, ◌∙◌, append_assoc, arith}
+use Rattle.std.proofs.Common.{Option, Some, None, refl, ap, sym, subst, ◌∙◌, append_assoc, arith, get_or}
 use Rattle.std.specs.Prelude.{is_some, nat_lt, min, IfSome}
 use Rattle.std.specs.List.{list_all}
 use Rattle.std.proofs.lemmas.Bool.{and_parts, ltb-true}
@@ -14,7 +14,7 @@ use Rattle.vm_memory.proofs.Places.{addresses-append, length-addresses}
 use Rattle.fs_queue.specs.Chain.{Descriptor, is_writable}
 use Rattle.fs_queue.specs.Taking.{all_reach, total_len, access_of, addresses_of, of_direction}
 use Rattle.fs_regions.specs.Places.{Mapped, left_in, places_in}
-use Rattle.fs_regions.specs.Windows.{IsWindowFrom, StandsIn}
+use Rattle.fs_regions.specs.Windows.{HasNoWindowFrom, IsWindowFrom, StandsIn}
 
 abbrev kept : Bool → Descriptor → List Descriptor → List Descriptor
 kept true d ds = d ∷ ds
@@ -230,3 +230,37 @@ pub hole_if : (l : Mapped) (b : Bool) (ds : List Descriptor) (from skip : ℕ) (
     location (places_in l) (access_of b) (addr + skip) ≡ None → ⊥
 hole_if l b ds from skip d rest addr len this at long less s all none =
     no_hole l b ds from skip d rest this (rw long at less) s all (rw at at none)
+
+-- ---- where there is no window
+
+first_of : (x a n : ℕ) (more : List ℕ) → 0 < n → addresses x n ≡ take n (a ∷ more) → x ≡ a
+unfolding addresses
+first_of x a zero more some is = absurd (omega (arith, some))
+first_of x a (suc n) more some is = ap (λ (l : List ℕ). get_or l 0 x) is
+
+-- the address of the next byte, if the first descriptor that is left has it
+next_address : (l : Mapped) (b : Bool) (ds : List Descriptor) (from skip : ℕ) (d : Descriptor) (rest : List Descriptor)
+    (a : ℕ) (more : List ℕ) →
+    beq (is_writable d) b ≡ true → skip < d.len → Skips l b ds from skip (d ∷ rest) →
+    drop from (addresses_of (of_direction b ds)) ≡ a ∷ more → d.addr + skip ≡ a
+next_address l b ds from skip d rest a more this less s is =
+    first_of (d.addr + skip) a (d.len - skip) more (omega (arith, less))
+    (sym (range_of l b ds from skip d rest this less s) ∙ ap (take (d.len - skip)) is)
+
+-- that address isn't mapped
+pub unmapped_if : (l : Mapped) (b : Bool) (ds : List Descriptor) (from skip : ℕ) (d : Descriptor) (rest : List Descriptor) (addr len : ℕ) →
+    beq (is_writable d) b ≡ true → addr ≡ d.addr → len ≡ d.len →
+    skip < len → Skips l b ds from skip (d ∷ rest) →
+    location (places_in l) (access_of b) (addr + skip) ≡ None → HasNoWindowFrom l b ds from
+unmapped_if l b ds from skip d rest addr len this at long less s none = λ a more is small.
+    subst (λ x. location (places_in l) (access_of b) x ≡ None)
+    (ap (λ x. x + skip) at ∙ next_address l b ds from skip d rest a more this (rw long at less) s is) none
+
+-- or it exceeds 64 bits
+pub beyond_if : (l : Mapped) (b : Bool) (ds : List Descriptor) (from skip : ℕ) (d : Descriptor) (rest : List Descriptor) (addr len : ℕ) →
+    beq (is_writable d) b ≡ true → addr ≡ d.addr → len ≡ d.len →
+    skip < len → Skips l b ds from skip (d ∷ rest) →
+    2 ^ 64 ≤ addr + skip → HasNoWindowFrom l b ds from
+beyond_if l b ds from skip d rest addr len this at long less s beyond = λ a more is small.
+    let next = next_address l b ds from skip d rest a more this (rw long at less) s is in
+    absurd (omega (arith, beyond, small, next, at))

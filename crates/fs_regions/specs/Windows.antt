@@ -1,6 +1,6 @@
 -- The addresses of the bytes of a chain's request and reply buffer.
 use Rattle.std.specs.Prelude.{◌≡◌, ℕ, ◌<◌, ◌≤◌, ◌+◌, ◌-◌, ◌%◌, ◌^◌, min, Bool, List, ◌∷◌, ◌++◌, take, drop}
-use Rattle.std.specs.Prelude.{Some}
+use Rattle.std.specs.Prelude.{Some, None}
 use Rattle.vm_memory_core.specs.Window.{Window, places_of}
 use Rattle.vm_memory.specs.Memory.{addresses, located, location}
 use Rattle.fs_queue.specs.Chain.{Descriptor}
@@ -26,6 +26,15 @@ IsWindowFrom regions write_only ds from w =
     × (d : Descriptor) × (skip : ℕ)
     × StandsIn (of_direction write_only ds) from d skip
     × (w.len ≡ min (d.len - skip) (left_in (places_in regions) (d.addr + skip)))
+
+-- there is no window of the bytes of one direction from byte `from` on. Either the direction has no such
+-- byte, or its address isn't mapped or exceeds 64 bits
+abbrev pub HasNoWindowFrom : Mapped → (write_only : Bool) → List Descriptor → (from : ℕ) → Type 0
+HasNoWindowFrom regions write_only ds from =
+    (a : ℕ) (rest : List ℕ)
+    → drop from (addresses_of (of_direction write_only ds)) ≡ a ∷ rest
+    → a < 2 ^ 64
+    → location (places_in regions) (access_of write_only) a ≡ None
 
 -- the addresses of the bytes of one direction from byte `from` on, at least one, up to the end of their
 -- descriptor; `guest` is the first one modulo 2^64

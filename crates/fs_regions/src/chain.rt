@@ -3,7 +3,7 @@
 ghost use Rattle.std.specs.Prelude.{◌≡◌, ◌≤◌, true, IfSome, None};
 ghost use Rattle.fs_queue.specs.Taking.{all_reach, total_len, access_of, of_direction};
 ghost use Rattle.fs_regions.specs.Places.{places_in};
-ghost use Rattle.fs_regions.specs.Windows.{IsRangeFrom, IsWindowFrom};
+ghost use Rattle.fs_regions.specs.Windows.{HasNoWindowFrom, IsRangeFrom, IsWindowFrom};
 
 use crate::map::GuestMap;
 use fs_queue::Descriptor;
@@ -21,7 +21,8 @@ pub(crate) fn access_of(write_only: bool) -> Permissions
 }
 
 /// The longest window of the bytes of one direction of a chain from byte `from` on: in one descriptor
-/// and one region, and mapped in one piece. None past their end, or if the first of them isn't mapped.
+/// and one region, and mapped in one piece. None past their end, or if byte `from` isn't
+/// mapped or its address exceeds 64 bits.
 pub fn window_from(
     regions: &GuestMap,
     descriptors: &[Descriptor],
@@ -33,6 +34,7 @@ pub fn window_from(
         → all_reach (places_in regions.now) (access_of write_only) (of_direction write_only descriptors.now)
         ≡ true
         → total_len (of_direction write_only descriptors.now) ≤ from }
+    ensures unmapped { result ≡ None → HasNoWindowFrom regions.now write_only descriptors.now from }
 {
     let mut skip = from;
     for descriptor in descriptors {

@@ -1,8 +1,8 @@
-use Rattle.std.proofs.Common.{◌≡◌, ◌∙◌, ◌+◌, ◌-◌, ◌∷◌, drop, true, false, sym, ap}
+use Rattle.std.proofs.Common.{◌≡◌, ◌∙◌, ◌+◌, ◌-◌, ◌∷◌, drop, true, false, sym, ap, arith}
 use mathlib.Core.Bool.{beq}
 use Rattle.vm_memory_core.proofs.WindowLemmas.{drop_item}
 use Rattle.fs_queue.specs.Chain.{Descriptor, is_writable}
-use Rattle.fs_regions.proofs.Directions.{Skips, window_if, hole_if, skips_on, skips_other}
+use Rattle.fs_regions.proofs.Directions.{Skips, window_if, hole_if, skips_on, skips_other, beyond_if, unmapped_if}
 use Rattle.fs_regions.proofs.chain.window_from.Goals as goal
 use Rattle.fs_regions.proofs.chain.window_from.Goals.{then-is_write_only-write_only+else-skip-len, else-is_write_only-write_only}
 
@@ -29,6 +29,31 @@ returns-then-skip-len-clause-none c = λ none all.
     c.descriptor.inside.addr c.from-len.result this (ap (λ (d : Descriptor). d.addr) c.descriptor.view_is)
     (c.from-len.ensures ∙ ap (λ (d : Descriptor). d.len) c.descriptor.view_is) c.if-skip-len.true
     (rw item at c.loop-descriptor.invariant) all (rw c.access_of.ensures at (c.window_at.ensures.none none)))
+
+pub returns-then-skip-descriptor-clause-unmapped : goal.returns-then-skip-descriptor-clause-unmapped
+returns-then-skip-descriptor-clause-unmapped c = λ none.
+    let item = drop_item c.args.descriptors.now c.loop-descriptor.descriptor-index c.descriptor-item.result c.loop-descriptor-test.true
+    c.descriptor-item.is in
+    let this : beq (is_writable c.descriptor-item.result) c.args.write_only ≡ true =
+    ap (λ x. beq x c.args.write_only) (sym c.is_write_only.ensures) ∙ c.if-is_write_only-write_only.true in
+    let beyond = c.if-skip-descriptor.true in
+    beyond_if c.args.regions.now c.args.write_only c.args.descriptors.now c.args.from c.loop-descriptor.skip c.descriptor-item.result
+    (drop (c.loop-descriptor.descriptor-index + 1) c.args.descriptors.now)
+    c.descriptor.inside.addr c.from-len.result this (ap (λ (d : Descriptor). d.addr) c.descriptor.view_is)
+    (c.from-len.ensures ∙ ap (λ (d : Descriptor). d.len) c.descriptor.view_is) c.if-skip-len.true
+    (rw item at c.loop-descriptor.invariant) (omega (arith, beyond))
+
+pub returns-then-skip-len-clause-unmapped : goal.returns-then-skip-len-clause-unmapped
+returns-then-skip-len-clause-unmapped c = λ none.
+    let item = drop_item c.args.descriptors.now c.loop-descriptor.descriptor-index c.descriptor-item.result c.loop-descriptor-test.true
+    c.descriptor-item.is in
+    let this : beq (is_writable c.descriptor-item.result) c.args.write_only ≡ true =
+    ap (λ x. beq x c.args.write_only) (sym c.is_write_only.ensures) ∙ c.if-is_write_only-write_only.true in
+    unmapped_if c.args.regions.now c.args.write_only c.args.descriptors.now c.args.from c.loop-descriptor.skip c.descriptor-item.result
+    (drop (c.loop-descriptor.descriptor-index + 1) c.args.descriptors.now)
+    c.descriptor.inside.addr c.from-len.result this (ap (λ (d : Descriptor). d.addr) c.descriptor.view_is)
+    (c.from-len.ensures ∙ ap (λ (d : Descriptor). d.len) c.descriptor.view_is) c.if-skip-len.true
+    (rw item at c.loop-descriptor.invariant) (rw c.access_of.ensures at (c.window_at.ensures.none none))
 
 pub loop-descriptor-preserved : goal.loop-descriptor-preserved
 loop-descriptor-preserved c =
