@@ -3,11 +3,11 @@
 # QEMU, virtiofsd, busybox and a kernel, unpacked.
 take_guest() {
     local name
-    [ -f "$work/image" ] || {
+    [ -x "$root/usr/bin/checkpolicy" ] || {
         local packages kernel
         make_apt
         theirs apt-get update > "$work/apt" 2>&1
-        packages=$(needed . qemu-system-x86 virtiofsd busybox-static)
+        packages=$(needed . qemu-system-x86 virtiofsd busybox-static acl attr checkpolicy)
         kernel=$(theirs apt-cache depends linux-image-cloud-amd64 | sed -n 's/^ *Depends: //p' |
             head -n 1)
         # shellcheck disable=SC2086
@@ -62,11 +62,24 @@ make_image() {
     gcc -std=c11 -O2 -static -pthread -o "$work/root/bin/ask" "$here"/testing/guest/{ask,calls}.c
     gcc -std=c11 -O2 -static -o "$work/root/bin/hold" "$here/testing/guest/hold.c"
     gcc -std=c11 -O2 -static -o "$work/root/bin/flags" "$here/testing/guest/flags.c"
-    cp "$here"/testing/guest/{init,scenarios.sh,suites} "$work/root/"
+    cp "$here"/testing/guest/{init,scenarios.sh,lists.sh,suites} "$work/root/"
+    make_lists_tools
     chmod 755 "$work/root/init"
     for name in virtio_pci virtio-iommu virtiofs virtio_blk ext4; do take_module $name; done
     (cd "$work/root" && find . | "$busybox" cpio -o -H newc 2> "$work/none" |
         gzip -1) > "$work/image"
+}
+
+# What a guest needs for access control lists and labels: the tools, with their libraries, and a
+# policy for SELinux.
+make_lists_tools() {
+    local libraries=$work/root/lib/x86_64-linux-gnu
+    mkdir -p "$work"/root/{etc,lib64} "$libraries"
+    cp "$root"/usr/bin/{get,set}{facl,fattr} "$work/root/bin/"
+    cp -L "$root"/usr/lib/x86_64-linux-gnu/{libacl.so.1,libattr.so.1,libc.so.6} "$libraries/"
+    cp -L "$root/usr/lib64/ld-linux-x86-64.so.2" "$work/root/lib64/"
+    (other /usr/bin/checkpolicy -U allow -c 33 -o "$work/root/policy" \
+        "$here/testing/guest/policy.conf")
 }
 
 # What is shared: files by chance, one of 64 MiB, a directory of 300, one within another, and links.

@@ -7,6 +7,8 @@
 #   on here, as over virtiofsd failed     anything else
 # The logs of a journey on which one failed or was nudged are kept in WORK/kept.
 
+lists_sh=$here/testing/guest/lists.sh # `here` is a stop of a journey later
+
 # What a monitor prints comes to `said` of its folder.
 listen() {
     (
@@ -53,7 +55,7 @@ begin_stop() {
     start_server "$1" "$next/socket" "$next/server" "${words[@]}" || return 1
     next_server=$server
     [ $# = 1 ] || incoming=(-incoming "unix:$next/stream")
-    qemu "$next" "$scenario" "$next/socket" -m 256M -no-reboot -device "$(device)" \
+    qemu "$next" "$scenario ${kernel:-}" "$next/socket" -m 256M -no-reboot -device "$(device)" \
         "${incoming[@]}" &
     next_qemu=$!
     listen "$next"
@@ -95,6 +97,7 @@ stay() {
 hop() {
     local from=$here_kind to=$1 source=$here
     outcome=failed
+    [ "$scenario" != migrate_lists ] || stay_awhile "$to"
     begin_stop "$to" incoming || return 0
     for _ in $(seq 300); do
         [ ! -S "$next/stream" ] || break
@@ -103,6 +106,7 @@ hop() {
     # A busy host takes long to come to an end.
     say "$source" 'migrate_set_parameter downtime-limit 5000' "migrate unix:$next/stream"
     if is_gone "$source"; then arrive; else stay; fi
+    [ "$here_kind" = virtiofsd ] || rm -f "$share/work/quiet"
     echo "$from $to $outcome $(milliseconds "$source" 'total time')" \
         "$(milliseconds "$source" downtime)" >> "$work/migrations"
     case $outcome in failed | nudged)
@@ -123,6 +127,10 @@ check_journey() {
         all_are "$scenario" BIG "$(sum "$share/files/m8")"
         return
     fi
+    if [ "$scenario" = migrate_lists ]; then
+        check_lists
+        return
+    fi
     grep -q '^HELD before after' "$run/lines" ||
         failure "$scenario: a file that was held open lost its words"
     ! grep '^FAILED' "$run/lines" || failure "$scenario: a file isn't made"
@@ -131,14 +139,61 @@ check_journey() {
     all_are "$scenario" READER "$(sum "$share/files/m1")"
 }
 
+# A guest makes new files at each stop. Before it goes to virtiofsd it no longer changes lists and
+# labels: there a SETXATTR would end in a panic, since virtiofsd's state has no options of INIT.
+stay_awhile() {
+    [ "$1" != virtiofsd ] || : > "$share/work/quiet"
+    for _ in 1 2; do tells "$here" "$here_qemu" READER || true; done
+}
+
+# The host's functions that make and show lists and labels, over a directory.
+of_lists() {
+    (
+        umask 022
+        setfacl() { (other /usr/bin/setfacl "$@"); }
+        getfacl() { (other /usr/bin/getfacl "$@"); }
+        getfattr() { (other /usr/bin/getfattr "$@"); }
+        . "$lists_sh"
+        "$@"
+    )
+}
+
+# What the guest is to find, of a directory beside the share.
+make_wanted() {
+    rm -rf "$work/wanted"
+    of_lists make_lists "$work/wanted"
+    of_lists lists_of "$work/wanted" > "$share/work/wanted"
+    of_lists wanted_labels >> "$share/work/wanted"
+}
+
+# What the host finds, and the label that a new file had at each stop: at a virtiofsd to which the
+# guest went it has none, and SELinux takes it for one of the share's own.
+check_lists() {
+    local dir stop label
+    ! grep '^FAILED' "$run/lines" || failure "$scenario: lists or labels"
+    all_are "$scenario" READER "$(sum "$share/files/m1")"
+    for dir in "$share"/work/lists/*; do
+        { of_lists lists_of "$dir" && of_lists labels_of "$dir"; } |
+            diff "$share/work/wanted" - || failure "$scenario: on the host $dir is another"
+    done
+    for stop in $(seq "$stops"); do
+        label=file_t
+        [ "$stop" = 1 ] || [ "${kinds[stop - 1]}" = ours ] || label=shared_t
+        [ "$(tr -d '\r' < "$run/$stop/console" | sed -n 's/^LABEL //p' | tail -n 1)" = $label ] ||
+            failure "$scenario: at stop $stop a new file hasn't the label $label"
+    done
+    echo "$scenario: $(find "$share/work/lists" -mindepth 1 -maxdepth 1 | wc -l) directories"
+}
+
 # A guest with this scenario begins at the first server of these and goes to the others in turn.
 # `words` of the daemons may be set.
 travel() {
-    local scenario=$1 kind
+    local scenario=$1 kind kinds=("${@:2}")
     shift
     journey=$work/journey stops=0
     rm -rf "$journey"
     make_files
+    [ "$scenario" != migrate_lists ] || make_wanted
     begin_stop "$1"
     settle
     shift
@@ -147,6 +202,7 @@ travel() {
         hop "$kind"
         [ "$outcome" != failed ] || break
     done
+    [ "$scenario" != migrate_lists ] || stay_awhile nowhere
     echo over > "$share/work/over"
     tells "$here" "$here_qemu" '== end' || say "$here" quit
     wait "$here_qemu" || failure "$scenario: qemu ended with $?"
@@ -179,9 +235,17 @@ for (source, target), (outcomes, *lists) in pairs.items():
 END_OF_PYTHON
 }
 
+# Access control lists and labels move, between all pairs.
+lists() {
+    local words=(--posix-acl --security-label --modcaps=+sys_admin)
+    local kernel='security=selinux enforcing=0'
+    travel migrate_lists ours virtiofsd ours ours
+    travel migrate_lists virtiofsd ours virtiofsd
+}
+
 # MIGRATIONS of each pair, five of each with a guest.
 migrate() {
-    local round left=${MIGRATIONS:-3} count kinds words=()
+    local round left=${MIGRATIONS:-3} count kinds words=() kernel=
     rm -rf "$work"/migrations "$work"/kept-*
     : > "$work/migrations"
     while [ "$left" -gt 0 ]; do
@@ -193,6 +257,7 @@ migrate() {
     done
     IOMMU=lazy travel migrate ours ours ours
     travel migrate virtiofsd ours ours # files that were opened there, by the guest's own flags
+    lists
     words=(--rlimit-nofile 1600)
     travel migrate_full ours ours
     echo "all descriptors are the guest's: $outcome"

@@ -394,6 +394,64 @@ scenario_migrate() {
     run umount /mnt
 }
 
+# A directory has the lists and labels that it is to have.
+same() {
+    { lists_of "$1" && labels_of "$1"; } > /tmp/found 2>&1
+    cmp /tmp/found /tmp/wanted > /tmp/none 2>&1 || {
+        echo "FAILED: $1 has other lists or labels"
+        diff /tmp/wanted /tmp/found
+    }
+}
+
+# Whether a user may do something there.
+may() { su -s /bin/sh "$1" -c "$2" > /tmp/none 2>&1 && echo yes || echo no; }
+may_there() { echo "$(may friend "echo >> $1/file") $(may friend "cat $1/masked")" \
+    "$(may friend "echo >> $1/masked") $(may stranger "cat $1/file")"; }
+
+# A new file has the default list of its directory, and a label.
+inherits() {
+    (umask 077 && : > "$1/later")
+    [ "$(getfacl -cnp "$1/later")" = "$(getfacl -cnp "$1/dir/deep")" ] ||
+        echo "FAILED: $1/later has another list"
+    echo "LABEL $(cd "$1" && label_of later | sed -n 's/.*object_r:\(.*\)"/\1/p')"
+    rm "$1/later"
+}
+
+# Directories with lists and labels, made before the guest goes to another host and after. While
+# there is `quiet`, none is changed.
+scenario_migrate_lists() {
+    local at=/mnt/work/lists n=0 last=1
+    . /lists.sh
+    getfattr() { /bin/getfattr "$@"; } # busybox has another
+    setfattr() { /bin/setfattr "$@"; }
+    printf '%s:x:%s:%s::/:/bin/sh\n' root 0 0 friend 1001 1001 stranger 1004 1004 > /etc/passwd
+    mount -t selinuxfs selinux /sys/fs/selinux
+    cat /policy > /sys/fs/selinux/load || echo "FAILED: the policy isn't loaded"
+    mount_it
+    cp /mnt/work/wanted /tmp/wanted
+    mkdir $at
+    until [ -e /mnt/work/over ]; do
+        if [ $n != 0 ]; then
+            same $at/1
+            same $at/$last
+            drop
+            same $at/1
+        fi
+        if [ ! -e /mnt/work/quiet ]; then
+            n=$((n + 1)) last=$n
+            make_lists $at/$n
+            [ $n = 1 ] || fill_lists $at/1
+            setfattr -n security.selinux -v system_u:object_r:other_t $at/1/plain $at/$n/plain
+            same $at/$n
+            same $at/1
+        fi
+        inherits $at/1
+        [ "$(may_there $at/1)" = 'yes yes no no' ] || echo "FAILED: $(may_there $at/1)"
+        echo "READER $(sum_of < /mnt/files/m1)"
+    done
+    run umount /mnt
+}
+
 # Suites that others wrote, in a root of their own on a disk.
 scenario_suite() {
     local name
