@@ -57,23 +57,6 @@ compile() {
         "${@/#/$here/testing/}" "$by_chance/chance.c"
 }
 
-# A driver behind an IOMMU, and front-ends that have one, honest or not.
-iommu() {
-    local threads
-    compile iommu iommu.c front.c
-    for threads in 0 4; do
-        THREADS=$threads EVENT_INDEX=$((threads / 4)) try iommu serves 300
-        THREADS=$threads try iommu pages
-        THREADS=$threads try iommu stops
-        THREADS=$threads try iommu flies
-        THREADS=$threads EVENT_INDEX=$((threads / 4)) try iommu anyhow "$SECONDS_EACH"
-    done
-    try iommu numbers
-    try iommu many 1000000
-    try iommu channels
-    try iommu marks
-}
-
 alone() {
     local threads
     SECONDS_EACH=${SECONDS_EACH:-60}
@@ -95,7 +78,6 @@ alone() {
     try checks rings
     try checks config
     try checks platform
-    iommu
     try checks memory "${CHANGES:-500}"
     try checks two 5
     try checks slow

@@ -359,10 +359,6 @@ guest() {
         diff "$work/calls-whole-virtiofsd" "$work/calls-$name" ||
             failure "$name: a call came out otherwise than over virtiofsd"
     done
-    PLATFORM=on whole ours whole-platform
-    grep -q '^FEATURES .\{33\}1' "$run/lines" ||
-        failure "whole-platform: the driver didn't take VIRTIO_F_ACCESS_PLATFORM"
-    guest_behind_iommu
     make_files
     run_guest readonly ours readonly --readonly
     list_sums | expect readonly SUM
@@ -387,39 +383,16 @@ guest() {
     grep '^AFTER' "$run/lines" || echo "killed: calls of the guest wait"
 }
 
-# The guest has an IOMMU in front of the device.
-guest_behind_iommu() {
-    local IOMMU
-    for IOMMU in strict lazy virtio; do
-        THREADS=4 whole ours "whole-$IOMMU"
-        grep -q '^FEATURES .\{33\}1' "$run/lines" ||
-            failure "whole-$IOMMU: the driver didn't take VIRTIO_F_ACCESS_PLATFORM"
-        grep -q 'an IOMMU translates' "$run/server" ||
-            failure "whole-$IOMMU: the device isn't behind the IOMMU"
-    done
-    for IOMMU in strict lazy; do
-        THREADS=4 run_guest pause ours "pause-$IOMMU"
-        all_are "pause-$IOMMU" READER "$(sum "$share/files/m8")"
-        ! grep 'OTHER BYTES' "$run/lines" || failure "pause-$IOMMU: other bytes"
-        run_guest unbind ours "unbind-$IOMMU"
-        all_are "unbind-$IOMMU" READER "$(sum "$share/files/m8")"
-    done
-    IOMMU=lazy
-    make_files
-    run_guest reboot ours reboot-lazy
-    all_are reboot-lazy READER "$(sum "$share/files/m8")"
-    hotplug
-}
-
-# Memory comes and goes, and the daemon lets go of what went.
+# Memory comes and goes, and the daemon lets go of what went. The run's name may be another.
 hotplug() {
-    run_guest hotplug ours hotplug
-    all_are hotplug BIG "$(sum "$share/files/big")"
-    all_are hotplug READER "$(sum "$share/files/m8")"
-    grep -q '^PLUGGED in' "$run/lines" || failure "hotplug: no memory came"
-    grep -q '^PLUGGED out' "$run/lines" || failure "hotplug: no memory went"
+    local name=${1:-hotplug}
+    run_guest hotplug ours "$name"
+    all_are "$name" BIG "$(sum "$share/files/big")"
+    all_are "$name" READER "$(sum "$share/files/m8")"
+    grep -q '^PLUGGED in' "$run/lines" || failure "$name: no memory came"
+    grep -q '^PLUGGED out' "$run/lines" || failure "$name: no memory went"
     [ "$(cat "$run/lent")" = $'524288\n262144' ] ||
-        failure "hotplug: the daemon has other memory mapped than it was lent: $(cat "$run/lent")"
+        failure "$name: the daemon has other memory mapped than it was lent: $(cat "$run/lent")"
 }
 
 # A file on which the host has a lease takes long to open; memory that comes then doesn't wait for

@@ -1,70 +1,30 @@
-/* A driver behind an IOMMU, and the front-end that has it: iommu DAEMON DIR WHAT [N]. The front-end
- * answers misses as QEMU does, or lies: it refuses, is silent, answers and maps nothing, unmaps at
- * once what it has mapped. As QEMU's, it answers none while it waits for a message's answer. */
 #define _GNU_SOURCE
 #include "chance.h"
-#include "front.h"
-#include <errno.h>
-#include <fcntl.h>
+#include "iommu.h"
 #include <linux/fuse.h>
-#include <poll.h>
-#include <pthread.h>
-#include <signal.h>
 #include <stdio.h>
-#include <stdlib.h>
 #include <string.h>
-#include <sys/mman.h>
 #include <sys/socket.h>
 #include <time.h>
 #include <unistd.h>
 
-enum {
-    ROOT = 1,
-    SET_FEATURES = 2,
-    SET_LOG_BASE = 6,
-    SET_VRING_ENABLE = 18,
-    SET_BACKEND_REQ_FD = 21,
-    IOTLB_MSG = 22
-};
-enum { MISS = 1, UPDATE = 2, INVALIDATE = 3 };
-enum { NONE = 0, READ = 1, WRITE = 2, BOTH = 3 };
-enum { PAGE = 4096, NEED_REPLY = 8, REPLY = 4 };
-/* The last I/O addresses of the guest's memory are far from 2^64, and no guest address is one. */
-#define SHIFT 0x2000000000000000ull
+enum { SET_VRING_ENABLE = 18, SET_BACKEND_REQ_FD = 21, NEED_REPLY = 8, REPLY = 4 };
 
-struct iotlb {
-    uint64_t iova, size, user;
-    uint8_t access, kind, padding[6];
-};
+struct front front;
+int failed;
+int channel[2] = {-1, -1};
+pthread_mutex_t line = PTHREAD_MUTEX_INITIALIZER;
+_Atomic int manner;
+_Atomic unsigned misses, updates, last_misses;
+_Atomic uint64_t moved;
 
-/* How misses are answered. */
-enum manner {
-    HONEST,   /* by an update of the page, and then by 0 */
-    REFUSING, /* by 1 */
-    SILENT,   /* not at all */
-    EMPTY,    /* by 0, and the page isn't mapped */
-    FLUSHING, /* an update, an invalidation of all, and then 0 */
-    LARGE,    /* by an update of 2 MiB around it */
-    ANYHOW    /* by chance one of these, or by something else */
-};
-
-static struct front front;
-static struct reply reply;
-static int failed;
-static int channel[2] = {-1, -1};
-static pthread_mutex_t line = PTHREAD_MUTEX_INITIALIZER; /* the front-end is one thread at a time */
-static _Atomic int manner;
-static _Atomic unsigned misses, updates; /* how many came, and how many were answered by one */
-static _Atomic bool over;
-static _Atomic uint64_t moved; /* pages of request buffers are mapped to those so far behind */
-
-static void check(const char *what, bool holds) {
+void check(const char *what, bool holds) {
     if (holds) return;
     fprintf(stderr, "FAILED: %s\n", what);
     failed = 1;
 }
 
-static uint64_t now(void) {
+uint64_t now(void) {
     struct timespec t;
     clock_gettime(CLOCK_MONOTONIC, &t);
     return (uint64_t)t.tv_sec * 1000 + (uint64_t)t.tv_nsec / 1000000;
@@ -78,7 +38,7 @@ static uint64_t say(uint8_t kind, uint64_t iova, uint64_t size, uint64_t user, u
 }
 
 /* The same from a thread that isn't the front-end's yet. */
-static uint64_t tell(uint8_t kind, uint64_t iova, uint64_t size, uint64_t user, uint8_t access) {
+uint64_t tell(uint8_t kind, uint64_t iova, uint64_t size, uint64_t user, uint8_t access) {
     pthread_mutex_lock(&line);
     uint64_t answer = say(kind, iova, size, user, access);
     pthread_mutex_unlock(&line);
@@ -91,17 +51,19 @@ static void unmap_all(void) {
     check("INVALIDATE up to 2^64", say(INVALIDATE, 1ull << 63, 1ull << 63, 0, 0) == 0);
 }
 
-static void flush(void) {
+void flush(void) {
     pthread_mutex_lock(&line);
     unmap_all();
     pthread_mutex_unlock(&line);
 }
 
-static uint64_t user_at(uint64_t guest) { return (uint64_t)(uintptr_t)front_at(&front, guest); }
+uint64_t user_at(uint64_t guest) { return (uint64_t)(uintptr_t)front_at(&front, guest); }
 
 static bool is_guest(uint64_t guest) {
     return guest < REGION_LEN || guest - HIGH < REGION_LEN || guest - QUIET < QUIET_LEN;
 }
+
+static bool is_shown(uint64_t guest) { return guest - SHOWN < SHOWN_LEN; }
 
 static bool is_request(uint64_t guest) {
     return guest >= request_at(0) && guest < request_at(RINGS);
@@ -111,21 +73,23 @@ static uint64_t map_page(uint64_t iova) {
     uint64_t guest = iova - SHIFT;
     if (is_request(guest)) guest += moved;
     updates++;
-    return say(UPDATE, iova, PAGE, user_at(guest), BOTH);
+    return say(UPDATE, iova, PAGE, user_at(guest), is_shown(guest) ? READ : BOTH);
 }
 
 static uint64_t map_large(uint64_t iova) {
     uint64_t len = 2 << 20, from = iova & ~(len - 1);
-    if (is_request(iova - SHIFT) || !is_guest(from - SHIFT + len - 1)) return map_page(iova);
+    uint64_t last = from - SHIFT + len - 1;
+    if (is_request(iova - SHIFT) || !is_guest(last) || is_shown(last)) return map_page(iova);
     updates++;
     return say(UPDATE, from, len, user_at(from - SHIFT), BOTH);
 }
 
 static uint64_t answer_miss(uint64_t iova, int how) {
-    if (!is_guest(iova - SHIFT)) return 1;
+    if (how == EMPTY) return 0;
+    if (how == REFUSING || !is_guest(iova - SHIFT)) return 1;
+    for (size_t k = 0; how == HIDING && k < RINGS; k++)
+        if (iova - SHIFT == used_at(k)) return 1;
     switch (how) {
-    case REFUSING: return 1;
-    case EMPTY: return 0;
     case LARGE: return map_large(iova);
     case FLUSHING:
         map_page(iova);
@@ -136,7 +100,7 @@ static uint64_t answer_miss(uint64_t iova, int how) {
 }
 
 /* A reply that is none of the channel's. */
-static void send_rubbish(int fd) {
+void send_rubbish(int fd) {
     uint32_t words[5];
     for (int k = 0; k < 5; k++) words[k] = (uint32_t)ONE_OF(0, 1, 4, 5, 8, chance());
     send(fd, words, 1 + below(sizeof words), MSG_NOSIGNAL | MSG_DONTWAIT);
@@ -155,11 +119,14 @@ static void *serve_channel(void *none) {
             die("the back-end asks for something else");
         check("a miss of a page", body.iova % PAGE == 0 && body.access != NONE);
         check("a miss is to be acknowledged", head.flags & NEED_REPLY);
-        misses++;
         int how = manner;
+        last_misses += body.iova >= LAST_PAGE;
+        misses++;
         if (how == ANYHOW)
             how = (int)ONE_OF(HONEST, HONEST, REFUSING, SILENT, EMPTY, FLUSHING, LARGE);
         if (how == SILENT) continue;
+        while (manner == HELD) usleep(500);
+        if (how == HELD) how = REFUSING;
         if (manner == ANYHOW && below(500) == 0) send_rubbish(fd);
         pthread_mutex_lock(&line);
         uint64_t number = answer_miss(body.iova, how);
@@ -176,7 +143,7 @@ static void *serve_channel(void *none) {
 
 static pthread_t server;
 
-static void open_channel(void) {
+void open_channel(void) {
     if (socketpair(AF_UNIX, SOCK_STREAM | SOCK_CLOEXEC, 0, channel)) die("no channel");
     pthread_mutex_lock(&line);
     check("SET_BACKEND_REQ_FD",
@@ -186,25 +153,25 @@ static void open_channel(void) {
     pthread_create(&server, NULL, serve_channel, NULL);
 }
 
-static void close_channel(void) {
+void close_channel(void) {
     shutdown(channel[0], SHUT_RDWR);
     pthread_join(server, NULL);
 }
 
-static void start_ring(size_t ring, uint16_t position) {
+void start_ring(size_t ring, uint16_t position) {
     pthread_mutex_lock(&line);
     front_start_ring(&front, ring, position);
     pthread_mutex_unlock(&line);
 }
 
-static uint16_t stop_ring(size_t ring) {
+uint16_t stop_ring(size_t ring) {
     pthread_mutex_lock(&line);
     uint16_t position = front_stop_ring(&front, ring);
     pthread_mutex_unlock(&line);
     return position;
 }
 
-static void enable_ring(uint32_t ring, uint32_t enabled) {
+void enable_ring(uint32_t ring, uint32_t enabled) {
     uint32_t enable[2] = {ring, enabled};
     pthread_mutex_lock(&line);
     check("SET_VRING_ENABLE",
@@ -212,381 +179,17 @@ static void enable_ring(uint32_t ring, uint32_t enabled) {
     pthread_mutex_unlock(&line);
 }
 
-/* ------------------------------------------------------------- requests */
+/* The ring begins again, with no chain in it. */
+void begin_again(size_t ring) {
+    stop_ring(ring);
+    memset(front_at(&front, desc_at(ring)), 0, 0x4000);
+    front.rings[ring].offered = front.rings[ring].seen = 0;
+    start_ring(ring, 0);
+}
 
-static void ask_root(const char *what) {
+void ask_root(const char *what) {
+    static struct reply reply;
     struct fuse_getattr_in in = {0};
-    front_ask(&front, 1, FUSE_GETATTR, ROOT, &in, sizeof in, &reply);
+    front_ask(&front, 1, FUSE_GETATTR, FUSE_ROOT_ID, &in, sizeof in, &reply);
     check(what, reply.error == 0);
-}
-
-static void read_other(const char *what, const uint8_t *bytes, size_t len) {
-    struct fuse_read_in in = {.size = 30000};
-    uint64_t node = look_up(&front, ROOT, "other");
-    in.fh = open_node(&front, node, O_RDONLY);
-    front_ask(&front, 1, FUSE_READ, node, &in, sizeof in, &reply);
-    check(what, reply.error == 0 && reply.len == len && !memcmp(reply.data, bytes, len));
-}
-
-static size_t load_other(const char *dir, uint8_t *bytes, size_t most) {
-    char path[4096];
-    snprintf(path, sizeof path, "%s/other", dir);
-    FILE *file = fopen(path, "r");
-    if (!file) die("no file");
-    size_t len = fread(bytes, 1, most, file);
-    fclose(file);
-    return len;
-}
-
-/* A request that isn't answered in time, and is when misses are answered again. */
-static void must_wait_for(int how, const char *what) {
-    struct fuse_getattr_in in = {0};
-    flush();
-    manner = how;
-    front_send(&front, 1, FUSE_GETATTR, ROOT, &in, sizeof in, 16 + 104);
-    if (front_wait(&front, 1, 3000)) die("%s: the request is answered", what);
-    manner = HONEST;
-    if (!front_wait(&front, 1, 20000)) die("%s: the request isn't answered any more", what);
-    front_read(&front, 1, &reply);
-    check(what, reply.error == 0);
-}
-
-/* ------------------------------------------------------------- what is tried */
-
-/* Requests go on whatever is unmapped between them, and see the memory that is mapped then. */
-static void serves(const char *dir, unsigned count) {
-    static uint8_t bytes[1 << 16];
-    size_t len = load_other(dir, bytes, sizeof bytes);
-    for (unsigned k = 0; k < count; k++) {
-        manner = k % 3 == 2 ? LARGE : HONEST;
-        if (k % 2) flush();
-        if (k % 7 == 0) tell(INVALIDATE, 0, 0, 0, 0);
-        read_other("READ", bytes, len);
-        ask_root("GETATTR");
-    }
-    manner = HONEST;
-    /* The request's pages are others now, with a request for a node that isn't there. */
-    moved = 0x80000;
-    tell(INVALIDATE, SHIFT + request_at(0), request_at(RINGS) - request_at(0), 0, 0);
-    struct fuse_getattr_in in = {0};
-    struct fuse_in_header other = {.len = sizeof other + sizeof in,
-                                   .opcode = FUSE_GETATTR,
-                                   .unique = front.rings[1].unique + 1,
-                                   .nodeid = 1 << 20};
-    memcpy(front_at(&front, request_at(1) + moved), &other, sizeof other);
-    front_send(&front, 1, FUSE_GETATTR, ROOT, &in, sizeof in, 16 + 104);
-    if (!front_wait(&front, 1, 20000)) die("a request of other pages isn't answered");
-    front_read(&front, 1, &reply);
-    check("a page that is mapped to another one is read there", reply.error > 0);
-    moved = 0;
-    tell(INVALIDATE, SHIFT + request_at(0), request_at(RINGS) - request_at(0), 0, 0);
-    ask_root("GETATTR from the first page again");
-    printf("iommu: %u rounds, %u misses, %u updates\n", count, misses, updates);
-}
-
-/* Updates that are none are refused, and the connection goes on. */
-static void refuses_numbers(void) {
-    uint64_t user = user_at(0), at = SHIFT + (1ull << 40);
-    check("length 0", tell(UPDATE, at, 0, user, BOTH) == 1);
-    check("a part of a page", tell(UPDATE, at, 100, user, BOTH) == 1);
-    check("an odd I/O address", tell(UPDATE, at + 8, PAGE, user, BOTH) == 1);
-    check("an odd address", tell(UPDATE, at, PAGE, user + 8, BOTH) == 1);
-    check("past 2^64", tell(UPDATE, -(uint64_t)PAGE, 2 * PAGE, user, BOTH) == 1);
-    check("up to 2^64", tell(UPDATE, -(uint64_t)PAGE, PAGE, user, BOTH) == 1);
-    check("a length past 2^64", tell(UPDATE, at, -(uint64_t)PAGE, user, BOTH) == 1);
-    check("outside the memory", tell(UPDATE, at, PAGE, 0x1000, BOTH) == 1);
-    check("behind the memory",
-          tell(UPDATE, at, 2 * PAGE, user_at(QUIET) + QUIET_LEN - PAGE, BOTH) == 1);
-    check("no access", tell(UPDATE, at, PAGE, user, NONE) == 1);
-    check("an access that is none", tell(UPDATE, at, PAGE, user, 4) == 1);
-    check("a miss of the front-end's", tell(MISS, at, PAGE, user, BOTH) == 1);
-    check("another kind", tell(77, at, PAGE, user, BOTH) == 1);
-    check("INVALIDATE of nothing", tell(INVALIDATE, at, 0, 0, 0) == 1);
-    check("INVALIDATE past 2^64", tell(INVALIDATE, -(uint64_t)PAGE, PAGE + 1, 0, 0) == 1);
-    check("INVALIDATE of what isn't mapped", tell(INVALIDATE, at, PAGE, 0, 0) == 0);
-    for (unsigned k = 0; k < 200; k++)
-        check("updates over one another",
-              tell(UPDATE, at + k % 7 * PAGE, (1 + k % 13) * PAGE, user + k % 5 * PAGE,
-                   k % 3 ? READ : BOTH) == 0);
-    check("INVALIDATE of their middle", tell(INVALIDATE, at + 3 * PAGE, PAGE, 0, 0) == 0);
-    ask_root("GETATTR after updates that are none");
-    printf("iommu: updates that are none are refused\n");
-}
-
-/* A page that is refused makes its chain faulty, and a ring that is refused waits for its reset. */
-static void refuses_pages(void) {
-    struct fuse_getattr_in in = {0};
-    uint64_t word;
-    struct pollfd refused = {front.rings[1].err, POLLIN, 0};
-    ask_root("GETATTR");
-    manner = REFUSING;
-    tell(INVALIDATE, SHIFT + request_at(1), 0x100000, 0, 0);
-    front_send(&front, 1, FUSE_GETATTR, ROOT, &in, sizeof in, 16 + 104);
-    if (!front_wait(&front, 1, 20000)) die("a chain that is refused isn't returned");
-    front_read(&front, 1, &reply);
-    check("a chain that is refused has no reply", reply.error == -1);
-    manner = HONEST;
-    ask_root("GETATTR when nothing is refused any more");
-    /* A reply buffer that may only be read is no miss. */
-    tell(INVALIDATE, SHIFT + HIGH, REGION_LEN, 0, 0);
-    tell(UPDATE, SHIFT + HIGH, REGION_LEN, user_at(HIGH), READ);
-    front_send(&front, 1, FUSE_GETATTR, ROOT, &in, sizeof in, 16 + 104);
-    if (!front_wait(&front, 1, 20000)) die("a chain without permission isn't returned");
-    front_read(&front, 1, &reply);
-    check("a reply buffer that may be read alone", reply.error == -1);
-    tell(UPDATE, SHIFT + HIGH, REGION_LEN, user_at(HIGH), BOTH);
-    ask_root("GETATTR when it may be written");
-    manner = REFUSING;
-    flush();
-    front_send(&front, 1, FUSE_GETATTR, ROOT, &in, sizeof in, 16 + 104);
-    check("a ring that is refused is reported",
-          poll(&refused, 1, 20000) == 1 && read(refused.fd, &word, sizeof word) > 0);
-    manner = HONEST;
-    uint16_t position = stop_ring(1);
-    check("it stands before the chain", position == (uint16_t)(front.rings[1].offered - 1));
-    start_ring(1, position);
-    if (!front_wait(&front, 1, 20000)) die("a ring that was refused doesn't go on");
-    ask_root("GETATTR after a ring was refused");
-    printf("iommu: what is refused is a fault, once\n");
-}
-
-/* No message waits for a miss. */
-static void stops(void) {
-    struct fuse_getattr_in in = {0};
-    must_wait_for(SILENT, "silence");
-    must_wait_for(EMPTY, "answers that map nothing");
-    must_wait_for(FLUSHING, "mappings that are gone at once");
-    for (int k = 0; k < 4; k++) {
-        manner = k % 2 ? EMPTY : SILENT;
-        flush();
-        front_send(&front, 1, FUSE_GETATTR, ROOT, &in, sizeof in, 16 + 104);
-        usleep(200000);
-        uint64_t before = now();
-        if (k < 2) {
-            uint16_t position = stop_ring(1);
-            check("GET_VRING_BASE waits for no miss", now() - before < 500);
-            check("the chain stays in the ring", position + 1 == front.rings[1].offered);
-            start_ring(1, position);
-        } else {
-            enable_ring(1, 0);
-            check("SET_VRING_ENABLE waits for no miss", now() - before < 500);
-            enable_ring(1, 1);
-        }
-        manner = HONEST;
-        if (!front_wait(&front, 1, 20000)) die("a ring that waited for a miss doesn't go on");
-        ask_root("GETATTR after a stop");
-    }
-    printf("iommu: no message waits for a miss\n");
-}
-
-/* All is unmapped while a chain is in flight: that waits for nobody, and the chain is returned. */
-static void flies(const char *dir) {
-    struct fuse_open_in in = {.flags = O_RDONLY};
-    struct fuse_open_out out;
-    char path[4096];
-    uint64_t node = look_up(&front, ROOT, "slow");
-    snprintf(path, sizeof path, "%s/slow", dir);
-    signal(SIGIO, SIG_IGN);
-    int fd = open(path, O_RDWR);
-    if (fd < 0 || fcntl(fd, F_SETLEASE, F_WRLCK)) die("no lease: %s", strerror(errno));
-    front_send(&front, 1, FUSE_OPEN, node, &in, sizeof in, 16 + sizeof out);
-    if (front_wait(&front, 1, 300)) die("the file isn't slow");
-    manner = EMPTY;
-    uint64_t before = now();
-    for (int k = 0; k < 50; k++) flush();
-    check("INVALIDATE waits for no chain", now() - before < 2000);
-    /* The ring's pages mean others now: for the next chains. */
-    check("an update of the ring's pages",
-          tell(UPDATE, SHIFT + avail_at(1), 2 * PAGE, user_at(0x700000), BOTH) == 0);
-    close(fd);
-    if (!front_wait(&front, 1, 20000)) die("a chain whose pages were unmapped isn't returned");
-    front_read(&front, 1, &reply);
-    check("its reply is whole", reply.error == 0 && reply.len == sizeof out);
-    manner = HONEST;
-    flush();
-    ask_root("GETATTR after it");
-    printf("iommu: a chain in flight keeps its pages\n");
-}
-
-/* The kilobytes that the daemon has: its child in the sandbox. */
-static unsigned long kilobytes(void) {
-    char command[128], line[64] = "0";
-    snprintf(command, sizeof command,
-             "cat /proc/%d/status $(pgrep -P %d | sed 's,.*,/proc/&/status,') | "
-             "awk '/VmRSS/ && $2 > m { m = $2 } END { print m }'",
-             (int)front.pid, (int)front.pid);
-    FILE *pipe = popen(command, "r");
-    if (pipe && !fgets(line, sizeof line, pipe)) line[0] = '0';
-    if (pipe) pclose(pipe);
-    return strtoul(line, NULL, 10);
-}
-
-/* As many mappings as it likes: the daemon keeps few. Most of them want no answer. */
-static void many(unsigned count) {
-    unsigned long before = kilobytes();
-    pthread_mutex_lock(&line);
-    for (unsigned k = 0; k < count; k++) {
-        struct iotlb body = {(2 * (uint64_t)k + 1) * PAGE, PAGE, user_at(k % 2 * PAGE), BOTH,
-                             UPDATE, {0}};
-        if (k % 256)
-            front_say(&front, IOTLB_MSG, &body, sizeof body);
-        else if (front_tell(&front, IOTLB_MSG, &body, sizeof body, NULL, 0))
-            die("update %u is refused", k);
-    }
-    pthread_mutex_unlock(&line);
-    unsigned long after = kilobytes();
-    check("the daemon keeps few mappings", after - before < 64 << 10);
-    ask_root("GETATTR after many updates");
-    printf("iommu: %u updates, %lu KiB before, %lu KiB after\n", count, before, after);
-}
-
-/* The channel ends, and another is opened; and it has replies to nothing. */
-static void channels(void) {
-    struct fuse_getattr_in in = {0};
-    for (int k = 0; k < 100; k++) {
-        manner = k % 2 ? SILENT : HONEST;
-        flush();
-        front_send(&front, 1, FUSE_GETATTR, ROOT, &in, sizeof in, 16 + 104);
-        if (k % 3 == 0) send_rubbish(channel[0]);
-        close_channel();
-        manner = HONEST;
-        open_channel();
-        if (!front_wait(&front, 1, 20000)) die("no other channel will do");
-        ask_root("GETATTR over another channel");
-    }
-    printf("iommu: 100 channels\n");
-}
-
-static bool is_marked(const uint8_t *log, uint64_t guest) {
-    return log[guest / PAGE / 8] >> guest / PAGE % 8 & 1;
-}
-
-/* Marks are the guest's pages, whatever the driver calls them. */
-static void marks(void) {
-    enum { LOG_LEN = 1 << 18 }; /* up to 8 GiB */
-    int fd = memfd_create("log", MFD_CLOEXEC);
-    uint64_t told[2] = {LOG_LEN, 0}, features = front.features | 1ull << 26;
-    struct fuse_read_in in = {.size = 10000};
-    unsigned marked = 0;
-    if (fd < 0 || ftruncate(fd, LOG_LEN)) die("no log");
-    uint8_t *log = mmap(NULL, LOG_LEN, PROT_READ | PROT_WRITE, MAP_SHARED, fd, 0);
-    uint64_t node = look_up(&front, ROOT, "other");
-    in.fh = open_node(&front, node, O_RDONLY);
-    pthread_mutex_lock(&line);
-    if (front_tell(&front, SET_LOG_BASE, told, sizeof told, &fd, 1)) die("no log");
-    if (front_tell(&front, SET_FEATURES, &features, sizeof features, NULL, 0)) die("no features");
-    pthread_mutex_unlock(&line);
-    front_send(&front, 1, FUSE_READ, node, &in, sizeof in, 16 + 40000);
-    if (!front_wait(&front, 1, 20000)) die("READ isn't answered");
-    front_read(&front, 1, &reply);
-    check("bytes of READ", reply.len == 10000);
-    for (uint64_t page = 0; page < LOG_LEN * 8ull; page++) marked += is_marked(log, PAGE * page);
-    check("the ring's page is marked", is_marked(log, used_at(1)));
-    check("the header's page is marked", is_marked(log, room_at(1)));
-    for (uint64_t k = 0; k < 3; k++)
-        check("a page of data is marked", is_marked(log, room_at(1) + 0x1000 + 0x2000 * k));
-    check("no other page is marked", marked == 5);
-    printf("iommu: %u pages of a READ are marked\n", marked);
-}
-
-static void *meddle(void *none) {
-    chance_begin(now() << 8 | 3);
-    while (!over) {
-        uint64_t guest = ONE_OF(desc_at(1), avail_at(1), used_at(1), request_at(1), room_at(1),
-                                below(REGION_LEN), HIGH + below(REGION_LEN));
-        guest &= ~(uint64_t)(PAGE - 1);
-        switch (below(6)) {
-        case 0: flush(); break;
-        case 1: tell(UPDATE, SHIFT + guest, PAGE, user_at(guest), (uint8_t)(1 + below(3))); break;
-        case 2: tell(INVALIDATE, SHIFT + guest, PAGE << below(12), 0, 0); break;
-        case 3: tell((uint8_t)below(6), chance(), chance(), chance(), (uint8_t)below(5)); break;
-        case 4: tell(UPDATE, SHIFT + guest, PAGE, user_at(below(REGION_LEN) & -PAGE), BOTH); break;
-        default: usleep((useconds_t)below(2000)); break;
-        }
-    }
-    return none;
-}
-
-/* Whatever the front-end does, the daemon neither hangs nor ends, and serves a driver that begins
- * again. */
-static void anyhow(unsigned seconds) {
-    struct fuse_getattr_in in = {0};
-    pthread_t meddler;
-    unsigned sent = 0, back = 0;
-    chance_begin((uint64_t)time(NULL) * 0x9e3779b97f4a7c15u | 1);
-    manner = ANYHOW;
-    pthread_create(&meddler, NULL, meddle, NULL);
-    for (uint64_t end = now() + 1000ull * seconds; now() < end; sent++) {
-        front_send(&front, 1, FUSE_GETATTR, ROOT, &in, sizeof in, 16 + 104);
-        back += front_wait(&front, 1, (int)below(300));
-        uint64_t before = now();
-        if (below(4) == 0) {
-            enable_ring(1, 0);
-            enable_ring(1, 1);
-        } else if (below(4) == 0) {
-            close_channel();
-            open_channel();
-        } else if (below(2)) {
-            stop_ring(1);
-            /* the ring begins again: another page may have been taken for its own */
-            memset(front_at(&front, desc_at(1)), 0, 0x4000);
-            front.rings[1].offered = front.rings[1].seen = 0;
-            start_ring(1, 0);
-        }
-        if (now() - before > 4000)
-            die("a message waits for %llu ms", (unsigned long long)(now() - before));
-    }
-    over = true;
-    pthread_join(meddler, NULL);
-    manner = HONEST;
-    close_channel();
-    open_channel();
-    stop_ring(1);
-    memset(front_at(&front, desc_at(1)), 0, 0x4000);
-    front.rings[1].offered = front.rings[1].seen = 0;
-    flush();
-    start_ring(1, 0);
-    ask_root("GETATTR after all that");
-    printf("iommu: %u requests over any front-end, %u returned at once, %u misses\n", sent, back,
-           misses);
-}
-
-int main(int argc, char **argv) {
-    if (argc < 4)
-        die("usage: iommu DAEMON DIR serves|numbers|pages|stops|flies|many|channels|marks|anyhow "
-            "[N]");
-    const char *what = argv[3], *dir = argv[2];
-    unsigned count = argc > 4 ? (unsigned)strtoul(argv[4], NULL, 10) : 0;
-    front_begin(&front, argv[1], dir, NULL);
-    front.features |= 1ull << 33;
-    front.has_iommu = true;
-    front.shift = SHIFT;
-    front_set_up(&front);
-    open_channel();
-    start_ring(0, 0);
-    start_ring(1, 0);
-    begin_session(&front);
-    if (!strcmp(what, "serves"))
-        serves(dir, count);
-    else if (!strcmp(what, "numbers"))
-        refuses_numbers();
-    else if (!strcmp(what, "pages"))
-        refuses_pages();
-    else if (!strcmp(what, "stops"))
-        stops();
-    else if (!strcmp(what, "flies"))
-        flies(dir);
-    else if (!strcmp(what, "many"))
-        many(count);
-    else if (!strcmp(what, "channels"))
-        channels();
-    else if (!strcmp(what, "marks"))
-        marks();
-    else if (!strcmp(what, "anyhow"))
-        anyhow(count);
-    else
-        die("no such check: %s", what);
-    close_channel();
-    front_leave(&front);
-    return failed;
 }

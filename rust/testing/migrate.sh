@@ -255,7 +255,6 @@ migrate() {
         left=$((left - count))
         sum_up
     done
-    IOMMU=lazy travel migrate ours ours ours
     travel migrate virtiofsd ours ours # files that were opened there, by the guest's own flags
     lists
     words=(--rlimit-nofile 1600)

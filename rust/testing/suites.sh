@@ -2,7 +2,7 @@
 # come from Debian trixie to a disk of the guest's; testing/guest/suites runs them there, and tells
 # each test's outcome as a line `RESULT suite test: outcome`.
 
-suite_names=(syscalls python fio dbench sqlite git rsync stress)
+suite_names=(syscalls tree python fio dbench sqlite git rsync stress)
 suite_packages=(base-files base-passwd bash coreutils diffutils findutils gawk grep gzip procps \
     sed tar util-linux perl-base
     libc-bin python3.13 libpython3.13-testsuite fio dbench sqlite3 git rsync stress-ng)

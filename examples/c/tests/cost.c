@@ -20,7 +20,8 @@ enum {
     REQUEST = 0x4000,
     ROOM = 0x6000,
     TABLE = 0x8000,
-    END = 0x9000
+    END = 0x10000,
+    PAGE = 4096
 };
 enum {
     NEXT = 1,
@@ -36,6 +37,8 @@ enum {
 static _Alignas(4096) uint8_t memory[END];
 static uint8_t file[DATA];
 static struct offered offered; /* of the queue */
+static struct pk_iotlb iotlb;
+static unsigned long mappings; /* 0: no table */
 
 /* A kind of request: its pieces and those of its reply buffer (0: none), the pages that follow
  * these in a table (0: no table), and its answer. */
@@ -47,8 +50,25 @@ struct row {
     size_t out; /* chains in flight at a time */
 };
 
+/* The guest address of an I/O address: with a mapping for each page, pages are exchanged by pairs,
+ * so that the table joins none. */
+static size_t place(size_t at) { return mappings > 1 ? at ^ PAGE : at; }
+
 static void put(size_t at, uint64_t value, size_t len) {
-    for (size_t k = 0; k < len; k++) memory[at + k] = (uint8_t)(value >> 8 * k);
+    for (size_t k = 0; k < len; k++) memory[place(at) + k] = (uint8_t)(value >> 8 * k);
+}
+
+static void make_table(void) {
+    if (mappings == 0) return;
+    size_t len = mappings == 1 ? END : PAGE;
+    if (pk_iotlb_new(&iotlb)) abort();
+    for (size_t k = 0; k < mappings; k++)
+        if (pk_iotlb_map(&iotlb, len * k, len, place(len * k), PK_ACCESS_READ_WRITE)) abort();
+}
+
+/* Lends the table to a chain, or takes it back: one chain is out at a time then. */
+static void lend(struct pk_chain *chain) {
+    if (mappings > 0 && pk_chain_exchange_iotlb(chain, &iotlb)) abort();
 }
 
 static uint32_t answer_none(struct pk_chain *chain, const struct pk_call *call) {
@@ -138,7 +158,7 @@ static void lay_request(const struct row *row) {
     put(REQUEST + 4, row->opcode, 4);
     put(REQUEST + 8, 7, 8);
     put(REQUEST + 16, 1, 8);
-    if (row->answer == answer_entry) memcpy(memory + record, "file", 5);
+    if (row->answer == answer_entry) memcpy(memory + place(record), "file", 5);
     if (row->answer == answer_read || row->answer == answer_write) put(record + 16, DATA, 4);
     lay_chain(row);
 }
@@ -150,14 +170,18 @@ static void serve_next(const struct row *row, struct pk_chain *chains, struct pk
     uint8_t request[PK_FIRST];
     bool notify = false;
     put(AVAIL + 2, (uint16_t)(queue->next_avail + row->out), 2);
+    lend(chains);
     for (size_t k = 0; k < row->out; k++)
         if (take_chain(&chains[k], queue, &offered, &steps[k])) abort();
     for (size_t k = 0; k < row->out; k++)
         if (ask(&chains[k], device, request, load_front(&chains[k], &steps[k], request), &call) ||
             row->answer(&chains[k], &call))
             abort();
+    lend(chains); /* it comes back */
+    lend(chains);
     for (size_t k = 0; k < row->out; k++)
         if (give_back(&chains[k], queue, NULL, &notify)) abort();
+    lend(chains);
 }
 
 static double measure(const struct row *row, struct pk_chain *chains, struct pk_queue *queue,
@@ -172,24 +196,32 @@ static double measure(const struct row *row, struct pk_chain *chains, struct pk_
     return nanoseconds / (double)(rounds * (long)row->out);
 }
 
+static void print_row(const struct row *row, struct pk_chain *chains, struct pk_queue *queue,
+                      const struct pk_device *device, long count) {
+    double least = 0;
+    lay_request(row);
+    for (int k = 0; k < RUNS; k++) {
+        double next = measure(row, chains, queue, device, count);
+        if (k == 0 || next < least) least = next;
+    }
+    printf("%s: %.0f nanoseconds a chain\n", row->name, least);
+}
+
 int main(int argc, char **argv) {
-    long count = argc > 1 ? atol(argv[1]) : 100000;
+    long count = argc > 1 ? atol(argv[1]) : 100000, only = argc > 3 ? atol(argv[3]) : -1;
     struct pk_chain chains[MOST_OUT] = {{0}};
     struct pk_device device = {.page_size = 4096, .limit = 0x101000};
     struct pk_region region = {0, sizeof memory, (uintptr_t)memory};
     struct pk_queue queue = {
         .size = SIZE, .desc = DESC, .avail = AVAIL, .used = USED, .max_in_flight = MOST_OUT};
+    mappings = argc > 2 ? strtoul(argv[2], NULL, 10) : 0;
+    make_table();
     for (size_t k = 0; k < MOST_OUT; k++)
         if (count < 1 || pk_chain_set_memory(&chains[k], &device, &region, 1)) return 1;
-    for (size_t at = 0; at < sizeof rows / sizeof *rows; at++) {
-        double least = 0;
-        lay_request(&rows[at]);
-        for (int k = 0; k < RUNS; k++) {
-            double next = measure(&rows[at], chains, &queue, &device, count);
-            if (k == 0 || next < least) least = next;
-        }
-        printf("%s: %.0f nanoseconds a chain\n", rows[at].name, least);
-    }
+    for (long at = 0; at < (long)(sizeof rows / sizeof *rows); at++)
+        if ((only < 0 || only == at) && (mappings == 0 || rows[at].out == 1))
+            print_row(&rows[at], chains, &queue, &device, count);
     for (size_t k = 0; k < MOST_OUT; k++) pk_chain_free(&chains[k]);
+    pk_iotlb_free(&iotlb);
     return 0;
 }

@@ -20,6 +20,9 @@ use pitskhomu::{Access, Iotlb, Miss, Status};
 use std::sync::atomic::{AtomicBool, Ordering};
 use std::sync::{Arc, Mutex, MutexGuard, PoisonError};
 
+/// The first address of the last page. The library's mappings end below 2^64, so none has it.
+pub const LAST_PAGE: u64 = !(Iotlb::PAGE - 1);
+
 /// What an IOMMU does for one device.
 #[derive(Debug, Default)]
 pub struct Iommu {
@@ -44,6 +47,7 @@ impl Iommu {
     /// chains in flight: QEMU tells nothing of what changes while the device stands.
     pub fn set(&self, is_on: bool) -> Result<(), Status> {
         if is_on {
+            self.channel.begin();
             self.lock().begin()?;
         } else if self.is_on() {
             self.lock().forget();

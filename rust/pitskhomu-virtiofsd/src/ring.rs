@@ -57,6 +57,8 @@ pub struct State {
     /// The library's queue. While `is_new` it isn't reset with these numbers yet.
     queue: Queue,
     is_new: bool,
+    /// The number of times that the library's queue was reset.
+    begun: u64,
     /// From SET_VRING_KICK to GET_VRING_BASE.
     is_started: bool,
     /// Set by SET_VRING_ENABLE.
@@ -115,7 +117,7 @@ impl State {
             .with_max_in_flight(threads.min(layout.size))?
             .with_event_index(has_event_index);
         self.queue.begin(queue)?;
-        (self.is_new, self.told) = (false, None);
+        (self.is_new, self.told, self.begun) = (false, None, self.begun + 1);
         Ok(())
     }
 
@@ -137,6 +139,11 @@ impl State {
         let is_stored = server.set_notification(&self.queue, wanted, memory)?;
         self.told = telling;
         Ok(is_stored)
+    }
+
+    /// The next chain. It differs once a thread has taken it, or the ring has begun again.
+    fn next_chain(&self) -> (u64, u16) {
+        (self.begun + u64::from(self.is_new), self.numbers.next_avail)
     }
 
     fn is_live(&self) -> bool {
@@ -184,14 +191,28 @@ fn send(owed: &mut Option<Arc<File>>) {
     }
 }
 
+/// The IOMMU's answer to what a call missed.
+#[derive(Debug, Clone, Copy, PartialEq, Eq)]
+pub enum Answered {
+    /// All is answered.
+    All,
+    /// All is answered, and some of it refused.
+    Refused,
+    /// Not all is answered.
+    NotAll,
+}
+
 /// Serves chains, on a ring's thread.
 pub trait Server {
     /// Takes the next chain over this memory, if one is available.
     fn take(&mut self, queue: &mut Queue, memory: &Arc<Table>) -> Result<Taken, Status>;
 
     /// Asks the IOMMU for the misses of the last call, and waits for the answer, unless that is
-    /// cancelled. Returns whether it has answered. The ring isn't locked.
-    fn ask(&mut self, memory: &Table, cancel: &Cancel) -> bool;
+    /// cancelled. The ring isn't locked.
+    fn ask(&mut self, memory: &Table, cancel: &Cancel) -> Answered;
+
+    /// Refusals aren't the next call's any more: the driver may map these addresses meanwhile.
+    fn forget_refusals(&mut self);
 
     /// Makes the reply to the chain that was taken. `doing` gets the request's opcode and number
     /// meanwhile. The ring isn't locked.

@@ -6,7 +6,7 @@ use crate::in_flight::Doing;
 use crate::iommu::Cancel;
 use crate::memory::Table;
 use crate::open_flags::{Descriptors, OpenFlags};
-use crate::ring::{Ring, Server, LAST_CHAINS};
+use crate::ring::{Answered, Ring, Server, LAST_CHAINS};
 use log::{debug, error};
 use pitskhomu::{Queue, Status, Taken};
 use std::collections::BTreeSet;
@@ -193,8 +193,12 @@ impl<F: ServedFs> Server for QueueWorker<F> {
         Ok(taken)
     }
 
-    fn ask(&mut self, memory: &Table, cancel: &Cancel) -> bool {
+    fn ask(&mut self, memory: &Table, cancel: &Cancel) -> Answered {
         self.ask_for_misses(memory, cancel)
+    }
+
+    fn forget_refusals(&mut self) {
+        self.refused.clear();
     }
 
     /// A call at which the file system panics is answered EIO, and the thread continues.

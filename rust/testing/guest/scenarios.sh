@@ -85,6 +85,15 @@ scenario_whole() {
     run umount /mnt
 }
 
+# Whether the file has other bytes, or only the reply had; both are kept.
+other_bytes() {
+    echo "OTHER BYTES $1: $(cmp -l /tmp/r /mnt/work/w | wc -l) of them"
+    drop
+    cmp /tmp/r /mnt/work/w && echo "OTHER BYTES in the reply alone"
+    mv /mnt/work/w "/mnt/work/w-$1"
+    cp /tmp/r "/mnt/work/r-$1"
+}
+
 # The host stops and resumes the guest meanwhile: each time the rings stop and go on where they
 # stood.
 scenario_pause() {
@@ -98,7 +107,7 @@ scenario_pause() {
         head -c 300000 /dev/urandom > /tmp/r
         cp /tmp/r /mnt/work/w
         drop
-        cmp /tmp/r /mnt/work/w || echo "OTHER BYTES"
+        cmp /tmp/r /mnt/work/w || other_bytes $i
         i=$((i + 1))
     done
     run umount /mnt

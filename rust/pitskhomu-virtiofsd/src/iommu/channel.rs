@@ -6,7 +6,7 @@ use pitskhomu::{Access, Iotlb, Miss};
 use std::collections::VecDeque;
 use std::io::{self, ErrorKind, IoSlice, IoSliceMut};
 use std::os::fd::{AsRawFd, OwnedFd};
-use std::sync::atomic::{AtomicBool, AtomicUsize, Ordering};
+use std::sync::atomic::{AtomicBool, AtomicU64, AtomicUsize, Ordering};
 use std::sync::{Arc, Condvar, Mutex, MutexGuard, PoisonError};
 use std::thread;
 use std::time::{Duration, Instant};
@@ -34,16 +34,29 @@ const REPLY_LEN: usize = HEAD_LEN + 8;
 
 /// Whether a ring's threads wait for answers.
 #[derive(Debug, Default)]
-pub struct Cancel(AtomicBool);
+pub struct Cancel {
+    is_set: AtomicBool,
+    /// How often it was set: a thread may come to look only after it was reset.
+    count: AtomicU64,
+}
 
 impl Cancel {
     /// They do from here on.
     pub fn resume(&self) {
-        self.0.store(false, Ordering::Release);
+        self.is_set.store(false, Ordering::Release);
     }
 
-    fn is_set(&self) -> bool {
-        self.0.load(Ordering::Acquire)
+    fn set(&self) {
+        self.is_set.store(true, Ordering::Release);
+        self.count.fetch_add(1, Ordering::AcqRel);
+    }
+
+    fn count(&self) -> u64 {
+        self.count.load(Ordering::Acquire)
+    }
+
+    fn is_set_since(&self, count: u64) -> bool {
+        self.is_set.load(Ordering::Acquire) || self.count() != count
     }
 }
 
@@ -62,6 +75,8 @@ enum Answer {
 struct Ask {
     page: u64,
     access: Access,
+    /// The channel's epoch.
+    epoch: u64,
     sent: Instant,
     /// It changes under the channel's lock.
     answer: Mutex<Answer>,
@@ -99,6 +114,9 @@ pub struct Channel {
     state: Mutex<State>,
     /// An ask was answered or cancelled, or the channel has changed.
     changed: Condvar,
+    /// How often the device has begun. QEMU refuses what it reads while the device stands, so an
+    /// answer to an ask of an earlier epoch says nothing.
+    epoch: AtomicU64,
     silences: AtomicUsize,
 }
 
@@ -114,7 +132,7 @@ impl State {
     }
 
     /// Sends a miss, unless that would have to wait.
-    fn send(&mut self, page: u64, access: Access) -> Option<Arc<Ask>> {
+    fn send(&mut self, page: u64, access: Access, epoch: u64) -> Option<Arc<Ask>> {
         let socket = self.socket.as_ref()?.as_raw_fd();
         if self.asked.iter().rev().take(MOST_ASKED).filter(|ask| ask.is_fresh()).count()
             == MOST_ASKED
@@ -131,7 +149,7 @@ impl State {
         match send(socket, &[IoSlice::new(&head), IoSlice::new(&body)], libc::MSG_DONTWAIT) {
             Ok(len) if len == HEAD_LEN + IotlbBody::LEN => {
                 let (sent, answer) = (Instant::now(), Mutex::new(Answer::None));
-                let ask = Arc::new(Ask { page, access, sent, answer });
+                let ask = Arc::new(Ask { page, access, epoch, sent, answer });
                 self.asked.push_back(ask.clone());
                 return Some(ask);
             }
@@ -145,9 +163,11 @@ impl State {
     }
 
     /// An ask of a moment ago that needs no less.
-    fn shared(&self, page: u64, access: Access) -> Option<Arc<Ask>> {
+    fn shared(&self, page: u64, access: Access, epoch: u64) -> Option<Arc<Ask>> {
         let is_same = |ask: &&Arc<Ask>| {
-            ask.page == page && ask.access.or(access) == ask.access && ask.is_fresh()
+            (ask.page, ask.epoch) == (page, epoch)
+                && ask.access.or(access) == ask.access
+                && ask.is_fresh()
         };
         self.asked.iter().rev().take(MOST_ASKED).find(is_same).cloned()
     }
@@ -242,9 +262,20 @@ impl Channel {
 
     /// From here on nobody waits for answers with this.
     pub fn cancel(&self, cancel: &Cancel) {
-        cancel.0.store(true, Ordering::Release);
+        cancel.set();
         let _state = self.lock(); // who has looked at it already waits by now
         self.changed.notify_all();
+    }
+
+    /// The device begins: nothing of what was asked for before is waited for.
+    pub fn begin(&self) {
+        self.epoch.fetch_add(1, Ordering::AcqRel);
+        self.wake();
+    }
+
+    /// How often the device has begun.
+    pub fn epoch(&self) -> u64 {
+        self.epoch.load(Ordering::Acquire)
     }
 
     /// An update has come: what it maps may be waited for.
@@ -255,7 +286,8 @@ impl Channel {
 
     /// Asks for pages, several at once, and waits for the answers. Returns the pages that are
     /// refused; `None` if not all are answered in time. What `is_known` isn't waited for: an update
-    /// comes before its acknowledgement, and may have more pages than the one that was missed.
+    /// comes before its acknowledgement, and may have more pages than the one that was missed. If
+    /// the device begins meanwhile, the misses are others, and nothing is refused.
     pub fn ask(
         &self,
         misses: &[Miss],
@@ -267,13 +299,18 @@ impl Channel {
         let mut mine = Vec::<Arc<Ask>>::new();
         let mut refused = Vec::new();
         let mut state = self.lock();
+        let (epoch, cancelled) = (self.epoch(), cancel.count());
         loop {
+            if self.epoch() != epoch {
+                return Some(Vec::new());
+            }
             while let Some(&(page, access)) = wanted.peek() {
                 if is_known(page) {
                     wanted.next();
                     continue;
                 }
-                let ask = state.shared(page, access).or_else(|| state.send(page, access));
+                let ask =
+                    state.shared(page, access, epoch).or_else(|| state.send(page, access, epoch));
                 let Some(ask) = ask else { break };
                 mine.push(ask);
                 wanted.next();
@@ -293,7 +330,7 @@ impl Channel {
             let left = end.saturating_duration_since(Instant::now());
             let is_lost =
                 state.socket.is_none() || mine.iter().any(|ask| ask.answer() == Answer::Lost);
-            if left.is_zero() || is_lost || cancel.is_set() {
+            if left.is_zero() || is_lost || cancel.is_set_since(cancelled) {
                 drop(state);
                 if left.is_zero() {
                     self.say_silence();

@@ -1,7 +1,8 @@
 //! The library's table, and what the daemon has to know of it: how many ranges it has, and which of
 //! them the rings need.
+use super::LAST_PAGE;
 use log::warn;
-use pitskhomu::{Access, Iotlb, QueueLayout, Status};
+use pitskhomu::{Access, Iotlb, Miss, QueueLayout, Status};
 use std::collections::{BTreeMap, BTreeSet};
 
 /// With more ranges than this all but the rings' are dropped, so no guest fills the host's memory.
@@ -70,6 +71,11 @@ impl Mappings {
             self.iotlb = Some(Iotlb::new()?);
         }
         self.iotlb.as_mut().ok_or(Status::OutOfMemory)
+    }
+
+    /// Whether mappings can have all parts of a ring.
+    pub fn can_have(layout: &QueueLayout) -> bool {
+        Parts::of(layout).into_iter().flatten().all(|(_, last)| last < LAST_PAGE)
     }
 
     /// A device begins: nothing is known.
@@ -188,14 +194,14 @@ impl Mappings {
         }
     }
 
-    /// A page that the front-end refuses, for one pop. It isn't mapped.
-    pub fn refuse(&mut self, page: u64) -> Result<(), Status> {
-        self.iotlb()?.map(page, Iotlb::PAGE, 0, Access::None)
+    /// What the front-end refuses, for one pop. It isn't mapped.
+    pub fn refuse(&mut self, miss: &Miss) -> Result<(), Status> {
+        self.iotlb()?.map(miss.iova, miss.len, 0, Access::None)
     }
 
     /// It isn't refused any more.
-    pub fn unrefuse(&mut self, page: u64) {
-        self.remove((page, page | (Iotlb::PAGE - 1)));
+    pub fn unrefuse(&mut self, miss: &Miss) {
+        self.remove((miss.iova, miss.iova + (miss.len - 1)));
     }
 
     fn enter(&mut self, iova: u64, len: u64, guest: u64, access: Access) -> Result<(), Status> {
@@ -364,10 +370,20 @@ mod tests {
     #[test]
     fn pages_are_refused_for_a_while() {
         let mut mappings = mappings();
-        mappings.refuse(0x5000).expect("a mapping");
+        let miss = Miss { iova: 0x5000, len: 0x3000, access: Access::Write };
+        mappings.refuse(&miss).expect("a mapping");
         assert_eq!(mappings.guest_address(0x5000), None);
-        mappings.unrefuse(0x5000);
+        mappings.unrefuse(&miss);
         mappings.update(0x5000, 0x1000, 0x6000, RW).expect("a mapping");
         assert_eq!(mappings.guest_address(0x5004), Some(0x6004));
+    }
+
+    #[test]
+    fn no_mapping_has_a_ring_of_the_last_page() {
+        let layout = layout();
+        assert!(Mappings::can_have(&layout));
+        assert!(Mappings::can_have(&QueueLayout { used: LAST_PAGE - 0x1000, ..layout }));
+        assert!(!Mappings::can_have(&QueueLayout { used: LAST_PAGE - 8, ..layout }));
+        assert!(!Mappings::can_have(&QueueLayout { available: LAST_PAGE, ..layout }));
     }
 }

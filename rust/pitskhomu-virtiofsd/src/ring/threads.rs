@@ -1,5 +1,5 @@
 //! The loop of a ring's threads. ring.rs says what the comments in brackets name.
-use super::{send, Ring, Server, Source, State};
+use super::{send, Answered, Ring, Server, Source, State};
 use crate::in_flight::Doing;
 use crate::memory::Table;
 use log::{debug, error, warn};
@@ -78,14 +78,15 @@ impl Ring {
                 Looked::Again
             }
             Err(status) => {
-                error!(
-                    "queue {} is refused, and isn't served until it begins anew: {status}",
-                    self.index
-                );
-                state.refuse();
+                self.refuse(state, status);
                 Looked::Idle
             }
         }
+    }
+
+    fn refuse(&self, state: &mut State, why: Status) {
+        error!("queue {} is refused, and isn't served until it begins anew: {why}", self.index);
+        state.refuse();
     }
 
     /// While this thread answers its chain, a sleeping thread serves the next ones, so kicks are
@@ -137,12 +138,15 @@ impl Ring {
         let (mut state, mut owed) = (self.lock(), None); // [Enters]
         state.sleeping -= 1;
         state.is_woken = false; // [Hears]
-        let mut rounds = 0;
+        let (mut rounds, mut asked_for) = (0, None);
         loop {
             if state.is_held {
                 send(&mut owed);
             }
             state = self.wait_while(state, |state| state.is_held);
+            if asked_for.take() != Some(state.next_chain()) {
+                server.forget_refusals();
+            }
             // Get the memory under the lock: the front-end's thread has the lock while it changes
             // it.
             let table = memory();
@@ -171,6 +175,7 @@ impl Ring {
             send(&mut owed);
             // [Wishes], and one more round, whose pop is the look once more: [SleepsNow] or
             // [WalksOn]. Or [HasWished] before this round, whose pop was that look
+            let is_for_kicks = looked != Looked::Missing;
             let looked = match looked {
                 Looked::Missing => looked,
                 _ => match state.want_kicks(true, server, &table) {
@@ -187,10 +192,16 @@ impl Ring {
                 // It doesn't sleep: it pops again when this is answered, and else in a moment. A
                 // thread that is woken meanwhile misses the same.
                 rounds += 1;
+                let chain = state.next_chain();
                 drop(state);
-                let is_answered = server.ask(&table, &self.asking);
+                let asked = server.ask(&table, &self.asking);
                 state = self.lock();
-                if is_answered {
+                asked_for = Some(chain);
+                let is_same = state.is_live() && state.next_chain() == chain;
+                if is_for_kicks && asked == Answered::Refused && is_same {
+                    self.refuse(&mut state, Status::NotMapped); // else it would ask for ever
+                }
+                if asked != Answered::NotAll {
                     continue;
                 }
             }
@@ -238,9 +249,11 @@ mod tests {
             Ok(Taken::Idle)
         }
 
-        fn ask(&mut self, _memory: &Table, _cancel: &Cancel) -> bool {
-            false
+        fn ask(&mut self, _memory: &Table, _cancel: &Cancel) -> Answered {
+            Answered::NotAll
         }
+
+        fn forget_refusals(&mut self) {}
 
         fn answer(&mut self, _doing: &Doing) {}
 
@@ -291,9 +304,11 @@ mod tests {
             Ok(Taken::Idle)
         }
 
-        fn ask(&mut self, _memory: &Table, _cancel: &Cancel) -> bool {
-            false
+        fn ask(&mut self, _memory: &Table, _cancel: &Cancel) -> Answered {
+            Answered::NotAll
         }
+
+        fn forget_refusals(&mut self) {}
 
         fn answer(&mut self, _doing: &Doing) {}
 

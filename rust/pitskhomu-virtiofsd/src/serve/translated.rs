@@ -1,19 +1,29 @@
 //! A queue's thread behind an IOMMU: pops and pushes with the table, which is locked for each of
 //! them.
 use super::{QueueWorker, ServedFs};
-use crate::iommu::{Cancel, Mappings};
+use crate::iommu::{Cancel, Mappings, LAST_PAGE};
 use crate::memory::Table;
-use pitskhomu::{Iotlb, Miss, Queue, Served, Status, Taken};
+use crate::ring::Answered;
+use pitskhomu::{Miss, Queue, Served, Status, Taken};
 use std::collections::BTreeSet;
 
-/// Whether all pages of what was missed are refused.
-fn are_refused(misses: &[Miss], refused: &BTreeSet<u64>) -> bool {
-    misses.iter().flat_map(pages).all(|page| refused.contains(&page))
+/// The first and the last address of a miss.
+fn ends(miss: &Miss) -> (u64, u64) {
+    (miss.iova, miss.iova.saturating_add(miss.len - 1))
 }
 
-fn pages(miss: &Miss) -> impl Iterator<Item = u64> {
-    let iova = miss.iova;
-    (0..miss.len / Iotlb::PAGE).map(move |k| iova.wrapping_add(k * Iotlb::PAGE))
+/// Whether some of these addresses are of the last page, which the table can't map.
+fn reach_the_last_page(misses: &[Miss]) -> bool {
+    misses.iter().any(|miss| ends(miss).1 >= LAST_PAGE)
+}
+
+/// The misses with a page that is refused. A chain that lacks one page has its fault.
+fn refused_of(misses: &[Miss], refused: &BTreeSet<u64>) -> Vec<Miss> {
+    let has_one = |miss: &&Miss| {
+        let (first, last) = ends(miss);
+        refused.range(first..=last).next().is_some()
+    };
+    misses.iter().filter(has_one).copied().collect()
 }
 
 impl<F: ServedFs> QueueWorker<F> {
@@ -25,15 +35,15 @@ impl<F: ServedFs> QueueWorker<F> {
         memory: &Table,
     ) -> Result<Taken, Status> {
         let mut table = memory.iommu().lock();
+        if !Mappings::can_have(&queue.layout()) {
+            return Err(Status::NotMapped);
+        }
         let mut entered = Vec::new();
         let taken = self.pop(&mut table, queue, memory, &mut entered);
-        entered.into_iter().for_each(|page| table.unrefuse(page));
+        entered.iter().for_each(|miss| table.unrefuse(miss));
         if taken == Ok(Taken::Chain) {
             table.hold(self.index, &queue.layout());
             self.is_translated = true;
-        }
-        if taken != Ok(Taken::Missing) {
-            self.refused.clear();
         }
         taken
     }
@@ -43,32 +53,37 @@ impl<F: ServedFs> QueueWorker<F> {
         table: &mut Mappings,
         queue: &mut Queue,
         memory: &Table,
-        entered: &mut Vec<u64>,
+        entered: &mut Vec<Miss>,
     ) -> Result<Taken, Status> {
         loop {
             let taken = self.worker.lend(table.iotlb()?)?.take(queue, memory)?;
-            let misses = self.worker.misses();
-            if taken != Taken::Missing || !are_refused(misses, &self.refused) {
+            if taken != Taken::Missing {
                 return Ok(taken);
             }
-            for page in misses.iter().flat_map(pages) {
-                table.refuse(page)?;
-                entered.push(page);
+            let misses = self.worker.misses();
+            if reach_the_last_page(misses) {
+                return Err(Status::NotMapped); // no answer maps it
+            }
+            let refused = refused_of(misses, &self.refused);
+            if refused.is_empty() {
+                return Ok(taken);
+            }
+            for miss in refused {
+                table.refuse(&miss)?;
+                entered.push(miss);
             }
         }
     }
 
-    /// Asks for what the last pop missed, without a lock. Whether the front-end has answered.
-    pub(super) fn ask_for_misses(&mut self, memory: &Table, cancel: &Cancel) -> bool {
+    /// Asks for what the last call missed, without a lock.
+    pub(super) fn ask_for_misses(&mut self, memory: &Table, cancel: &Cancel) -> Answered {
         match memory.iommu().ask(self.worker.misses(), cancel) {
+            Some(refused) if refused.is_empty() => Answered::All,
             Some(refused) => {
                 self.refused.extend(refused);
-                true
+                Answered::Refused
             }
-            None => {
-                self.refused.clear();
-                false
-            }
+            None => Answered::NotAll,
         }
     }
 
