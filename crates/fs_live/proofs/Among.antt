@@ -375,7 +375,7 @@ handle_walks_among {F} may s i given old new before now after told there places 
       c.told_is,
       record { w = live_of now; there = there; room = c.may; goes = clear; walks = event.0 },
       event.1,
-      held_by s i (live_of now) before loaded came new (places ∙ ap (λ (r : Mapped). places_in r) (sym c.regions)) queue state_is,
+      held_by s i (live_of now) before loaded came new queue state_is,
     )
 
 -- ---- a queue that was stopped meanwhile

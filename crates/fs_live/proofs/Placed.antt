@@ -19,7 +19,7 @@ use Rattle.fs_live.specs.Live.{Returns, Sleeps, Begins, Fills, Drops, Abandons, 
 use Rattle.fs_live.specs.Live.{IfKeepsReturns, KeepsQueue, KeepsReturns, WalksIn, after_answer, after_asking, after_beginning, after_drop}
 use Rattle.fs_live.specs.Live.{after_giving, after_loss, after_own, asked_chain, fault_of, lost_chain, new_chain}
 use Rattle.fs_live.specs.Live.{room_in, why_declined}
-use Rattle.fs_live.specs.Runs.{HasUsedEvent, IsEven, ReturnsHavePlaces, has_places, tickets_on}
+use Rattle.fs_live.specs.Runs.{HasUsedEvent, IsEven, ReturnHasPlaces, ReturnsHavePlaces, has_places, tickets_on}
 use Rattle.fs_live.proofs.Alone.{Walked, all_both, all_left, all_right, walked_there}
 use Rattle.fs_live.proofs.Declined.{has_events, seen_has_a_place}
 use Rattle.fs_live.proofs.Offered.{RoomFits, fetched_fits, goes_back}
@@ -466,6 +466,18 @@ room_fits m ds p fits = fits
 back_there : (now m : Memory) (w : LiveQueue) → KeepsReturns m now w → Next now w → Next m w
 back_there now m w keeps next = (sym (keeps.returns w.next_used) ∙ next.0, λ event. sym keeps.event ∙ next.1 event, next.2)
 
+-- the addresses of a return that is ahead
+return_there : (m : Memory) (w : LiveQueue) → Next m w → ReturnHasPlaces m w
+return_there m w next =
+    let places = goes_back m (returning w) next.0 in
+    record {
+      element = places.0;
+      index = places.1;
+      flags = places.2;
+      used_event = next.1;
+      seen = seen_has_a_place m w places.2 next.1;
+    }
+
 pub returns_have_places : {F : Type 0} (may : May F) → ReturnsHavePlaces may
 returns_have_places {F} may s now after es c x notice last used seen none even run h =
     let i = c.queue in
@@ -478,17 +490,11 @@ returns_have_places {F} may s now after es c x notice last used seen none even r
     tied_there now.places now.queues h.before h.behind c now.outs h.out (run_ties may s now es run start) in
     let next : Next c.places h.w =
     back_there now.places c.places h.w (subst (λ (k : Option LiveQueue). IfKeepsReturns c.places now.places k) h.there tied) ahead in
-    let places = goes_back c.places (returning h.w) next.0 in
     let walked : Walked now.limit c = walked_there may s now es c h.before h.behind none run h.out in
     let fetched = fetched_fits c.places now.limit c.taken c.loaded c.descriptors c.head (fault_of c.phase) walked.0 in (
       h.w,
       h.there,
-      record {
-        element = places.0;
-        index = places.1;
-        flags = places.2;
-        used_event = next.1;
-        seen = seen_has_a_place c.places h.w places.2 next.1;
-        room = room_fits c.places c.descriptors c.phase fetched.1;
-      },
+      return_there now.places h.w ahead,
+      return_there c.places h.w next,
+      room_fits c.places c.descriptors c.phase fetched.1,
     )

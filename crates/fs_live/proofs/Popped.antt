@@ -13,7 +13,7 @@ use Rattle.fs_queue.specs.declared.fault.QueueError.{QueueError}
 use Rattle.fs_queue.specs.declared.fault.QueueError.TheVariants as stop
 use Rattle.fs_regions.specs.declared.step.CourseStep as comes
 use Rattle.fs_regions.specs.declared.step.CourseStep.TheVariants as step
-use Rattle.fs_regions.specs.Places.{Mapped, places_in}
+use Rattle.fs_regions.specs.Places.{places_in}
 use Rattle.fs_regions.specs.Walks.{Loaded, IsCourseStep, OffersBy, queue_of}
 use Rattle.virtiofsd_fuse.specs.Serving.{May}
 use Rattle.fs_chain.specs.Events.{event_fault, event_miss}
@@ -81,13 +81,13 @@ event_of s i before after loaded ds (step.Chain head (Some fault)) there left do
 )
 
 pub held_by : {F : Type 0} (s : LiveState F) (i : ℕ) (q : LiveQueue) (before : QueueState) (loaded : Loaded) (came : comes.CourseStep)
-    (w : ChainHandle) → s.places ≡ places_in w.regions → q.queue ≡ queue_of (course_of before s.limit)
+    (w : ChainHandle) → q.queue ≡ queue_of (course_of before s.limit)
     → w.state ≡ state_after (course_of before s.limit) (pop_id_of before) w.descriptors.items came → IsHeld s i q loaded came w
-held_by s i q before loaded (step.Chain head None) w places goes is =
-    record { kept = before; pop_id = pop_id_of before; places = places; taken = goes; state = is }
-held_by s i q before loaded (step.Chain head (Some why)) w places goes is =
-    record { kept = before; pop_id = pop_id_of before; places = places; taken = goes; state = is }
-held_by s i q before loaded came w places goes is = tt
+held_by s i q before loaded (step.Chain head None) w goes is =
+    record { kept = before; pop_id = pop_id_of before; taken = goes; state = is }
+held_by s i q before loaded (step.Chain head (Some why)) w goes is =
+    record { kept = before; pop_id = pop_id_of before; taken = goes; state = is }
+held_by s i q before loaded came w goes is = tt
 
 -- a walk to its end goes through a queue whose event index has its places: else it was refused by that
 abbrev pub IsUnrefused : went.LoadOutcome → ChainHandle → QueueState → Type 0
@@ -178,7 +178,7 @@ handle_walks {F} may s i given old new before after told there places limit goes
       keeps.0,
       record { w = live_of before; there = there; room = room; goes = clear; walks = event.0 },
       event.1,
-      held_by s i (live_of before) before loaded came new (places ∙ ap (λ (r : Mapped). places_in r) (sym keeps.4.0)) queue state_is,
+      held_by s i (live_of before) before loaded came new queue state_is,
     )
 
 -- ---- walks without a load

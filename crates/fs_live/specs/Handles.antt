@@ -67,11 +67,11 @@ IsPopDone (says.Load n) = ⊥
 IsPopDone (says.Missing range access) = ⊥
 IsPopDone _ = Unit {0}
 
--- a chain of a run with this limit, in the handle that popped it: both have the same mappings
+-- a chain of a run with this limit, in the handle that popped it. The handle may have another IOMMU's table
+-- by now, or none: its state alone keeps the chain
 pub record IsOut (limit : ℕ) (c : OutChain) (w : ChainHandle) : Type 0 where
   pub kept : QueueState
   pub pop_id : PopId
-  pub places : c.places ≡ places_in w.regions
   pub taken : c.taken ≡ queue_of (course_of kept limit)
   pub state : w.state ≡ at.Taken (out_of (course_of kept limit) pop_id c.head c.descriptors)
 
@@ -79,7 +79,6 @@ pub record IsOut (limit : ℕ) (c : OutChain) (w : ChainHandle) : Type 0 where
 pub record IsFaultyOut (limit : ℕ) (c : OutChain) (w : ChainHandle) : Type 0 where
   pub kept : QueueState
   pub pop_id : PopId
-  pub places : c.places ≡ places_in w.regions
   pub taken : c.taken ≡ queue_of (course_of kept limit)
   pub state : w.state ≡ at.HasReply (faulty_out (course_of kept limit) pop_id c.head) no_reply
 

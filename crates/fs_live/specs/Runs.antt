@@ -205,20 +205,20 @@ HasUsedEvent m w = w.event_index ≡ true → reach m Read (used_event_at w.queu
 abbrev pub has_places : Memory → (room : List ℕ) → Bool
 has_places m room = list_all (λ a. is_some (location m Write a)) room
 
--- the addresses of a return at the queue's next used position are mapped. Writable are the used element, the
--- used index and the chain's reply buffer. Readable are the two bytes that decide the notification: the
--- available flags, and with the event index used_event besides
-pub record ReturnHasPlaces (m : Memory) (w : LiveQueue) (c : OutChain) : Type 0 where
+-- the addresses of a return in its queue, at the next used position, are mapped. Writable are the used
+-- element and the used index. Readable are the two bytes that decide the notification: the available flags,
+-- and with the event index used_event besides
+pub record ReturnHasPlaces (m : Memory) (w : LiveQueue) : Type 0 where
   pub element : reach m Write (element_at (returning w)) 8 ≡ true
   pub index : reach m Write (index_at (returning w)) 2 ≡ true
   pub flags : reach m Read w.queue.avail 2 ≡ true
   pub used_event : HasUsedEvent m w
   pub seen : reach m Read (seen_at w) 2 ≡ true
-  pub room : has_places m (room_of c) ≡ true
 
--- in a run that starts without chains in flight, each return is mapped by the mappings of its chain's pop,
--- which its handle keeps. Chains may be returned in any order or be given up, the guest may write, and
--- addresses may get other mappings
+-- in a run that starts without chains in flight, the addresses of each return are mapped. Those in its queue
+-- are mapped by the mappings of this moment, and by those of its chain's pop. Those of the reply buffer are
+-- mapped by the mappings of the pop. Chains may be returned in any order or be given up, the guest may write,
+-- and addresses may get other mappings
 abbrev pub ReturnsHavePlaces : {F : Type 0} → May F → Type 0
 ReturnsHavePlaces {F} may =
     (s now after : LiveState F) (es : List LiveEvent) (c : OutChain) (x : Exchange) (notice : Bool) (last : ℕ)
@@ -227,7 +227,11 @@ ReturnsHavePlaces {F} may =
     AllByRecursion IsEven s.queues →
     LiveRun may s es now →
     Happens may now (Returns c x notice last used seen) after →
-    (w : LiveQueue) × (slice_get now.queues c.queue ≡ Some w) × ReturnHasPlaces c.places w c
+    (w : LiveQueue)
+    × (slice_get now.queues c.queue ≡ Some w)
+    × ReturnHasPlaces now.places w
+    × ReturnHasPlaces c.places w
+    × (has_places c.places (room_of c) ≡ true)
 
 -- ---- one queue of a run
 

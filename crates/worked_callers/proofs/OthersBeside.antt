@@ -36,16 +36,16 @@ use Rattle.fs_live.specs.Others.{AreBegunBy, GoesBackOwn, HandleAbandons, Handle
 use Rattle.fs_live.specs.Others.{IsOwn, recorded}
 use Rattle.fs_live.specs.Several.{took}
 use Rattle.fs_live.proofs.Queues.{same_some, there_same}
-use Rattle.worked_callers.proofs.ServedBeside.{chain_is, reached_by, taken_of}
+use Rattle.worked_callers.proofs.ServedBeside.{chain_is, held_later, reached_by, taken_of}
 
-pub dropped_beside : {F : Type 0} (may : May F) (walks_law : HandleWalks may) (drops_law : HandleDrops may) (old one : ChainHandle)
+pub dropped_beside : {F : Type 0} (may : May F) (walks_law : HandleWalks may) (drops_law : HandleDrops may) (old one later : ChainHandle)
     (before after last : QueueState) (head n r : ℕ) → before.stopped ≡ None
-    → IsWalked old one before after (wents.On (says.Chain head n r)) → give_up_error one.state after ≡ None
-    → last ≡ (if is_out one.state then untook after else after) → (s : LiveState F) (i : ℕ)
+    → IsWalked old one before after (wents.On (says.Chain head n r)) → later.state ≡ one.state → give_up_error later.state after ≡ None
+    → last ≡ (if is_out later.state then untook after else after) → (s : LiveState F) (i : ℕ)
     → slice_get s.queues i ≡ Some (live_of before) → s.places ≡ places_in old.regions → s.limit ≡ old.limit
     → (es : List LiveEvent) × (end : LiveState F) × LiveRun may s es end × (end.outs ≡ s.outs)
     × (slice_get end.queues i ≡ Some (live_of last))
-dropped_beside {F} may walks_law drops_law old one before after last head n r goes walks clear left s i there places limit =
+dropped_beside {F} may walks_law drops_law old one later before after last head n r goes walks same clear left s i there places limit =
     let q = live_of before in
     let ds = one.descriptors.items in
     let walk = walks_law s i walks.0 old one before after (says.Chain head n r) there places limit goes tt walks.1 tt in
@@ -59,9 +59,9 @@ dropped_beside {F} may walks_law drops_law old one before after last head n r go
     let there₁ : slice_get s₁.queues i ≡ Some (live_of after) =
     subst (λ (k : comes.CourseStep). slice_get (after_walk s i q loaded ds k).queues i ≡ Some (live_of after)) is walk.5 in
     let held : IsOut s.limit c one = subst (λ (k : comes.CourseStep). IsHeld s i q loaded k one) is walk.6 in
-    let dropped = drops_law s₁ c s.outs [] one after refl there₁ refl held clear in
+    let dropped = drops_law s₁ c s.outs [] later after refl there₁ refl (held_later s.limit c one later same held) clear in
     let s₂ : LiveState F = after_drop s₁ s.outs [] c (live_of after) in
-    let out : is_out one.state ≡ true = ap is_out held.state in
+    let out : is_out later.state ≡ true = ap is_out (same ∙ held.state) in
     let left_is : untook after ≡ last = sym (left ∙ ap (λ (b : Bool). if b then untook after else after) out) in (
       Walks i loaded ds came ∷ Drops c ∷ [],
       s₂,

@@ -208,6 +208,18 @@ module _ {F : Type 0} (may : May F) (law : HandleCalls may) (w w' : ChainHandle)
         files_are = rest.files_are;
       }
 
+-- ---- another table
+
+-- a handle has its chain by its state alone: since the pop it may have been given another table, or none
+pub held_later : (limit : ℕ) (c : OutChain) (one later : ChainHandle) → later.state ≡ one.state → IsOut limit c one → IsOut limit c later
+held_later limit c one later same held =
+    record { kept = held.kept; pop_id = held.pop_id; taken = held.taken; state = same ∙ held.state }
+
+pub faulty_later : (limit : ℕ) (c : OutChain) (one later : ChainHandle) → later.state ≡ one.state → IsFaultyOut limit c one →
+    IsFaultyOut limit c later
+faulty_later limit c one later same held =
+    record { kept = held.kept; pop_id = held.pop_id; taken = held.taken; state = same ∙ held.state }
+
 -- ---- the whole chain
 
 -- these calls are answered and the chain goes back, whatever other chains are out: a run, which begins no queue anew
@@ -226,10 +238,11 @@ pub record IsServed {F : Type 0} (may : May F) (s : LiveState F) (i : ℕ) (afte
   pub single_run : LiveRun may s (events_in single) end
 
 module _ {F : Type 0} (may : May F) (walks_law : HandleWalks may) (asks_law : HandleAsks may) (calls_law : HandleCalls may)
-    (returns_law : HandleReturns may) (old one two three : ChainHandle)
+    (returns_law : HandleReturns may) (old one later two three : ChainHandle)
     (before after : QueueState) (head n r : ℕ) (session : Session) (request : List ℕ) (made : told.Decoded) (given : ChainAnswer)
     (notice : Bool) (goes : before.stopped ≡ None)
-    (walks : IsWalked old one before after (wents.On (says.Chain head n r))) (asked : IsDecodedBy one session request request made two)
+    (walks : IsWalked old one before after (wents.On (says.Chain head n r))) (same : later.state ≡ one.state)
+    (asked : IsDecodedBy later session request request made two)
     (has : HasReply made two given three) (back : (room behind : List ℕ)
     → (acts : List Act) × (last : ℕ) × GoesBackBy after room behind three.state acts last notice) where
   pub served_beside : (s : LiveState F) (i : ℕ) (files : F) → IsReached may s → slice_get s.queues i ≡ Some (live_of before)
@@ -250,8 +263,9 @@ module _ {F : Type 0} (may : May F) (walks_law : HandleWalks may) (asks_law : Ha
       let there₁ : slice_get s₁.queues i ≡ Some (live_of after) =
       subst (λ (k : comes.CourseStep). slice_get (after_walk s i q loaded ds k).queues i ≡ Some (live_of after)) is walk.5 in
       let held : IsOut s.limit c one = subst (λ (k : comes.CourseStep). IsHeld s i q loaded k one) is walk.6 in
-      let asking = asks_law s₁ c s.outs [] one two session request request made
-      (reached_by may s s₁ (Walks i loaded ds (step.Chain head None)) reached first) small refl refl held in_session asked
+      let asking = asks_law s₁ c s.outs [] later two session request request made
+      (reached_by may s s₁ (Walks i loaded ds (step.Chain head None)) reached first) small refl refl
+      (held_later s.limit c one later same held) in_session asked
       (told_with_reply made two three given has) in
       let s₂ : LiveState F = after_asking s₁ s.outs [] c request in
       let kept : IsKept s₂.page_size s.options request (asked_chain c request s.options []) made two = asking.1 in
@@ -339,14 +353,15 @@ faulty_is ds (step.Chain h (Some why)) head fault is =
     ap (λ (x : ℕ). step.Chain x (Some why)) (sym (ap faulty_head is))
     ∙ ap (λ (x : ChainFault). step.Chain head (Some x)) (sym (ap (λ (w : walked.PopOutcome). fault_in fault w) is))
 
-pub faulty_beside : {F : Type 0} (may : May F) (walks_law : HandleWalks may) (faulty_law : HandleFaulty may) (old one : ChainHandle)
+pub faulty_beside : {F : Type 0} (may : May F) (walks_law : HandleWalks may) (faulty_law : HandleFaulty may) (old one later : ChainHandle)
     (before after : QueueState) (head : ℕ) (fault : ChainFault)
     (notice : Bool) → before.stopped ≡ None → IsWalked old one before after (wents.On (says.Faulty head fault))
-    → ((room behind : List ℕ) → (acts : List Act) × (last : ℕ) × GoesBackBy after room behind one.state acts last notice)
+    → later.state ≡ one.state
+    → ((room behind : List ℕ) → (acts : List Act) × (last : ℕ) × GoesBackBy after room behind later.state acts last notice)
     → (s : LiveState F) (i : ℕ) → slice_get s.queues i ≡ Some (live_of before)
     → s.places ≡ places_in old.regions → s.limit ≡ old.limit
     → (es : List LiveEvent) × (end : LiveState F) × LiveRun may s es end × (calls_among es ≡ []) × (end.outs ≡ s.outs)
-faulty_beside {F} may walks_law faulty_law old one before after head fault notice goes walks back s i there places limit =
+faulty_beside {F} may walks_law faulty_law old one later before after head fault notice goes walks same back s i there places limit =
     let q = live_of before in
     let ds = one.descriptors.items in
     let walk = walks_law s i walks.0 old one before after (says.Faulty head fault) there places limit goes tt walks.1 tt in
@@ -363,8 +378,8 @@ faulty_beside {F} may walks_law faulty_law old one before after head fault notic
     let taken_is : took q ≡ live_of after =
     same_some (took q) (live_of after) (sym (there_same s.queues i i (λ _. took q) q refl there) ∙ there₁) in
     let goes_back = back [] [] in
-    let next_used = faulty_law s₁ c s.outs [] one after fault goes_back.0 goes_back.1 notice refl there₁
-    (taken_of before after goes taken_is) refl held goes_back.2 in
+    let next_used = faulty_law s₁ c s.outs [] later after fault goes_back.0 goes_back.1 notice refl there₁
+    (taken_of before after goes taken_is) refl (faulty_later s.limit c one later same held) goes_back.2 in
     let s₂ : LiveState F = after_giving s₁ s.outs [] c (live_of after) in (
       Walks i loaded ds came ∷ Returns c next_used.0 notice goes_back.1 next_used.1 next_used.2 ∷ [],
       s₂,

@@ -10,6 +10,7 @@ pub mod crossed;
 pub mod filling;
 pub mod givers;
 pub mod laws;
+pub mod lent;
 pub mod listings;
 pub mod live_queues;
 pub mod lives;

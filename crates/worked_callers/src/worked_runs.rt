@@ -7,10 +7,11 @@ ghost use Rattle.plain_machine.specs.Examples.{blank};
 ghost use Rattle.plain_machine.specs.Step.{Exchanged, State};
 ghost use Rattle.plain_machine.specs.StepBy.{Effects, StepBy};
 ghost use Rattle.fs_live.specs.InitBeside as init;
-ghost use Rattle.fs_live.specs.Live.{LiveEvent, LiveRun, LiveState, Moves};
+ghost use Rattle.fs_live.specs.Live.{LiveEvent, LiveRun, LiveState, Moves, room_of};
 ghost use Rattle.fs_live.specs.Overlap.{at_positions, first_answered, first_exchange, state};
 ghost use Rattle.fs_live.specs.Rewritten as rewritten;
 ghost use Rattle.fs_live.specs.Runs.{EachIsTold, IsBefore, ReturnHasPlaces, after_alone, chain_loads};
+ghost use Rattle.fs_live.specs.Runs.{has_places};
 ghost use Rattle.fs_live.specs.Several.{LiveQueue};
 
 use fs_live::{law_examples, law_runs};
@@ -36,7 +37,9 @@ pub fn placed<F: FileSystem>()
         → F.may before Destroy Done after
         → (now : LiveState F) × (w : LiveQueue)
         × (slice_get now.queues 0 ≡ Some w)
-        × ReturnHasPlaces blank w first_answered }
+        × ReturnHasPlaces now.places w
+        × ReturnHasPlaces blank w
+        × (has_places blank (room_of first_answered) ≡ true) }
 {
     law_examples::<F>();
     law_runs::<F, F>();

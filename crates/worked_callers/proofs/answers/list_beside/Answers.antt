@@ -1,4 +1,4 @@
-use Rattle.std.proofs.Common.{◌≡◌, List, [], ◌∷◌, true, length, take, ◌∙◌, arith}
+use Rattle.std.proofs.Common.{◌≡◌, List, [], ◌∷◌, true, length, take, refl, ◌∙◌, arith}
 use Rattle.std.proofs.lemmas.Bool.Decides.{nat_tests}
 use Rattle.fuse_fs.specs.Answers.{listed}
 use Rattle.server_phases.specs.Gathering.{Brought}
@@ -34,11 +34,11 @@ returns g c =
             asked.0,
             λ files_run.
                 let so = served_beside may handles.walks handles.asks handles.calls handles.returns c.args.handle.now
-                c.walk_chain.new.handle c.ask_call.new.handle
+                c.walk_chain.new.handle c.walk_chain.new.handle c.ask_call.new.handle
                 c.list_two.new.handle c.args.queue.now c.walk_chain.new.queue c.in_ok-request_len.field-0-0 c.in_ok-request_len.request_len
                 c.in_ok-request_len.field-0-2
                 c.args.session c.args.request.now (asks.Call asked.0) (ByEntries true es EndsThere bytes) notice c.requires.goes
-                c.in_ok-request_len.ensures.walked
+                c.in_ok-request_len.ensures.walked refl
                 asked.1 c.in_ok-_len.ensures back s i files reached there places limit small session files_run in
                 (so.es, so.end, so.run, so.calls_are, so.outs),
           ))

@@ -1,4 +1,4 @@
-use Rattle.std.proofs.Common.{[], ◌∷◌, ◌≡◌, length, ◌∙◌, arith}
+use Rattle.std.proofs.Common.{[], ◌∷◌, ◌≡◌, length, refl, ◌∙◌, arith}
 use Rattle.std.specs.Prelude.{drop, map}
 use Rattle.std.proofs.lemmas.Bool.Decides.{nat_tests}
 use Rattle.fuse_fs.specs.Calls.{Done, FileCall}
@@ -37,11 +37,11 @@ returns g c =
             map (λ (call : FileCall). (call, Done)) (forget_call told.0.forget),
             λ files_run.
                 let so = served_beside may handles.walks handles.asks handles.calls handles.returns c.args.handle.now
-                c.walk_chain.new.handle c.ask_call.new.handle
+                c.walk_chain.new.handle c.walk_chain.new.handle c.ask_call.new.handle
                 c.give_data.new.handle c.args.queue.now c.walk_chain.new.queue c.in_ok-request_len.field-0-0 c.in_ok-request_len.request_len
                 c.in_ok-request_len.field-0-2
                 c.args.session request (asks.Call asked.0) (OneAnswer (value.Bytes (length bytes)) bytes told.0) notice c.requires.goes
-                c.in_ok-request_len.ensures.walked
+                c.in_ok-request_len.ensures.walked refl
                 asked.1 told.1 back s i files reached there places limit small session files_run in
                 (so.es, so.end, so.run, so.calls_are, so.outs),
           ))

@@ -1,3 +1,4 @@
+use Rattle.std.proofs.Common.{refl}
 use Rattle.worked_callers.proofs.Served.{if_ok}
 use Rattle.worked_callers.proofs.ServedBeside.{faulty_beside}
 use Rattle.worked_callers.proofs.beside.give_faulty_beside.Goals as goal
@@ -9,8 +10,8 @@ returns g c =
     record {
       run = if_ok c.give_back.result _ _
           (λ notice back.
-          faulty_beside g.F.FileSystemBase.may handles.walks handles.faulty c.args.handle.now c.take_faulty.new.handle c.args.queue.now
-          c.take_faulty.new.queue
-          c.in_ok-_fault.field-0-0 c.in_ok-_fault._fault notice c.requires.goes walked.walked back)
+          faulty_beside g.F.FileSystemBase.may handles.walks handles.faulty c.args.handle.now c.take_faulty.new.handle
+          c.take_faulty.new.handle c.args.queue.now c.take_faulty.new.queue
+          c.in_ok-_fault.field-0-0 c.in_ok-_fault._fault notice c.requires.goes walked.walked refl back)
           c.give_back.ensures.back;
     }

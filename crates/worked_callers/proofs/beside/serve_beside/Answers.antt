@@ -1,4 +1,4 @@
-use Rattle.std.proofs.Common.{◌≡◌, length, ◌∙◌, arith}
+use Rattle.std.proofs.Common.{◌≡◌, length, refl, ◌∙◌, arith}
 use Rattle.std.specs.Prelude.{drop}
 use Rattle.std.proofs.lemmas.Bool.Decides.{nat_tests}
 use Rattle.fs_chain.specs.Whole.{file_calls}
@@ -35,10 +35,10 @@ returns g c =
           (λ notice back s i files reached there places limit small session. (
             calls,
             λ files_run.
-                let so = served_beside may handles.walks handles.asks handles.calls handles.returns old one replied.1 c.reply.new.handle
-                before after
+                let so = served_beside may handles.walks handles.asks handles.calls handles.returns old one one replied.1
+                c.reply.new.handle before after
                 c.in_ok-request_len.field-0-0 c.in_ok-request_len.request_len c.in_ok-request_len.field-0-2 c.args.session request replied.0
-                replied.2 notice c.requires.goes walked.walked
+                replied.2 notice c.requires.goes walked.walked refl
                 replied.3 replied.4 back s i files reached there places limit small session files_run in (
                   so.es,
                   so.end,

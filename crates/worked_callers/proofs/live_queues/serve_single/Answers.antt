@@ -1,4 +1,4 @@
-use Rattle.std.proofs.Common.{◌≡◌, ℕ, length, Some, slice_get, subst, sym, ◌∙◌, arith}
+use Rattle.std.proofs.Common.{◌≡◌, ℕ, length, Some, slice_get, subst, sym, refl, ◌∙◌, arith}
 use Rattle.std.specs.Prelude.{drop}
 use Rattle.std.proofs.lemmas.Bool.Decides.{nat_tests}
 use Rattle.fs_chain.specs.Whole.{file_calls}
@@ -37,10 +37,10 @@ returns g c =
           (λ notice back s i files here none session. (
             calls,
             λ files_run.
-                let so = served_beside may handles.walks handles.asks handles.calls handles.returns old one replied.1 c.reply.new.handle
-                before after
+                let so = served_beside may handles.walks handles.asks handles.calls handles.returns old one one replied.1
+                c.reply.new.handle before after
                 c.in_ok-request_len.field-0-0 c.in_ok-request_len.request_len c.in_ok-request_len.field-0-2 c.args.session request replied.0
-                replied.2 notice c.requires.goes c.in_ok-request_len.ensures.walked
+                replied.2 notice c.requires.goes c.in_ok-request_len.ensures.walked refl
                 replied.3 replied.4 back s i files here.reached here.there here.places here.limit here.small session files_run in
                 let r = so.single in
                 let rest : IsAtRest (live_of before) = (c.requires.by_flags, c.requires.none_out) in (

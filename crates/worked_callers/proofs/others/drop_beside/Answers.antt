@@ -1,3 +1,4 @@
+use Rattle.std.proofs.Common.{refl}
 use Rattle.worked_callers.proofs.OthersBeside.{dropped_beside, on_ok_two}
 use Rattle.worked_callers.proofs.others.drop_beside.Goals as goal
 
@@ -8,8 +9,8 @@ returns g c =
     record {
       run = on_ok_two c.give_up.result _ _ _
           (λ clear left.
-          dropped_beside may handles.walks handles.drops c.args.handle.now c.walk_chain.new.handle c.args.queue.now c.walk_chain.new.queue
-          c.give_up.new.queue
-          c.in_ok-_len.field-0-0 c.in_ok-_len._len c.in_ok-_len.field-0-2 c.requires.goes c.in_ok-_len.ensures.walked clear left)
+          dropped_beside may handles.walks handles.drops c.args.handle.now c.walk_chain.new.handle
+          c.walk_chain.new.handle c.args.queue.now c.walk_chain.new.queue c.give_up.new.queue
+          c.in_ok-_len.field-0-0 c.in_ok-_len._len c.in_ok-_len.field-0-2 c.requires.goes c.in_ok-_len.ensures.walked refl clear left)
           c.give_up.ensures.ok c.give_up.ensures.queue;
     }

@@ -27,4 +27,4 @@ returns g c before after so =
     (one.0, one.1, (two.0, two.1, (three.0, three.1, (four.0, four.1, (five.0, five.1, (six.0, six.1, refl)))))) in
     let law = c.law_runs.ensures.places start six.0 seven.0 es first_answered first_exchange true 0 first_used (le16 0) refl
     ((refl, omega arith), tt) run seven.1 in
-    (six.0, law.0, law.1, law.2)
+    (six.0, law.0, law.1, law.2, law.3, law.4)

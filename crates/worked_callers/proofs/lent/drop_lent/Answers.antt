@@ -1,0 +1,17 @@
+use Rattle.std.proofs.Common.{ap}
+use Rattle.fs_chain.specs.declared.chain_handle.ChainHandle.{ChainHandle}
+use Rattle.worked_callers.proofs.OthersBeside.{dropped_beside, on_ok_two}
+use Rattle.worked_callers.proofs.lent.drop_lent.Goals as goal
+
+pub returns : goal.returns
+returns g c =
+    let handles = c.law_handles.ensures in
+    record {
+      run = on_ok_two c.give_up.result _ _ _
+          (λ clear left.
+          dropped_beside g.F.FileSystemBase.may handles.walks handles.drops c.args.handle.now c.walk_chain.new.handle
+          c.take_table.new.handle c.args.queue.now c.walk_chain.new.queue c.give_up.new.queue
+          c.in_ok-_len.field-0-0 c.in_ok-_len._len c.in_ok-_len.field-0-2 c.requires.goes c.in_ok-_len.ensures.walked
+          (ap (λ (w : ChainHandle). w.state) c.in_ok-_table.ensures.taken) clear left)
+          c.give_up.ensures.ok c.give_up.ensures.queue;
+    }

@@ -1,0 +1,18 @@
+use Rattle.std.proofs.Common.{ap}
+use Rattle.fs_chain.specs.declared.chain_handle.ChainHandle.{ChainHandle}
+use Rattle.worked_callers.proofs.Served.{if_ok}
+use Rattle.worked_callers.proofs.ServedBeside.{faulty_beside}
+use Rattle.worked_callers.proofs.lent.give_faulty_lent.Goals as goal
+
+pub returns : goal.returns
+returns g c =
+    let handles = c.law_handles.ensures in
+    record {
+      run = if_ok c.give_back.result _ _
+          (λ notice back.
+          faulty_beside g.F.FileSystemBase.may handles.walks handles.faulty c.args.handle.now c.take_faulty.new.handle
+          c.take_table.new.handle c.args.queue.now c.take_faulty.new.queue
+          c.in_ok-_fault.field-0-0 c.in_ok-_fault._fault notice c.requires.goes c.in_ok-_fault.ensures.walked
+          (ap (λ (w : ChainHandle). w.state) c.in_ok-_table.ensures.taken) back)
+          c.give_back.ensures.back;
+    }

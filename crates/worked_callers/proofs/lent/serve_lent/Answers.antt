@@ -1,0 +1,51 @@
+use Rattle.std.proofs.Common.{[], ◌≡◌, ℕ, List, length, ap, subst, sym, ◌∙◌, arith}
+use Rattle.std.specs.Prelude.{drop}
+use Rattle.std.proofs.lemmas.Bool.Decides.{nat_tests}
+use Rattle.plain_machine.specs.StepBy.{Act}
+use Rattle.fs_chain.specs.Whole.{FromTaken, GoesBackBy, file_calls}
+use Rattle.fs_chain.specs.declared.chain_handle.ChainHandle.{ChainHandle}
+use Rattle.fs_chain.specs.declared.state.ChainState as state
+use Rattle.worked_callers.proofs.Served.{if_ok, more_taken, taken_so}
+use Rattle.worked_callers.proofs.ServedBeside.{served_beside}
+use Rattle.worked_callers.proofs.lent.serve_lent.Goals as goal
+
+pub reply-requires-clause-taken : goal.reply-requires-clause-taken
+reply-requires-clause-taken g c =
+    let n = c.in_ok-request_len.request_len in
+    let test = c.if-request_len-request.false in
+    let same : n ≡ length c.args.request.now = grind (arith, nat_tests, test) in
+    subst (λ (w : ChainHandle). FromTaken w.state (λ out. out.request_len ≡ length c.args.request.now)) (sym c.in_ok-table.ensures.taken)
+    (more_taken c.walk_chain.new.handle.state _ _ (λ out is. is ∙ same)
+    (taken_so c.args.handle.now c.walk_chain.new.handle c.args.queue.now c.walk_chain.new.queue c.in_ok-request_len.field-0-0 n
+    c.in_ok-request_len.field-0-2
+    c.requires.goes c.in_ok-request_len.ensures.walked))
+
+pub returns : goal.returns
+returns g c =
+    let may = g.F.FileSystemBase.may in
+    let handles = c.law_handles.ensures in
+    let old = c.args.handle.now in
+    let one = c.walk_chain.new.handle in
+    let before = c.args.queue.now in
+    let after = c.walk_chain.new.queue in
+    let replied = c.in_ok-reply.ensures.replied in
+    let request = c.args.request.now in
+    record {
+      run = if_ok c.give_back.result _ _
+          (λ notice back s i files reached there places limit small session. (
+            file_calls (drop 80 request) replied.0 replied.2,
+            λ files_run.
+                let so = served_beside may handles.walks handles.asks handles.calls handles.returns old one c.take_table.new.handle
+                replied.1 c.reply.new.handle before after
+                c.in_ok-request_len.field-0-0 c.in_ok-request_len.request_len c.in_ok-request_len.field-0-2 c.args.session request replied.0
+                replied.2 notice c.requires.goes c.in_ok-request_len.ensures.walked
+                (ap (λ (w : ChainHandle). w.state) c.in_ok-table.ensures.taken)
+                replied.3 replied.4
+                (subst (λ (st : state.ChainState). (room behind : List ℕ) → (acts : List Act) × (last : ℕ)
+                × GoesBackBy after room behind st acts last notice)
+                (ap (λ (w : ChainHandle). w.state) c.in_ok-lend_table.ensures.lent) back)
+                s i files reached there places limit small session files_run in
+                (so.es, so.end, so.run, so.calls_are, so.outs),
+          ))
+          c.give_back.ensures.back;
+    }

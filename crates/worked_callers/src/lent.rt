@@ -1,0 +1,126 @@
+//! An IOMMU's table that is lent to a handle for the pop and for the push alone. Between them the caller has
+//! it, and the handle decodes, answers or gives its chain up without one. The events are the same.
+
+ghost use Rattle.std.specs.Prelude.{◌≡◌, ◌≤◌, ◌^◌, ℕ, [], IfOk, List, None, OnOk, Some, slice_get};
+ghost use Rattle.fs_regions.specs.Places.{places_in};
+ghost use Rattle.fuse_fs.specs.Calls.{FileRun};
+ghost use Rattle.server_phases.specs.Answering.{TellsBytes};
+ghost use Rattle.fs_chain.specs.Tables.{with_table};
+ghost use Rattle.fs_chain.specs.declared.state.ChainState.TheVariants as at;
+ghost use Rattle.plain_machine.specs.Step.{Calls};
+ghost use Rattle.fs_live.specs.Handles.{IsReached, IsSessionOf, live_of};
+ghost use Rattle.fs_live.specs.Live.{LiveEvent, LiveRun, LiveState, calls_among};
+
+use crate::beside::take_faulty;
+use crate::wholes::{give_back, reply, walk_chain};
+use fs_chain::{ChainError, ChainHandle, QueueState};
+use fs_live::law_handles;
+use fuse_fs::FileSystem;
+use fuse_values::FileAnswer;
+use server_phases::Session;
+use vm_memory_core::Iotlb;
+
+/// Takes the IOMMU's table back from a handle. `ChainInFlight` while a pop is under way.
+pub fn take_table(handle: &mut ChainHandle) -> Result<Option<Iotlb>, ChainError>
+    ensures table { IfOk result (λ table. table ≡ handle.old.regions.table) }
+    ensures taken { OnOk result (handle.new ≡ with_table handle.old None) }
+{
+    match handle.exchange_table(None) {
+        Ok(table) => Ok(table),
+        Err(_) => Err(ChainError::ChainInFlight),
+    }
+}
+
+/// Lends a handle an IOMMU's table. `ChainInFlight` while a pop is under way.
+pub fn lend_table(handle: &mut ChainHandle, table: Option<Iotlb>) -> Result<(), ChainError>
+    ensures lent { OnOk result (handle.new ≡ with_table handle.old table) }
+{
+    match handle.exchange_table(table) {
+        Ok(_) => Ok(()),
+        Err(_) => Err(ChainError::ChainInFlight),
+    }
+}
+
+/// Pops a chain with the table. Decodes and answers its request without it. Pushes the chain once the table
+/// is lent again.
+pub fn serve_lent<F: FileSystem>(
+    handle: &mut ChainHandle,
+    queue: &mut QueueState,
+    given: &[&[u8]],
+    session: Session,
+    request: &[u8],
+    answer: FileAnswer,
+) -> Result<bool, ChainError>
+    requires free { handle.old.state ≡ at.Free }
+    requires goes { queue.old.stopped ≡ None }
+    requires data { TellsBytes [] answer }
+    ensures run { IfOk result (λ notice. (s : LiveState F) (i : ℕ) (files : F)
+        → IsReached F.may s
+        → slice_get s.queues i ≡ Some (live_of queue.old)
+        → s.places ≡ places_in handle.old.regions
+        → s.limit ≡ handle.old.limit
+        → s.limit ≤ 2 ^ 31
+        → IsSessionOf s session
+        → (calls : Calls)
+        × (FileRun F.may s.files calls files
+        → (es : List LiveEvent) × (end : LiveState F)
+        × LiveRun F.may s es end
+        × (calls_among es ≡ calls)
+        × (end.outs ≡ s.outs))) }
+{
+    law_handles::<F>();
+    let (_, request_len, _) = walk_chain(handle, queue, given)?;
+    if request_len != request.len() {
+        return Err(ChainError::BadArgument);
+    }
+    let table = take_table(handle)?;
+    reply(handle, session, request, answer)?;
+    lend_table(handle, table)?;
+    give_back(handle, queue)
+}
+
+/// Pops a chain with the table, and gives it up without it.
+pub fn drop_lent<F: FileSystem>(
+    handle: &mut ChainHandle,
+    queue: &mut QueueState,
+    given: &[&[u8]],
+) -> Result<(), ChainError>
+    requires free { handle.old.state ≡ at.Free }
+    requires goes { queue.old.stopped ≡ None }
+    ensures run { OnOk result ((s : LiveState F) (i : ℕ)
+        → slice_get s.queues i ≡ Some (live_of queue.old)
+        → s.places ≡ places_in handle.old.regions
+        → s.limit ≡ handle.old.limit
+        → (es : List LiveEvent) × (end : LiveState F)
+        × LiveRun F.may s es end
+        × (end.outs ≡ s.outs)
+        × (slice_get end.queues i ≡ Some (live_of queue.new))) }
+{
+    law_handles::<F>();
+    let (_, _len, _) = walk_chain(handle, queue, given)?;
+    let _table = take_table(handle)?;
+    handle.give_up(queue)
+}
+
+/// Pops a faulty chain with the table, and pushes it without it.
+pub fn give_faulty_lent<F: FileSystem>(
+    handle: &mut ChainHandle,
+    queue: &mut QueueState,
+    given: &[&[u8]],
+) -> Result<bool, ChainError>
+    requires free { handle.old.state ≡ at.Free }
+    requires goes { queue.old.stopped ≡ None }
+    ensures run { IfOk result (λ notice. (s : LiveState F) (i : ℕ)
+        → slice_get s.queues i ≡ Some (live_of queue.old)
+        → s.places ≡ places_in handle.old.regions
+        → s.limit ≡ handle.old.limit
+        → (es : List LiveEvent) × (end : LiveState F)
+        × LiveRun F.may s es end
+        × (calls_among es ≡ [])
+        × (end.outs ≡ s.outs)) }
+{
+    law_handles::<F>();
+    let (_, _fault) = take_faulty(handle, queue, given)?;
+    let _table = take_table(handle)?;
+    give_back(handle, queue)
+}
