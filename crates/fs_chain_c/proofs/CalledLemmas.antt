@@ -22,13 +22,13 @@ use Rattle.fs_chain_c.specs.Pushing.{EndsHandlePush}
 use Rattle.fs_chain_c.specs.Queues.{IsQueueState}
 use Rattle.fs_chain_c.proofs.SameQueues.{state_same}
 
-no_order : 0 ≡ chain_error_number WrongOrder → ⊥
+pub no_order : 0 ≡ chain_error_number WrongOrder → ⊥
 no_order is = cc
 
 most : (n : ℕ) → n < 2 ^ 16 → max 1 n < 2 ^ 16
 most n low = grind arith
 
-counted : (q : FsQueue) (k : QueueState) → IsQueueState q k → q.next_avail < 2 ^ 16 → q.next_used < 2 ^ 16 → q.max_in_flight < 2 ^ 16
+pub counted : (q : FsQueue) (k : QueueState) → IsQueueState q k → q.next_avail < 2 ^ 16 → q.next_used < 2 ^ 16 → q.max_in_flight < 2 ^ 16
     → IsCounted k
 counted q k is avail used few = (
   subst (λ (n : ℕ). n < 2 ^ 16) (sym is.next_avail) avail,
@@ -36,7 +36,7 @@ counted q k is avail used few = (
   subst (λ (n : ℕ). n < 2 ^ 16) (sym is.max_in_flight) (most q.max_in_flight few),
 )
 
-no_argument : 0 ≡ chain_error_number BadArgument → ⊥
+pub no_argument : 0 ≡ chain_error_number BadArgument → ⊥
 no_argument is = cc
 
 wishes_by : StoresAWish → (b : ChainHandle) (q : FsQueue) (told : FsStore) → SetsNotification b q 1 told 0

@@ -1,4 +1,5 @@
 pub mod ActingLemmas
+pub mod CalledActs
 pub mod CalledLemmas
 mod ChainValues
 mod IotlbValues

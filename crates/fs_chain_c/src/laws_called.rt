@@ -1,12 +1,14 @@
 //! Calls of the exports that meet the hypotheses of the laws of notifications. C doesn't call these.
 
 ghost use Rattle.std.specs.Prelude.{◌≡◌};
-ghost use Rattle.fs_chain_c.specs.LawsCalled.{ChecksSo, WishesSo};
+ghost use Rattle.fs_chain_c.specs.LawsCalled.{ChecksSo, DropsSo, ReturnsSo, SilencesSo, SleepsSo, WishesSo};
 
-use crate::exports::pk_pushed;
+use crate::exports::{pk_chain_state, pk_drop, pk_pop, pk_pushed};
 use crate::handle::FsChain;
 use crate::laws::law_notifications;
+use crate::laws_acting::law_acts;
 use crate::notifications::{FsStore, pk_set_notification};
+use crate::popping::FsPop;
 use crate::queue::FsQueue;
 use std::alloc::Global;
 
@@ -34,4 +36,57 @@ pub fn check(
     law_notifications();
     let _used = queue.next_used;
     pk_pushed(alloc, chain, queue, seen, notify)
+}
+
+/// Disables notifications: the store is the model's, if there is one.
+pub fn silence(alloc: Global, chain: &mut FsChain, queue: &FsQueue, store: &mut FsStore) -> u32
+    ensures { result ≡ 0 → SilencesSo chain.old.held.value queue.now store.new }
+{
+    law_acts();
+    pk_set_notification(alloc, chain, queue, 0, store)
+}
+
+/// Drops a chain in flight: 73 if the handle has none that may be dropped.
+pub fn drop_one(alloc: Global, chain: &mut FsChain, queue: &mut FsQueue) -> u32
+    ensures { result ≡ 0 → DropsSo queue.old queue.new }
+{
+    law_acts();
+    let _next = queue.next_avail;
+    let _used = queue.next_used;
+    let _most = queue.max_in_flight;
+    if pk_chain_state(chain) != 3 {
+        return 73;
+    }
+    pk_drop(alloc, chain, queue)
+}
+
+/// Ends a push: one chain is returned.
+pub fn return_one(
+    alloc: Global,
+    chain: &mut FsChain,
+    queue: &mut FsQueue,
+    seen: u16,
+    notify: &mut u8,
+) -> u32
+    ensures { result ≡ 0 → ReturnsSo queue.old queue.new }
+{
+    law_acts();
+    let _next = queue.next_avail;
+    let _used = queue.next_used;
+    let _most = queue.max_in_flight;
+    pk_pushed(alloc, chain, queue, seen, notify)
+}
+
+/// Begins a pop with a free handle. If as many chains are in flight as may be, the thread may sleep.
+pub fn find_full(alloc: Global, chain: &mut FsChain, queue: &mut FsQueue, pop: &mut FsPop) -> u32
+    ensures { result ≡ 76 → SleepsSo queue.old queue.new }
+{
+    law_acts();
+    let _next = queue.next_avail;
+    let _used = queue.next_used;
+    let _most = queue.max_in_flight;
+    if pk_chain_state(chain) != 1 {
+        return 73;
+    }
+    pk_pop(alloc, chain, queue, &[], pop)
 }
