@@ -12,6 +12,7 @@ pub mod Left
 pub mod Listed
 pub mod Loads
 pub mod Moved
+pub mod NoneAmid
 pub mod Options
 pub mod Offered
 pub mod Others

@@ -9,8 +9,8 @@ use Rattle.virtiofsd_fuse.specs.Serving.{May}
 use Rattle.fs_live.specs.Several.{LiveQueue, InFlightId}
 use Rattle.fs_live.specs.Live.{BeginsSo, Happens, KeepsQueue, LiveEvent, LiveRun, LiveState, Maps, MovesSo, OutChain}
 use Rattle.fs_live.specs.Runs.{IsEven, MovedGoesOn, StandsEven, tickets_on, untold}
-use Rattle.fs_live.proofs.Placed.{Ahead, kept_not, run_kept, started}
-use Rattle.fs_live.proofs.Queues.{one_ticket, same_some}
+use Rattle.fs_live.proofs.Placed.{Ahead, run_kept, started}
+use Rattle.fs_live.proofs.Queues.{kept_not, one_ticket, same_some}
 
 -- ---- lists
 

@@ -23,7 +23,8 @@ use Rattle.fs_live.specs.Runs.{HasUsedEvent, IsEven, ReturnHasPlaces, ReturnsHav
 use Rattle.fs_live.proofs.Alone.{Walked, all_both, all_left, all_right, walked_there}
 use Rattle.fs_live.proofs.Declined.{has_events, seen_has_a_place}
 use Rattle.fs_live.proofs.Offered.{RoomFits, fetched_fits, goes_back}
-use Rattle.fs_live.proofs.Queues.{apart_of, dropped, goes_on, none_some, one_ticket, same_some, there_other, there_same, tickets-append}
+use Rattle.fs_live.proofs.Queues.{apart_of, dropped, goes_on, kept_not, none_some, one_ticket, same_some, there_other, there_same}
+use Rattle.fs_live.proofs.Queues.{tickets-append}
 
 -- ---- the returns that are to come
 
@@ -96,11 +97,6 @@ even_at : (ws : List LiveQueue) (i : ℕ) (w : LiveQueue) → AllByRecursion IsE
 even_at [] i w all there = absurd (none_some w there)
 even_at (v ∷ ws) zero w all there = subst IsEven (same_some v w there) all.0
 even_at (v ∷ ws) (suc i) w all there = even_at ws i w all.1 there
-
-pub kept_not : (f : OutChain → Bool) (c : OutChain) (cs : List OutChain) (b : Bool) → f c ≡ b →
-    filter f (c ∷ cs) ≡ (if b then c ∷ filter f cs else filter f cs)
-kept_not f c cs true is = rw is refl
-kept_not f c cs false is = rw is refl
 
 one_left : (i j : ℕ) (c : OutChain) (cs : List OutChain) (b : Bool) → (c.queue == j) ≡ b → (j == i) ≡ true →
     tickets_on i (filter (λ c. not (c.queue == j)) cs) ≡ [] →

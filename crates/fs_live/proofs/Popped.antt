@@ -8,7 +8,6 @@ use Rattle.vm_memory.specs.Memory.{Memory, reach}
 use Rattle.fs_queue.specs.Chain.{Descriptor}
 use Rattle.fs_queue.specs.Queue.{Queue, with_stop}
 use Rattle.fs_queue.specs.Taking.{Refuses, after_refusal, stops_queue}
-use Rattle.fs_queue.specs.WalkingView.{at_position}
 use Rattle.fs_queue.specs.declared.fault.QueueError.{QueueError}
 use Rattle.fs_queue.specs.declared.fault.QueueError.TheVariants as stop
 use Rattle.fs_regions.specs.declared.step.CourseStep as comes
@@ -32,13 +31,12 @@ use Rattle.fs_chain.specs.declared.loads.LoadOutcome.TheVariants as wents
 use Rattle.fs_chain.specs.declared.popping.PopOutcome as walked
 use Rattle.fs_chain.specs.declared.popping.PopOutcome.TheVariants as says
 use Rattle.fs_chain.specs.declared.chain_handle.ChainHandle.{ChainHandle}
-use Rattle.fs_chain.proofs.WholeWalks.{event_fault_refuses, event_miss_is_no_step, walk_comes}
+use Rattle.fs_chain.proofs.WholeWalks.{event_fault_refuses, event_miss_is_no_step}
 use Rattle.fs_chain.specs.Queues.{pop_id_of}
 use Rattle.fs_live.specs.Several.{LiveQueue, may_take}
 use Rattle.fs_live.specs.Several as several
 use Rattle.fs_live.specs.Live.{LiveState, WalksIn, after_walk, why_declined, with_live}
-use Rattle.fs_live.specs.Handles.{HandleDeclines, HandleWalks, IsPopDone, IsHeld, live_of}
-use Rattle.fs_live.proofs.Declined.{goes_there}
+use Rattle.fs_live.specs.Handles.{HandleDeclines, IsPopDone, IsHeld, live_of}
 use Rattle.fs_live.proofs.Queues.{none_some, same_some, there_same}
 use Rattle.fs_live.proofs.Refusals.{refusal_stops}
 
@@ -141,45 +139,6 @@ begun_room old new before after told by =
     let clear : begin_error before (length (whole old [])) ≡ None =
     subst (λ (s : state.ChainState). walk_error s before (length (whole old [])) ≡ None) by.0 by.1.3 in
     begin_tests (length (whole old []) == 0) (may_take (live_of before)) clear
-
-first_room : (old new : ChainHandle) (before after : QueueState) (told : went.LoadOutcome) → BeginsPopBy old new before after told →
-    IsTrue (may_take (live_of before))
-first_room old new before after wents.Part by = absurd (begins_whole old before new after by.0 by.1)
-first_room old new before after (wents.On told) by = begun_room old new before after told by
-
-walked_room : (given : List (List ℕ)) (old new : ChainHandle) (before after : QueueState) (told : went.LoadOutcome) →
-    WalksBy given old new before after told → IsTrue (may_take (live_of before))
-walked_room [] old new before after told walks = first_room old new before after told walks
-walked_room (bs ∷ given) old new before after told walks = walked_room given old walks.0 before walks.1 walks.2 walks.3
-
-pub handle_walks : {F : Type 0} (may : May F) → HandleWalks may
-handle_walks {F} may s i given old new before after told there places limit goes refusal walks done =
-    let made = walk_comes given old new before after told goes refusal walks in
-    let loaded = made.0 in
-    let came = made.2.0 in
-    let keeps = made.2.1 in
-    let ds = new.descriptors.items in
-    let queue : (live_of before).queue ≡ queue_of (course_of before old.limit) =
-    ap (λ (x : Option QueueError). record (at_position before.layout before.next_avail) { stopped = is_some x }) goes in
-    let so : IsCourseStep s.places s.limit (live_of before).queue loaded ds came =
-    subst (λ (k : Memory). IsCourseStep k s.limit (live_of before).queue loaded ds came) (sym places)
-    (subst (λ (n : ℕ). IsCourseStep (places_in old.regions) n (live_of before).queue loaded ds came) (sym limit)
-    (subst (λ (k : Queue). IsCourseStep (places_in old.regions) old.limit k loaded ds came) (sym queue) made.2.2)) in
-    let state_is : new.state ≡ state_after (course_of before s.limit) (pop_id_of before) ds came =
-    keeps.1 ∙ ap (λ (n : ℕ). state_after (course_of before n) (pop_id_of before) ds came) (sym limit) in
-    let event = event_of s i before after loaded ds came there keeps.2 (subst IsPopDone keeps.0 done) queue so in
-    let events = walked_events given old new before after told (event_fault (places_in old.regions) before) refl goes refusal walks in
-    let room = walked_room given old new before after (wents.On told) walks in
-    let clear : why_declined s.places (live_of before) ≡ None =
-    subst (λ (m : Memory). why_declined m (live_of before) ≡ None) (sym places) (goes_there (places_in old.regions) before goes events) in (
-      loaded,
-      made.1,
-      came,
-      keeps.0,
-      record { w = live_of before; there = there; room = room; goes = clear; walks = event.0 },
-      event.1,
-      held_by s i (live_of before) before loaded came new queue state_is,
-    )
 
 -- ---- walks without a load
 

@@ -60,6 +60,11 @@ self n = eq-eqb n n refl
 pub apart_of : (j i : ℕ) → (j == i) ≡ false → j ≡ i → ⊥
 apart_of j i other same = not_both (i == i) (self i) (subst (λ (k : ℕ). (k == i) ≡ false) same other)
 
+pub kept_not : (f : OutChain → Bool) (c : OutChain) (cs : List OutChain) (b : Bool) → f c ≡ b →
+    filter f (c ∷ cs) ≡ (if b then c ∷ filter f cs else filter f cs)
+kept_not f c cs true is = rw is refl
+kept_not f c cs false is = rw is refl
+
 module _ (i : ℕ) where
   abbrev ticket_of : OutChain → InFlightId
   ticket_of c = (c.taken.position, c.head)
@@ -99,11 +104,6 @@ module _ (i : ℕ) where
       ∙ sym (tickets-append before (c ∷ behind))
 
   -- chains of another queue are out no more
-  pub kept_not : (f : OutChain → Bool) (c : OutChain) (cs : List OutChain) (b : Bool) → f c ≡ b
-      → filter f (c ∷ cs) ≡ (if b then c ∷ filter f cs else filter f cs)
-  kept_not f c cs true is = rw is refl
-  kept_not f c cs false is = rw is refl
-
   one_dropped :
       (j : ℕ) (c : OutChain) (cs : List OutChain) (mine other : Bool) → (j ≡ i → ⊥) → (c.queue == i) ≡ mine → (c.queue == j) ≡ other
       → tickets_on i (filter (λ c. not (c.queue == j)) cs) ≡ tickets_on i cs

@@ -2,11 +2,11 @@ use Rattle.fs_live.proofs.Among.{handle_finds_stopped, handle_walks_among}
 use Rattle.fs_live.proofs.AmongLoads.{handle_loads_among}
 use Rattle.fs_live.proofs.Filling.{handle_fills, handle_fills_range}
 use Rattle.fs_live.proofs.Answered.{handle_answers, handle_asks, handle_calls}
-use Rattle.fs_live.proofs.Loads.{handle_loads}
+use Rattle.fs_live.proofs.NoneAmid.{handle_loads, handle_walks}
 use Rattle.fs_live.proofs.Options.{options_stay}
 use Rattle.fs_live.proofs.Others.{asked_is_held, handle_abandons, handle_drops, handle_maps, handle_moves, handle_replies}
 use Rattle.fs_live.proofs.Others.{handle_replies_instead, handle_returns_own}
-use Rattle.fs_live.proofs.Popped.{handle_declines, handle_walks}
+use Rattle.fs_live.proofs.Popped.{handle_declines}
 use Rattle.fs_live.proofs.Pushed.{handle_faulty, handle_returns}
 use Rattle.fs_live.proofs.Sleeping.{handle_begins, handle_sleeps}
 use Rattle.fs_live.proofs.WantedAmong.{wanted_among_has_a_place}
