@@ -23,9 +23,9 @@ use Rattle.fs_chain.specs.declared.decoding.Decoded.TheVariants as asks
 use Rattle.fs_chain.specs.declared.event_index.NotificationStore.{NotificationStore}
 use Rattle.fs_chain.specs.declared.loads.LoadOutcome.TheVariants as wents
 use Rattle.fs_chain.specs.declared.queue.QueueState.{QueueState}
-use Rattle.fs_chain.specs.declared.popping.PopOutcome as walked
 use Rattle.fs_chain.specs.declared.popping.PopOutcome.TheVariants as says
 use Rattle.fs_chain.specs.declared.chain_handle.ChainHandle.{ChainHandle}
+use Rattle.fs_chain.proofs.WholeChains.{came_is, faulty_is}
 use Rattle.plain_machine.specs.Step.{Calls, EachSuits}
 use Rattle.plain_machine.specs.StepBy.{Act}
 use Rattle.fs_live.specs.Handles.{HandleAsks, HandleCalls, HandleFaulty, HandleReturns, HandleSleeps, HandleWalks, IsFaultyOut, IsHeld}
@@ -99,22 +99,9 @@ calls_of_both (e ∷ es) fs = calls_behind e es fs (calls_of_both es fs)
 
 -- ---- the walk
 
-abbrev IsAChain : walked.PopOutcome → Type 0
-IsAChain (says.Chain head n r) = Unit {0}
-IsAChain _ = ⊥
-
-abbrev head_in : walked.PopOutcome → ℕ
-head_in (says.Chain head n r) = head
-head_in _ = 0
-
 pub chain_is :
     (ds : List Descriptor) (came : comes.CourseStep) (head n r : ℕ) → says.Chain head n r ≡ told_of ds came → came ≡ step.Chain head None
-chain_is ds (step.Load walk) head n r is = absurd (subst IsAChain is tt)
-chain_is ds step.Idle head n r is = absurd (subst IsAChain is tt)
-chain_is ds (step.Missing range access) head n r is = absurd (subst IsAChain is tt)
-chain_is ds (step.Refused e) head n r is = absurd (subst IsAChain is tt)
-chain_is ds (step.Chain h None) head n r is = ap (λ (x : ℕ). step.Chain x None) (sym (ap head_in is))
-chain_is ds (step.Chain h (Some fault)) head n r is = absurd (subst IsAChain is tt)
+chain_is ds came head n r is = (came_is ds came head n r is).0
 
 -- a chain that was taken is of the queue's layout still
 pub taken_of : (before after : QueueState) → before.stopped ≡ None → took (live_of before) ≡ live_of after
@@ -330,29 +317,6 @@ sleep_is {F} may q wanted (Some store) law stores is = λ s i there place.
     (run, stores s s (Sleeps i (store_of store) ∷ []) run)
 
 -- a faulty chain that is walked and goes back
-abbrev IsFaulty : walked.PopOutcome → Type 0
-IsFaulty (says.Faulty head fault) = Unit {0}
-IsFaulty _ = ⊥
-
-abbrev faulty_head : walked.PopOutcome → ℕ
-faulty_head (says.Faulty head fault) = head
-faulty_head _ = 0
-
-abbrev fault_in : ChainFault → walked.PopOutcome → ChainFault
-fault_in f (says.Faulty head fault) = fault
-fault_in f _ = f
-
-faulty_is : (ds : List Descriptor) (came : comes.CourseStep) (head : ℕ) (fault : ChainFault) → says.Faulty head fault ≡ told_of ds came →
-    came ≡ step.Chain head (Some fault)
-faulty_is ds (step.Load walk) head fault is = absurd (subst IsFaulty is tt)
-faulty_is ds step.Idle head fault is = absurd (subst IsFaulty is tt)
-faulty_is ds (step.Missing range access) head fault is = absurd (subst IsFaulty is tt)
-faulty_is ds (step.Refused e) head fault is = absurd (subst IsFaulty is tt)
-faulty_is ds (step.Chain h None) head fault is = absurd (subst IsFaulty is tt)
-faulty_is ds (step.Chain h (Some why)) head fault is =
-    ap (λ (x : ℕ). step.Chain x (Some why)) (sym (ap faulty_head is))
-    ∙ ap (λ (x : ChainFault). step.Chain head (Some x)) (sym (ap (λ (w : walked.PopOutcome). fault_in fault w) is))
-
 pub faulty_beside : {F : Type 0} (may : May F) (walks_law : HandleWalks may) (faulty_law : HandleFaulty may) (old one later : ChainHandle)
     (before after : QueueState) (head : ℕ) (fault : ChainFault)
     (notice : Bool) → before.stopped ≡ None → IsWalked old one before after (wents.On (says.Faulty head fault))

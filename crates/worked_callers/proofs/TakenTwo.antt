@@ -1,5 +1,5 @@
 -- What walks of handles, each of which came to a chain, are in a run.
-use Rattle.std.proofs.Common.{◌≡◌, ℕ, true, List, [], ◌∷◌, Some, None, refl, subst, sym, ap, ◌∙◌}
+use Rattle.std.proofs.Common.{◌≡◌, ℕ, true, List, [], ◌∷◌, None, refl, subst, ap, ◌∙◌}
 use Rattle.std.specs.Prelude.{◌==◌}
 use Rattle.std.proofs.lemmas.Bool.{eq-eqb}
 use Rattle.fs_queue.specs.Chain.{Descriptor}
@@ -11,51 +11,30 @@ use Rattle.fs_chain.specs.Walks.{queue_after, told_of}
 use Rattle.fs_chain.specs.Whole.{IsWalked}
 use Rattle.fs_chain.specs.declared.loads.LoadOutcome.TheVariants as wents
 use Rattle.fs_chain.specs.declared.queue.QueueState.{QueueState}
-use Rattle.fs_chain.specs.declared.popping.PopOutcome as walked
 use Rattle.fs_chain.specs.declared.popping.PopOutcome.TheVariants as says
 use Rattle.fs_chain.specs.declared.chain_handle.ChainHandle.{ChainHandle}
 use Rattle.fs_chain.proofs.WholeWalks.{walk_comes}
-use Rattle.fs_live.specs.Live.{Happens, LiveState, Walks}
+use Rattle.fs_live.specs.Live.{Happens, LiveState, Walks, WalksIn}
 use Rattle.fs_live.specs.Runs.{events_on}
 use Rattle.fs_live.specs.Several.{heads_ended, heads_taken}
-
-abbrev IsAChain : walked.PopOutcome → Type 0
-IsAChain (says.Chain head n r) = Unit {0}
-IsAChain _ = ⊥
-
-abbrev head_in : walked.PopOutcome → ℕ
-head_in (says.Chain head n r) = head
-head_in _ = 0
+use Rattle.worked_callers.proofs.ServedBeside.{chain_is}
 
 -- a walk that told a chain took it: places and limit stay
 pub took_so : {F : Type 0} (may : May F) (s next : LiveState F) (i : ℕ) (loaded : Loaded) (ds : List Descriptor) (came : comes.CourseStep)
     (head n r : ℕ) → says.Chain head n r ≡ told_of ds came
     → Happens may s (Walks i loaded ds came) next → (came ≡ step.Chain head None) × (next.places ≡ s.places) × (next.limit ≡ s.limit)
-took_so may s next i loaded ds (step.Load walk) head n r told happens = absurd (subst IsAChain told tt)
-took_so may s next i loaded ds step.Idle head n r told happens = absurd (subst IsAChain told tt)
-took_so may s next i loaded ds (step.Missing range access) head n r told happens = absurd (subst IsAChain told tt)
-took_so may s next i loaded ds (step.Refused e) head n r told happens = absurd (subst IsAChain told tt)
-took_so {F} may s next i loaded ds (step.Chain h None) head n r told happens = (
-  ap (λ (x : ℕ). step.Chain x None) (sym (ap head_in told)),
-  ap (λ (k : LiveState F). k.places) happens.walks.1,
-  ap (λ (k : LiveState F). k.limit) happens.walks.1,
-)
-took_so may s next i loaded ds (step.Chain h (Some fault)) head n r told happens = absurd (subst IsAChain told tt)
-
-after_chain_goes : (q : QueueState) (ds : List Descriptor) (came : comes.CourseStep) (head n r : ℕ) →
-    says.Chain head n r ≡ told_of ds came → (queue_after q came).stopped ≡ q.stopped
-after_chain_goes q ds (step.Load walk) head n r told = refl
-after_chain_goes q ds step.Idle head n r told = refl
-after_chain_goes q ds (step.Missing range access) head n r told = refl
-after_chain_goes q ds (step.Refused e) head n r told = absurd (subst IsAChain told tt)
-after_chain_goes q ds (step.Chain h fault) head n r told = refl
+took_so {F} may s next i loaded ds came head n r told happens =
+    let is = chain_is ds came head n r told in
+    let goes = subst (λ (k : comes.CourseStep). WalksIn s i happens.w loaded ds k next) is happens.walks in
+    (is, ap (λ (k : LiveState F). k.places) goes.1, ap (λ (k : LiveState F). k.limit) goes.1)
 
 -- and its queue goes on
 pub goes_still : (old new : ChainHandle) (before after : QueueState) (head n r : ℕ) → before.stopped ≡ None →
     IsWalked old new before after (wents.On (says.Chain head n r)) → after.stopped ≡ None
 goes_still old new before after head n r goes walked =
     let came = walk_comes walked.0 old new before after (says.Chain head n r) goes tt walked.1 in
-    ap (λ (q : QueueState). q.stopped) came.2.1.2 ∙ after_chain_goes before new.descriptors.items came.2.0 head n r came.2.1.0 ∙ goes
+    let is = chain_is new.descriptors.items came.2.0 head n r came.2.1.0 in
+    ap (λ (q : QueueState). q.stopped) (came.2.1.2 ∙ ap (λ (k : comes.CourseStep). queue_after before k) is) ∙ goes
 
 -- two takes on one queue
 takes_two : (i head other : ℕ) (one two : Loaded) (ds more : List Descriptor) → (i == i) ≡ true

@@ -1,4 +1,4 @@
-use Rattle.std.proofs.Common.{◌≡◌, ℕ, List, Bool, length, subst, sym, ◌∙◌, arith}
+use Rattle.std.proofs.Common.{◌≡◌, ℕ, List, length, subst, ◌∙◌, arith}
 use Rattle.std.specs.Prelude.{map}
 use Rattle.std.proofs.lemmas.Bool.Decides.{nat_tests}
 use Rattle.fuse_fs.specs.Calls.{Done, FileCall}
@@ -8,7 +8,7 @@ use Rattle.plain_machine.specs.StepBy.{Act}
 use Rattle.fs_chain.specs.Whole.{GoesBackBy, OneAnswer}
 use Rattle.fs_chain.specs.declared.decoding.Decoded.TheVariants as asks
 use Rattle.fs_chain.specs.declared.queue.QueueState.{QueueState}
-use Rattle.worked_callers.proofs.Served.{if_ok, more_taken, taken_so}
+use Rattle.worked_callers.proofs.Served.{more_taken, taken_so}
 use Rattle.worked_callers.proofs.ServedCrossed.{served_crossed}
 use Rattle.worked_callers.proofs.TakenTwo.{goes_still}
 use Rattle.worked_callers.proofs.crossed.serve_crossed.Goals as goal
