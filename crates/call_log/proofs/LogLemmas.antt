@@ -27,7 +27,7 @@ use Rattle.fs_device.proofs.BookLemmas.{all_suit}
 use Rattle.fs_device.proofs.TellingLemmas.{end_stays}
 use Rattle.call_log.specs.declared.log.LoggedCall.{LoggedCall}
 use Rattle.call_log.specs.Log.{entries_for, kept, with_calls, MayAnswerLogged}
-use Rattle.call_log.specs.Runs.{entries_of, EachMayAnswer, IsAnswered, WritesDown, IsLoggedBy, AreLoggedBy, exchanges_in, Grows}
+use Rattle.call_log.specs.Runs.{entries_of, EachMayAnswer, IsLogged, WritesDown, IsLoggedBy, AreLoggedBy, exchanges_in, Grows}
 
 -- ---- logs
 
@@ -78,7 +78,7 @@ each_may_answer may log keeps before (step ∷ steps) after (between, suits, mad
 
 -- what an exchange without a fault of its chain writes down
 logs_answered :
-    (e : Option Error) (x : Exchange) (entries : List LoggedCall) → x.fault ≡ served_fault e → IsAnswered x entries → IsLoggedBy x entries
+    (e : Option Error) (x : Exchange) (entries : List LoggedCall) → x.fault ≡ served_fault e → IsLogged x entries → IsLoggedBy x entries
 logs_answered None x entries same is = subst (λ (f : Option Fault). WritesDown f x entries) (sym same) is
 logs_answered (Some e) x entries same is = subst (λ (f : Option Fault). WritesDown f x entries) (sym same) is
 

@@ -23,8 +23,8 @@ EachMayAnswer (step ∷ steps) = MayAnswerLogged step.0 step.1 × EachMayAnswer 
 
 -- the entries are those of the calls of an exchange's request: in some setting the server makes these calls
 -- in turn, and their answers result in this exchange
-abbrev pub IsAnswered : Exchange → List LoggedCall → Type 0
-IsAnswered x entries = (s : Setting) × (steps : Calls)
+abbrev pub IsLogged : Exchange → List LoggedCall → Type 0
+IsLogged x entries = (s : Setting) × (steps : Calls)
     × EachSuits steps
     × EachMayAnswer steps
     × ((served s (meaning s.options x.request s.room) (answers_alone steps)).calls ≡ calls_alone steps)
@@ -35,8 +35,8 @@ IsAnswered x entries = (s : Setting) × (steps : Calls)
 -- the log entries of an exchange with this fault: none for a faulty chain
 abbrev pub WritesDown : Option Fault → Exchange → List LoggedCall → Type 0
 WritesDown (Some (fault.Chain why)) x entries = entries ≡ []
-WritesDown (Some (fault.Served e)) x entries = IsAnswered x entries
-WritesDown None x entries = IsAnswered x entries
+WritesDown (Some (fault.Served e)) x entries = IsLogged x entries
+WritesDown None x entries = IsLogged x entries
 
 -- the log entries of an exchange
 abbrev pub IsLoggedBy : Exchange → List LoggedCall → Type 0

@@ -35,7 +35,7 @@ use Rattle.fs_notify.proofs.Drops.{drops, ends_return, full}
 use Rattle.fs_notify.proofs.Amid.{finds_none_amid, straight, takes_amid}
 use Rattle.fs_notify.proofs.Wishes.{mutes}
 use Rattle.fs_notify.specs.Amid.{WalksAmid}
-use Rattle.fs_notify.specs.Takers.{HasTaken, IsCounted, IsOf, MutesBy, SaysWish, ways_of}
+use Rattle.fs_notify.specs.Takers.{HasPopped, IsCounted, IsOf, MutesBy, SaysWish, ways_of}
 use Rattle.fs_chain_c.specs.Acting.{DropsAChain, PopFindsFull, PopFindsNone, PopTakesOne, PopsBy, PushReturnsOne, SilencesBy}
 use Rattle.fs_chain_c.specs.Acting.{StoresSilence}
 use Rattle.fs_chain_c.specs.Notifications.{TellsStore}
@@ -174,7 +174,7 @@ is_idle b (wents.On (says.Chain head n r)) step tells = absurd (apart 33 0 refl 
 is_idle b (wents.On (says.Faulty head fault)) step tells = absurd (apart 33 0 refl tells.0)
 
 is_taken : (b : ChainHandle) (told : went.LoadOutcome) (step : FsPop) → TellsWent b told step 0
-    → (out : walked.PopOutcome) × (told ≡ wents.On out) × HasTaken out
+    → (out : walked.PopOutcome) × (told ≡ wents.On out) × HasPopped out
 is_taken b wents.Part step tells = absurd (no_load_at b step 0 refl refl tells)
 is_taken b (wents.On (says.Load n)) step tells = absurd (no_load_at b step 0 refl refl tells)
 is_taken b (wents.On says.Idle) step tells = absurd (apart 0 33 refl tells.0)

@@ -18,7 +18,7 @@ use Rattle.fs_chain_c.specs.declared.popping.FsPop.{FsPop}
 use Rattle.fs_chain_c.specs.declared.queue.FsQueue.{FsQueue}
 use Rattle.fs_chain_c.specs.Acting.{DropsAChain, PopFindsFull, PushReturnsOne, SilencesBy, StoresSilence}
 use Rattle.fs_chain_c.specs.Handles.{DropsChain, EndsPush, Pops}
-use Rattle.fs_chain_c.specs.LawsCalled.{ActsSo, DropsSo, ReturnsSo, SilencesSo, SleepsSo, asked_by, walked_by}
+use Rattle.fs_chain_c.specs.LawsCalled.{ActsSo, ActsAsDrop, ActsAsReturn, SilencesSo, ActsAsSleep, asked_by, walked_by}
 use Rattle.fs_chain_c.specs.Notifications.{AsksKicks, SetsNotification}
 use Rattle.fs_chain_c.specs.Popping.{PopsHandle}
 use Rattle.fs_chain_c.specs.Pushing.{DropsHandleChain, EndsHandlePush}
@@ -110,7 +110,7 @@ not_out : (b : Bool) → b ≡ true → b ≡ false → ⊥
 not_out b is_true is_false = cc
 
 drops_by : DropsAChain → (b b' : ChainHandle) (q q' : FsQueue) → IsSmall q → is_out b.state ≡ true → DropsHandleChain b q 0 b' q' →
-    DropsSo q q'
+    ActsAsDrop q q'
 drops_by law b b' q q' small out (inl none) = absurd (not_out (is_out b.state) out none.0)
 drops_by law b b' q q' small out (inr (inl bad)) = absurd (no_argument bad.2.0)
 drops_by law b b' q q' small out (inr (inr is)) =
@@ -118,21 +118,21 @@ drops_by law b b' q q' small out (inr (inr is)) =
     (counted q is.2 is.3 small.0 small.1 small.2) (λ s. (refl, refl)) (λ s. refl) (λ t. law b b' q q' t out (inr (inr is)))
 
 pub drops_so : DropsAChain → (before after : Option ChainHandle) (q q' : FsQueue) (status : ℕ) → IsSmall q → handle_state before ≡ 3
-    → DropsChain before q status after q' → status ≡ 0 → DropsSo q q'
+    → DropsChain before q status after q' → status ≡ 0 → ActsAsDrop q q'
 drops_so law None after q q' status small at drops done = absurd (apart 0 3 refl at)
 drops_so law (Some b) None q q' status small at drops done = absurd drops
 drops_so law (Some b) (Some b') q q' status small at drops done =
     drops_by law b b' q q' small (out_at b.state at) (subst (λ (n : ℕ). DropsHandleChain b q n b' q') done drops)
 
 returns_by : PushReturnsOne → (b b' : ChainHandle) (q q' : FsQueue) (seen notify : ℕ) → IsSmall q
-    → EndsHandlePush b q seen notify 0 b' q' → ReturnsSo q q'
+    → EndsHandlePush b q seen notify 0 b' q' → ActsAsReturn q q'
 returns_by law b b' q q' seen notify small (inl none) = absurd (no_argument none.2.0)
 returns_by law b b' q q' seen notify small (inr is) =
     acts_so (Returns 1) (λ k. gave k) walked_by (λ k. put q (gave k)) (λ t. t.holder ≡ Walker) q q' is.1 is.2
     (counted q is.1 is.2 small.0 small.1 small.2) (λ s. (refl, refl)) (λ s. refl) (λ t. law b b' q q' seen notify t (inr is))
 
 pub returns_so : PushReturnsOne → (before now : Option ChainHandle) (q q' : FsQueue) (seen notify status : ℕ) → IsSmall q
-    → EndsPush before q seen status notify now q' → status ≡ 0 → ReturnsSo q q'
+    → EndsPush before q seen status notify now q' → status ≡ 0 → ActsAsReturn q q'
 returns_so law None None q q' seen notify status small ends done = absurd (no_order (sym done ∙ ends.0))
 returns_so law None (Some b') q q' seen notify status small ends done = absurd ends
 returns_so law (Some b) None q q' seen notify status small ends done = absurd ends
@@ -140,7 +140,7 @@ returns_so law (Some b) (Some b') q q' seen notify status small ends done =
     returns_by law b b' q q' seen notify small (subst (λ (n : ℕ). EndsHandlePush b q seen notify n b' q') done ends)
 
 sleeps_by : PopFindsFull → (b b' : ChainHandle) (q q' : FsQueue) (step : FsPop) → IsSmall q → b.state ≡ at.Free
-    → PopsHandle b q [] step (chain_error_number ChainInFlight) b' q' → SleepsSo q q'
+    → PopsHandle b q [] step (chain_error_number ChainInFlight) b' q' → ActsAsSleep q q'
 sleeps_by law b b' q q' step small free (inl none) = absurd (apart 76 66 refl none.1)
 sleeps_by law b b' q q' step small free (inr is) =
     acts_so SleepsNow (λ k. k) asked_by (λ k. q) (λ t. (t.holder ≡ Asker) × (t.hidden ≡ false)) q q' is.1 is.2
@@ -148,7 +148,7 @@ sleeps_by law b b' q q' step small free (inr is) =
     (λ t. let made = law b b' q q' step t free (inr is) in (made.0, made.1, made.2, λ small of waits. made.3 of waits.0 waits.1))
 
 pub sleeps_so : PopFindsFull → (before after : Option ChainHandle) (q q' : FsQueue) (step : FsPop) (status : ℕ) → IsSmall q
-    → handle_state before ≡ 1 → Pops before q [] status step after q' → status ≡ 76 → SleepsSo q q'
+    → handle_state before ≡ 1 → Pops before q [] status step after q' → status ≡ 76 → ActsAsSleep q q'
 sleeps_so law None after q q' step status small at pops full = absurd (apart 0 1 refl at)
 sleeps_so law (Some b) None q q' step status small at pops full = absurd pops
 sleeps_so law (Some b) (Some b') q q' step status small at pops full =

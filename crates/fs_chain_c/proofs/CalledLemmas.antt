@@ -17,7 +17,7 @@ use Rattle.fs_chain_c.specs.declared.queue.FsQueue.{FsQueue}
 use Rattle.fs_chain_c.specs.Handles.{EndsPush}
 use Rattle.fs_chain_c.specs.LawsCalled.{ChecksSo, WishesSo, published_by, walked_by}
 use Rattle.fs_chain_c.specs.Notifications.{AsksKicks, SetsNotification}
-use Rattle.fs_chain_c.specs.Notifying.{IsWish, NotifyIsACheck, StoresAWish}
+use Rattle.fs_chain_c.specs.Notifying.{StoresItsWish, NotifyIsACheck, StoresAWish}
 use Rattle.fs_chain_c.specs.Pushing.{EndsHandlePush}
 use Rattle.fs_chain_c.specs.Queues.{IsQueueState}
 use Rattle.fs_chain_c.proofs.SameQueues.{state_same}
@@ -53,7 +53,7 @@ wishes_by law b q told (inr is) avail used few =
           let walked : ThreadedQueue = walked_by k s in
           let made = law b q told walked (inr is) in
           let same : made.0 ≡ k = state_same q made.0 k made.1 is.2 in
-          subst (λ (j : QueueState). IsCounted j → IsOf j walked → walked.holder ≡ Walker → IsWish b j walked told) same made.2 small
+          subst (λ (j : QueueState). IsCounted j → IsOf j walked → walked.holder ≡ Walker → StoresItsWish b j walked told) same made.2 small
           (refl, refl) refl,
     )
 

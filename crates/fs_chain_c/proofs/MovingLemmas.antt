@@ -20,7 +20,7 @@ use Rattle.fs_chain.specs.declared.error.ChainError.TheVariants as error
 use Rattle.fs_chain.specs.declared.queue.QueueState.{QueueState}
 use Rattle.fs_chain_c.specs.declared.device.FsDevice.{FsDevice}
 use Rattle.fs_chain_c.specs.declared.queue.FsQueue.{FsQueue}
-use Rattle.fs_chain_c.specs.Moving.{AreQueueStates, HasItsBits, IsEven, MayBeOut, MovesByRecord, RestoresARecord, SavesARecord, recorded}
+use Rattle.fs_chain_c.specs.Moving.{AreQueueStates, HasItsWidths, IsEven, MayBeOut, MovesByRecord, RestoresARecord, SavesARecord, recorded}
 use Rattle.fs_chain_c.specs.Queues.{IsQueue, IsQueueState, stop_of}
 use Rattle.fs_chain_c.specs.Records.{HasNoneOut, HasRecord, NoDevice, NoPlace, NoRecord, Read, ReadsSo, RestoreOutcome, SavesSo}
 use Rattle.fs_chain_c.specs.Records.{bytes_of, numbers_over, queue_of, read_status, restored_over, saved_status}
@@ -93,7 +93,7 @@ saved_so d qs buffer buffer' len (Some e) is so = absurd (no_error e is)
 one_position : (p r : ℕ) → p < 2 ^ 16 → r < 2 ^ 16 → (p + (2 ^ 16 - r)) % 2 ^ 16 ≡ 0 → r ≡ p
 one_position p r fp fr none = omega arith
 
-all_even : (qs : List FsQueue) (ks : List QueueState) → AllByRecursion HasItsBits qs → All HasNoneOut qs → AreQueueStates qs ks →
+all_even : (qs : List FsQueue) (ks : List QueueState) → AllByRecursion HasItsWidths qs → All HasNoneOut qs → AreQueueStates qs ks →
     AllByRecursion IsEven ks
 all_even [] [] bits none are = tt
 all_even [] (k ∷ ks) bits none are = absurd are
@@ -107,7 +107,7 @@ all_even (q ∷ qs) (k ∷ ks) bits none are =
       all_even qs ks bits.1 (All-tail HasNoneOut q qs none) are.1,
     )
 
-all_saved : (qs : List FsQueue) → All IsQueue qs → AllByRecursion HasItsBits qs → All IsSavedQueue (map queue_of qs)
+all_saved : (qs : List FsQueue) → All IsQueue qs → AllByRecursion HasItsWidths qs → All IsSavedQueue (map queue_of qs)
 all_saved [] are bits = All-nil IsSavedQueue
 all_saved (q ∷ qs) are bits =
     All-cons IsSavedQueue (queue_of q) (map queue_of qs) ((All-head IsQueue q qs are).0, bits.0.0, bits.0.1)

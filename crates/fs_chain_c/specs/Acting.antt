@@ -17,7 +17,7 @@ use Rattle.fs_chain.specs.declared.state.ChainState.TheVariants as at
 use Rattle.notify.specs.Threads.{ThreadedQueue, Asker, DropsOne, Returns, Silences, SleepsNow, TakesOne}
 use Rattle.notify.specs.Threads.{Walker, after_act, may_act}
 use Rattle.fs_notify.specs.Amid.{LoadsAmid, WalksAmid}
-use Rattle.fs_notify.specs.Takers.{HasTaken, IsCounted, IsIndex, IsOf, SaysWish, ways_of, wish_at}
+use Rattle.fs_notify.specs.Takers.{HasPopped, IsCounted, IsIndex, IsOf, SaysWish, ways_of, wish_at}
 use Rattle.fs_chain_c.specs.declared.notifications.FsStore.{FsStore}
 use Rattle.fs_chain_c.specs.declared.popping.FsPop.{FsPop}
 use Rattle.fs_chain_c.specs.declared.queue.FsQueue.{FsQueue}
@@ -138,7 +138,7 @@ PopTakesOne =
     → s.holder ≡ Walker
     → (k' : QueueState) × (told : PopOutcome)
     × (q' ≡ put q k')
-    × HasTaken told
+    × HasPopped told
     × PopsByIndex given b b' k k' told (λ index. s.known ≡ index
     → IsTrue (may_act (ways_of k) s TakesOne) × IsOf k' (after_act (ways_of k) s TakesOne)))
 

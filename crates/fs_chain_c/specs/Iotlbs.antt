@@ -89,11 +89,11 @@ ExchangesPlace b p status b' p' =
     (told : Result (Unit {0}) ChainError) × ExchangesWith b b' p p' told × (status ≡ status_of told)
 
 -- the same, if C has both; else nothing changes
-abbrev pub Exchanges : Option ChainHandle → Option IotlbPlace → (status : ℕ) → Option ChainHandle →
+abbrev pub ExchangesTables : Option ChainHandle → Option IotlbPlace → (status : ℕ) → Option ChainHandle →
     Option IotlbPlace → Type 0
-Exchanges (Some b) (Some p) status (Some b') (Some p') = ExchangesPlace b p status b' p'
-Exchanges (Some b) (Some p) status after after' = ⊥
-Exchanges before place status after after' =
+ExchangesTables (Some b) (Some p) status (Some b') (Some p') = ExchangesPlace b p status b' p'
+ExchangesTables (Some b) (Some p) status after after' = ⊥
+ExchangesTables before place status after after' =
     (status ≡ chain_error_number WrongOrder) × (after ≡ before) × (after' ≡ place)
 
 -- ---- missing addresses

@@ -13,7 +13,7 @@ use Rattle.fs_notify.specs.Takers.{IsOf, ways_of}
 use Rattle.fs_chain_c.specs.declared.notifications.FsStore.{FsStore}
 use Rattle.fs_chain_c.specs.declared.queue.FsQueue.{FsQueue}
 use Rattle.fs_chain_c.specs.Acting.{SilencesBy}
-use Rattle.fs_chain_c.specs.Notifying.{IsWish}
+use Rattle.fs_chain_c.specs.Notifying.{StoresItsWish}
 use Rattle.fs_chain_c.specs.Queues.{IsQueueState, put}
 
 -- a model's queue that is this one, and a thread holds its lock
@@ -37,7 +37,7 @@ WishesSo before q told =
     (b : ChainHandle) × (k : QueueState)
     × (before ≡ Some b)
     × IsQueueState q k
-    × ((s : ThreadedQueue) → IsWish b k (walked_by k s) told)
+    × ((s : ThreadedQueue) → StoresItsWish b k (walked_by k s) told)
 
 -- the result of a push with this queue is the check in each state of the model with this queue
 abbrev pub ChecksSo : FsQueue → (seen notify : ℕ) → Type 0
@@ -70,13 +70,13 @@ ActsSo act turned by left q q' =
     × IsOf (turned k) (after_act (ways_of k) (by k s) act))
 
 -- a drop is the act of a drop
-abbrev pub DropsSo : FsQueue → FsQueue → Type 0
-DropsSo q q' = ActsSo DropsOne (λ k. untook k) walked_by (λ k. put q (untook k)) q q'
+abbrev pub ActsAsDrop : FsQueue → FsQueue → Type 0
+ActsAsDrop q q' = ActsSo DropsOne (λ k. untook k) walked_by (λ k. put q (untook k)) q q'
 
 -- the end of a push is the return of one chain
-abbrev pub ReturnsSo : FsQueue → FsQueue → Type 0
-ReturnsSo q q' = ActsSo (Returns 1) (λ k. gave k) walked_by (λ k. put q (gave k)) q q'
+abbrev pub ActsAsReturn : FsQueue → FsQueue → Type 0
+ActsAsReturn q q' = ActsSo (Returns 1) (λ k. gave k) walked_by (λ k. put q (gave k)) q q'
 
 -- a pop that is refused because as many chains are in flight as may be lets the thread sleep
-abbrev pub SleepsSo : FsQueue → FsQueue → Type 0
-SleepsSo q q' = ActsSo SleepsNow (λ k. k) asked_by (λ k. q) q q'
+abbrev pub ActsAsSleep : FsQueue → FsQueue → Type 0
+ActsAsSleep q q' = ActsSo SleepsNow (λ k. k) asked_by (λ k. q) q q'

@@ -23,8 +23,8 @@ AreQueueStates (q ∷ qs) [] = ⊥
 AreQueueStates (q ∷ qs) (k ∷ ks) = IsQueueState q k × AreQueueStates qs ks
 
 -- size and positions of C's numbers are of 16 bits
-abbrev pub HasItsBits : FsQueue → Type 0
-HasItsBits q = (q.size < 2 ^ 16) × (q.next_avail < 2 ^ 16) × (q.next_used < 2 ^ 16)
+abbrev pub HasItsWidths : FsQueue → Type 0
+HasItsWidths q = (q.size < 2 ^ 16) × (q.next_avail < 2 ^ 16) × (q.next_used < 2 ^ 16)
 
 -- no chain is in flight: the next chain is popped and pushed at the same position
 abbrev pub IsEven : QueueState → Type 0
@@ -40,7 +40,7 @@ abbrev pub SavesARecord : Type 0
 SavesARecord =
     (d : FsDevice) (qs : List FsQueue) (ks : List QueueState) (buffer buffer' : List ℕ) (len : ℕ)
     → Saves d qs buffer 0 len buffer'
-    → AllByRecursion HasItsBits qs
+    → AllByRecursion HasItsWidths qs
     → AreQueueStates qs ks
     → (bytes : List ℕ) × (v : Version)
     × (buffer' ≡ bytes ++ drop len buffer)
@@ -68,7 +68,7 @@ MovesByRecord =
     (d there d' : FsDevice) (qs olds queues' : List FsQueue) (here ks : List QueueState)
     (buffer saved rest : List ℕ) (len count : ℕ)
     → Saves d qs buffer 0 len saved
-    → AllByRecursion HasItsBits qs
+    → AllByRecursion HasItsWidths qs
     → AreQueueStates qs here
     → Restores there olds (take len saved ++ rest) 0 count d' queues'
     → AreQueueStates (take count queues') ks

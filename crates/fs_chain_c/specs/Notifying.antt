@@ -17,8 +17,8 @@ use Rattle.fs_chain_c.specs.Pushing.{EndsHandlePush, StandsHere}
 
 -- a store is the model's wish for the next chain, once it has reached memory: it is where the device has the
 -- wish
-abbrev pub IsWish : ChainHandle → QueueState → ThreadedQueue → FsStore → Type 0
-IsWish b k s told =
+abbrev pub StoresItsWish : ChainHandle → QueueState → ThreadedQueue → FsStore → Type 0
+StoresItsWish b k s told =
     let asked = after_act (ways_of k) (after_act (ways_of k) s Wishes) WishIsThere in
     StandsHere b.regions Write (wish_at k) 2 told.at
     × (told.len ≡ 2)
@@ -32,7 +32,7 @@ StoresAWish =
     → SetsNotification b q 1 told 0
     → (k : QueueState)
     × IsQueueState q k
-    × (IsCounted k → IsOf k s → s.holder ≡ Walker → IsWish b k s told)
+    × (IsCounted k → IsOf k s → s.holder ≡ Walker → StoresItsWish b k s told)
 
 -- `notify` is the result of the check by the model's giver, of the two bytes that C has loaded behind the
 -- barrier

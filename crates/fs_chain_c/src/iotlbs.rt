@@ -1,7 +1,8 @@
 //! The functions on an IOMMU's table that C calls.
 
 ghost use Rattle.std.specs.Prelude.{◌≡◌};
-ghost use Rattle.fs_chain_c.specs.Iotlbs.{Exchanges, ExchangesPlace, IsNoPlace, MakesTable, MapsByNumber};
+ghost use Rattle.fs_chain_c.specs.Iotlbs.{ExchangesPlace, ExchangesTables};
+ghost use Rattle.fs_chain_c.specs.Iotlbs.{IsNoPlace, MakesTable, MapsByNumber};
 ghost use Rattle.fs_chain_c.specs.Iotlbs.{MapsTable, UnmapsPlace, UnmapsTable, access_of, status_of};
 
 use crate::access::access_of;
@@ -115,7 +116,8 @@ pub extern "C" fn pk_chain_exchange_iotlb(
     chain: &mut FsChain,
     iotlb: &mut FsIotlb,
 ) -> u32
-    ensures { Exchanges chain.old.held.value iotlb.old.value result chain.new.held.value iotlb.new.value }
+    ensures { ExchangesTables chain.old.held.value iotlb.old.value result chain.new.held.value
+        iotlb.new.value }
 {
     let Some(mut handle) = chain.take(alloc) else {
         return wrong_order();

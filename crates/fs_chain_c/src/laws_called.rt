@@ -1,7 +1,8 @@
 //! Calls of the exports that meet the hypotheses of the laws of notifications. C doesn't call these.
 
 ghost use Rattle.std.specs.Prelude.{◌≡◌};
-ghost use Rattle.fs_chain_c.specs.LawsCalled.{ChecksSo, DropsSo, ReturnsSo, SilencesSo, SleepsSo, WishesSo};
+ghost use Rattle.fs_chain_c.specs.LawsCalled.{ActsAsDrop, ActsAsReturn, ActsAsSleep};
+ghost use Rattle.fs_chain_c.specs.LawsCalled.{ChecksSo, SilencesSo, WishesSo};
 
 use crate::exports::{pk_chain_state, pk_drop, pk_pop, pk_pushed};
 use crate::handle::FsChain;
@@ -48,7 +49,7 @@ pub fn silence(alloc: Global, chain: &mut FsChain, queue: &FsQueue, store: &mut 
 
 /// Drops a chain in flight: 73 if the handle has none that may be dropped.
 pub fn drop_one(alloc: Global, chain: &mut FsChain, queue: &mut FsQueue) -> u32
-    ensures { result ≡ 0 → DropsSo queue.old queue.new }
+    ensures { result ≡ 0 → ActsAsDrop queue.old queue.new }
 {
     law_acts();
     let _next = queue.next_avail;
@@ -68,7 +69,7 @@ pub fn return_one(
     seen: u16,
     notify: &mut u8,
 ) -> u32
-    ensures { result ≡ 0 → ReturnsSo queue.old queue.new }
+    ensures { result ≡ 0 → ActsAsReturn queue.old queue.new }
 {
     law_acts();
     let _next = queue.next_avail;
@@ -79,7 +80,7 @@ pub fn return_one(
 
 /// Begins a pop with a free handle. If as many chains are in flight as may be, the thread may sleep.
 pub fn find_full(alloc: Global, chain: &mut FsChain, queue: &mut FsQueue, pop: &mut FsPop) -> u32
-    ensures { result ≡ 76 → SleepsSo queue.old queue.new }
+    ensures { result ≡ 76 → ActsAsSleep queue.old queue.new }
 {
     law_acts();
     let _next = queue.next_avail;

@@ -25,7 +25,7 @@ use Rattle.fs_chain.specs.Orders.{IfWalking, IsWalking, load_len, walk_error}
 use Rattle.fs_chain.specs.Walks.{BeginsUnless, BeginsWhere, GoesOnUnless, LacksEvents, WalksFrom}
 use Rattle.fs_chain.specs.Whole.{AddsSo, LoadsOf, WalksBy, WantsBytes}
 use Rattle.fs_notify.specs.Amid.{FindsNoneAmidRefusals, LoadsAmid, TakesAmidRefusals, WalksAmid}
-use Rattle.fs_notify.specs.Takers.{HasTaken}
+use Rattle.fs_notify.specs.Takers.{HasPopped}
 use Rattle.fs_notify.proofs.Walks.{finds_none, takes}
 
 -- the pop is neither refused nor missing addresses
@@ -253,7 +253,7 @@ straight_on (bs ∷ given) old new before after told kept walks =
     let earlier = straight given old walks.0 before walks.2 walks.3 walks.5 walks.4 in
     (on_by bs given old new before after told kept walks earlier, on_loads bs given old new before after told kept walks earlier)
 
-kept_taken : (told : walked.PopOutcome) → HasTaken told → IsKept told
+kept_taken : (told : walked.PopOutcome) → HasPopped told → IsKept told
 kept_taken (says.Chain head n r) taken = tt
 kept_taken (says.Faulty head fault) taken = tt
 kept_taken (says.Load n) taken = tt

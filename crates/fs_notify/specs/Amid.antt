@@ -11,7 +11,7 @@ use Rattle.fs_chain.specs.declared.chain_handle.ChainHandle.{ChainHandle}
 use Rattle.fs_chain.specs.Loads.{GoesSo, IsSame, whole}
 use Rattle.fs_chain.specs.Whole.{AddsSo, BeginsPopBy, WantsBytes}
 use Rattle.notify.specs.Threads.{Asker, SleepsNow, TakesOne, ThreadedQueue, Walker, after_act, may_act}
-use Rattle.fs_notify.specs.Takers.{HasTaken, IsCounted, IsIndex, IsOf, ways_of}
+use Rattle.fs_notify.specs.Takers.{HasPopped, IsCounted, IsIndex, IsOf, ways_of}
 
 -- a pop by calls of the handle, the last one first. Between two of them, calls with other bytes were refused,
 -- or an allocation failed: the handle `w` became `v` by these
@@ -42,7 +42,7 @@ TakesAmidRefusals =
     (told : walked.PopOutcome) (s : ThreadedQueue)
     → IsCounted before
     → before.stopped ≡ None
-    → HasTaken told
+    → HasPopped told
     → (walks : WalksAmid given old new before after (wents.On told))
     → IsOf before s
     → s.holder ≡ Walker

@@ -85,10 +85,10 @@ MutesByStore =
 -- ---- the pop
 
 -- a pop returned a chain
-abbrev pub HasTaken : walked.PopOutcome → Type 0
-HasTaken (says.Chain head request_len room_len) = Unit {0}
-HasTaken (says.Faulty head fault) = Unit {0}
-HasTaken _ = ⊥
+abbrev pub HasPopped : walked.PopOutcome → Type 0
+HasPopped (says.Chain head request_len room_len) = Unit {0}
+HasPopped (says.Faulty head fault) = Unit {0}
+HasPopped _ = ⊥
 
 -- the available index that a pop was given
 abbrev pub IsIndex : Loaded → (index : ℕ) → Type 0
@@ -102,7 +102,7 @@ TakesByWalk =
     (told : walked.PopOutcome) (s : ThreadedQueue)
     → IsCounted before
     → before.stopped ≡ None
-    → HasTaken told
+    → HasPopped told
     → (walks : WalksBy given old new before after (wents.On told))
     → IsOf before s
     → s.holder ≡ Walker

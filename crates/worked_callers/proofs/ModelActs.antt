@@ -33,7 +33,7 @@ use Rattle.notify.specs.Kicks.{NotifyState}
 use Rattle.notify.specs.Threads.{DropsOne, Loads, SleepsNow, TakesOne, ThreadedQueue, Walker, WishIsThere, Wishes, after_act, walks}
 use Rattle.fs_notify.specs.Givers.{PublishesByStore, rules_of}
 use Rattle.fs_notify.specs.Takers.{AsksByStore, DropIsAnAct, FindsNoneByWalk, IsCounted, IsOf, SaysWish, TakesByWalk, ways_of}
-use Rattle.worked_callers.specs.Notified.{ActsTo, IsWish, PopsByIndex}
+use Rattle.worked_callers.specs.Notified.{ActsTo, IsWish, PopsWithIndex}
 
 -- ---- the wish
 
@@ -61,7 +61,7 @@ pub sleeps_so : AsksByStore → FindsNoneByWalk → (given : List (List ℕ)) (o
     → IsCounted before
     → before.stopped ≡ None → WalksBy given old new before after (wents.On says.Idle) → (s : ThreadedQueue) → IsOf before s
     → s.holder ≡ Walker → s.index < 2 ^ 16
-    → PopsByIndex given old new before after says.Idle
+    → PopsWithIndex given old new before after says.Idle
     (ActsTo before s (Wishes ∷ WishIsThere ∷ SleepsNow ∷ [])
     (after_act (ways_of before) (after_act (ways_of before) (after_act (ways_of before) s Wishes) WishIsThere) SleepsNow) after)
 sleeps_so asks finds given old new before after counted goes by s of walker fits =
@@ -101,7 +101,7 @@ pub takes_so : TakesByWalk → (given : List (List ℕ)) (old new : ChainHandle)
     → IsCounted before
     → before.stopped ≡ None → WalksBy given old new before after (wents.On (says.Chain head n r)) → (s : ThreadedQueue)
     → IsOf before s → s.holder ≡ Walker
-    → PopsByIndex given old new before after (says.Chain head n r)
+    → PopsWithIndex given old new before after (says.Chain head n r)
     (ActsTo before s (Loads ∷ TakesOne ∷ [])
     (after_act (ways_of before) (after_act (ways_of before) s Loads) TakesOne) after)
 takes_so law given old new before after head n r counted goes by s of walker =
@@ -127,7 +127,7 @@ pub drops_so : TakesByWalk → DropIsAnAct → (given : List (List ℕ)) (old on
     → before.stopped ≡ None → WalksBy given old one before mid (wents.On (says.Chain head n r))
     → FromTaken one.state (λ out. out.request_len ≡ n) → give_up_error one.state mid ≡ None
     → last ≡ (if is_out one.state then untook mid else mid) → (s : ThreadedQueue) → IsOf before s → s.holder ≡ Walker
-    → PopsByIndex given old one before mid (says.Chain head n r)
+    → PopsWithIndex given old one before mid (says.Chain head n r)
     (ActsTo before s (Loads ∷ TakesOne ∷ DropsOne ∷ [])
     (after_act (ways_of before) (after_act (ways_of before) (after_act (ways_of before) s Loads) TakesOne) DropsOne) last)
 drops_so takes drops given old one before mid last head n r counted goes by taken clear left s of walker =

@@ -53,7 +53,7 @@ use Rattle.fs_live.specs.Several.{heads_taken, returning, took}
 use Rattle.fs_live.specs.Several as several
 use Rattle.fs_live.proofs.Moved.{joined}
 use Rattle.fs_live.proofs.Queues.{same_some, there_same}
-use Rattle.worked_callers.specs.OwnReplies.{EndsAlone, IsAt, LogsOwn, RepliesOwn, ReturnsAsStep}
+use Rattle.worked_callers.specs.OwnReplies.{EndsAlone, IsAt, LogsOwn, ReturnsOwn, ReturnsAsStep}
 use Rattle.worked_callers.proofs.OthersBeside.{changed_twice, own_kept}
 use Rattle.worked_callers.proofs.ServedBeside.{calls_of_both, chain_is, reached_by, run_more, taken_of}
 
@@ -96,7 +96,7 @@ module _ {F : Type 0} (may : May F) (returns_law : HandleReturnsOwn may) (before
       → Happens may s₁ (Replies c request reply options) (after_own s₁ s.outs [] c request reply options)
       → IsOwn (record c { phase = Own request reply }) reply st
       → ((room bytes : List ℕ) (last : ℕ) → (acts : List Act) × GoesBackOwn after room bytes st acts last notice)
-      → RepliesOwn may s c.queue before (gave after) request reply calls notice
+      → ReturnsOwn may s c.queue before (gave after) request reply calls notice
   replied_from s s₁ c st earlier calls options run calls_are outs there there₁ queues taken places limit page_size replies own back =
       let q = live_of before in
       let i = c.queue in
@@ -137,7 +137,7 @@ module _ {F : Type 0} (may : May F) (returns_law : HandleReturnsOwn may) (before
 -- ---- what theorems say of the return
 
 module _ {F : Type 0} (may : May F) (s : LiveState F) (i : ℕ) (before after : QueueState) (request reply : List ℕ) (calls : Calls)
-    (notice : Bool) (r : RepliesOwn may s i before after request reply calls notice) where
+    (notice : Bool) (r : ReturnsOwn may s i before after request reply calls notice) where
   pub as_step : (G : Type 0) → OwnIsReturned G may → IsReached may s → ReturnsAsStep G may s i before after request reply calls notice
   as_step G law reached = (
     r,
@@ -182,7 +182,7 @@ module _ {F : Type 0} (may : May F) (walks_law : HandleWalks may) (replies_law :
     (kept : IfUnanswered one.state (λ out. two ≡ record one { state = at.HasReply out (own_reply (length reply)) }))
     (back : (room bytes : List ℕ) (last : ℕ) → (acts : List Act) × GoesBackOwn after room bytes two.state acts last notice) where
   abbrev pub replied_fetched : (s : LiveState F) (i : ℕ) → IsAt may s i old before
-      → RepliesOwn may s i before (gave after) request reply [] notice
+      → ReturnsOwn may s i before (gave after) request reply [] notice
   replied_fetched s i here =
       let q = live_of before in
       let ds = one.descriptors.items in
@@ -299,7 +299,7 @@ module _ {F : Type 0} (may : May F) (walks_law : HandleWalks may) (asks_law : Ha
   call = call_of (drop 80 request) made
 
   pub replied_asked : (s : LiveState F) (i : ℕ) → IsAt may s i old before → IsSessionOf s session
-      → RepliesOwn may s i before (gave after) request reply [] notice
+      → ReturnsOwn may s i before (gave after) request reply [] notice
   replied_asked s i here in_session =
       let q = live_of before in
       let ds = one.descriptors.items in
@@ -327,7 +327,7 @@ module _ {F : Type 0} (may : May F) (walks_law : HandleWalks may) (asks_law : Ha
 
   pub replied_answered : (s : LiveState F) (i : ℕ) → IsAt may s i old before → IsSessionOf s session → (answer : FileAnswer) (files : F)
       → IsTrue (suits call answer) → may s.files call answer files
-      → RepliesOwn may s i before (gave after) request reply ((call, answer) ∷ []) notice
+      → ReturnsOwn may s i before (gave after) request reply ((call, answer) ∷ []) notice
   replied_answered s i here in_session answer files fits so =
       let q = live_of before in
       let ds = one.descriptors.items in

@@ -36,9 +36,9 @@ IsWalkedBy bytes old new before after told =
     (n : ℕ) × WalksBy (calls_of n bytes) old new before after told
 
 -- calls with these bytes are a pop with this result, and P holds for the index among the bytes
-abbrev pub PopsByIndex : (given : List (List ℕ)) → (old new : ChainHandle) → (before after : QueueState) →
+abbrev pub PopsWithIndex : (given : List (List ℕ)) → (old new : ChainHandle) → (before after : QueueState) →
     PopOutcome → (ℕ → Type 0) → Type 0
-PopsByIndex given old new before after told P =
+PopsWithIndex given old new before after told P =
     (walks : WalksBy given old new before after (wents.On told))
     × (loaded : Loaded)
     × LoadsOf given old new before after (wents.On told) walks loaded

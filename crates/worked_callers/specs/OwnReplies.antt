@@ -29,7 +29,7 @@ pub record IsAt {F : Type 0} (may : May F) (s : LiveState F) (i : ℕ) (handle :
 
 -- a chain of queue i that its caller replied to is returned: the events before its return, with these calls,
 -- and the return. The other chains stay in flight
-pub record RepliesOwn {F : Type 0} (may : May F) (s : LiveState F) (i : ℕ) (before after : QueueState)
+pub record ReturnsOwn {F : Type 0} (may : May F) (s : LiveState F) (i : ℕ) (before after : QueueState)
     (request reply : List ℕ) (calls : Calls) (notice : Bool) : Type 0 where
   pub earlier : List LiveEvent
   pub now : LiveState F
@@ -55,7 +55,7 @@ pub record RepliesOwn {F : Type 0} (may : May F) (s : LiveState F) (i : ℕ) (be
 abbrev pub ReturnsAsStep : {F : Type 0} → (G : Type 0) → (may : May F) → (s : LiveState F) → (i : ℕ) →
     (before after : QueueState) → (request reply : List ℕ) → Calls → (notice : Bool) → Type 0
 ReturnsAsStep {F} G may s i before after request reply calls notice =
-    (r : RepliesOwn may s i before after request reply calls notice)
+    (r : ReturnsOwn may s i before after request reply calls notice)
     × ((m : State G) →
     location m.memory ≡ location s.places →
     m.limit ≡ s.limit →
@@ -69,7 +69,7 @@ ReturnsAsStep {F} G may s i before after request reply calls notice =
 abbrev pub ReportsOwn : {F : Type 0} → (may : May F) → (s : LiveState F) → (i : ℕ) →
     (before after : QueueState) → (request reply : List ℕ) → (notice : Bool) → Type 0
 ReportsOwn {F} may s i before after request reply notice =
-    (r : RepliesOwn may s i before after request reply [] notice)
+    (r : ReturnsOwn may s i before after request reply [] notice)
     × (w : LiveQueue)
     × (slice_get r.now.queues r.chain.queue ≡ Some w)
     × (told_by r.now (Returns r.chain r.exchange notice 0 r.used r.seen)
@@ -84,7 +84,7 @@ written ws = map (λ w. w.0) ws
 abbrev pub LogsOwn : {F : Type 0} → (may : May F) → (s : LiveState F) → (i : ℕ) →
     (before after : QueueState) → (request reply : List ℕ) → (notice : Bool) → Type 0
 LogsOwn {F} may s i before after request reply notice =
-    (r : RepliesOwn may s i before after request reply [] notice)
+    (r : ReturnsOwn may s i before after request reply [] notice)
     × (popped : LiveEvent) × (replied : LiveEvent)
     × (r.earlier ≡ popped ∷ replied ∷ [])
     × ((first second third last : List (ℕ × ℕ)) (m : Memory) →

@@ -13,7 +13,7 @@ ghost use Rattle.notify.specs.Threads.{ActsOver, Asker, DropsOne, Loads, Nobody,
 ghost use Rattle.notify.specs.Threads.{TakesOne, ThreadedQueue, Walker, WishIsThere, Wishes, after_act};
 ghost use Rattle.notify.specs.Threads.{may_act};
 ghost use Rattle.fs_notify.specs.Takers.{IsCounted, IsOf, MutesBy, ways_of};
-ghost use Rattle.worked_callers.specs.Notified.{ActsTo, IsWalkedBy, IsWish, PopsByIndex, calls_of};
+ghost use Rattle.worked_callers.specs.Notified.{ActsTo, IsWalkedBy, IsWish, PopsWithIndex, calls_of};
 
 use crate::beside::walk_to_end;
 use crate::wholes::walk_chain;
@@ -86,7 +86,7 @@ pub fn sleep_if_idle(
         → s.index < 2 ^ 16
         → (let ways = ways_of queue.old in
         let end = after_act ways (after_act ways (after_act ways s Wishes) WishIsThere) SleepsNow in
-        PopsByIndex (calls_of n given.now) handle.old handle.new queue.old queue.new PopOutcome.Idle
+        PopsWithIndex (calls_of n given.now) handle.old handle.new queue.old queue.new PopOutcome.Idle
         (ActsTo queue.old s (Wishes ∷ WishIsThere ∷ SleepsNow ∷ []) end queue.new)))) }
     ensures order { OnOk result ((s : ThreadedQueue)
         → IsOf queue.old s
@@ -117,7 +117,7 @@ pub fn take_one(
         → IsOf queue.old s
         → s.holder ≡ Walker
         → (let ways = ways_of queue.old in
-        PopsByIndex (calls_of n given.now) handle.old handle.new queue.old queue.new
+        PopsWithIndex (calls_of n given.now) handle.old handle.new queue.old queue.new
         (PopOutcome.Chain c.0 c.1 c.2)
         (ActsTo queue.old s (Loads ∷ TakesOne ∷ []) (after_act ways (after_act ways s Loads) TakesOne)
         queue.new)))) }
@@ -142,7 +142,7 @@ pub fn drop_one(
         → s.holder ≡ Walker
         → (let ways = ways_of queue.old in
         let end = after_act ways (after_act ways (after_act ways s Loads) TakesOne) DropsOne in
-        PopsByIndex (calls_of n given.now) handle.old taken queue.old mid
+        PopsWithIndex (calls_of n given.now) handle.old taken queue.old mid
         (PopOutcome.Chain head request room)
         (ActsTo queue.old s (Loads ∷ TakesOne ∷ DropsOne ∷ []) end queue.new)))) }
 {
