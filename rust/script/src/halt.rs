@@ -23,8 +23,6 @@ pub enum Halt {
 pub enum Missing {
     /// A number of a mapping isn't a multiple of 4096.
     PartOfAnIoPage,
-    /// A pop needs an I/O address of the last page, which the table can't refuse.
-    LastIoPage,
     /// A region's address or length isn't a multiple of 4096.
     PartOfAPage,
     ManyRegions,
@@ -66,9 +64,6 @@ impl fmt::Display for Missing {
         match self {
             Missing::PartOfAnIoPage => {
                 f.write_str("a mapping of the handle is made of whole pages of 4096 bytes")
-            }
-            Missing::LastIoPage => {
-                f.write_str("the handle's IOMMU can't refuse addresses from 2^64 - 4096 on")
             }
             Missing::PartOfAPage => {
                 f.write_str("a region of the handle is made of whole pages of 4096 bytes")

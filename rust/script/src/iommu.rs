@@ -62,11 +62,8 @@ impl Iommu {
         outcome(self.table.unmap(iova, len))
     }
 
-    /// Refuses what a pop missed. The table can't refuse its last page, which ends at 2^64.
+    /// Refuses the addresses that a pop missed.
     pub fn refuse(&mut self, miss: &Miss) -> Result<(), Stuck> {
-        if miss.iova.checked_add(miss.len).is_none() {
-            return Err(Missing::LastIoPage.into());
-        }
         Ok(self.table.map(miss.iova, miss.len, 0, Access::None)?)
     }
 
