@@ -55,7 +55,7 @@ impl Changes {
 /// user other than root has none.
 pub fn give_up(changes: &Changes) -> capng::Result<()> {
     let names = changes.wanted();
-    let named = names
+    let capabilities = names
         .iter()
         .map(|name| capng::name_to_capability(name))
         .collect::<capng::Result<Vec<_>>>()?;
@@ -64,7 +64,7 @@ pub fn give_up(changes: &Changes) -> capng::Result<()> {
     let may_bound = capng::name_to_capability("setpcap").is_ok_and(has);
     let kept: Vec<&str> = names
         .iter()
-        .zip(named)
+        .zip(capabilities)
         .filter(|(_, capability)| has(*capability))
         .map(|(name, _)| name.as_str())
         .collect();

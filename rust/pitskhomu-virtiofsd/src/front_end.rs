@@ -13,6 +13,7 @@ use log::{debug, error, info};
 use std::fs::File;
 use std::io;
 use std::sync::Arc;
+#[allow(clippy::wildcard_imports, reason = "the module is the protocol's messages")]
 use vhost::vhost_user::message::*;
 use vhost::vhost_user::{Backend, Error, GpuBackend, Result, VhostUserBackendReqHandlerMut};
 use virtio_bindings::bindings::virtio_config::{VIRTIO_F_ACCESS_PLATFORM, VIRTIO_F_VERSION_1};
@@ -21,8 +22,8 @@ use virtio_bindings::bindings::virtio_ring::{
 };
 use virtiofsd::vhost_user::MAX_TAG_LEN;
 
-/// VIRTIO_F_ACCESS_PLATFORM: the device accesses memory with the platform's translation. QEMU
-/// passes the bit in SET_FEATURES only if the guest has a vIOMMU in front of the device. Then the
+/// `VIRTIO_F_ACCESS_PLATFORM`: the device accesses memory with the platform's translation. QEMU
+/// passes the bit in `SET_FEATURES` only if the guest has a vIOMMU in front of the device. Then the
 /// addresses of rings and buffers are I/O addresses.
 const ACCESS_PLATFORM: u64 = 1 << VIRTIO_F_ACCESS_PLATFORM;
 
@@ -72,7 +73,7 @@ impl<F: ServedFs> FrontEnd<F> {
     }
 
     /// Sets the log in which pages are marked: the front-end's, if it has sent one and
-    /// VHOST_F_LOG_ALL is set.
+    /// `VHOST_F_LOG_ALL` is set.
     fn set_log(&self) {
         self.core.memory().logging().set(self.log.clone().filter(|_| self.logs()));
     }
@@ -86,7 +87,9 @@ impl<F: ServedFs> FrontEnd<F> {
         let mut config = [0; MAX_TAG_LEN + 4];
         let tag = self.tag.as_deref().unwrap_or_default().as_bytes();
         config.iter_mut().zip(tag).for_each(|(to, from)| *to = *from);
-        config[MAX_TAG_LEN..].copy_from_slice(&(self.core.rings.len() as u32 - 1).to_le_bytes());
+        #[allow(clippy::cast_possible_truncation, reason = "there are at most 64 rings")]
+        let request_queues = self.core.rings.len() as u32 - 1;
+        config[MAX_TAG_LEN..].copy_from_slice(&request_queues.to_le_bytes());
         config
     }
 }
@@ -158,9 +161,10 @@ impl<F: ServedFs> VhostUserBackendReqHandlerMut for FrontEnd<F> {
     }
 
     fn set_vring_num(&mut self, index: u32, num: u32) -> Result<()> {
-        let size = Some(num).filter(|num| (1..=SIZE_MAX).contains(num) && num.is_power_of_two());
+        let size =
+            u16::try_from(num).ok().filter(|size| *size <= SIZE_MAX && size.is_power_of_two());
         let size = size.ok_or_else(|| told(io::Error::other("a size that no queue has")))?;
-        self.ring(index)?.tell(|numbers| numbers.layout.size = size as u16); // 2^15 at most
+        self.ring(index)?.tell(|numbers| numbers.layout.size = size);
         Ok(())
     }
 
@@ -175,9 +179,12 @@ impl<F: ServedFs> VhostUserBackendReqHandlerMut for FrontEnd<F> {
     ) -> Result<()> {
         let memory = self.core.memory();
         let has_iommu = memory.iommu().is_on();
-        let at = |address| match has_iommu {
-            true => Ok(address), // the driver's own
-            false => memory.guest_address(address).map_err(told),
+        let at = |address| {
+            if has_iommu {
+                Ok(address) // the driver's own
+            } else {
+                memory.guest_address(address).map_err(told)
+            }
         };
         let (descriptors, available, used) = (at(descriptor)?, at(available)?, at(used)?);
         self.ring(index)?.tell(|numbers| {
@@ -202,12 +209,12 @@ impl<F: ServedFs> VhostUserBackendReqHandlerMut for FrontEnd<F> {
     }
 
     fn set_vring_kick(&mut self, index: u8, kick: Option<File>) -> Result<()> {
-        match kick {
-            Some(kick) => self.ring(index)?.start(kick).map_err(told),
-            None => {
-                self.ring(index)?.stop_kicks();
-                Err(unsupported("a ring without kicks"))
-            }
+        let ring = self.ring(index)?;
+        if let Some(kick) = kick {
+            ring.start(kick).map_err(told)
+        } else {
+            ring.stop_kicks();
+            Err(unsupported("a ring without kicks"))
         }
     }
 
@@ -242,7 +249,7 @@ impl<F: ServedFs> VhostUserBackendReqHandlerMut for FrontEnd<F> {
         Ok(())
     }
 
-    /// iommu::messages has taken a descriptor of the same channel.
+    /// `iommu::messages` has taken a descriptor of the same channel.
     fn set_backend_req_fd(&mut self, _channel: Backend) {}
 
     fn get_queue_num(&mut self) -> Result<u64> {

@@ -20,7 +20,7 @@ impl Doing {
         self.chain.store(chain, Ordering::Relaxed);
     }
 
-    /// Sets the opcode and number of the chain's request (struct fuse_in_header).
+    /// Sets the opcode and number of the chain's request (struct `fuse_in_header`).
     pub fn asks(&self, opcode: u32, unique: u64) {
         self.opcode.store(opcode, Ordering::Relaxed);
         self.unique.store(unique, Ordering::Relaxed);

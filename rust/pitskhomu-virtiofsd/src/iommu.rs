@@ -1,7 +1,7 @@
 //! A vIOMMU in front of the device: the driver's addresses are I/O addresses then, rings too
-//! (VIRTIO_F_ACCESS_PLATFORM in SET_FEATURES). The front-end says what they mean, one after another
-//! (VHOST_USER_IOTLB_MSG), and the queues' threads ask for those that they miss, over a channel of
-//! the back-end's own.
+//! (`VIRTIO_F_ACCESS_PLATFORM` in `SET_FEATURES`). The front-end says what they mean, one after
+//! another (`VHOST_USER_IOTLB_MSG`), and the queues' threads ask for those that they miss, over a
+//! channel of the back-end's own.
 //!
 //! Locks are taken in this order: a ring's, the channel's, the table's. None is held while a thread
 //! awaits an answer. So the thread that answers the front-end may take each of them: QEMU answers
@@ -43,8 +43,8 @@ impl Iommu {
         self.mappings.lock().unwrap_or_else(PoisonError::into_inner)
     }
 
-    /// SET_FEATURES says whether there is an IOMMU. What was known is forgotten, but for rings with
-    /// chains in flight: QEMU tells nothing of what changes while the device stands.
+    /// `SET_FEATURES` says whether there is an IOMMU. What was known is forgotten, but for rings
+    /// with chains in flight: QEMU tells nothing of what changes while the device stands.
     pub fn set(&self, is_on: bool) -> Result<(), Status> {
         if is_on {
             self.channel.begin();

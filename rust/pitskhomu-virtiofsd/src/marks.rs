@@ -9,7 +9,7 @@ use vm_memory::bitmap::{Bitmap, BitmapSlice, WithBitmapSlice};
 use vm_memory::mmap::NewBitmap;
 use vm_memory::{FileOffset, MmapRegion, VolatileMemory};
 
-/// The log's page size in bytes, for any page size of the guest (VHOST_LOG_PAGE).
+/// The log's page size in bytes, for any page size of the guest (`VHOST_LOG_PAGE`).
 const PAGE: u64 = 4096;
 
 /// The front-end's log, mapped.
@@ -109,7 +109,7 @@ impl<'a> WithBitmapSlice<'a> for Marks {
 
 impl Bitmap for Marks {
     fn mark_dirty(&self, offset: usize, len: usize) {
-        mark(&self.region, offset, len)
+        mark(&self.region, offset, len);
     }
     fn dirty_at(&self, _offset: usize) -> bool {
         false // only the front-end reads the log
@@ -133,7 +133,7 @@ impl BitmapSlice for MarksFrom<'_> {}
 
 impl<'a> Bitmap for MarksFrom<'a> {
     fn mark_dirty(&self, offset: usize, len: usize) {
-        mark(self.region, self.offset.saturating_add(offset), len)
+        mark(self.region, self.offset.saturating_add(offset), len);
     }
     fn dirty_at(&self, _offset: usize) -> bool {
         false

@@ -10,9 +10,9 @@ use std::os::fd::{AsRawFd, FromRawFd, IntoRawFd, RawFd};
 /// Which of the guest's flags apply on the host.
 #[derive(Debug, Clone, Copy, Default)]
 pub struct OpenFlags {
-    /// O_DIRECT applies.
+    /// `O_DIRECT` applies.
     pub allow_direct_io: bool,
-    /// O_NOATIME applies.
+    /// `O_NOATIME` applies.
     pub preserve_noatime: bool,
     /// Files that the guest opens only for writing are opened for reading too. The guest's kernel
     /// reads a page of which it writes a part.
@@ -20,9 +20,9 @@ pub struct OpenFlags {
 }
 
 impl OpenFlags {
-    /// The status flags that the host's file must not have. O_APPEND is always among them: the
-    /// guest's kernel applies it to each write, and a mapped page, or a write after F_SETFL, has an
-    /// offset of its own.
+    /// The status flags that the host's file must not have. `O_APPEND` is always among them: the
+    /// guest's kernel applies it to each write, and a mapped page, or a write after `F_SETFL`, has
+    /// an offset of its own.
     fn dropped(self) -> i32 {
         let mut dropped = libc::O_APPEND;
         if !self.allow_direct_io {
@@ -35,6 +35,7 @@ impl OpenFlags {
     }
 
     /// The flags on the host for a file that the guest opens or creates with these flags.
+    #[allow(clippy::cast_possible_wrap, clippy::cast_sign_loss, reason = "flags are bits")]
     pub fn for_host(self, flags: u32) -> u32 {
         let flags = flags as i32;
         let is_for_writing = flags & libc::O_ACCMODE == libc::O_WRONLY && flags & libc::O_PATH == 0;

@@ -27,6 +27,9 @@ use virtiofsd::soft_idmap::cmdline::IdMap;
     after_help = "A guest may have an IOMMU in front of the device: give QEMU's device \
         iommu_platform=on, and ats=on with Intel's. That needs no option here."
 )]
+#[allow(clippy::struct_excessive_bools, reason = "each is a flag of the command line")]
+#[allow(clippy::struct_field_names, reason = "`options` is clap's word for -o")]
+#[allow(clippy::doc_markdown, reason = "--help prints these comments")]
 pub struct Options {
     /// The directory that the guest is to see
     #[arg(long, required_unless_present_any = ["compat_options", "print_capabilities"])]

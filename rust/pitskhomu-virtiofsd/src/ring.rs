@@ -2,8 +2,8 @@
 //! chains under the queue's lock, and answers them without it. Each thread has one chain at a time.
 //! A message that changes a ring only takes the lock: chains in flight continue over the memory
 //! that they were taken from, and new ones use the new numbers. Only a message that ends something
-//! waits until none of the ring's chains is in flight, so that its answer is true: GET_VRING_BASE,
-//! a ring that is disabled, and memory that maps or unmaps the ring's parts.
+//! waits until none of the ring's chains is in flight, so that its answer is true:
+//! `GET_VRING_BASE`, a ring that is disabled, and memory that maps or unmaps the ring's parts.
 //!
 //! Comments in brackets name the steps of the notification model (crate notify). For the available
 //! ring, whose giver is the driver, they are those of `specs/Threads.antt`; for the used ring,
@@ -27,7 +27,7 @@ use vmm_sys_util::eventfd::EventFd;
 pub use waits::LAST_CHAINS;
 
 /// The greatest queue size that the library allows.
-pub const SIZE_MAX: u32 = 32768;
+pub const SIZE_MAX: u16 = 32768;
 
 /// The source of an event.
 #[derive(Debug, Clone, Copy, PartialEq, Eq)]
@@ -46,12 +46,13 @@ pub struct Numbers {
     pub layout: QueueLayout,
     /// The position of the next chain to take. While no chain is in flight it is the ring's state.
     pub next_avail: u16,
-    /// The driver accepted VIRTIO_F_EVENT_IDX.
+    /// The driver accepted `VIRTIO_F_EVENT_IDX`.
     pub has_event_index: bool,
 }
 
 /// A ring's state under its lock, for its threads and the front-end's.
 #[derive(Debug, Default)]
+#[allow(clippy::struct_excessive_bools, reason = "messages change each by itself")]
 pub struct State {
     numbers: Numbers,
     /// The library's queue. While `is_new` it isn't reset with these numbers yet.
@@ -59,9 +60,9 @@ pub struct State {
     is_new: bool,
     /// The number of times that the library's queue was reset.
     begun: u64,
-    /// From SET_VRING_KICK to GET_VRING_BASE.
+    /// From `SET_VRING_KICK` to `GET_VRING_BASE`.
     is_started: bool,
-    /// Set by SET_VRING_ENABLE.
+    /// Set by `SET_VRING_ENABLE`.
     is_enabled: bool,
     /// The library refused it. It isn't served until it is reset.
     is_refused: bool,

@@ -94,7 +94,7 @@ extern "C" fn end_for_lost_memory(_signal: libc::c_int) {
 }
 
 /// The daemon is the first process of its namespace, so without a handler it wouldn't receive
-/// SIGHUP, SIGINT and SIGTERM. SIGXFSZ is ignored, so that a write past RLIMIT_FSIZE is answered
+/// SIGHUP, SIGINT and SIGTERM. SIGXFSZ is ignored, so that a write past `RLIMIT_FSIZE` is answered
 /// EFBIG.
 fn handle_signals() {
     let end = end as *const () as libc::sighandler_t;
@@ -179,6 +179,7 @@ fn guest_descriptors(options: &Options) -> Result<u64, Failure> {
 
 /// The message for an error of the sandbox.
 fn sandbox_error(e: sandbox::Error) -> String {
+    #[allow(clippy::enum_glob_use, reason = "all of them are named below")]
     use sandbox::Error::*;
     let (step, e) = match e {
         BindMountProcSelfFd(e) => ("bind /proc/self/fd", e),
@@ -206,6 +207,7 @@ fn sandbox_error(e: sandbox::Error) -> String {
     format!("can't {step}: {e}")
 }
 
+#[allow(clippy::needless_pass_by_value, reason = "a function for map_err")]
 fn no_file_system(e: io::Error) -> String {
     format!("Failed to create internal filesystem representation: {e}")
 }
@@ -220,7 +222,9 @@ pub fn run(mut options: Options) -> Result<(), Failure> {
     }
     options.warnings().iter().for_each(|warning| warn!("{warning}"));
     if let Some((last, before)) = options.contradictions().split_last() {
-        before.iter().for_each(|why| error!("{why}"));
+        for why in before {
+            error!("{why}");
+        }
         return Err((*last).into());
     }
     let capabilities = capabilities::Changes::new(&options)?;

@@ -53,7 +53,7 @@ fn send(
     scratch: &File,
     mut pipe: File,
 ) -> io::Result<()> {
-    let state = over(scratch, |file| fs.serialize(file), Scratch::Read)?;
+    let state = over(scratch, |file| fs.serialize(file), &Scratch::Read)?;
     let (version, rest) = state
         .split_first()
         .filter(|(version, _)| **version < GOES_ON)
@@ -62,7 +62,9 @@ fn send(
     pipe.write_all(rest)?;
     // A record has at least one queue. If no queue was ever used, there are no options either.
     let mut record = if queues.is_empty() { Vec::new() } else { device.save(queues)? };
-    record.extend((record.len() as u32).to_le_bytes());
+    #[allow(clippy::cast_possible_truncation, reason = "a record has at most 64 queues")]
+    let len = record.len() as u32;
+    record.extend(len.to_le_bytes());
     record.extend(MARK);
     pipe.write_all(&record)
 }
@@ -110,7 +112,7 @@ enum Scratch<'b> {
 fn over(
     mut scratch: &File,
     call: impl FnOnce(File) -> io::Result<()>,
-    way: Scratch<'_>,
+    way: &Scratch<'_>,
 ) -> io::Result<Vec<u8>> {
     let mut bytes = Vec::new();
     scratch.set_len(0)?;
@@ -140,7 +142,7 @@ fn receive(
         return Err(io::Error::other("the state is longer than any"));
     }
     let (state, record) = split(bytes)?;
-    over(scratch, |file| fs.deserialize_and_apply(file), Scratch::Write(&state))?;
+    over(scratch, |file| fs.deserialize_and_apply(file), &Scratch::Write(&state))?;
     device.set_options(p::Options::empty());
     match record {
         // The front-end sets positions with SET_VRING_BASE, so those of the record aren't used.
@@ -153,7 +155,7 @@ fn receive(
             log::warn!(
                 "the state is virtiofsd's, which doesn't say what INIT agreed on: only what \
                 --posix-acl and --security-label need is taken as agreed"
-            )
+            );
         }
     }
     Ok(())

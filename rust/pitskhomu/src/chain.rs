@@ -12,8 +12,21 @@ use crate::kept::KeptWindows;
 use crate::memory::{GuestRange, Region, Window};
 use crate::queue::Queue;
 use crate::status::Status;
-use crate::sys::{self, status};
+use crate::sys::{self, state, status};
 use core::ptr;
+
+/// How far the handle's chain is.
+#[derive(Clone, Copy, Debug, PartialEq, Eq)]
+pub(crate) enum Progress {
+    /// There is none, or its pop or its push is under way.
+    Free,
+    /// It was popped.
+    Popped,
+    /// It was decoded, and its call needs a reply.
+    Decoded,
+    /// Its reply is known, or it gets none.
+    Replied,
+}
 
 /// The result of a call of `pop`.
 pub(crate) enum Popped {
@@ -95,6 +108,16 @@ impl Drop for Chain {
 impl Chain {
     pub const fn new() -> Chain {
         Chain { handle: sys::Chain { at: ptr::null_mut(), state: 0 }, ticket: 0, kept: None }
+    }
+
+    pub fn progress(&self) -> Progress {
+        // SAFETY: as the module says.
+        match unsafe { sys::pk_chain_state(&self.handle) } {
+            state::POPPED => Progress::Popped,
+            state::DECODED | state::LISTING => Progress::Decoded,
+            state::REPLIED => Progress::Replied,
+            _ => Progress::Free,
+        }
     }
 
     pub fn set_memory(&mut self, device: &sys::Device, regions: &[Region]) -> Result<(), Status> {
@@ -382,13 +405,11 @@ impl Chain {
         added(number)
     }
 
-    /// Returns also the length of the reply's data, which are the list's first bytes.
-    pub fn reply_entries(&mut self) -> Result<(Replied, u64), Status> {
+    /// The caller knows how long the list is.
+    pub fn reply_entries(&mut self) -> Result<Replied, Status> {
         let mut len = 0;
         // SAFETY: as the module says.
-        let reply =
-            replied(unsafe { sys::pk_reply_entries(&mut self.handle, self.ticket, &mut len) })?;
-        Ok((reply, len))
+        replied(unsafe { sys::pk_reply_entries(&mut self.handle, self.ticket, &mut len) })
     }
 
     /// The reply is the `len` bytes that the caller stored in the reply buffer.

@@ -108,6 +108,11 @@ impl<'a> Listing<'a> {
         }
     }
 
+    /// The number of bytes of the entries so far.
+    pub(crate) fn used(&self) -> usize {
+        self.used
+    }
+
     /// The error that `readdir` answers. It can't answer later once it has added an entry, since
     /// the guest gets that entry.
     pub(crate) fn final_error(&self, error: Errno) -> Errno {

@@ -70,7 +70,7 @@ pub mod kind {
 }
 
 /// enum `pk_state`: the states of a handle.
-#[allow(dead_code)] // the worker keeps its own
+#[allow(dead_code)] // the others are between the calls of the wrapper
 pub mod state {
     pub const NONE: u32 = 0;
     pub const FREE: u32 = 1;
@@ -90,9 +90,8 @@ pub mod access {
     pub const READ_WRITE: u32 = 3;
 }
 
-/// enum `pk_answer_kind`: the kinds that the wrapper distinguishes.
+/// enum `pk_answer_kind`: the kind that the wrapper distinguishes.
 pub mod answer {
-    pub const NONE: u32 = 0;
     pub const XATTR: u32 = 7;
 }
 
@@ -291,7 +290,6 @@ extern "C" {
     pub fn pk_chain_set_memory(chain: &mut Chain, device: &Device, regions: *const Region,
         region_count: usize) -> u32;
     pub fn pk_chain_free(chain: &mut Chain);
-    #[allow(dead_code)] // the worker keeps its own state
     pub fn pk_chain_state(chain: &Chain) -> u32;
     #[allow(dead_code)] // a worker's answers go to its own chain
     pub fn pk_chain_set_ticket(chain: &mut Chain, first: u32) -> u32;

@@ -3,7 +3,7 @@ mod answering;
 mod lent;
 mod pushing;
 
-use crate::chain::{Chain, Decoded, Popped, Replied};
+use crate::chain::{Chain, Decoded, Popped, Progress, Replied};
 use crate::data::{at_most, load_request};
 use crate::device::Device;
 use crate::errno::Errno;
@@ -47,18 +47,6 @@ pub struct Served {
     /// Whether to notify the driver (VIRTIO 1.2, 2.7.7). One notification is enough for several
     /// chains.
     pub notify: bool,
-}
-
-/// The worker's next call for its chain. The library checks the order of its own calls, but doesn't
-/// return it. Only the worker knows `Asked`, so that a panic of the file system can't undo it.
-#[derive(Clone, Copy, Debug, PartialEq, Eq)]
-enum Progress {
-    /// Call the file system: it hasn't seen the request, or answers it later.
-    Popped,
-    /// The file system has seen the request, and hasn't returned.
-    Asked,
-    /// The reply is known, or there is none.
-    Answered,
 }
 
 /// Serves the chains of queues, one at a time. It has the library's handle, and buffers that grow
@@ -124,8 +112,9 @@ enum Progress {
 #[must_use]
 pub struct Worker {
     chain: Chain,
-    /// `None` if the worker has no chain.
-    progress: Option<Progress>,
+    /// Whether the file system has the request and hasn't returned. If the worker is called again
+    /// meanwhile, the file system panicked.
+    is_asked: bool,
     /// The number of its regions, by `memory::next_regions`.
     regions: usize,
     /// The regions themselves: marks behind a table are looked up in them.
@@ -150,7 +139,7 @@ pub struct Worker {
 impl fmt::Debug for Worker {
     fn fmt(&self, f: &mut fmt::Formatter<'_>) -> fmt::Result {
         f.debug_struct("Worker")
-            .field("progress", &self.progress)
+            .field("progress", &self.chain.progress())
             .field("pop", &self.pop)
             .finish_non_exhaustive()
     }
@@ -176,7 +165,7 @@ impl Worker {
     pub fn new() -> Worker {
         Worker {
             chain: Chain::new(),
-            progress: None,
+            is_asked: false,
             regions: 0,
             layout: Vec::new(),
             misses: Vec::new(),
@@ -267,6 +256,7 @@ impl Worker {
         }
         grow(&mut self.request, sys::FIRST)?;
         self.call = sys::Call::default();
+        self.is_asked = false;
         self.replied = Replied::Whole;
         self.written = 0;
         let popping = Popping(self);
@@ -277,8 +267,6 @@ impl Worker {
             Popped::Idle | Popped::Load => return Ok(Taken::Idle),
         }
         mem::forget(popping);
-        let has_fault = self.pop.fault != 0;
-        self.progress = Some(if has_fault { Progress::Answered } else { Progress::Popped });
         Ok(Taken::Chain)
     }
 
@@ -295,25 +283,20 @@ impl Worker {
         file_system: &dyn FileSystem,
         memory: &dyn GuestMemory,
     ) -> Result<(), Status> {
-        let answered = match self.progress {
-            None => return Err(Status::WrongOrder),
-            Some(Progress::Answered) => return Ok(()),
-            Some(Progress::Asked) => self.answer_error(memory),
-            Some(Progress::Popped) => {
-                self.progress = Some(Progress::Asked);
-                let answered = match self.replied {
-                    Replied::Later => self.call(device, file_system, memory),
-                    _ => self.exchange(device, file_system, memory),
-                };
-                // If the library refuses the answer, the reply is EIO. Files may have changed, so
-                // the call isn't made again.
-                answered.or_else(|_| self.answer_error(memory))
-            }
+        let progress = self.chain.progress();
+        let answered = match progress {
+            Progress::Free => return Err(Status::WrongOrder),
+            Progress::Replied => return Ok(()),
+            _ if mem::replace(&mut self.is_asked, true) => self.answer_error(memory),
+            Progress::Popped => self.exchange(device, file_system, memory),
+            Progress::Decoded => self.call(device, file_system, memory),
         };
-        match answered {
-            Ok(()) if self.replied == Replied::Later => self.progress = Some(Progress::Popped),
-            Ok(()) => self.progress = Some(Progress::Answered),
-            Err(_) => self.abandon(), // can't happen: the library never refuses EIO
+        // If the library refuses the answer, the reply is EIO. Files may have changed, so the call
+        // isn't made again.
+        let answered = answered.or_else(|_| self.answer_error(memory));
+        self.is_asked = false;
+        if answered.is_err() {
+            self.abandon(); // can't happen: the library never refuses EIO
         }
         answered
     }
@@ -321,13 +304,13 @@ impl Worker {
     /// Whether this worker has a chain that it took and hasn't returned.
     #[must_use]
     pub fn has_chain(&self) -> bool {
-        self.progress.is_some()
+        self.chain.progress() != Progress::Free
     }
 
     /// Whether `give_back` may be called: the chain is answered, or gets no reply.
     #[must_use]
     pub fn is_answered(&self) -> bool {
-        self.progress == Some(Progress::Answered)
+        self.chain.progress() == Progress::Replied
     }
 
     /// Answers EIO to a call, or to a request that isn't decoded. DESTROY can't fail, so its answer
@@ -348,7 +331,6 @@ impl Worker {
     /// that isn't reset the chain stays in flight.
     pub fn abandon(&mut self) {
         self.chain.abandon();
-        self.progress = None;
     }
 
     /// Makes the reply to a popped chain: loads and decodes the request, and calls the file system.
@@ -363,9 +345,6 @@ impl Worker {
             return Ok(());
         }
         self.decode(front, device, memory)?;
-        if self.call.answer == sys::answer::NONE {
-            self.progress = Some(Progress::Answered); // stays so if the call panics
-        }
         self.call(device, file_system, memory)
     }
 
@@ -376,7 +355,6 @@ impl Worker {
         file_system: &dyn FileSystem,
         memory: &dyn GuestMemory,
     ) -> Result<(), Status> {
-        self.replied = Replied::Whole;
         self.replied = self.answer_call(device, file_system, memory)?;
         Ok(())
     }

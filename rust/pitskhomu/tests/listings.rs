@@ -2,8 +2,9 @@
 mod guest;
 
 use guest::recorder::{entry, Recorder};
-use guest::{args, number, Bytes, Guest, Reply};
+use guest::{args, number, request, Bytes, Guest, Reply, ROOM};
 use pitskhomu::*;
+use std::panic::{catch_unwind, AssertUnwindSafe};
 
 const READDIR: u32 = 28;
 const READDIRPLUS: u32 = 44;
@@ -96,6 +97,24 @@ fn an_entry_that_was_asked_for_and_has_no_room() {
     assert_eq!(guest.ask(&recorder, READDIR, 5, read(64), 64), Reply::Error(5));
     let data = guest.ask(&recorder, READDIRPLUS, 5, read(320), 320).data();
     assert_eq!(entries(&data, 128).len(), 1);
+}
+
+#[test]
+fn a_memory_that_panics_at_the_list_gets_a_reply() {
+    for (opcode, calls) in [(READDIR, 1), (READDIRPLUS, 2)] {
+        let (mut guest, recorder) = (Guest::new(), listing(vec![c(b"a\0")]));
+        guest.offer_request(&request(opcode, 5, &read(4096).0), 16 + 4096);
+        guest.memory.panics_at.set(Some(ROOM + 0x1000));
+        assert!(catch_unwind(AssertUnwindSafe(|| guest.serve(&recorder))).is_err());
+        guest.memory.panics_at.set(None);
+        // By READDIRPLUS the guest gets the entries whose nodes it holds.
+        match guest.serve(&recorder).1 {
+            Reply::Data(data) => assert_eq!((opcode, entries(&data, 128).len()), (READDIRPLUS, 1)),
+            reply => assert_eq!((opcode, reply), (READDIR, Reply::Error(5))),
+        }
+        assert!(guest.is_idle(&recorder));
+        assert_eq!(recorder.taken().len(), calls, "nothing is asked twice");
+    }
 }
 
 /// Lists two names and fails then, or fails at the look-up of the second.

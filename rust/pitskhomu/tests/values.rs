@@ -107,7 +107,7 @@ fn flags() {
 #[test]
 fn workers_are_printed() {
     let printed = format!("{:?}", Worker::new());
-    assert!(printed.starts_with("Worker { progress: None, "), "{printed}");
+    assert!(printed.starts_with("Worker { progress: Free, "), "{printed}");
 }
 
 #[test]

@@ -5,6 +5,7 @@ use pitskhomu::{
 };
 use std::cell::RefCell;
 use std::ffi::{CStr, CString};
+use std::fmt::Write as _;
 use std::time::Duration;
 
 const FILE: Node = Node(2);
@@ -95,8 +96,11 @@ impl FileSystem for Files {
 
     fn lookup(&self, _: &Context, parent: Node, name: &CStr) -> Answer<Entry> {
         let name = name.to_bytes();
-        let digits: String = name.iter().take(NAME_MAX).map(|byte| format!("{byte:02x}")).collect();
-        self.note(format!("lookup {} {digits}", parent.0));
+        let mut note = format!("lookup {} ", parent.0);
+        for byte in name.iter().take(NAME_MAX) {
+            let _ = write!(note, "{byte:02x}"); // a String takes all
+        }
+        self.note(note);
         if parent != Node::ROOT || name != b"a" {
             return Err(Errno::ENOENT);
         }

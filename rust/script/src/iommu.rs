@@ -11,9 +11,10 @@ pub struct Iommu {
 
 /// The table takes whole pages only. In the script language every number is allowed.
 fn are_pages(numbers: &[u64]) -> Result<(), Stuck> {
-    match numbers.iter().all(|number| number % Iotlb::PAGE == 0) {
-        true => Ok(()),
-        false => Err(Missing::PartOfAnIoPage.into()),
+    if numbers.iter().all(|number| number % Iotlb::PAGE == 0) {
+        Ok(())
+    } else {
+        Err(Missing::PartOfAnIoPage.into())
     }
 }
 

@@ -7,7 +7,7 @@ use pitskhomu::{
     Device, Fault, Miss, Queue, QueueLayout, RequestFault, Served, Status, Taken, Worker,
 };
 
-/// The bytes of a reply's header (struct fuse_out_header).
+/// The bytes of a reply's header (struct `fuse_out_header`).
 const HEADER: usize = 16;
 
 /// The opcodes of READ, READDIR and READDIRPLUS, whose replies have data.

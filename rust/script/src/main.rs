@@ -6,6 +6,8 @@
 //! written, and has the small file system of the script language. The library reads the queues
 //! and the requests, and makes the replies.
 #![forbid(unsafe_code)]
+// usize has 64 bits here, and what is cut is small.
+#![allow(clippy::cast_possible_truncation)]
 mod files;
 mod halt;
 mod iommu;

@@ -38,10 +38,10 @@ impl Session {
                 print(writer, made.map(|block| format!("block {block}")))?;
             }
             Command::Alias { base, block } => {
-                print(writer, done(self.machine.memory.insert(base, block)))?
+                print(writer, done(self.machine.memory.insert(base, block)))?;
             }
             Command::Unregion { base, size } => {
-                print(writer, done(self.machine.memory.remove(base, size)))?
+                print(writer, done(self.machine.memory.remove(base, size)))?;
             }
             Command::Write { address, bytes } => {
                 print(writer, done(self.machine.memory.guest_write(address, &bytes)))?;
@@ -87,12 +87,11 @@ impl Session {
     }
 
     fn add_queue(&mut self, layout: QueueLayout, writer: &mut dyn Write) -> io::Result<()> {
-        match bad_layout(&layout) {
-            Some(number) => writeln!(writer, "badlayout {number}"),
-            None => {
-                self.machine.add_queue(layout);
-                writeln!(writer, "ok")
-            }
+        if let Some(number) = bad_layout(&layout) {
+            writeln!(writer, "badlayout {number}")
+        } else {
+            self.machine.add_queue(layout);
+            writeln!(writer, "ok")
         }
     }
 

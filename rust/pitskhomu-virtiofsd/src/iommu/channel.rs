@@ -1,6 +1,6 @@
-//! The channel of the back-end's own (SET_BACKEND_REQ_FD): misses go out, and each is acknowledged
-//! after the update that it led to has come by the front-end's socket. Crate vhost has no such
-//! message, so it is written here.
+//! The channel of the back-end's own (`SET_BACKEND_REQ_FD`): misses go out, and each is
+//! acknowledged after the update that it led to has come by the front-end's socket. Crate vhost has
+//! no such message, so it is written here.
 use log::{debug, warn};
 use pitskhomu::{Access, Iotlb, Miss};
 use std::collections::VecDeque;
@@ -24,7 +24,7 @@ const MOST_PAGES: usize = 1024;
 /// A front-end that leaves so many without an answer has none: answers come in order, and nothing
 /// tells which are left out.
 const MOST_UNANSWERED: usize = 4096;
-/// VHOST_USER_BACKEND_IOTLB_MSG.
+/// `VHOST_USER_BACKEND_IOTLB_MSG`.
 const BACKEND_IOTLB_MSG: u32 = 1;
 /// So often the log says that the front-end doesn't answer: a guest fills no log.
 const SILENCES_TOLD: usize = 20;
@@ -231,7 +231,7 @@ impl Channel {
             thread::Builder::new().name("IOMMU".into()).spawn(move || channel.listen(&events))?;
         }
         if let Some(events) = &state.events {
-            let event = EpollEvent::new(EventSet::IN, socket.as_raw_fd() as u64);
+            let event = EpollEvent::new(EventSet::IN, 0);
             events.ctl(ControlOperation::Add, socket.as_raw_fd(), event)?;
         }
         state.socket = Some(socket);
@@ -337,8 +337,8 @@ impl Channel {
                 }
                 return None;
             }
-            let waited = self.changed.wait_timeout(state, left);
-            state = waited.unwrap_or_else(PoisonError::into_inner).0;
+            let changed = self.changed.wait_timeout(state, left);
+            state = changed.unwrap_or_else(PoisonError::into_inner).0;
         }
     }
 

@@ -1,6 +1,6 @@
-//! Messages that crate vhost doesn't know: VHOST_USER_IOTLB_MSG of the front-end. This module looks
-//! at the next message's head before vhost reads it. Of SET_BACKEND_REQ_FD, which vhost knows, it
-//! takes only the descriptor, since vhost doesn't give it out.
+//! Messages that crate vhost doesn't know: `VHOST_USER_IOTLB_MSG` of the front-end. This module
+//! looks at the next message's head before vhost reads it. Of `SET_BACKEND_REQ_FD`, which vhost
+//! knows, it takes only the descriptor, since vhost doesn't give it out.
 use super::Iommu;
 use crate::memory::Table;
 use log::{debug, warn};
@@ -10,7 +10,7 @@ use std::mem::{size_of, zeroed};
 use std::os::fd::{FromRawFd, OwnedFd, RawFd};
 use std::ptr;
 
-/// VHOST_USER_SET_BACKEND_REQ_FD and VHOST_USER_IOTLB_MSG.
+/// `VHOST_USER_SET_BACKEND_REQ_FD` and `VHOST_USER_IOTLB_MSG`.
 const SET_BACKEND_REQ_FD: u32 = 21;
 const IOTLB_MSG: u32 = 22;
 
@@ -24,7 +24,7 @@ pub mod flags {
     pub const NEED_REPLY: u32 = 1 << 3;
 }
 
-/// The kinds of struct vhost_iotlb_msg (VHOST_IOTLB_MISS and so on).
+/// The kinds of struct `vhost_iotlb_msg` (`VHOST_IOTLB_MISS` and so on).
 pub const MISS: u8 = 1;
 const UPDATE: u8 = 2;
 const INVALIDATE: u8 = 3;
@@ -32,7 +32,7 @@ const INVALIDATE: u8 = 3;
 /// The bytes of a head.
 pub const HEAD_LEN: usize = 12;
 
-/// A message's head (struct VhostUserHeader).
+/// A message's head (struct `VhostUserHeader`).
 #[derive(Debug, Clone, Copy)]
 pub struct Head {
     /// Which message it is.
@@ -54,6 +54,7 @@ impl Head {
     }
 
     /// The same before a body of so many bytes.
+    #[allow(clippy::cast_possible_truncation, reason = "the bodies here are a few bytes long")]
     pub fn with_size(self, size: usize) -> Head {
         Head { size: size as u32, ..self }
     }
@@ -68,7 +69,7 @@ impl Head {
     }
 }
 
-/// struct vhost_iotlb_msg.
+/// struct `vhost_iotlb_msg`.
 #[derive(Debug, Clone, Copy)]
 pub struct IotlbBody {
     /// The first I/O address.
@@ -101,7 +102,7 @@ impl IotlbBody {
         bytes[..8].copy_from_slice(&self.iova.to_le_bytes());
         bytes[8..16].copy_from_slice(&self.size.to_le_bytes());
         bytes[16..24].copy_from_slice(&self.user.to_le_bytes());
-        bytes[24] = self.access.number() as u8; // 3 at most
+        bytes[24] = self.access.number().to_le_bytes()[0]; // 3 at most
         bytes[25] = self.kind;
         bytes
     }
@@ -115,7 +116,7 @@ pub fn send(socket: RawFd, parts: &[IoSlice<'_>], how: i32) -> io::Result<usize>
     message.msg_iovlen = parts.len() as _;
     // SAFETY: an IoSlice is laid out as iovec is, and the parts are borrowed. The kernel only reads
     // them.
-    let len = unsafe { libc::sendmsg(socket, &message, how | libc::MSG_NOSIGNAL) };
+    let len = unsafe { libc::sendmsg(socket, &raw const message, how | libc::MSG_NOSIGNAL) };
     usize::try_from(len).map_err(|_| io::Error::last_os_error())
 }
 
@@ -126,9 +127,13 @@ pub fn receive(socket: RawFd, parts: &mut [IoSliceMut<'_>], how: i32) -> io::Res
     message.msg_iov = parts.as_mut_ptr().cast();
     message.msg_iovlen = parts.len() as _;
     // SAFETY: an IoSliceMut is laid out as iovec is, and the parts are borrowed mutably.
-    let len = unsafe { libc::recvmsg(socket, &mut message, how | libc::MSG_CMSG_CLOEXEC) };
+    let len = unsafe { libc::recvmsg(socket, &raw mut message, how | libc::MSG_CMSG_CLOEXEC) };
     usize::try_from(len).map_err(|_| io::Error::last_os_error())
 }
+
+/// The bytes of a descriptor in a message.
+#[allow(clippy::cast_possible_truncation, reason = "it is 4")]
+const FD_LEN: u32 = size_of::<RawFd>() as u32;
 
 /// A copy of the one descriptor that comes with the next message, which stays to be read.
 fn peek_descriptor(socket: RawFd) -> Option<OwnedFd> {
@@ -142,16 +147,16 @@ fn peek_descriptor(socket: RawFd) -> Option<OwnedFd> {
     message.msg_iovlen = 1;
     message.msg_control = control.0.as_mut_ptr().cast();
     // SAFETY: no memory is touched.
-    message.msg_controllen = unsafe { libc::CMSG_SPACE(size_of::<RawFd>() as u32) } as _;
+    message.msg_controllen = unsafe { libc::CMSG_SPACE(FD_LEN) } as _;
     let how = libc::MSG_PEEK | libc::MSG_CMSG_CLOEXEC;
     // SAFETY: the parts are borrowed mutably, and the control's space is less than its array.
-    if unsafe { libc::recvmsg(socket, &mut message, how) } < 1 {
+    if unsafe { libc::recvmsg(socket, &raw mut message, how) } < 1 {
         return None;
     }
     // SAFETY: the kernel has written the message, and its control lies in the array.
-    let first = unsafe { libc::CMSG_FIRSTHDR(&message).as_ref() }?;
+    let first = unsafe { libc::CMSG_FIRSTHDR(&raw const message).as_ref() }?;
     // SAFETY: no memory is touched.
-    let wanted = unsafe { libc::CMSG_LEN(size_of::<RawFd>() as u32) };
+    let wanted = unsafe { libc::CMSG_LEN(FD_LEN) };
     if (first.cmsg_level, first.cmsg_type) != (libc::SOL_SOCKET, libc::SCM_RIGHTS)
         || first.cmsg_len as u64 != u64::from(wanted)
     {

@@ -63,7 +63,7 @@ impl Options {
             ("source", _) => self.shared_dir = Some(value.into()),
             ("modcaps", _) => self.modcaps = Some(value.into()),
             ("xattrmap", _) => {
-                self.xattrmap = Some(xattr_map(value).map_err(|_| wrong(name, value))?)
+                self.xattrmap = Some(xattr_map(value).map_err(|_| wrong(name, value))?);
             }
             ("cache", "auto") => self.cache = CachePolicy::Auto,
             ("cache", "always") => self.cache = CachePolicy::Always,

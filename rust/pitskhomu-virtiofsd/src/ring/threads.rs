@@ -94,7 +94,7 @@ impl Ring {
     /// Returns whether the caller must wake a thread after it has released the lock: if kicks can't
     /// be enabled, or a chain is available. One at a time is enough: it takes a chain, and wakes
     /// the next. (In the model `wake` is pending from here on until that thread has the lock, so
-    /// others are [GoesBusy] without a call of their own.)
+    /// others are `GoesBusy` without a call of their own.)
     fn hand_on(state: &mut State, server: &mut impl Server, memory: &Arc<Table>) -> bool {
         let is_for_another = state.sleeping > 0;
         // [Wishes] or [HasWished]; with nobody asleep [Silences]

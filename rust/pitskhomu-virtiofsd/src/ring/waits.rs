@@ -37,9 +37,9 @@ impl Ring {
         loop {
             state.is_held = true;
             let is_out = |state: &mut State| state.queue.in_flight() > 0;
-            let (held, is_long) = self.wait_a_while(state, hold, is_out);
+            let (quiet, is_long) = self.wait_a_while(state, hold, is_out);
             hold = hold.saturating_mul(2);
-            state = held;
+            state = quiet;
             state.is_held = false;
             self.changed.notify_all();
             if !is_long {

@@ -40,7 +40,9 @@ impl<F: ServedFs> QueueWorker<F> {
         }
         let mut entered = Vec::new();
         let taken = self.pop(&mut table, queue, memory, &mut entered);
-        entered.iter().for_each(|miss| table.unrefuse(miss));
+        for miss in &entered {
+            table.unrefuse(miss);
+        }
         if taken == Ok(Taken::Chain) {
             table.hold(self.index, &queue.layout());
             self.is_translated = true;

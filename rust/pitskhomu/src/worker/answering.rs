@@ -438,18 +438,15 @@ impl Worker {
             let with_nodes = kind == kind::READDIRPLUS;
             let mut listing =
                 Listing::new(chain, list, file_system, &context, node, with_nodes, size);
-            let listed = file_system.readdir(&context, node, read, &mut listing);
-            listed.map_err(|error| listing.final_error(error))
+            match file_system.readdir(&context, node, read, &mut listing) {
+                Ok(()) => Ok(listing.used()),
+                Err(error) => Err(listing.final_error(error)),
+            }
         });
-        self.reply(listed, |worker, ()| {
-            let (replied, len) = worker.chain.reply_entries()?;
-            store_room(
-                &mut worker.chain,
-                memory,
-                sys::HEADER,
-                &worker.list[..at_most(len, worker.list.len())],
-            );
-            Ok(replied)
+        self.reply(listed, |worker, used| {
+            store_room(&mut worker.chain, memory, sys::HEADER, &worker.list[..used]);
+            worker.written = worker.written.max(sys::HEADER + used as u64);
+            worker.chain.reply_entries()
         })
     }
 }

@@ -54,7 +54,6 @@ impl Worker {
         let stores = pushing.0.chain.push(pushing.1, &mut pushing.0.front)?;
         let notify = pushing.0.store(pushing.1, memory, &stores)?;
         mem::forget(pushing);
-        self.progress = None;
         self.chain.forget_windows();
         Ok(self.served(stores.len, notify))
     }

@@ -32,6 +32,8 @@ pub struct Memory {
     pub marks: RefCell<Vec<GuestRange>>,
     /// Panics at the access to two bytes of the available ring after so many.
     pub panics_after: Cell<Option<u32>>,
+    /// Panics at an access from this guest address on.
+    pub panics_at: Cell<Option<u64>>,
     /// How often the available index was loaded.
     pub index_loads: Cell<u32>,
 }
@@ -46,6 +48,7 @@ impl Memory {
             is_logging: Cell::new(false),
             marks: RefCell::default(),
             panics_after: Cell::new(None),
+            panics_at: Cell::new(None),
             index_loads: Cell::new(0),
         }
     }
@@ -64,6 +67,11 @@ impl Memory {
 impl GuestMemory for Memory {
     fn get_slice(&self, at: usize, len: usize) -> Option<GuestSlice<'_>> {
         let guest = at - self.host;
+        assert_ne!(
+            self.panics_at.get(),
+            Some(guest as u64),
+            "the memory panics, as the test wants it"
+        );
         let ring = AVAILABLE as usize..AVAILABLE as usize + 0x1000;
         if len == 2 && ring.contains(&guest) {
             match self.panics_after.get() {

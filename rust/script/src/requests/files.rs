@@ -1,5 +1,6 @@
 //! The file system of the vectors: it records each call, and answers by its mood.
 use crate::read::Mood;
+#[allow(clippy::wildcard_imports)] // the trait needs nearly all
 use pitskhomu::*;
 use std::cell::{Cell, RefCell};
 use std::ffi::CString;

@@ -2,6 +2,8 @@
 //! `pitskhomu-requests FILE..`. A chain in memory holds each request and its reply buffer, and the
 //! vectors' file system records its calls. The last line is `N passed, M failed`.
 #![forbid(unsafe_code)]
+// usize has 64 bits here, and what is cut is small.
+#![allow(clippy::cast_possible_truncation)]
 mod files;
 mod guest;
 mod play;

@@ -142,7 +142,9 @@ fn passed_on(call: &str) -> String {
         "copy_file_range" => &[11],
         _ => &[],
     };
-    hidden.iter().for_each(|&k| words[k] = "?");
+    for &k in hidden {
+        words[k] = "?";
+    }
     words.join(" ")
 }
 
