@@ -16,7 +16,7 @@ enum { PAGE = 4096 };
 /* The last I/O addresses of the guest's memory are far from 2^64, and no guest address is one. */
 #define SHIFT 0x2000000000000000ull
 #define LAST_PAGE (-(uint64_t)PAGE)
-/* These pages of the guest's are mapped for reading alone. */
+/* These pages of the guest are mapped for reading alone. */
 enum { SHOWN_LEN = 1 << 16 };
 #define SHOWN (HIGH + REGION_LEN - SHOWN_LEN)
 
@@ -68,7 +68,7 @@ void enable_ring(uint32_t ring, uint32_t enabled);
 void begin_again(size_t ring);
 void ask_root(const char *what);
 
-/* What a front-end tries that lies. */
+/* Front-ends that lie (iommu_lies.c). */
 void last(void);
 void large(void);
 void restarts(unsigned count);

@@ -23,7 +23,7 @@ front_ends() {
     try iommu marks
 }
 
-# What the guest says of the device, and the daemon of the IOMMU.
+# By the guest's lines and the daemon's log the device is behind the IOMMU.
 is_behind_it() {
     grep -q '^FEATURES .\{33\}1' "$run/lines" ||
         failure "$1: the driver didn't take VIRTIO_F_ACCESS_PLATFORM"
@@ -38,7 +38,7 @@ suites_behind_it() {
     take_suites
     [ -f "$wanted" ] || IOMMU=none PLATFORM=off outcomes "$names" none > "$wanted"
     outcomes "$names" "$kind" > "$got"
-    [ "$(wc -l < "$got")" -gt 3 ] || failure "suites-$kind: they tell nothing"
+    [ "$(wc -l < "$got")" -gt 3 ] || failure "suites-$kind: no outcomes"
     diff "$wanted" "$got" || failure "suites-$kind: other outcomes than without an IOMMU"
     echo "suites-$kind: $(wc -l < "$got") outcomes"
 }
@@ -50,25 +50,32 @@ outcomes() {
     sed -n 's/^RESULT //p' "$run/lines" | sort
 }
 
-# All that a guest does with one of its IOMMUs, four threads a queue. `platform` is none, and
-# VIRTIO_F_ACCESS_PLATFORM all the same, as in a confidential guest.
+# A guest with one of the IOMMUs, and four threads a queue. PARTS of the environment names the parts
+# to run. `platform` has no IOMMU, and VIRTIO_F_ACCESS_PLATFORM as in a confidential guest.
 guest_behind() {
-    local kind=$1 IOMMU=$1 PLATFORM=on THREADS=4 scenario words=()
+    local kind=$1 IOMMU=$1 PLATFORM=on THREADS=4 part words=()
     [ "$kind" != platform ] || IOMMU=none
-    whole ours "whole-$kind"
-    is_behind_it "whole-$kind"
-    for scenario in pause unbind reboot reset; do
+    for part in ${PARTS:-whole pause unbind reboot reset hotplug migrate suites}; do
         make_files
-        run_guest $scenario ours "$scenario-$kind"
-        all_are "$scenario-$kind" READER "$(sum "$share/files/m8")"
-        ! grep -E 'OTHER BYTES|STILL THERE' "$run/lines" || failure "$scenario-$kind"
+        case $part in
+        whole)
+            whole ours "whole-$kind"
+            is_behind_it "whole-$kind"
+            ;;
+        pause | unbind | reboot | reset)
+            run_guest "$part" ours "$part-$kind"
+            all_are "$part-$kind" READER "$(sum "$share/files/m8")"
+            ! grep -E 'OTHER BYTES|STILL THERE' "$run/lines" || failure "$part-$kind"
+            ;;
+        hotplug) hotplug "hotplug-$kind" ;;
+        migrate)
+            : > "$work/migrations"
+            travel migrate ours ours ours
+            sum_up
+            ;;
+        suites) suites_behind_it "$kind" ;;
+        esac
     done
-    make_files
-    hotplug "hotplug-$kind"
-    suites_behind_it "$kind"
-    : > "$work/migrations"
-    travel migrate ours ours ours
-    sum_up
 }
 
 # By words: `front-ends`, and kinds of IOMMU.

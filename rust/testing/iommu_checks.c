@@ -1,4 +1,4 @@
-/* What is tried behind an IOMMU: iommu DAEMON DIR WHAT [N]. */
+/* Checks behind an IOMMU: iommu DAEMON DIR WHAT [N]. */
 #define _GNU_SOURCE
 #include "chance.h"
 #include "iommu.h"
@@ -49,7 +49,7 @@ static void must_wait_for(int how, const char *what) {
     check(what, reply.error == 0);
 }
 
-/* ------------------------------------------------------------- what is tried */
+/* ------------------------------------------------------------- checks */
 
 /* Requests go on whatever is unmapped between them, and see the memory that is mapped then. */
 static void serves(const char *dir, unsigned count) {

@@ -1,4 +1,4 @@
-/* What a front-end tries that lies, or whose guest has addresses that no mapping has. */
+/* Front-ends that lie, and guests with addresses that no mapping has. */
 #define _GNU_SOURCE
 #include "chance.h"
 #include "iommu.h"
@@ -46,7 +46,7 @@ static void must_be_a_fault(const char *what) {
         front_read(&front, 1, &reply);
         check(what, reply.error == -1);
     }
-    check("what has no answer isn't asked for again", misses - before < 16);
+    check("few misses before the fault", misses - before < 16);
     before = misses;
     usleep(300000);
     check("nothing is asked for after a fault", misses == before);
@@ -124,8 +124,8 @@ void large(void) {
     printf("iommu: large buffers that aren't mapped, %u misses\n", misses);
 }
 
-/* The device stands for a while, and the front-end refuses what it reads then, as QEMU does: the
- * chain is served when the device goes on. */
+/* The device stops for a while, and the front-end refuses the misses that it reads then, as QEMU
+ * does. The chain is served when the device goes on. */
 void restarts(unsigned count) {
     struct fuse_getattr_in in = {0};
     for (unsigned k = 0; k < count; k++) {
@@ -136,7 +136,7 @@ void restarts(unsigned count) {
         for (uint64_t end = now() + 20000; misses == before; usleep(200))
             if (now() > end) die("nothing is missed");
         uint16_t position = stop_ring(1);
-        if (k % 3 == 0) manner = HONEST; /* refused while it stands */
+        if (k % 3 == 0) manner = HONEST; /* refused while it is stopped */
         if (k % 2) usleep(2000);
         pthread_mutex_lock(&line);
         uint64_t features = front.features;
@@ -148,9 +148,9 @@ void restarts(unsigned count) {
         manner = HONEST;
         if (!front_wait(&front, 1, 20000)) die("a chain that waited isn't returned");
         front_read(&front, 1, &reply);
-        check("a refusal while the device stands is none", reply.error == 0);
+        check("a refusal while the device is stopped is none", reply.error == 0);
     }
-    printf("iommu: %u times the device stands and goes on\n", count);
+    printf("iommu: %u times the device stops and goes on\n", count);
 }
 
 /* ------------------------------------------------------------- stores */
@@ -188,7 +188,7 @@ static void wait_for_opening(int fd) {
         if (now() > end) die("the file isn't opened");
 }
 
-/* While a chain is in flight its pages are mapped to others: not a byte comes there. */
+/* While a chain is in flight its I/O pages are mapped to other pages: no byte comes there. */
 void stores(const char *dir, unsigned count) {
     struct fuse_open_in in = {.flags = O_RDONLY};
     struct fuse_open_out out;
@@ -284,8 +284,8 @@ void anyhow(unsigned seconds) {
     flush();
     begin_again(1);
     ask_root("GETATTR after all that");
-    check("what isn't mapped isn't stored to", is_as_before(QUIET, QUIET_LEN));
-    check("what may be read alone isn't stored to", is_as_before(SHOWN, SHOWN_LEN));
+    check("no store to memory that isn't mapped", is_as_before(QUIET, QUIET_LEN));
+    check("no store to memory that may be read alone", is_as_before(SHOWN, SHOWN_LEN));
     printf("iommu: %u requests over any front-end, %u returned at once, %u misses\n", sent, back,
            misses);
 }

@@ -192,14 +192,14 @@ fn send(owed: &mut Option<Arc<File>>) {
     }
 }
 
-/// The IOMMU's answer to what a call missed.
+/// The IOMMU's answer to the misses of a call.
 #[derive(Debug, Clone, Copy, PartialEq, Eq)]
 pub enum Answered {
-    /// All is answered.
+    /// Each miss is answered.
     All,
-    /// All is answered, and some of it refused.
+    /// Each miss is answered, and a page is refused.
     Refused,
-    /// Not all is answered.
+    /// Not each miss is answered.
     NotAll,
 }
 
@@ -212,7 +212,7 @@ pub trait Server {
     /// cancelled. The ring isn't locked.
     fn ask(&mut self, memory: &Table, cancel: &Cancel) -> Answered;
 
-    /// Refusals aren't the next call's any more: the driver may map these addresses meanwhile.
+    /// Forgets the IOMMU's refusals: the next call is for another chain.
     fn forget_refusals(&mut self);
 
     /// Makes the reply to the chain that was taken. `doing` gets the request's opcode and number

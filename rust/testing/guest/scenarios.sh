@@ -85,7 +85,7 @@ scenario_whole() {
     run umount /mnt
 }
 
-# Whether the file has other bytes, or only the reply had; both are kept.
+# Says whether the file has other bytes, or only the reply had them, and keeps both.
 other_bytes() {
     echo "OTHER BYTES $1: $(cmp -l /tmp/r /mnt/work/w | wc -l) of them"
     drop

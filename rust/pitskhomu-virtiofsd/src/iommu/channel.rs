@@ -36,7 +36,7 @@ const REPLY_LEN: usize = HEAD_LEN + 8;
 #[derive(Debug, Default)]
 pub struct Cancel {
     is_set: AtomicBool,
-    /// How often it was set: a thread may come to look only after it was reset.
+    /// The number of times that it was set: a thread may look only after it was reset.
     count: AtomicU64,
 }
 
@@ -114,8 +114,8 @@ pub struct Channel {
     state: Mutex<State>,
     /// An ask was answered or cancelled, or the channel has changed.
     changed: Condvar,
-    /// How often the device has begun. QEMU refuses what it reads while the device stands, so an
-    /// answer to an ask of an earlier epoch says nothing.
+    /// The number of times that the device began. QEMU refuses each miss that it reads while the
+    /// device is stopped. So the answer to an ask of an earlier epoch isn't used.
     epoch: AtomicU64,
     silences: AtomicUsize,
 }
@@ -267,13 +267,13 @@ impl Channel {
         self.changed.notify_all();
     }
 
-    /// The device begins: nothing of what was asked for before is waited for.
+    /// The device begins: no thread waits for an answer to an earlier ask.
     pub fn begin(&self) {
         self.epoch.fetch_add(1, Ordering::AcqRel);
         self.wake();
     }
 
-    /// How often the device has begun.
+    /// The number of times that the device began.
     pub fn epoch(&self) -> u64 {
         self.epoch.load(Ordering::Acquire)
     }
@@ -287,7 +287,7 @@ impl Channel {
     /// Asks for pages, several at once, and waits for the answers. Returns the pages that are
     /// refused; `None` if not all are answered in time. What `is_known` isn't waited for: an update
     /// comes before its acknowledgement, and may have more pages than the one that was missed. If
-    /// the device begins meanwhile, the misses are others, and nothing is refused.
+    /// the device begins meanwhile, no page is refused.
     pub fn ask(
         &self,
         misses: &[Miss],

@@ -194,12 +194,12 @@ impl Mappings {
         }
     }
 
-    /// What the front-end refuses, for one pop. It isn't mapped.
+    /// Refuses the pages of a miss, for one pop.
     pub fn refuse(&mut self, miss: &Miss) -> Result<(), Status> {
         self.iotlb()?.map(miss.iova, miss.len, 0, Access::None)
     }
 
-    /// It isn't refused any more.
+    /// Ends that refusal. The pages aren't mapped.
     pub fn unrefuse(&mut self, miss: &Miss) {
         self.remove((miss.iova, miss.iova + (miss.len - 1)));
     }

@@ -193,15 +193,15 @@ impl Ring {
                 // thread that is woken meanwhile misses the same.
                 rounds += 1;
                 let chain = state.next_chain();
-                drop(state);
-                let asked = server.ask(&table, &self.asking);
-                state = self.lock();
                 asked_for = Some(chain);
+                drop(state);
+                let answered = server.ask(&table, &self.asking);
+                state = self.lock();
                 let is_same = state.is_live() && state.next_chain() == chain;
-                if is_for_kicks && asked == Answered::Refused && is_same {
+                if is_for_kicks && answered == Answered::Refused && is_same {
                     self.refuse(&mut state, Status::NotMapped); // else it would ask for ever
                 }
-                if asked != Answered::NotAll {
+                if answered != Answered::NotAll {
                     continue;
                 }
             }
@@ -333,6 +333,59 @@ mod tests {
         // it ends with the process
         thread::spawn(move || ring.run(&mut Asked(asked), Arc::default));
         assert_eq!(answers.recv_timeout(Duration::from_secs(20)), Ok(()));
+    }
+
+    /// Misses addresses of its first chain. While it asks, another thread takes that chain, or none
+    /// does.
+    struct Missing<'r> {
+        ring: &'r Ring,
+        is_taken: bool,
+        takes: u32,
+        /// After so many calls of `take` refusals were forgotten.
+        forgotten: Vec<u32>,
+    }
+
+    impl Server for Missing<'_> {
+        fn take(&mut self, _queue: &mut Queue, _memory: &Arc<Table>) -> Result<Taken, Status> {
+            self.takes += 1;
+            Ok(if self.takes == 1 { Taken::Missing } else { Taken::Idle })
+        }
+
+        fn ask(&mut self, _memory: &Table, _cancel: &Cancel) -> Answered {
+            self.ring.lock().numbers.next_avail += u16::from(self.is_taken);
+            Answered::All
+        }
+
+        fn forget_refusals(&mut self) {
+            self.forgotten.push(self.takes);
+        }
+
+        fn answer(&mut self, _doing: &Doing) {}
+
+        fn give_back(&mut self, _queue: &mut Queue) -> Result<bool, Status> {
+            Ok(false)
+        }
+
+        fn set_notification(
+            &mut self,
+            _queue: &Queue,
+            _wanted: bool,
+            _memory: &Arc<Table>,
+        ) -> Result<bool, Status> {
+            Ok(false)
+        }
+    }
+
+    #[test]
+    fn a_refusal_is_for_one_chain() {
+        for (is_taken, forgotten) in [(false, vec![0]), (true, vec![0, 1])] {
+            let ring = Ring::new(0, 1).expect("a ring");
+            *ring.lock() =
+                State { is_started: true, is_enabled: true, sleeping: 1, ..State::default() };
+            let mut server = Missing { ring: &ring, is_taken, takes: 0, forgotten: Vec::new() };
+            ring.serve_all(&mut server, &Arc::default, &Doing::default());
+            assert_eq!((server.takes, server.forgotten), (2, forgotten));
+        }
     }
 
     #[test]

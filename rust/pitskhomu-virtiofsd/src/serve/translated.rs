@@ -12,12 +12,12 @@ fn ends(miss: &Miss) -> (u64, u64) {
     (miss.iova, miss.iova.saturating_add(miss.len - 1))
 }
 
-/// Whether some of these addresses are of the last page, which the table can't map.
+/// Whether a miss reaches the last page, which the table can't map.
 fn reach_the_last_page(misses: &[Miss]) -> bool {
     misses.iter().any(|miss| ends(miss).1 >= LAST_PAGE)
 }
 
-/// The misses with a page that is refused. A chain that lacks one page has its fault.
+/// The misses with a refused page. One refused page is enough for the chain's fault.
 fn refused_of(misses: &[Miss], refused: &BTreeSet<u64>) -> Vec<Miss> {
     let has_one = |miss: &&Miss| {
         let (first, last) = ends(miss);
@@ -36,7 +36,7 @@ impl<F: ServedFs> QueueWorker<F> {
     ) -> Result<Taken, Status> {
         let mut table = memory.iommu().lock();
         if !Mappings::can_have(&queue.layout()) {
-            return Err(Status::NotMapped);
+            return Err(Status::BadArgument);
         }
         let mut entered = Vec::new();
         let taken = self.pop(&mut table, queue, memory, &mut entered);
@@ -64,7 +64,7 @@ impl<F: ServedFs> QueueWorker<F> {
             }
             let misses = self.worker.misses();
             if reach_the_last_page(misses) {
-                return Err(Status::NotMapped); // no answer maps it
+                return Err(Status::DescriptorUnreachable); // no answer maps it
             }
             let refused = refused_of(misses, &self.refused);
             if refused.is_empty() {
@@ -77,15 +77,15 @@ impl<F: ServedFs> QueueWorker<F> {
         }
     }
 
-    /// Asks for what the last call missed, without a lock.
+    /// Asks for the misses of the last call, without a lock.
     pub(super) fn ask_for_misses(&mut self, memory: &Table, cancel: &Cancel) -> Answered {
         match memory.iommu().ask(self.worker.misses(), cancel) {
+            None => Answered::NotAll,
             Some(refused) if refused.is_empty() => Answered::All,
             Some(refused) => {
                 self.refused.extend(refused);
                 Answered::Refused
             }
-            None => Answered::NotAll,
         }
     }
 
