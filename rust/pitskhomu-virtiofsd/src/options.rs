@@ -29,7 +29,7 @@ use virtiofsd::soft_idmap::cmdline::IdMap;
 )]
 #[allow(clippy::struct_excessive_bools, reason = "each is a flag of the command line")]
 #[allow(clippy::struct_field_names, reason = "`options` is clap's word for -o")]
-#[allow(clippy::doc_markdown, reason = "--help prints these comments")]
+#[allow(clippy::doc_markdown, rustdoc::broken_intra_doc_links, reason = "--help prints them")]
 pub struct Options {
     /// The directory that the guest is to see
     #[arg(long, required_unless_present_any = ["compat_options", "print_capabilities"])]

@@ -1,7 +1,9 @@
 //! The device's state for a migration: virtiofsd's own, and after it the library's record (options,
 //! positions):
 //!
-//!     virtiofsd's bytes (postcard) | record | its length (4 bytes, little-endian) | MARK
+//! ```text
+//! virtiofsd's bytes (postcard) | record | its length (4 bytes, little-endian) | MARK
+//! ```
 //!
 //! virtiofsd's reader ignores bytes after its own, so a plain virtiofsd can continue from this
 //! state. virtiofsd's first byte, the version of the state, is written as two bytes: postcard
