@@ -1,5 +1,5 @@
 /* A queue behind an IOMMU. Its table is empty at first: each pop misses a page, the test maps it,
- * and pops again. Then a mapping is removed, and another refused. */
+ * and pops again. Then a mapping is removed, and others lack the access that is needed. */
 #include <pitskhomu.h>
 #include <stdbool.h>
 #include <stdio.h>
@@ -115,13 +115,24 @@ static void a_removed_mapping(void) {
     map(REPLY, PK_ACCESS_WRITE);
 }
 
-static void a_refused_mapping(void) {
-    map(REQUEST, PK_ACCESS_NONE);
+static void has_fault(const char *what, uint32_t fault) {
     lend();
-    expect("the fault", pop(), PK_DONE);
-    expect("its number", step.fault, PK_FAULT_REQUEST_UNREACHABLE);
+    expect(what, pop(), PK_DONE);
+    expect(what, step.fault, fault);
     lend();
     pk_abandon(&chain);
+    expect("the queue", pk_queue_begin(&queue, 0), PK_DONE);
+}
+
+/* A mapping of one access, or of none, refuses the other. */
+static void refused_mappings(void) {
+    map(REPLY, PK_ACCESS_READ);
+    has_fault("a reply buffer that may be read", PK_FAULT_ROOM_UNREACHABLE);
+    map(REPLY, PK_ACCESS_WRITE);
+    map(REQUEST, PK_ACCESS_WRITE);
+    has_fault("a request that may be written", PK_FAULT_REQUEST_UNREACHABLE);
+    map(REQUEST, PK_ACCESS_NONE);
+    has_fault("a request without access", PK_FAULT_REQUEST_UNREACHABLE);
 }
 
 static void what_is_refused(void) {
@@ -136,8 +147,6 @@ static void what_is_refused(void) {
     expect("no place", pk_chain_exchange_iotlb(&chain, &none), PK_WRONG_ORDER);
     lend();
     expect("a lent one", pk_iotlb_map(&table, 0, PAGE, 0, 1), PK_WRONG_ORDER);
-    queue.next_avail = 0;
-    queue.next_used = 0;
     expect("a pop", pk_pop(&chain, &queue, memory, 0, &step), PK_LOAD);
     expect("amid a pop", pk_chain_exchange_iotlb(&chain, &table), PK_CHAIN_IN_FLIGHT);
     expect("its end", pk_drop(&chain, &queue), PK_DONE);
@@ -157,7 +166,7 @@ int main(void) {
     both_buffers_at_once();
     the_chain();
     a_removed_mapping();
-    a_refused_mapping();
+    refused_mappings();
     what_is_refused();
     pk_chain_free(&chain);
     pk_iotlb_free(&table);

@@ -170,6 +170,7 @@ static void play(const struct row *written, enum variant variant, size_t cut, si
 static void begin(void) {
     device = (struct pk_device)PK_DEVICE;
     device.options = group.options;
+    if (group.page_size) device.page_size = group.page_size;
 }
 
 /* A row whose reply begins with an entry: each cut of its buffer, and each shorter buffer. */

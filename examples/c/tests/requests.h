@@ -30,6 +30,7 @@ struct row {
 /* The group that is read. */
 struct group {
     uint64_t options;
+    uint32_t page_size; /* or 0: 4096 */
     bool has[VARIANTS];
     size_t count;
     struct row rows[ROWS];

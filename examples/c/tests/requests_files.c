@@ -267,7 +267,7 @@ static uint32_t reply_good(const struct pk_call *c, uint32_t written) {
     case PK_ANSWER_LSEEK: return pk_reply_lseek(&chain, c->ticket, 0x0102030405060708);
     case PK_ANSWER_ENTRIES: return reply_list(c);
     case PK_ANSWER_INIT:
-        return pk_reply_init(&chain, c->ticket, &device, mood == OTHER ? c->options : 0);
+        return pk_reply_init(&chain, c->ticket, &device, mood == OTHER ? UINT64_MAX : 0);
     default: return pk_reply_err(&chain, c->ticket, 0);
     }
 }

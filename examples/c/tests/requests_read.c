@@ -107,6 +107,8 @@ static void read_line(char *text) {
         play_group();
     else if (!strcmp(key, "options"))
         group.options = strtoull(words, NULL, 0);
+    else if (!strcmp(key, "pages"))
+        group.page_size = (uint32_t)strtoul(words, NULL, 0);
     else if (!strcmp(key, "variants"))
         read_variants(words);
     else if (strcmp(key, "request") == 0) {

@@ -1,4 +1,5 @@
-/* The state of a handle, after each call that changes it (pk_chain_state). */
+/* The state of a handle, after each call that changes it (pk_chain_state). Good names and bad ones
+ * (pk_is_name). */
 #include <pitskhomu.h>
 #include <stdio.h>
 #include <stdlib.h>
@@ -133,6 +134,19 @@ static void ended_early(void) {
     after("no chain", PK_DONE, PK_DONE, PK_STATE_FREE);
 }
 
+static void names(void) {
+    static const struct {
+        const char *name;
+        size_t len;
+        uint8_t is_name;
+    } rows[] = {{"", 0, 0},   {".", 1, 0},   {"..", 2, 0}, {"...", 3, 1},  {".a", 2, 1},
+                {"a.", 2, 1}, {"a", 1, 1},   {"/", 1, 0},  {"a/b", 3, 0},  {"a/", 2, 0},
+                {"\0", 1, 0}, {"a\0b", 3, 0}, {"a\0", 2, 0}, {"\377", 1, 1}};
+    for (size_t k = 0; k < sizeof rows / sizeof *rows; k++)
+        expect(rows[k].name, pk_is_name((const uint8_t *)rows[k].name, rows[k].len),
+               rows[k].is_name);
+}
+
 int main(void) {
     struct pk_region region = {.guest = 0, .len = sizeof memory, .host = (uintptr_t)memory};
     expect("the queue", pk_queue_begin(&queue, 0), PK_DONE);
@@ -144,6 +158,7 @@ int main(void) {
     without_an_answer();
     by_own_bytes();
     ended_early();
+    names();
     pk_chain_free(&chain);
     after("no handle", PK_DONE, PK_DONE, PK_STATE_NONE);
     return 0;

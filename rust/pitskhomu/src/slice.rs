@@ -1,6 +1,6 @@
-//! The worker's access to bytes of the guest's memory. Only this module, `chain` and `sys` have
-//! `unsafe` code. The bytes change while they are copied, so the only references to them are to
-//! atomic numbers.
+//! The worker's access to bytes of the guest's memory. Only this module, `chain`, `iotlb` and `sys`
+//! have `unsafe` code. The bytes change while they are copied, so the only references to them are
+//! to atomic numbers.
 #![allow(unsafe_code)]
 
 use core::fmt;

@@ -43,9 +43,11 @@ fn found(k: u64, name: &str) -> (u64, u64, u64, String) {
 #[test]
 fn names_are_listed() {
     let (mut guest, recorder) =
-        (Guest::new(), listing(vec![c(b".\0"), c(b"a\0"), c(b"longer name\0")]));
+        (Guest::new(), listing(vec![c(b".\0"), c(b"of eight\0"), c(b"longer name\0")]));
     let data = guest.ask(&recorder, READDIR, 5, read(4096), 16 + 4096).data();
-    assert_eq!(entries(&data, 0), [found(1, "."), found(2, "a"), found(3, "longer name")]);
+    // A name of 8 bytes has no zeros behind.
+    assert_eq!(entries(&data, 0), [found(1, "."), found(2, "of eight"), found(3, "longer name")]);
+    assert_eq!(data.len(), 32 + 32 + 40);
     let read = "ReadDirectory { handle: Handle(3), offset: 0, size: 4096 }, 4096, false";
     assert_eq!(recorder.taken(), [format!("readdir (Node(5), {read})")]);
 }

@@ -1,8 +1,14 @@
-//! Numbers with names, and the record of a device: by errno.h, linux/fuse.h, linux/fs.h and
-//! dirent.h.
+//! Numbers with names, names of files, and the record of a device: by errno.h, linux/fuse.h,
+//! linux/fs.h and dirent.h.
 use pitskhomu::*;
 use std::error::Error;
 use std::io;
+
+#[test]
+fn names() {
+    assert!([&b"..."[..], b".a", b"a.", b"\xff"].into_iter().all(is_name));
+    assert!(![&b""[..], b".", b"..", b"/", b"a/b", b"a\0"].into_iter().any(is_name));
+}
 
 #[test]
 fn errnos() {

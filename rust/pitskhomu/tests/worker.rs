@@ -59,6 +59,22 @@ fn what_came_of_a_chain() {
     assert!(!guest.serve(&recorder).0.notify);
 }
 
+/// VIRTIO 1.2, 2.7.8. Each store asks for a slice, so their order is that of the stores.
+#[test]
+fn the_used_index_is_stored_last() {
+    let (mut guest, recorder) = (Guest::new(), Recorder::default());
+    let element = USED + 4 + 8 * u64::from(guest.queue.next_used() % SIZE);
+    guest.offer_request(&request(1, 5, HELLO), 144);
+    guest.serve(&recorder);
+    let slices = guest.memory.slices.take();
+    let last = |range: std::ops::Range<u64>| slices.iter().rposition(|at| range.contains(at));
+    let (reply, index) = (last(ROOM..ROOM + 0x2000), last(USED + 2..USED + 4));
+    let (head, len) = (last(element..element + 4), last(element + 4..element + 8));
+    assert!(reply.is_some() && reply < head && reply < len, "{slices:x?}");
+    assert!(head < index && len < index, "{slices:x?}");
+    assert!(index < last(AVAILABLE..AVAILABLE + 2), "the flags are loaded after it: {slices:x?}");
+}
+
 #[test]
 fn positions_wrap() {
     let (mut guest, recorder) = (Guest::new(), Recorder::default());

@@ -36,6 +36,8 @@ pub struct Memory {
     pub panics_at: Cell<Option<u64>>,
     /// How often the available index was loaded.
     pub index_loads: Cell<u32>,
+    /// Where each slice began that was asked for: a guest address.
+    pub slices: RefCell<Vec<u64>>,
 }
 
 impl Memory {
@@ -50,6 +52,7 @@ impl Memory {
             panics_after: Cell::new(None),
             panics_at: Cell::new(None),
             index_loads: Cell::new(0),
+            slices: RefCell::default(),
         }
     }
 
@@ -67,6 +70,7 @@ impl Memory {
 impl GuestMemory for Memory {
     fn get_slice(&self, at: usize, len: usize) -> Option<GuestSlice<'_>> {
         let guest = at - self.host;
+        self.slices.borrow_mut().push(guest as u64);
         assert_ne!(
             self.panics_at.get(),
             Some(guest as u64),

@@ -132,7 +132,7 @@ impl FileSystem for Files {
         self.calls.borrow_mut().push(format!("init{number}"));
         match self.mood.get() {
             Mood::Default => Ok(Options::empty()),
-            Mood::Other => Ok(init.capable),
+            Mood::Other => Ok(Options::from_bits(u64::MAX)),
             _ => self.answer(Options::empty()),
         }
     }

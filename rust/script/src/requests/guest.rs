@@ -1,5 +1,5 @@
 //! A guest that doesn't run: its memory, and a queue with one chain at a time.
-use crate::read::End;
+use crate::read::{End, Session};
 use pitskhomu::{
     Device, FileSystem, GuestMemory, GuestSlice, Options, Queue, QueueLayout, Region, RequestFault,
     Served, Status, Worker,
@@ -52,10 +52,10 @@ fn fault_name(fault: RequestFault) -> &'static str {
 }
 
 impl Guest {
-    /// A guest whose device agreed on these options before.
-    pub fn new(options: u64) -> Result<Guest, Status> {
-        let device = Device::default();
-        device.set_options(Options::from_bits(options));
+    /// A guest whose session begins so.
+    pub fn new(session: Session) -> Result<Guest, Status> {
+        let device = Device::new(session.page_size, Device::LEAST_LIMIT)?;
+        device.set_options(Options::from_bits(session.options));
         let mut worker = Worker::new();
         worker.set_memory(&device, &[Region { guest: 0, len: LEN as u64, host: 0 }])?;
         let memory = Memory((0..LEN).map(|_| AtomicU8::new(0xff)).collect());

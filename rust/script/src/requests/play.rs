@@ -1,7 +1,7 @@
 //! Plays groups with their variants, in chains of several cuts.
 use crate::files::Files;
 use crate::guest::Guest;
-use crate::read::{End, Group, Mood, Row, Variant};
+use crate::read::{End, Group, Mood, Row, Session, Variant};
 use pitskhomu::Status;
 
 const CUTS: [(usize, usize); 4] = [(0x400, 0x400), (1, 7), (7, 39), (39, 1)];
@@ -154,12 +154,12 @@ impl Counts {
         let variants = [&[Variant::Same], &group.variants[..]].concat();
         for cut in CUTS {
             for &variant in &variants {
-                self.rows(path, group.options, &group.rows, variant, cut)?;
+                self.rows(path, group.session, &group.rows, variant, cut)?;
             }
         }
         if group.variants.contains(&Variant::ShortBuffer) {
             for row in group.rows.iter().filter(|row| row.entry().is_some()) {
-                self.entry(path, group.options, row)?;
+                self.entry(path, group.session, row)?;
             }
         }
         Ok(())
@@ -167,16 +167,16 @@ impl Counts {
 
     /// Plays a row whose reply begins with an entry: in each cut of its buffer, and in each shorter
     /// buffer.
-    fn entry(&mut self, path: &str, options: u64, row: &Row) -> Result<(), Status> {
+    fn entry(&mut self, path: &str, session: Session, row: &Row) -> Result<(), Status> {
         let mut row = [row.clone()];
         for cut in 1..row[0].buffer {
             for variant in [Variant::Same, Variant::ShortBuffer] {
-                self.rows(path, options, &row, variant, (39, cut))?;
+                self.rows(path, session, &row, variant, (39, cut))?;
             }
         }
         while row[0].buffer > 1 {
             row[0].buffer -= 1;
-            self.rows(path, options, &row, Variant::ShortBuffer, CUTS[0])?;
+            self.rows(path, session, &row, Variant::ShortBuffer, CUTS[0])?;
         }
         Ok(())
     }
@@ -184,12 +184,12 @@ impl Counts {
     fn rows(
         &mut self,
         path: &str,
-        options: u64,
+        session: Session,
         rows: &[Row],
         variant: Variant,
         cut: (usize, usize),
     ) -> Result<(), Status> {
-        let (mut guest, files) = (Guest::new(options)?, Files::new());
+        let (mut guest, files) = (Guest::new(session)?, Files::new());
         for row in rows {
             let row = row.with(variant).of_the_wrapper(variant);
             files.mood.set(row.mood);

@@ -40,9 +40,16 @@ pub struct Row {
     pub agreed: Option<u64>,
 }
 
+/// A session as it begins.
+#[derive(Clone, Copy, Debug)]
+pub struct Session {
+    pub options: u64,
+    pub page_size: u32,
+}
+
 #[derive(Debug)]
 pub struct Group {
-    pub options: u64,
+    pub session: Session,
     pub variants: Vec<Variant>,
     pub rows: Vec<Row>,
 }
@@ -105,8 +112,13 @@ fn read(
             let bytes = spell(lets, words)?;
             lets.insert(name.into(), bytes);
         }
-        "group" => groups.push(Group { options: 0, variants: Vec::new(), rows: Vec::new() }),
-        "options" => groups.last_mut()?.options = number(words)?,
+        "group" => groups.push(Group {
+            session: Session { options: 0, page_size: 4096 },
+            variants: Vec::new(),
+            rows: Vec::new(),
+        }),
+        "options" => groups.last_mut()?.session.options = number(words)?,
+        "pages" => groups.last_mut()?.session.page_size = number(words)?.try_into().ok()?,
         "variants" => {
             let variants: Option<Vec<_>> = words.split(' ').map(variant).collect();
             groups.last_mut()?.variants = variants?;

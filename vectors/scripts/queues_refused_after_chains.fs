@@ -1,0 +1,10 @@
+# A kick serves a chain, and is refused at the next, whose head is past the table (VIRTIO 1.2,
+# 2.7.6). The first chain's element and index stay, and the queue is stopped.
+queue 4 0 0x100 0x200
+region 0 0x10000
+write 0x1000 28000000070000000100000000000000000000000000000000000000000000000000000000000000
+write 0 0010000000000000280000000100010000200000000000001000000002000000
+write 0x100 0000020000000400
+kick 0 9
+read 0x202 10
+kick 0 9
