@@ -1,6 +1,7 @@
 /* give_back of access.c: the reply and the used element are in memory when the used index is stored
  * (VIRTIO 1.2, 2.7.8). The index lies at the end of a page that can't be written at first, and the
- * rest in other pages. So its store raises SIGSEGV, whose handler looks at the rest. */
+ * rest in other pages. So its store raises SIGSEGV, whose handler looks at the rest. ask_kicks
+ * marks the used flags that it stores. */
 #define _DEFAULT_SOURCE
 #include "../access.h"
 #include <signal.h>
@@ -78,6 +79,21 @@ static void guard(void) {
         expect("a page that can't be written", 0, 1);
 }
 
+static struct pk_window marked;
+
+static void mark(void *log, uintptr_t at, uint64_t len) {
+    (void)log;
+    marked = (struct pk_window){.at = at, .len = len};
+}
+
+static void silence(struct pk_chain *chain, const struct pk_queue *queue) {
+    const struct marker marker = {mark, NULL};
+    expect("a store", ask_kicks(chain, queue, false, &marker), true);
+    expect("VIRTQ_USED_F_NO_NOTIFY", number(USED, 2), 1);
+    expect("its mark", marked.at, (uintptr_t)memory + USED);
+    expect("the bytes that are marked", marked.len, 2);
+}
+
 int main(void) {
     static uint8_t request[PK_REQUEST_MAX];
     static struct offered offered;
@@ -93,6 +109,7 @@ int main(void) {
     offer();
     expect("the queue", pk_queue_begin(&queue, 0), PK_DONE);
     expect("the regions", pk_chain_set_memory(&chain, &device, &region, 1), PK_DONE);
+    silence(&chain, &queue);
     expect("the pop", take_chain(&chain, &queue, &offered, &step), PK_DONE);
     size_t len = load_front(&chain, &step, request);
     expect("the request", ask(&chain, &device, request, len, &call), PK_DONE);
