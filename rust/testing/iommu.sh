@@ -33,10 +33,11 @@ is_behind_it() {
 
 # A tree unpacked, git and fio (suites.sh) have the outcomes that they have without an IOMMU.
 suites_behind_it() {
-    local kind=$1 names=${SUITES:-tree,git,fio}
-    local wanted=$work/suites-of-none got=$work/suites-of-$kind
+    local kind=$1 names=${SUITES:-tree git fio}
+    names=${names// /,}
+    local wanted=$work/suites-of-none-$names got=$work/suites-of-$kind-$names
     take_suites
-    [ -f "$wanted" ] || IOMMU=none PLATFORM=off outcomes "$names" none > "$wanted"
+    [ -s "$wanted" ] || IOMMU=none PLATFORM=off outcomes "$names" none > "$wanted"
     outcomes "$names" "$kind" > "$got"
     [ "$(wc -l < "$got")" -gt 3 ] || failure "suites-$kind: no outcomes"
     diff "$wanted" "$got" || failure "suites-$kind: other outcomes than without an IOMMU"
@@ -46,7 +47,7 @@ suites_behind_it() {
 outcomes() {
     make_files
     GUEST_SECONDS=${GUEST_SECONDS:-3600} MEMORY=1536M DISK=$work/suites.disk run_guest \
-        "suite suites=${1// /,}" ours "suites-$2" >&2
+        "suite suites=$1 fio=${FIO_SIZE:-6M}" ours "suites-$2" >&2
     sed -n 's/^RESULT //p' "$run/lines" | sort
 }
 

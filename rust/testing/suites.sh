@@ -52,7 +52,7 @@ suites() {
         for kind in ours virtiofsd; do
             make_files
             GUEST_SECONDS=${GUEST_SECONDS:-3600} MEMORY=1536M DISK=$work/suites.disk run_guest \
-                "suite suites=$name" "$kind" "suite-$name-$kind"
+                "suite suites=$name fio=${FIO_SIZE:-6M}" "$kind" "suite-$name-$kind"
             sed -n 's/^RESULT //p' "$run/lines" | sort > "$work/suite-$name-$kind"
         done
         [ "$(wc -l < "$work/suite-$name-ours")" -gt 3 ] || failure "suite $name: it tells nothing"

@@ -474,8 +474,8 @@ scenario_suite() {
     ln -s /proc/self/fd /dev/fd
     cp /suites /disk/
     run mount -t virtiofs shared /disk/mnt
-    for name in $(sed -n 's/.*suites=\([^ ]*\).*/\1/p' /proc/cmdline | tr ',' ' '); do
-        chroot /disk /usr/bin/bash /suites "$name"
+    for name in $(word_of suites); do
+        chroot /disk /usr/bin/bash /suites "$name" "$(word_of fio)"
     done
     run umount /disk/mnt
 }
