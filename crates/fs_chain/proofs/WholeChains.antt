@@ -407,7 +407,7 @@ faulty_so {F} may m i kq course pop_id head fault stores flags acts last notice 
     let q = at_position course.layout kq.next_used in
     let stored : stores_of stores.used ≡ stores_after_reply q head 0 = back.1 in
     let done : acts ≡ return_acts (return_stores q head [] [] last) flags =
-    acts_are ∙ ap (λ (ss : List Store). map act.Stores ss ++ act.LoadsFlags flags ∷ []) stored
+    acts_are ∙ ap (λ (ss : List Store). map act.StoresBytes ss ++ act.LoadsFlags flags ∷ []) stored
     ∙ sym (ap (λ (n : ℕ). return_acts (return_stores q head [] [] n) flags) last_is) in
     record {
       no_call = refl;

@@ -102,10 +102,11 @@ answers {F} may m i q head request room calls files given reply behind used flag
         exchange = refl;
         flags = flags;
         flags_len = two;
-        acts = ap (λ (b : List ℕ). map act.Stores (reply_stores room b (front_len reply) ++ stores_of used.used)
+        acts = ap (λ (b : List ℕ). map act.StoresBytes (reply_stores room b (front_len reply) ++ stores_of used.used)
             ++ act.LoadsFlags flags ∷ [])
             (sym is_reply)
-            ∙ ap (λ (ss : List Store). map act.Stores (reply_stores room given.reply (front_len reply) ++ ss) ++ act.LoadsFlags flags ∷ [])
+            ∙ ap (λ (ss : List Store). map act.StoresBytes (reply_stores room given.reply (front_len reply) ++ ss)
+                ++ act.LoadsFlags flags ∷ [])
             stores;
         state = ap (λ (o : ℕ). after_chain m i q o files) (sym is_options);
         told = told;

@@ -198,7 +198,7 @@ reply_bytes reply behind = front_if reply.front behind
 abbrev pub acts_of :
     (room : List ℕ) → ChainReply → (behind : List ℕ) → PushStores → (flags : List ℕ) → List Act
 acts_of room reply behind s flags =
-    map act.Stores (reply_stores room (reply_bytes reply behind) (front_len reply) ++ stores_of s.used)
+    map act.StoresBytes (reply_stores room (reply_bytes reply behind) (front_len reply) ++ stores_of s.used)
     ++ act.LoadsFlags flags ∷ []
 
 -- a chain is pushed by its caller's stores and loads, and `notice` is the result for the two bytes that

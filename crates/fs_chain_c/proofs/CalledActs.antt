@@ -11,7 +11,7 @@ use Rattle.fs_chain.specs.declared.error.ChainError.TheVariants.{ChainInFlight}
 use Rattle.fs_chain.specs.declared.queue.QueueState.{QueueState}
 use Rattle.fs_chain.specs.declared.state.ChainState as state
 use Rattle.fs_chain.specs.declared.state.ChainState.TheVariants as at
-use Rattle.notify.specs.Threads.{Asker, DropsOne, Returns, Silences, SleepsNow, ThreadStep, ThreadedQueue, Walker, after_act, may_act}
+use Rattle.notify.specs.Threads.{Asker, DropsOne, ReturnsSome, Silences, SleepsNow, ThreadStep, ThreadedQueue, Walker, after_act, may_act}
 use Rattle.fs_notify.specs.Takers.{IsCounted, IsOf, ways_of}
 use Rattle.fs_chain_c.specs.declared.notifications.FsStore.{FsStore}
 use Rattle.fs_chain_c.specs.declared.popping.FsPop.{FsPop}
@@ -128,7 +128,7 @@ returns_by : PushReturnsOne → (b b' : ChainHandle) (q q' : FsQueue) (seen noti
     → EndsHandlePush b q seen notify 0 b' q' → ActsAsReturn q q'
 returns_by law b b' q q' seen notify small (inl none) = absurd (no_argument none.2.0)
 returns_by law b b' q q' seen notify small (inr is) =
-    acts_so (Returns 1) (λ k. gave k) walked_by (λ k. put q (gave k)) (λ t. t.holder ≡ Walker) q q' is.1 is.2
+    acts_so (ReturnsSome 1) (λ k. gave k) walked_by (λ k. put q (gave k)) (λ t. t.holder ≡ Walker) q q' is.1 is.2
     (counted q is.1 is.2 small.0 small.1 small.2) (λ s. (refl, refl)) (λ s. refl) (λ t. law b b' q q' seen notify t (inr is))
 
 pub returns_so : PushReturnsOne → (before now : Option ChainHandle) (q q' : FsQueue) (seen notify status : ℕ) → IsSmall q

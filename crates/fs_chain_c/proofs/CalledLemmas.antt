@@ -8,7 +8,7 @@ use Rattle.fs_chain.specs.Queues.{gave}
 use Rattle.fs_chain.specs.declared.chain_handle.ChainHandle.{ChainHandle}
 use Rattle.fs_chain.specs.declared.error.ChainError.TheVariants.{BadArgument, WrongOrder}
 use Rattle.fs_chain.specs.declared.queue.QueueState.{QueueState}
-use Rattle.notify.specs.Kicks.{NotifyState, Checks, after}
+use Rattle.notify.specs.Kicks.{NotifyState, ChecksWish, after}
 use Rattle.notify.specs.Threads.{ThreadedQueue, Walker}
 use Rattle.fs_notify.specs.Givers.{rules_of}
 use Rattle.fs_notify.specs.Takers.{IsCounted, IsOf, SaysWish}
@@ -85,7 +85,7 @@ checks_by law b b' q q' seen notify (inr is) fits used =
           let same : made.0 ≡ k = state_same q made.0 k made.1 is.2 in
           subst (λ (j : QueueState). j.next_used < 2 ^ 16 → at.published ≡ (gave j).next_used → at.unchecked ≡ 1
           → SaysWish j.event_index (to_le_bytes w16 seen) at.event at.muted
-          → (after (rules_of j) at Checks).owes ≡ (at.owes || notify == 1)) same
+          → (after (rules_of j) at ChecksWish).owes ≡ (at.owes || notify == 1)) same
           made.2 (subst (λ (n : ℕ). n < 2 ^ 16) (sym is.2.next_used) used) refl refl (says_so k.event_index (to_le_bytes w16 seen)),
     )
 

@@ -10,7 +10,7 @@ use Rattle.fuse_wire.specs.declared.others.ExtHeader.{ExtHeader}
 use Rattle.fuse_wire.specs.Records.{ext_header, secctx}
 use Rattle.fuse_fs.specs.Calls.{Extra, NewLink, SecurityContext}
 use Rattle.server_segments.specs.declared.error.Error.TheVariants.{DecodeMessage, InvalidCString, InvalidHeaderLength, MissingParameter}
-use Rattle.server_requests.specs.Reading.{Read, ReadFailure, Reading, Faults, ◌>>◌, ◌>>=◌, and_then, exactly, front_name, give, name_or}
+use Rattle.server_requests.specs.Reading.{Parsed, ReadFailure, Parser, Faults, ◌>>◌, ◌>>=◌, and_then, exactly, front_name, give, name_or}
 use Rattle.server_requests.specs.Reading.{needs, reading_of, refuse, rest, within}
 use Rattle.server_requests.specs.Extras.{SentParts, all_sent, extension, extensions, extra, extra_in, group_part, new_link, new_name}
 use Rattle.server_requests.specs.Extras.{nothing_sent, one_group, part, parts_of, security_context, security_part, takes_group}
@@ -57,11 +57,11 @@ behind_stands k bytes l h =
 -- ---- one extension
 
 -- what was read holds, if anything was
-always : {A : Type 0} {P : Type 0} (r : Read A) → P → IfRead (λ (a : A) (more : List ℕ). P) r
+always : {A : Type 0} {P : Type 0} (r : Parsed A) → P → IfRead (λ (a : A) (more : List ℕ). P) r
 always (Ok x) h = h
 always (Err e) h = tt
 
-abbrev label_of_size : ℕ → Reading SecurityContext
+abbrev label_of_size : ℕ → Parser SecurityContext
 label_of_size size = name_or DecodeMessage >>= λ name. exactly size >>= λ label. give (record { name = name; label = label })
 
 named_label : (size : ℕ) (bytes : List ℕ) →
@@ -128,7 +128,7 @@ one_kind zero z l = absurd (cc)
 one_kind (suc zero) z l = refl
 one_kind (suc (suc n)) z l = let less : suc (suc n) ≤ 1 = leb-true (suc (suc n)) 1 l in omega (arith, less)
 
-abbrev context_by : (is_empty : Bool) → SentParts → Reading SentParts
+abbrev context_by : (is_empty : Bool) → SentParts → Parser SentParts
 context_by is_empty sent =
     if is_empty then give (record { was_sent = true; security = sent.security; group = sent.group })
     else (security_context >>= λ x. give (record { was_sent = true; security = Some x; group = sent.group }))
@@ -184,7 +184,7 @@ IsExtension sent bytes s more =
     × PartIs sent (word 4 bytes) (take (word 0 bytes - 8) (drop 8 bytes)) s
 
 -- what was read holds, and a test beside it
-beside : {A : Type 0} (T : Type 0) (P : A → List ℕ → Type 0) (r : Read A) → T → IfRead P r
+beside : {A : Type 0} (T : Type 0) (P : A → List ℕ → Type 0) (r : Parsed A) → T → IfRead P r
     → IfRead (λ (a : A) (more : List ℕ). T × P a more) r
 beside T P (Ok x) t h = (t, h)
 beside T P (Err e) t h = tt
@@ -243,7 +243,7 @@ abbrev IfDone : {A : Type 0} → (A → Type 0) → Result A ReadFailure → Typ
 IfDone P (Ok x) = P x
 IfDone P (Err e) = Unit {0}
 
-then_done : {A B : Type 0} (P : A → List ℕ → Type 0) (Q : B → Type 0) (r : Read A) (f : A × List ℕ → Result B ReadFailure) → IfRead P r
+then_done : {A B : Type 0} (P : A → List ℕ → Type 0) (Q : B → Type 0) (r : Parsed A) (f : A × List ℕ → Result B ReadFailure) → IfRead P r
     → ((x : A × List ℕ) → P x.0 x.1 → IfDone Q (f x)) → IfDone Q (and_then r f)
 then_done P Q (Ok x) f h go = go x h
 then_done P Q (Err e) f h go = tt
@@ -439,7 +439,7 @@ pub link_read : (options : ℕ) (bytes : List ℕ) → IfRead (λ (x : NewLink) 
 unfolding new_link
 link_read options bytes =
     let New : NewLink → List ℕ → Type 0 = λ x more. IsNewLink bytes x in
-    let last : (List ℕ × Bool) → (List ℕ × Bool) → Extra × List ℕ → Read NewLink =
+    let last : (List ℕ × Bool) → (List ℕ × Bool) → Extra × List ℕ → Parsed NewLink =
     λ x y e. and_then (needs (x.1 && y.1) (Faults InvalidCString) e.1) (λ z. Ok (record { name = x.0; link = y.0; extra = e.0 }, z.1)) in
     then_read (EndsIf bytes) New (front_name bytes)
     (λ x. and_then (front_name x.1) (λ y. and_then (extra options y.1) (λ e. last x.0 y.0 e))) (front_read bytes)

@@ -20,9 +20,10 @@ use Rattle.fs_chain.specs.declared.error.ChainError.TheVariants as error
 use Rattle.fs_chain.specs.declared.queue.QueueState.{QueueState}
 use Rattle.fs_chain_c.specs.declared.device.FsDevice.{FsDevice}
 use Rattle.fs_chain_c.specs.declared.queue.FsQueue.{FsQueue}
-use Rattle.fs_chain_c.specs.Moving.{AreQueueStates, HasItsWidths, IsEven, MayBeOut, MovesByRecord, RestoresARecord, SavesARecord, recorded}
+use Rattle.fs_chain_c.specs.Moving.{AreQueueStates, HasItsWidths, HasNoneInFlight, HasValidMaximum, MovesByRecord, RestoresARecord}
+use Rattle.fs_chain_c.specs.Moving.{SavesARecord, recorded}
 use Rattle.fs_chain_c.specs.Queues.{IsQueue, IsQueueState, stop_of}
-use Rattle.fs_chain_c.specs.Records.{HasNoneOut, HasRecord, NoDevice, NoPlace, NoRecord, Read, ReadsSo, RestoreOutcome, SavesSo}
+use Rattle.fs_chain_c.specs.Records.{HasNoneOut, ReadBack, HasRecord, NoDevice, NoPlace, NoRecord, ReadsSo, RestoreOutcome, SavesSo}
 use Rattle.fs_chain_c.specs.Records.{bytes_of, numbers_over, queue_of, read_status, restored_over, saved_status}
 
 same_some : {A : Type 0} (x y : A) → Some x ≡ Some y → x ≡ y
@@ -94,7 +95,7 @@ one_position : (p r : ℕ) → p < 2 ^ 16 → r < 2 ^ 16 → (p + (2 ^ 16 - r)) 
 one_position p r fp fr none = omega arith
 
 all_even : (qs : List FsQueue) (ks : List QueueState) → AllByRecursion HasItsWidths qs → All HasNoneOut qs → AreQueueStates qs ks →
-    AllByRecursion IsEven ks
+    AllByRecursion HasNoneInFlight ks
 all_even [] [] bits none are = tt
 all_even [] (k ∷ ks) bits none are = absurd are
 all_even (q ∷ qs) [] bits none are = absurd are
@@ -151,11 +152,11 @@ no_record n is = omega (arith, is)
 
 abbrev ReadSo : FsDevice → List FsQueue → (saved : List ℕ) → (count : ℕ) → FsDevice → List FsQueue → Type 0
 ReadSo d queues saved count d' queues' =
-    (options : ℕ) × (qs : List Queue) × ReadsSo d queues saved (Read options qs) count d' queues'
+    (options : ℕ) × (qs : List Queue) × ReadsSo d queues saved (ReadBack options qs) count d' queues'
 
 read_so : (d : FsDevice) (queues : List FsQueue) (saved : List ℕ) (how : RestoreOutcome) (count : ℕ) (d' : FsDevice)
     (queues' : List FsQueue) → 0 ≡ read_status how → ReadsSo d queues saved how count d' queues' → ReadSo d queues saved count d' queues'
-read_so d queues saved (Read options qs) count d' queues' is so = (options, qs, so)
+read_so d queues saved (ReadBack options qs) count d' queues' is so = (options, qs, so)
 read_so d queues saved (NoPlace options qs) count d' queues' is so = absurd (no_error error.ShortBuffer is)
 read_so d queues saved (NoRecord e) count d' queues' is so = absurd (no_record (restore_error_number e) is)
 read_so d queues saved NoDevice count d' queues' is so = absurd (no_error error.BadArgument is)
@@ -177,7 +178,7 @@ none_left : (n : ℕ) → suc n ≤ 0 → ⊥
 none_left n few = omega (arith, few)
 
 abbrev GoOn : List QueueState → List Queue → Type 0
-GoOn ks qs = (map recorded ks ≡ qs) × AllByRecursion IsEven ks × AllByRecursion MayBeOut ks
+GoOn ks qs = (map recorded ks ≡ qs) × AllByRecursion HasNoneInFlight ks × AllByRecursion HasValidMaximum ks
 
 go_on : (olds : List FsQueue) (qs : List Queue) (ks : List QueueState) → length qs ≤ length olds → All IsSavedQueue qs
     → AreQueueStates (take (length qs) (restored_over olds qs)) ks → GoOn ks qs

@@ -13,7 +13,7 @@ use Rattle.fuse_values.specs.Values.{pair_in, pairs_in, pairs_of}
 use Rattle.server_segments.specs.declared.error.Error.{Error}
 use Rattle.server_segments.specs.declared.error.Error.TheVariants.{DecodeMessage, InvalidCString, InvalidHeaderLength, InvalidXattrSize}
 use Rattle.server_segments.specs.declared.error.Error.TheVariants.{MissingParameter}
-use Rattle.server_requests.specs.Reading.{Read, ReadFailure, Faults, and_then, at_zero, before_zero, ended_or, exactly, front_name}
+use Rattle.server_requests.specs.Reading.{Parsed, ReadFailure, Faults, and_then, at_zero, before_zero, ended_or, exactly, front_name}
 use Rattle.server_requests.specs.Reading.{last_name, many, name_and_value, name_by, name_or, needs, reading_of, two_names}
 use Rattle.server_requests.specs.Fronts.{counted, forget_pair, with_bytes}
 use Rattle.fs_chain_c.specs.Spans.{IsNotZero}
@@ -43,17 +43,17 @@ abbrev pub AreNameAndValue : (bytes name content : List ℕ) → Type 0
 AreNameAndValue bytes name content = IsName bytes name × Begins (drop (suc (length name)) bytes) content
 
 -- what was read, and what is left of the bytes, have this, if something was read
-abbrev pub IfRead : {A : Type 0} → (A → List ℕ → Type 0) → Read A → Type 0
+abbrev pub IfRead : {A : Type 0} → (A → List ℕ → Type 0) → Parsed A → Type 0
 IfRead P (Ok x) = P x.0 x.1
 IfRead P (Err r) = Unit {0}
 
-pub then_read : {A B : Type 0} (P : A → List ℕ → Type 0) (Q : B → List ℕ → Type 0) (r : Read A) (f : (A × List ℕ) → Read B) → IfRead P r
+pub then_read : {A B : Type 0} (P : A → List ℕ → Type 0) (Q : B → List ℕ → Type 0) (r : Parsed A) (f : (A × List ℕ) → Parsed B) → IfRead P r
     → ((x : A × List ℕ) → P x.0 x.1 → IfRead Q (f x)) → IfRead Q (and_then r f)
 then_read P Q (Ok x) f h go = go x h
 then_read P Q (Err r) f h go = tt
 
 -- of what was read nothing is to be known
-pub quiet : {A : Type 0} (r : Read A) → IfRead (λ (a : A) (more : List ℕ). Unit {0}) r
+pub quiet : {A : Type 0} (r : Parsed A) → IfRead (λ (a : A) (more : List ℕ). Unit {0}) r
 quiet (Ok x) = tt
 quiet (Err r) = tt
 
@@ -86,7 +86,7 @@ record_read {R} s bytes =
     (exactly_read (size s.parts) bytes)
     (λ x h. (ap (made s.parts s.make) h.0, h.1, h.2))
 
-first_of : (n : ℕ) (r : Read (List ℕ)) (bytes : List ℕ) → IfRead (AreFirst n bytes) r → IfRead (λ (a more : List ℕ). a ≡ take n bytes) r
+first_of : (n : ℕ) (r : Parsed (List ℕ)) (bytes : List ℕ) → IfRead (AreFirst n bytes) r → IfRead (λ (a more : List ℕ). a ≡ take n bytes) r
 first_of n (Ok x) bytes h = h.0
 first_of n (Err r) bytes h = tt
 
@@ -256,7 +256,7 @@ by_split : (bytes : List ℕ) (split : Option (List ℕ × List ℕ)) → IsSpli
 by_split bytes None h = λ no. absurd (cc)
 by_split bytes (Some s) h = λ yes. h
 
-front_by : (test : Bool) (bytes : List ℕ) (r : Read (List ℕ × Bool)) → IfRead (EndsIf bytes) r →
+front_by : (test : Bool) (bytes : List ℕ) (r : Parsed (List ℕ × Bool)) → IfRead (EndsIf bytes) r →
     IfRead (EndsIf bytes) (cond test (Err (Faults MissingParameter)) r)
 front_by true bytes r h = tt
 front_by false bytes r h = h

@@ -16,7 +16,7 @@ use Rattle.fuse_values.specs.declared.call.FileCall as values
 use Rattle.fuse_values.specs.declared.call.FileCall.TheVariants as value
 use Rattle.fuse_values.specs.Values.{call_of}
 use Rattle.server_segments.specs.declared.error.Error.TheVariants.{DecodeMessage}
-use Rattle.server_requests.specs.Reading.{Read, ReadFailure, Faults, and_then, needs, reading_of}
+use Rattle.server_requests.specs.Reading.{Parsed, ReadFailure, Faults, and_then, needs, reading_of}
 use Rattle.server_calls.specs.Requests.{write_call}
 use Rattle.server_phases.specs.declared.session.Session.{Session}
 use Rattle.server_phases.specs.Asking.{IsRequestFront, front_tells}
@@ -53,7 +53,7 @@ abbrev MeansWrite : Meaning → Type 0
 MeansWrite (Asks command) = IsWrite (first_call command)
 MeansWrite _ = Unit {0}
 
-unasked : (r : Read Meaning) → IfRead (λ (m : Meaning) (more : List ℕ). false ≡ true → MeansWrite m) r
+unasked : (r : Parsed Meaning) → IfRead (λ (m : Meaning) (more : List ℕ). false ≡ true → MeansWrite m) r
 unasked (Ok x) = λ is. absurd (cc)
 unasked (Err e) = tt
 

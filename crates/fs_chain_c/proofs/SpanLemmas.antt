@@ -21,7 +21,7 @@ use Rattle.fuse_values.specs.declared.received.Label.{Label}
 use Rattle.fuse_values.specs.Values.{call_of, label_of}
 use Rattle.server_segments.specs.declared.error.Error.{Error}
 use Rattle.server_segments.specs.declared.error.Error.TheVariants.{DecodeMessage, EncodeMessage}
-use Rattle.server_requests.specs.Reading.{Read, ReadFailure, Reading, Faults, Sends, ◌>>=◌, ◌>>◌, and_then, give, last_name, many}
+use Rattle.server_requests.specs.Reading.{Parsed, ReadFailure, Parser, Faults, Sends, ◌>>=◌, ◌>>◌, and_then, give, last_name, many}
 use Rattle.server_requests.specs.Reading.{name_and_value, needs, reading_of, two_names, within}
 use Rattle.server_requests.specs.Extras.{new_link, new_name}
 use Rattle.server_requests.specs.Fronts.{counted, flags2_of, forget_pair, setxattr_front, with_bytes, without_flags}
@@ -76,7 +76,7 @@ MeansNames bytes o options (Asks command) = NamesStand bytes o options (first_ca
 MeansNames bytes o options _ = Unit {0}
 
 -- what was read of some bytes alone
-within_read : {A : Type 0} (P : A → Type 0) (r : Read A) (others : List ℕ) → IfRead (λ (a : A) (more : List ℕ). P a) r
+within_read : {A : Type 0} (P : A → Type 0) (r : Parsed A) (others : List ℕ) → IfRead (λ (a : A) (more : List ℕ). P a) r
     → IfRead (λ (a : A) (more : List ℕ). P a) (and_then r (λ x. Ok (x.0, others)))
 within_read P (Ok x) others h = h
 within_read P (Err r) others h = tt
@@ -93,14 +93,14 @@ few_read false e n bytes there is = tt
 
 module _ (all : List ℕ) (o : Option Opcode) (g : Given) where
   -- of what a row comes to
-  abbrev Stands : Read Meaning → Type 0
+  abbrev Stands : Parsed Meaning → Type 0
   Stands r = IfRead (λ (m : Meaning) (more : List ℕ). MeansNames all o g.options m) r
 
   -- a call with its names
   abbrev Has : FileCall → Type 0
   Has c = NamesStand all o g.options c
 
-  then_any : {A : Type 0} (r : Read A) (f : A × List ℕ → Read Meaning) → ((x : A × List ℕ) → Stands (f x)) → Stands (and_then r f)
+  then_any : {A : Type 0} (r : Parsed A) (f : A × List ℕ → Parsed Meaning) → ((x : A × List ℕ) → Stands (f x)) → Stands (and_then r f)
   then_any (Ok x) f go = go x
   then_any (Err e) f go = tt
 
@@ -110,7 +110,7 @@ module _ (all : List ℕ) (o : Option Opcode) (g : Given) where
 
   -- what is read of some bytes at a place
   inside :
-      {A : Type 0} (p : Reading A) (c : A → FileCall) (Is : List ℕ → A → Type 0) (bytes others : List ℕ) (k n : ℕ)
+      {A : Type 0} (p : Parser A) (c : A → FileCall) (Is : List ℕ → A → Type 0) (bytes others : List ℕ) (k n : ℕ)
       → bytes ≡ take n (drop k all)
       → IfRead (λ (a : A) (more : List ℕ). Is bytes a) (p bytes) → ((a : A) → Is (take n (drop k all)) a → Has (c a))
       → Stands (and_then (within bytes p others) (λ y. one g (c y.0) y.1))
@@ -120,7 +120,7 @@ module _ (all : List ℕ) (o : Option Opcode) (g : Given) where
       (within_read (Is bytes) (p bytes) others read) (λ y i. has y.0 (subst (λ (b : List ℕ). Is b y.0) begins i))
 
   -- bytes behind the header, and what is read of them
-  counted_stands : {A : Type 0} (p : Reading A) (c : A → FileCall) (Is : List ℕ → A → Type 0)
+  counted_stands : {A : Type 0} (p : Parser A) (c : A → FileCall) (Is : List ℕ → A → Type 0)
       → ((bytes : List ℕ) → IfRead (λ (a : A) (more : List ℕ). Is bytes a) (p bytes))
       → ((a : A) (n : ℕ) → Is (take n (drop 40 all)) a → Has (c a))
       → Stands ((counted g.header.len 0 >>= λ bytes. within bytes p >>= λ y. one g (c y)) (drop 40 all))
@@ -136,7 +136,7 @@ module _ (all : List ℕ) (o : Option Opcode) (g : Given) where
   name_stands c has = counted_stands last_name (c g.header) IsName last_read (λ name n h. has name (name_kept all name 40 n h))
 
   -- a record and bytes behind it, and what is read of them
-  bytes_stands : {R A : Type 0} (front : Given → Reading (R × List ℕ)) (parts : Given → R → Reading A) (c : InHeader → R → A
+  bytes_stands : {R A : Type 0} (front : Given → Parser (R × List ℕ)) (parts : Given → R → Parser A) (c : InHeader → R → A
       → FileCall) (k : ℕ) (Is : List ℕ → A → Type 0)
       → IfRead (λ (x : R × List ℕ) (more : List ℕ). StandBehind k all x more) (front g (drop 40 all))
       → ((r : R) (bytes : List ℕ) → IfRead (λ (a : A) (more : List ℕ). Is bytes a) (parts g r bytes))
@@ -237,7 +237,7 @@ module _ (all : List ℕ) (o : Option Opcode) (g : Given) where
 
   -- by a test
   if_stands :
-      (b : Bool) (p q : Reading Meaning) (bytes : List ℕ) → Stands (p bytes) → Stands (q bytes) → Stands ((if b then p else q) bytes)
+      (b : Bool) (p q : Parser Meaning) (bytes : List ℕ) → Stands (p bytes) → Stands (q bytes) → Stands ((if b then p else q) bytes)
   if_stands true p q bytes x y = x
   if_stands false p q bytes x y = y
 
@@ -337,13 +337,13 @@ by_opcode P g true None bytes rows = tt
 by_opcode P g true (Some o) bytes rows = rows o
 
 -- the reading of a header, by whether the request is too short
-abbrev pub front_read : Bool → List ℕ → Read (List ℕ)
+abbrev pub front_read : Bool → List ℕ → Parsed (List ℕ)
 front_read short bytes = if short then Err (Faults DecodeMessage) else Ok (take 40 bytes, drop 40 bytes)
 
 abbrev pub header_in : List ℕ → InHeader
 header_in bytes = made inputs.in_header.parts inputs.in_header.make (take 40 bytes)
 
-abbrev pub header_read : Bool → List ℕ → Read InHeader
+abbrev pub header_read : Bool → List ℕ → Parsed InHeader
 header_read short bytes = and_then (front_read short bytes) (λ x. give (made inputs.in_header.parts inputs.in_header.make x.0) x.1)
 
 pub header_opcode : (all : List ℕ) → 40 ≤ length all → (header_in all).opcode ≡ opcode_in all
@@ -357,7 +357,8 @@ header_opcode all long =
 -- what holds of what each row comes to, of faults and of replies holds of what a request means
 module _ (P : Option Opcode → Meaning → Type 0) (faults : (o : Option Opcode) (e : Error)
     → P o (IsFault e)) (sends : (o : Option Opcode) (bytes : List ℕ) → P o (Replies bytes)) where
-  ended_is : (o : Option Opcode) (unique : ℕ) (r : Read Meaning) → IfRead (λ (m : Meaning) (more : List ℕ). P o m) r → P o (ended unique r)
+  ended_is : (o : Option Opcode) (unique : ℕ) (r : Parsed Meaning) → IfRead (λ (m : Meaning) (more : List ℕ). P o m) r
+      → P o (ended unique r)
   ended_is o unique (Ok x) h = h
   ended_is o unique (Err (Faults e)) h = faults o e
   ended_is o unique (Err (Sends errno)) h = sends o (error_bytes unique errno)

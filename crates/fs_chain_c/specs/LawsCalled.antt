@@ -5,8 +5,8 @@ use Rattle.fs_queue.specs.Queue.{has_bit}
 use Rattle.fs_chain.specs.declared.queue.QueueState.{QueueState}
 use Rattle.fs_chain.specs.declared.chain_handle.ChainHandle.{ChainHandle}
 use Rattle.fs_chain.specs.Queues.{gave, in_flight, untook}
-use Rattle.notify.specs.Kicks.{NotifyState, Checks, after}
-use Rattle.notify.specs.Threads.{Asker, DropsOne, Returns, Silences, SleepsNow, ThreadStep, ThreadedQueue}
+use Rattle.notify.specs.Kicks.{NotifyState, ChecksWish, after}
+use Rattle.notify.specs.Threads.{Asker, DropsOne, ReturnsSome, Silences, SleepsNow, ThreadStep, ThreadedQueue}
 use Rattle.notify.specs.Threads.{Walker, after_act, may_act}
 use Rattle.fs_notify.specs.Givers.{rules_of}
 use Rattle.fs_notify.specs.Takers.{IsOf, ways_of}
@@ -45,7 +45,7 @@ ChecksSo q seen notify =
     (k : QueueState)
     × IsQueueState q k
     × ((u : NotifyState)
-    → (after (rules_of k) (published_by k seen u) Checks).owes ≡ (u.owes || notify == 1))
+    → (after (rules_of k) (published_by k seen u) ChecksWish).owes ≡ (u.owes || notify == 1))
 
 -- the store of a call with this handle and queue disables notifications in each such state
 abbrev pub SilencesSo : Option ChainHandle → FsQueue → FsStore → Type 0
@@ -75,7 +75,7 @@ ActsAsDrop q q' = ActsSo DropsOne (λ k. untook k) walked_by (λ k. put q (untoo
 
 -- the end of a push is the return of one chain
 abbrev pub ActsAsReturn : FsQueue → FsQueue → Type 0
-ActsAsReturn q q' = ActsSo (Returns 1) (λ k. gave k) walked_by (λ k. put q (gave k)) q q'
+ActsAsReturn q q' = ActsSo (ReturnsSome 1) (λ k. gave k) walked_by (λ k. put q (gave k)) q q'
 
 -- a pop that is refused because as many chains are in flight as may be lets the thread sleep
 abbrev pub ActsAsSleep : FsQueue → FsQueue → Type 0

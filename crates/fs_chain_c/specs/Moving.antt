@@ -27,12 +27,12 @@ abbrev pub HasItsWidths : FsQueue → Type 0
 HasItsWidths q = (q.size < 2 ^ 16) × (q.next_avail < 2 ^ 16) × (q.next_used < 2 ^ 16)
 
 -- no chain is in flight: the next chain is popped and pushed at the same position
-abbrev pub IsEven : QueueState → Type 0
-IsEven k = (k.next_used ≡ k.next_avail) × (k.next_avail < 2 ^ 16)
+abbrev pub HasNoneInFlight : QueueState → Type 0
+HasNoneInFlight k = (k.next_used ≡ k.next_avail) × (k.next_avail < 2 ^ 16)
 
 -- from one chain to as many as the queue has descriptors may be in flight
-abbrev pub MayBeOut : QueueState → Type 0
-MayBeOut k = (1 ≤ k.max_in_flight) × (k.max_in_flight ≤ k.layout.size)
+abbrev pub HasValidMaximum : QueueState → Type 0
+HasValidMaximum k = (1 ≤ k.max_in_flight) × (k.max_in_flight ≤ k.layout.size)
 
 -- `pk_save` writes a record of the device's options and of the core's queues, none of which has a chain in
 -- flight
@@ -46,7 +46,7 @@ SavesARecord =
     × (buffer' ≡ bytes ++ drop len buffer)
     × (len ≡ length bytes)
     × IsRecord bytes v d.options (map recorded ks)
-    × AllByRecursion IsEven ks
+    × AllByRecursion HasNoneInFlight ks
 
 -- `pk_restore` reads a record: the device has its options, and the core's queues are reset from it, each to
 -- its position, stopped or not
@@ -58,8 +58,8 @@ RestoresARecord =
     → (bytes : List ℕ) × (rest : List ℕ) × (v : Version)
     × (saved ≡ bytes ++ rest)
     × IsRecord bytes v d'.options (map recorded ks)
-    × AllByRecursion IsEven ks
-    × AllByRecursion MayBeOut ks
+    × AllByRecursion HasNoneInFlight ks
+    × AllByRecursion HasValidMaximum ks
 
 -- a device restores the options and queues that one saved, by one record: from any bytes that begin with the
 -- `len` bytes that `pk_save` wrote
@@ -77,5 +77,5 @@ MovesByRecord =
     × IsRecord bytes v d'.options (map recorded ks)
     × (d'.options ≡ d.options)
     × (map recorded ks ≡ map recorded here)
-    × AllByRecursion IsEven ks
-    × AllByRecursion MayBeOut ks
+    × AllByRecursion HasNoneInFlight ks
+    × AllByRecursion HasValidMaximum ks

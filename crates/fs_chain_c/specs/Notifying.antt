@@ -5,7 +5,7 @@ use Rattle.vm_iotlb.specs.declared.permissions.Permissions.TheVariants.{Write}
 use Rattle.fs_chain.specs.declared.queue.QueueState.{QueueState}
 use Rattle.fs_chain.specs.declared.chain_handle.ChainHandle.{ChainHandle}
 use Rattle.fs_chain.specs.Queues.{gave}
-use Rattle.notify.specs.Kicks.{NotifyState, Checks, after}
+use Rattle.notify.specs.Kicks.{NotifyState, ChecksWish, after}
 use Rattle.notify.specs.Threads.{ThreadedQueue, Walker, Wishes, WishIsThere, after_act}
 use Rattle.fs_notify.specs.Givers.{rules_of}
 use Rattle.fs_notify.specs.Takers.{IsCounted, IsOf, SaysWish, ways_of, wish_at}
@@ -47,4 +47,4 @@ NotifyIsACheck =
     → u.published ≡ (gave k).next_used
     → u.unchecked ≡ 1
     → SaysWish k.event_index (to_le_bytes w16 seen) u.event u.muted
-    → (after (rules_of k) u Checks).owes ≡ (u.owes || notify == 1))
+    → (after (rules_of k) u ChecksWish).owes ≡ (u.owes || notify == 1))

@@ -128,14 +128,14 @@ HasNoRecord d saved e =
 -- how restoring ends: the record is read; there are too few queues for it; the bytes aren't a record for this
 -- device; or the numbers aren't a device's
 pub data RestoreOutcome : Type 0 where
-  Read : (options : ℕ) → List Queue → RestoreOutcome
+  ReadBack : (options : ℕ) → List Queue → RestoreOutcome
   NoPlace : (options : ℕ) → List Queue → RestoreOutcome
   NoRecord : RestoreError → RestoreOutcome
   NoDevice : RestoreOutcome
 
 -- the status of restoring a record
 abbrev pub read_status : RestoreOutcome → ℕ
-read_status (Read options qs) = 0
+read_status (ReadBack options qs) = 0
 read_status (NoPlace options qs) = chain_error_number ShortBuffer
 read_status (NoRecord e) = 80 + restore_error_number e
 read_status NoDevice = chain_error_number BadArgument
@@ -143,7 +143,7 @@ read_status NoDevice = chain_error_number BadArgument
 -- the effect of each: device and queues go on from the record, or don't change
 abbrev pub ReadsSo : FsDevice → List FsQueue → (saved : List ℕ) → RestoreOutcome → (count : ℕ) → FsDevice →
     List FsQueue → Type 0
-ReadsSo d queues saved (Read options qs) count d' queues' =
+ReadsSo d queues saved (ReadBack options qs) count d' queues' =
     IsDevice d
     × HasRecord d saved options qs
     × (count ≡ length qs)

@@ -22,7 +22,7 @@ use Rattle.fuse_fs.specs.Replies.{open_out_of}
 use Rattle.fuse_fs.specs.Calls.{FileCall, FileAnswer, AnswerForm, kind_of, suits, is_of, NewLink}
 use Rattle.fuse_fs.specs.Calls as call
 use Rattle.server_segments.specs.declared.error.Error.TheVariants.{DecodeMessage, EncodeMessage}
-use Rattle.server_requests.specs.Reading.{ReadFailure, Faults, Sends, Reading, and_then, needs, give, many, rest, reading_of, ◌>>=◌, ◌>>◌}
+use Rattle.server_requests.specs.Reading.{ReadFailure, Faults, Sends, Parser, and_then, needs, give, many, rest, reading_of, ◌>>=◌, ◌>>◌}
 use Rattle.server_requests.specs.Reading.{within, last_name, two_names, name_and_value}
 use Rattle.server_requests.specs.Extras.{new_link, new_name}
 use Rattle.virtiofsd_fuse.specs.Grammar as grammar
@@ -229,7 +229,7 @@ refusal n room o unique (Faults e) = (tt, refl)
 refusal n room o unique (Sends errno) = (ap (nodes_in (Some o)) (drop_error unique errno), refl)
 
 -- what holds of a meaning whose reading goes on after a first part
-after_part : {A : Type 0} (P : Meaning → Type 0) (unique : ℕ) (r : Result (A × List ℕ) ReadFailure) (f : A → Reading Meaning) →
+after_part : {A : Type 0} (P : Meaning → Type 0) (unique : ℕ) (r : Result (A × List ℕ) ReadFailure) (f : A → Parser Meaning) →
     ((e : ReadFailure) → P (refused unique e)) →
     ((x : A) (more : List ℕ) → P (ended unique (f x more))) → P (ended unique (and_then r (λ x. f x.0 x.1)))
 after_part P unique (Ok x) f bad good = good x.0 x.1
@@ -243,7 +243,7 @@ module _ (n : ℕ) (g : Given) (o : Opcode) where
   bad : (e : ReadFailure) → Quiet n g.room o (refused g.header.unique e)
   bad = refusal n g.room o g.header.unique
 
-  then_ends : {A : Type 0} (r : Result (A × List ℕ) ReadFailure) (f : A → Reading Meaning) → ((x : A) (more : List ℕ) → Ends (f x more)) →
+  then_ends : {A : Type 0} (r : Result (A × List ℕ) ReadFailure) (f : A → Parser Meaning) → ((x : A) (more : List ℕ) → Ends (f x more)) →
       Ends (and_then r (λ x. f x.0 x.1))
   then_ends r f good = after_part (Quiet n g.room o) g.header.unique r f bad good
 
@@ -262,7 +262,7 @@ module _ (n : ℕ) (g : Given) (o : Opcode) where
       then_ends (within inner last_name more) (λ name. one g (c g.header name)) (λ name rest. good name))
 
   bytes_ends :
-      {R A : Type 0} (front : Given → Reading (R × List ℕ)) (parts : Given → R → Reading A) (c : InHeader → R → A →
+      {R A : Type 0} (front : Given → Parser (R × List ℕ)) (parts : Given → R → Parser A) (c : InHeader → R → A →
       FileCall) (bytes : List ℕ) →
       ((r : R) (x : A) → RequestAndRoom (c g.header r x)) → Ends (grammar.bytes_row front parts c g bytes)
   bytes_ends front parts c bytes good =
@@ -296,7 +296,7 @@ module _ (n : ℕ) (g : Given) (o : Opcode) where
       (λ r more. good r more)
 
   -- by a test that refuses
-  if_ends : (b : Bool) (p q : Reading Meaning) (bytes : List ℕ) → Ends (p bytes) → Ends (q bytes) → Ends ((if b then p else q) bytes)
+  if_ends : (b : Bool) (p q : Parser Meaning) (bytes : List ℕ) → Ends (p bytes) → Ends (q bytes) → Ends ((if b then p else q) bytes)
   if_ends true p q bytes x y = x
   if_ends false p q bytes x y = y
 

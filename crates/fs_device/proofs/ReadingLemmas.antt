@@ -28,7 +28,7 @@ use Rattle.fuse_in.specs.Records.{in_header, read_in}
 use Rattle.fuse_in.specs.declared.session.InHeader.{InHeader}
 use Rattle.fuse_wire.specs.Opcodes.{opcode_of}
 use Rattle.server_segments.specs.declared.error.Error.TheVariants.{DecodeMessage}
-use Rattle.server_requests.specs.Reading.{Read, Reading, Faults, and_then, give, needs, reading_of, ◌>>=◌, ◌>>◌}
+use Rattle.server_requests.specs.Reading.{Parsed, Parser, Faults, and_then, give, needs, reading_of, ◌>>=◌, ◌>>◌}
 use Rattle.virtiofsd_fuse.specs.Serving.{May, Handles, ServerHandles, setting}
 use Rattle.plain_machine.specs.Step.{Calls}
 use Rattle.fs_device.specs.DeviceView.{AnswersRequest, ServesChain, request_of, server_state, state_of}
@@ -52,7 +52,7 @@ not_below a n is = grind (arith, nat_tests)
 
 -- if a reading that begins with n bytes gives something, there are as many, and what goes on gives something behind them
 begins_with :
-    {A B : Type 0} (n : ℕ) (bytes : List ℕ) (make : List ℕ → A) (k : A × List ℕ → Read B) (test : Bool) → nat_lt (length bytes) n ≡ test →
+    {A B : Type 0} (n : ℕ) (bytes : List ℕ) (make : List ℕ → A) (k : A × List ℕ → Parsed B) (test : Bool) → nat_lt (length bytes) n ≡ test →
     IsTrue (is_ok (and_then (and_then {A = List ℕ × List ℕ} (if test then Err (Faults DecodeMessage) else Ok (take n bytes, drop n bytes))
     (λ x. Ok (make x.0, x.1))) k)) →
     (n ≤ length bytes) × IsTrue (is_ok (k (make (take n bytes), drop n bytes)))
@@ -60,7 +60,7 @@ begins_with n bytes make k true is ok = absurd (cc)
 begins_with n bytes make k false is ok = (not_below (length bytes) n is, ok)
 
 -- a test that was needed held
-needed : {A B : Type 0} (test : Bool) (bytes : List ℕ) (p : Reading A) (k : A × List ℕ → Read B) →
+needed : {A B : Type 0} (test : Bool) (bytes : List ℕ) (p : Parser A) (k : A × List ℕ → Parsed B) →
     IsTrue (is_ok (and_then (and_then {A = Unit {0} × List ℕ} (if test then Ok (tt, bytes) else Err (Faults DecodeMessage)) (λ x. p x.1))
     k)) → IsTrue (is_ok (and_then (p bytes) k))
 needed true bytes p k ok = ok
@@ -70,7 +70,7 @@ needed false bytes p k ok = absurd (cc)
 pub read_is_long : (bytes : List ℕ) → IsTrue (is_ok (read_request bytes)) → 80 ≤ length bytes
 unfolding reading_of
 read_is_long bytes ok =
-    let after : InHeader × List ℕ → Read ReadRequest =
+    let after : InHeader × List ℕ → Parsed ReadRequest =
     λ x. (needs (nat_le x.0.len 0x101000 && is_read (opcode_of x.0.opcode)) (Faults DecodeMessage) >> reading_of read_in
     >>= λ r. give (record { header = x.0; «record» = r })) x.1 in
     let head = begins_with 40 bytes (made in_header.parts in_header.make) after (nat_lt (length bytes) 40) refl ok in

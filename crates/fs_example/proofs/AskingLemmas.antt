@@ -14,7 +14,7 @@ use Rattle.plain_machine.specs.Step.{State, Exchange, Exchanged}
 use Rattle.fs_example.specs.Driver.{offered, reply_at}
 use Rattle.fuse_files.specs.Directory.{Directory}
 use Rattle.fs_example.specs.Reading.{ReadingStep}
-use Rattle.fs_example.specs.Asking.{zeros, IsAsked, IsEntry, GetsPiece, ReadsPiece}
+use Rattle.fs_example.specs.Asking.{zeros, IsAsked, IsEntryBytes, GetsPiece, ReadsPiece}
 
 -- a host without blocks
 abbrev no_blocks : Host
@@ -74,8 +74,8 @@ read_piece s after chain first count unique node contents piece request reply as
 
 -- the entry that a look-up's reply tells
 pub told_entry : (bytes : List ℕ) (found : Option EntryOut) (entry : EntryOut) → found ≡ Some entry →
-    IfSome found (λ x. (bytes ≡ spelled (entry_out x)) × AllFit (entry_out x)) → IsEntry bytes entry.nodeid
-unfolding IsEntry
+    IfSome found (λ x. (bytes ≡ spelled (entry_out x)) × AllFit (entry_out x)) → IsEntryBytes bytes entry.nodeid
+unfolding IsEntryBytes
 told_entry bytes found entry is told =
     let own = subst (λ (o : Option EntryOut). IfSome o (λ x. (bytes ≡ spelled (entry_out x)) × AllFit (entry_out x))) is told in
     (entry, own.1, own.0, refl)

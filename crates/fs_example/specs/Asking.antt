@@ -84,8 +84,8 @@ GetsPieces s first node (suc count) contents after =
     × (contents ≡ front ++ piece)
 
 -- these bytes are an entry of a node (struct fuse_entry_out)
-unfoldable pub IsEntry : List ℕ → (node : ℕ) → Type 0
-IsEntry bytes node =
+unfoldable pub IsEntryBytes : List ℕ → (node : ℕ) → Type 0
+IsEntryBytes bytes node =
     (entry : EntryOut)
     × AllFit (entry_out entry)
     × (bytes ≡ spelled (entry_out entry))
@@ -96,6 +96,6 @@ IsEntry bytes node =
 abbrev pub ReadsFile : State Directory → (chains : ℕ) → (name contents : List ℕ) → State Directory → Type 0
 ReadsFile s chains name contents after =
     (looked last : State Directory) × (entry : List ℕ) × (node count : ℕ)
-    × GetsPiece s (chains + 1) 1 (lookup_bytes 1 1 name) entry looked × IsEntry entry node
+    × GetsPiece s (chains + 1) 1 (lookup_bytes 1 1 name) entry looked × IsEntryBytes entry node
     × GetsPieces looked (chains + 2) node count contents last
     × ReadsPiece last (chains + 2 + count) (2 + count) node (length contents) [] after

@@ -22,9 +22,11 @@ use Rattle.plain_machine.specs.Step.{State, Exchange, Exchanged, Calls}
 use Rattle.plain_machine.specs.StepBy.{StepOfBy, ExchangesBy, Effects, AnswersBy, ReturnsFaultyBy, return_acts, return_stores, reply_stores}
 use Rattle.plain_machine.specs.StepBy.{offered_by}
 use Rattle.fs_live.specs.Several.{LiveQueue}
-use Rattle.fs_live.specs.Live.{Phase, Faulty, Fetched, Asked, Own, Lost, OutChain, LiveState, LiveEvent, Walks, Declines, Asks, Answers}
-use Rattle.fs_live.specs.Live.{Returns}
-use Rattle.fs_live.specs.Live.{Sleeps, Begins, Fills, Drops, Abandons, Replies, Maps, Moves, Happens, IsUnreplied, LiveRun, WalksIn}
+use Rattle.fs_live.specs.Live.{Phase, PoppedFaulty, Fetched, Asked, Own, Abandoned, OutChain, LiveState, LiveEvent, Walks, Declines}
+use Rattle.fs_live.specs.Live.{DecodesRequest, EndsCall}
+use Rattle.fs_live.specs.Live.{PushesChain}
+use Rattle.fs_live.specs.Live.{Sleeps, Begins, FillsBuffer, Drops, Abandons, RepliesOwnBytes, Remaps, MovesDevice, Happens, IsUnreplied}
+use Rattle.fs_live.specs.Live.{LiveRun, WalksIn}
 use Rattle.fs_live.specs.Live.{GoesBackWith, lost_chain, new_chain, fault_of, own_exchange, room_in, room_of, calls_in, serving}
 use Rattle.fs_live.specs.Runs.{OwnIsReturned, ReturnedIsStepBy, IsAskedIn, IsServedPhase, after_alone, chain_loads, options_left}
 
@@ -121,26 +123,26 @@ own_walked limit c p request reply is un few h = absurd un
 keeps : {F : Type 0} (may : May F) (s after : LiveState F) (e : LiveEvent) → Happens may s e after → AllWalked s → AllWalked after
 keeps may s after (Walks i loaded ds came) h all = walk_keeps s after i h.w loaded ds came h.walks all
 keeps {F} may s after (Declines i e) h all = subst (λ (k : LiveState F). AllWalked k) (sym h.state) all
-keeps {F} may s after (Asks c request told) h all =
+keeps {F} may s after (DecodesRequest c request told) h all =
     let P = Walked s.limit in
     let parts = one_walked s h.before h.behind c h.out all in
     subst (λ (k : LiveState F). AllWalked k) (sym h.state)
     (all_both P h.before (record c { phase = Asked request s.options [] } ∷ h.behind) parts.0
     (asked_walked s.limit c request s.options [] (ap fault_of h.fresh) h.whole parts.1, parts.2))
-keeps {F} may s after (Answers c call answer) h all =
+keeps {F} may s after (EndsCall c call answer) h all =
     let P = Walked s.limit in
     let parts = one_walked s h.before h.behind c h.out all in
     let whole : length h.request ≡ total_len (readable c.descriptors) = subst (λ (p : Phase). IsWhole p c.descriptors) h.asked parts.1.1 in
     subst (λ (k : LiveState F). AllWalked k) (sym h.state)
     (all_both P h.before (record c { phase = Asked h.request h.options (h.calls ++ (call, answer) ∷ []) } ∷ h.behind) parts.0
     (asked_walked s.limit c h.request h.options (h.calls ++ (call, answer) ∷ []) (ap fault_of h.asked) whole parts.1, parts.2))
-keeps {F} may s after (Returns c x notice last used seen) h all =
+keeps {F} may s after (PushesChain c x notice last used seen) h all =
     let parts = one_walked s h.before h.behind c h.out all in
     subst (λ (k : LiveState F). AllWalked k) (sym h.state) (all_both (Walked s.limit) h.before h.behind parts.0 parts.2)
 keeps {F} may s after (Sleeps i store) h all = subst (λ (k : LiveState F). AllWalked k) (sym h.state) all
 keeps {F} may s after (Begins i w) h all =
     subst (λ (k : LiveState F). AllWalked k) (sym h.state) (all_filter (Walked s.limit) (λ c. not (c.queue == i)) s.outs all)
-keeps {F} may s after (Fills c stores) h all = subst (λ (k : LiveState F). AllWalked k) (sym h.state) all
+keeps {F} may s after (FillsBuffer c stores) h all = subst (λ (k : LiveState F). AllWalked k) (sym h.state) all
 keeps {F} may s after (Drops c) h all =
     let parts = one_walked s h.before h.behind c h.out all in
     subst (λ (k : LiveState F). AllWalked k) (sym h.state) (all_both (Walked s.limit) h.before h.behind parts.0 parts.2)
@@ -148,13 +150,13 @@ keeps {F} may s after (Abandons c) h all =
     let parts = one_walked s h.before h.behind c h.out all in
     subst (λ (k : LiveState F). AllWalked k) (sym h.state)
     (all_both (Walked s.limit) h.before (lost_chain c ∷ h.behind) parts.0 (lost_walked s.limit c parts.1, parts.2))
-keeps {F} may s after (Replies c request reply options) h all =
+keeps {F} may s after (RepliesOwnBytes c request reply options) h all =
     let parts = one_walked s h.before h.behind c h.out all in
     subst (λ (k : LiveState F). AllWalked k) (sym h.state)
     (all_both (Walked s.limit) h.before (record c { phase = Own request reply } ∷ h.behind) parts.0
     (own_walked s.limit c c.phase request reply refl h.unreplied h.fits parts.1, parts.2))
-keeps {F} may s after (Maps m) h all = subst (λ (k : LiveState F). AllWalked k) (sym h.state) all
-keeps {F} may s after (Moves m queues) h all =
+keeps {F} may s after (Remaps m) h all = subst (λ (k : LiveState F). AllWalked k) (sym h.state) all
+keeps {F} may s after (MovesDevice m queues) h all =
     subst (λ (k : LiveState F). AllWalked k) (sym h.state) all
 
 pub run_keeps :
@@ -232,9 +234,9 @@ pub exchange_of : {G : Type 0} (other : May G) (m : State G) (files : G) (places
     → length seen ≡ 2 → FileRun other m.files (calls_in p) files
     → Exchanging other m files (record { places = places; queue = i; taken = q; loaded = loaded; descriptors = ds; head = head; phase = p })
     x last seen
-exchange_of {G} other m files places i q loaded ds head (Faulty why) x last seen at served walked options goes two run =
+exchange_of {G} other m files places i q loaded ds head (PoppedFaulty why) x last seen at served walked options goes two run =
     let c : OutChain =
-    record { places = places; queue = i; taken = q; loaded = loaded; descriptors = ds; head = head; phase = Faulty why } in
+    record { places = places; queue = i; taken = q; loaded = loaded; descriptors = ds; head = head; phase = PoppedFaulty why } in
     let by : OffersBy m.memory m.limit q loaded [] (Offers head (CannotFetch why)) =
     offers_over m.memory places at m.limit q loaded [] (Offers head (CannotFetch why)) walked.0 in
     let made : ReturnsFaultyBy m i q head why [] x (tells seen) (effects_of c x last seen) (after_alone m c files) = record {
@@ -260,7 +262,7 @@ exchange_of {G} other m files places i q loaded ds head (Faulty why) x last seen
     }
 exchange_of other m files places i q loaded ds head Fetched x last seen at served walked options goes two run = absurd goes
 exchange_of other m files places i q loaded ds head (Own request reply) x last seen at served walked options goes two run = absurd served
-exchange_of other m files places i q loaded ds head (Lost fault) x last seen at served walked options goes two run = absurd goes
+exchange_of other m files places i q loaded ds head (Abandoned fault) x last seen at served walked options goes two run = absurd goes
 exchange_of {G} other m files places i q loaded ds head (Asked request asked calls) x last seen at served walked options goes two run =
     let c : OutChain =
     record { places = places; queue = i; taken = q; loaded = loaded; descriptors = ds; head = head; phase = Asked request asked calls } in

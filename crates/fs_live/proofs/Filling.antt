@@ -16,7 +16,7 @@ use Rattle.fs_regions.specs.Places.{places_in}
 use Rattle.virtiofsd_fuse.specs.Serving.{May}
 use Rattle.plain_machine.specs.StepBy.{byte_store}
 use Rattle.fs_live.specs.Filling.{HandleFills, HandleFillsRange, HasRoom}
-use Rattle.fs_live.specs.Live.{Faulty, IsStoredIn, Lost, Phase, room_in, room_of}
+use Rattle.fs_live.specs.Live.{Abandoned, IsStoredIn, Phase, PoppedFaulty, room_in, room_of}
 use Rattle.fs_live.proofs.Queues.{same_some}
 
 -- ---- in the reply buffer
@@ -47,8 +47,8 @@ each_stored (a ∷ as') (x ∷ xs) target there = (
 )
 
 room_is : (p : Phase) (ds : List Descriptor) → HasRoom p → room_in p ds ≡ addresses_of (writable ds)
-room_is (Faulty why) ds has = absurd has
-room_is (Lost fault) ds has = absurd has
+room_is (PoppedFaulty why) ds has = absurd has
+room_is (Abandoned fault) ds has = absurd has
 room_is p ds has = refl
 
 -- ---- the places of a part

@@ -6,16 +6,16 @@ use Rattle.virtiofsd_fuse.specs.Serving.{May}
 use Rattle.plain_machine.specs.MarkedPages.{Marks}
 use Rattle.plain_machine.specs.StepBy.{after_stores, stores_among}
 use Rattle.plain_machine.proofs.PageLemmas.{marks_join, none_written, ways_stay, writes_mark}
-use Rattle.fs_live.specs.Guest.{Device, PagesOfRun, StaysThere, Writes, after_moments, over_places, told_through}
-use Rattle.fs_live.specs.Live.{LiveEvent, Maps, Moves}
+use Rattle.fs_live.specs.Guest.{DeviceEvent, PagesOfRun, StaysThere, Writes, after_moments, over_places, told_through}
+use Rattle.fs_live.specs.Live.{LiveEvent, MovesDevice, Remaps}
 use Rattle.fs_live.specs.Live.{acts_of}
 use Rattle.fs_live.specs.Runs.{told_by}
 use Rattle.fs_live.proofs.Pages.{event_told}
 
 -- an event that leaves the places
 stays_laid : (e : LiveEvent) (m : Memory) → StaysThere e → over_places e m ≡ m
-stays_laid (Maps p) m stays = absurd stays
-stays_laid (Moves p queues) m stays = absurd stays
+stays_laid (Remaps p) m stays = absurd stays
+stays_laid (MovesDevice p queues) m stays = absurd stays
 stays_laid e m stays = refl
 
 pub pages_of_run : {F : Type 0} (may : May F) → PagesOfRun may
@@ -24,7 +24,7 @@ pages_of_run may s after (Writes ws ∷ ms) m run stay =
     marks_join m (stored_all m ws) (map (λ (w : ℕ × ℕ). w.0) ws) (told_through may s ms after run) (after_moments (stored_all m ws) ms).host
     (ways_stay m ws) (writes_mark m ws)
     (pages_of_run may s after ms (stored_all m ws) run stay)
-pages_of_run may s after (Device e ∷ ms) m run stay =
+pages_of_run may s after (DeviceEvent e ∷ ms) m run stay =
     let ws = flat_map writes_of (stores_among (acts_of e)) in
     let n : Memory = after_stores m (stores_among (acts_of e)) in
     let laid : over_places e n ≡ n = stays_laid e n stay.0 in

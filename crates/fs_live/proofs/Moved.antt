@@ -7,7 +7,7 @@ use Rattle.vm_memory.specs.Memory.{Memory}
 use Rattle.fs_queue.specs.Queue.{Queue}
 use Rattle.virtiofsd_fuse.specs.Serving.{May}
 use Rattle.fs_live.specs.Several.{LiveQueue, InFlightId}
-use Rattle.fs_live.specs.Live.{BeginsSo, Happens, KeepsQueue, LiveEvent, LiveRun, LiveState, Maps, MovesSo, OutChain}
+use Rattle.fs_live.specs.Live.{BeginsSo, Happens, KeepsQueue, LiveEvent, LiveRun, LiveState, MovesSo, OutChain, Remaps}
 use Rattle.fs_live.specs.Runs.{IsEven, MovedGoesOn, StandsEven, tickets_on, untold}
 use Rattle.fs_live.proofs.Placed.{Ahead, run_kept, started}
 use Rattle.fs_live.proofs.Queues.{kept_not, one_ticket, same_some}
@@ -109,11 +109,11 @@ moved_goes_on {F} may s now moved es m queues none even run moves told =
     (λ i w there. none_out_even i may s now es w none even run there (ap (λ (cs : List OutChain). tickets_on i cs) so.none_out)) in
     let same : queues ≡ now.queues = same_queues queues now.queues so.even stand so.same told in
     let state : moved ≡ record now { places = m } = so.state ∙ ap (λ (l : List LiveQueue). record now { places = m; queues = l }) same in
-    let maps : Happens may now (Maps m) moved =
+    let maps : Happens may now (Remaps m) moved =
     record { keeps = subst (λ (cs : List OutChain). AllByRecursion (KeepsQueue now m) cs) (sym so.none_out) tt; state = state } in
     let stays : m ≡ now.places → moved ≡ now = λ places. state ∙ ap (λ (k : Memory). record now { places = k }) places in (
       maps,
       stays,
-      λ later end more. joined may s now end es (Maps m ∷ later) run (moved, maps, more),
+      λ later end more. joined may s now end es (Remaps m ∷ later) run (moved, maps, more),
       λ places later end more. joined may s now end es later run (subst (λ (k : LiveState F). LiveRun may k later end) (stays places) more),
     )

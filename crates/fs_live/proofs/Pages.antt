@@ -20,7 +20,8 @@ use Rattle.plain_machine.specs.StepBy.{reply_stores, stores_among}
 use Rattle.plain_machine.proofs.PageLemmas.{writes_mark}
 use Rattle.plain_machine.proofs.StepByLemmas.{reply_writes}
 use Rattle.fs_live.specs.Several.{LiveQueue, avail_event_at, returning, sleep_store}
-use Rattle.fs_live.specs.Live.{Fills, Happens, LiveEvent, LiveState, OutChain, Returns, ReturnsSo, Sleeps, SleepsSo, acts_of, room_of}
+use Rattle.fs_live.specs.Live.{FillsBuffer, Happens, LiveEvent, LiveState, OutChain, PushesChain, ReturnsSo, Sleeps, SleepsSo, acts_of}
+use Rattle.fs_live.specs.Live.{room_of}
 use Rattle.fs_live.specs.Runs.{LogsAsTold, MarksAsTold, PagesAreTold, ReturnsTell, page_of, told_by, told_of_queue, written_by}
 use Rattle.fs_live.proofs.Stored.{among_return, among_stores}
 
@@ -114,7 +115,7 @@ both_told s e same = (
 
 returns_told : {F : Type 0} (s mid : LiveState F) (c : OutChain) (x : Exchange) (notice : Bool) (last : ℕ) (used : List Store)
     (seen : List ℕ) → (h : ReturnsSo s c x notice last used seen mid)
-    → told_by s (Returns c x notice last used seen) ≡ returned_addresses (returning h.w) c.head (room_of c) x.reply
+    → told_by s (PushesChain c x notice last used seen) ≡ returned_addresses (returning h.w) c.head (room_of c) x.reply
 returns_told s mid c x notice last used seen h =
     ap (λ (k : Option LiveQueue). take (length x.reply) (room_of c) ++ told_of_queue k) h.there
     ∙ sym (returned_are (returning h.w) c.head (room_of c) x.reply)
@@ -145,7 +146,7 @@ fills_told (store ∷ stores) =
 
 one_event : {F : Type 0} (may : May F) (s mid : LiveState F) (e : LiveEvent) → Happens may s e mid → (p : ℕ → Bool) →
     list_any p (written_by (acts_of e)) ≡ list_any p (told_by s e)
-one_event may s mid (Returns c x notice last used seen) h p =
+one_event may s mid (PushesChain c x notice last used seen) h p =
     let so : ReturnsSo s c x notice last used seen mid = h in
     ap (λ (l : List Store). list_any p (firsts (flat_map writes_of l))) (among_return (reply_stores (room_of c) x.reply last ++ used) seen)
     ∙ any_stored (returning so.w) c.head (room_of c) x.reply p last used so.used_is
@@ -153,7 +154,7 @@ one_event may s mid (Returns c x notice last used seen) h p =
 one_event may s mid (Sleeps i store) h p =
     let so : SleepsSo s i store mid = h in
     ap (list_any p) (subst TellsTwo so.stores (sleep_told so.w.queue so.w.next_used so.w.max_in_flight so.w.event_index so.wanted))
-one_event may s mid (Fills c stores) h p =
+one_event may s mid (FillsBuffer c stores) h p =
     ap (list_any p) (ap (λ (l : List Store). firsts (flat_map writes_of l)) (among_stores stores) ∙ fills_told stores)
 one_event may s mid e h p = refl
 

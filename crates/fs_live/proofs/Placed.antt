@@ -14,8 +14,10 @@ use Rattle.fs_regions.specs.declared.step.CourseStep.TheVariants as step
 use Rattle.fs_regions.specs.Walks.{Loaded}
 use Rattle.virtiofsd_fuse.specs.Serving.{May}
 use Rattle.fs_live.specs.Several.{LiveQueue, InFlightId, took, untook, gave, returning}
-use Rattle.fs_live.specs.Live.{Phase, Faulty, Own, Lost, OutChain, LiveState, LiveEvent, Walks, Declines, Asks, Answers}
-use Rattle.fs_live.specs.Live.{Returns, Sleeps, Begins, Fills, Drops, Abandons, Replies, Maps, Moves, Happens, LiveRun}
+use Rattle.fs_live.specs.Live.{Phase, PoppedFaulty, Own, Abandoned, OutChain, LiveState, LiveEvent, Walks, Declines, DecodesRequest}
+use Rattle.fs_live.specs.Live.{EndsCall}
+use Rattle.fs_live.specs.Live.{PushesChain, Sleeps, Begins, FillsBuffer, Drops, Abandons, RepliesOwnBytes, Remaps, MovesDevice, Happens}
+use Rattle.fs_live.specs.Live.{LiveRun}
 use Rattle.fs_live.specs.Live.{IfKeepsReturns, KeepsQueue, KeepsReturns, WalksIn, after_answer, after_asking, after_beginning, after_drop}
 use Rattle.fs_live.specs.Live.{after_giving, after_loss, after_own, asked_chain, fault_of, lost_chain, new_chain}
 use Rattle.fs_live.specs.Live.{room_in, why_declined}
@@ -243,18 +245,18 @@ module _ (i : ℕ) where
   keeps may s mid (Walks j loaded ds came) h kept = walks s mid j h.w loaded ds came h.there h.goes h.walks kept
   keeps {F} may s mid (Declines j e) h kept = subst (λ (k : LiveState F). Kept k) (sym h.state)
       (refuses s j h.w (stops_queue e) h.there kept)
-  keeps {F} may s mid (Asks c request told) h kept =
+  keeps {F} may s mid (DecodesRequest c request told) h kept =
       subst (λ (k : LiveState F). Kept k) (sym h.state)
       (stays s (after_asking s h.before h.behind c request) refl refl
       (goes_on i h.before h.behind c (asked_chain c request s.options []) (c.queue == i) refl refl refl
       ∙ sym (ap (λ (l : List OutChain). tickets_on i l) h.out)) kept)
-  keeps {F} may s mid (Answers c call answer) h kept =
+  keeps {F} may s mid (EndsCall c call answer) h kept =
       let calls = h.calls ++ (call, answer) ∷ [] in
       subst (λ (k : LiveState F). Kept k) (sym h.state)
       (stays s (after_answer s h.before h.behind c h.request h.options calls h.files) refl refl
       (goes_on i h.before h.behind c (asked_chain c h.request h.options calls) (c.queue == i) refl refl refl
       ∙ sym (ap (λ (l : List OutChain). tickets_on i l) h.out)) kept)
-  keeps {F} may s mid (Returns c x notice last used seen) h kept =
+  keeps {F} may s mid (PushesChain c x notice last used seen) h kept =
       let mid' = after_giving s h.before h.behind c h.w in
       let out : out_on i s.outs ≡ out_on i (h.before ++ c ∷ h.behind) = ap (λ (cs : List OutChain). out_on i cs) h.out in
       subst (λ (k : LiveState F). Kept k) (sym h.state)
@@ -267,7 +269,7 @@ module _ (i : ℕ) where
       (changes s (after_beginning s j v) j h.old v (j == i) refl refl refl h.there
       (λ is ahead. subst (λ (l : List InFlightId). Ahead s.places v (length l)) (sym (none_left i j s.outs is)) h.both)
       (λ is. ap (λ (l : List InFlightId). length l) (dropped i j s.outs (apart_of j i is))) kept)
-  keeps {F} may s mid (Fills c stores) h kept = subst (λ (k : LiveState F). Kept k) (sym h.state) kept
+  keeps {F} may s mid (FillsBuffer c stores) h kept = subst (λ (k : LiveState F). Kept k) (sym h.state) kept
   keeps {F} may s mid (Drops c) h kept =
       let out : out_on i s.outs ≡ out_on i (h.before ++ c ∷ h.behind) = ap (λ (cs : List OutChain). out_on i cs) h.out in
       subst (λ (k : LiveState F). Kept k) (sym h.state)
@@ -280,14 +282,14 @@ module _ (i : ℕ) where
       (stays s (after_loss s h.before h.behind c) refl refl
       (goes_on i h.before h.behind c (lost_chain c) (c.queue == i) refl refl refl ∙ sym (ap (λ (l : List OutChain). tickets_on i l) h.out))
       kept)
-  keeps {F} may s mid (Replies c request reply options) h kept =
+  keeps {F} may s mid (RepliesOwnBytes c request reply options) h kept =
       subst (λ (k : LiveState F). Kept k) (sym h.state)
       (stays s (after_own s h.before h.behind c request reply options) refl refl
       (goes_on i h.before h.behind c (record c { phase = Own request reply }) (c.queue == i) refl refl refl
       ∙ sym (ap (λ (l : List OutChain). tickets_on i l) h.out)) kept)
-  keeps {F} may s mid (Maps m') h kept =
+  keeps {F} may s mid (Remaps m') h kept =
       subst (λ (k : LiveState F). Kept k) (sym h.state) (λ w there. mapped_all s m' w s.outs there h.keeps (kept w there))
-  keeps {F} may s mid (Moves m' queues) h kept =
+  keeps {F} may s mid (MovesDevice m' queues) h kept =
       subst (λ (k : LiveState F). Kept k) (sym h.state)
       (λ w there. subst (λ (cs : List OutChain). Ahead m' w (out_on i cs)) (sym h.none_out) (even_at queues i w h.even there))
 
@@ -416,21 +418,21 @@ ties : {F : Type 0} (may : May F) (s mid : LiveState F) (e : LiveEvent) → Happ
 ties may s mid (Walks j loaded ds came) h all = walk_tied s mid j h.w loaded ds came h.there h.walks all
 ties {F} may s mid (Declines j e) h all =
     subst (λ (k : LiveState F). AllTied k) (sym h.state) (refusal_tied s j h.w (stops_queue e) h.there all)
-ties {F} may s mid (Asks c request told) h all =
+ties {F} may s mid (DecodesRequest c request told) h all =
     subst (λ (k : LiveState F). AllTied k) (sym h.state)
     (one_changed s.places s.queues h.before h.behind c (asked_chain c request s.options []) s.outs h.out (λ tied. tied) all)
-ties {F} may s mid (Answers c call answer) h all =
+ties {F} may s mid (EndsCall c call answer) h all =
     subst (λ (k : LiveState F). AllTied k) (sym h.state)
     (one_changed s.places s.queues h.before h.behind c (asked_chain c h.request h.options (h.calls ++ (call, answer) ∷ [])) s.outs h.out
     (λ tied. tied) all)
-ties {F} may s mid (Returns c x notice last used seen) h all =
+ties {F} may s mid (PushesChain c x notice last used seen) h all =
     subst (λ (k : LiveState F). AllTied k) (sym h.state)
     (all_tied s.places s.queues c.queue h.w (gave h.w) (h.before ++ h.behind) h.there
     (λ m m' keeps. record { returns = keeps.returns; event = keeps.event })
     (one_less_tied s.places s.queues h.before h.behind c s.outs h.out all))
 ties {F} may s mid (Sleeps j store) h all = subst (λ (k : LiveState F). AllTied k) (sym h.state) all
 ties {F} may s mid (Begins j v) h all = subst (λ (k : LiveState F). AllTied k) (sym h.state) (left_tied s.places s.queues j v s.outs all)
-ties {F} may s mid (Fills c stores) h all = subst (λ (k : LiveState F). AllTied k) (sym h.state) all
+ties {F} may s mid (FillsBuffer c stores) h all = subst (λ (k : LiveState F). AllTied k) (sym h.state) all
 ties {F} may s mid (Drops c) h all =
     subst (λ (k : LiveState F). AllTied k) (sym h.state)
     (all_tied s.places s.queues c.queue h.w (untook h.w) (h.before ++ h.behind) h.there
@@ -439,11 +441,11 @@ ties {F} may s mid (Drops c) h all =
 ties {F} may s mid (Abandons c) h all =
     subst (λ (k : LiveState F). AllTied k) (sym h.state)
     (one_changed s.places s.queues h.before h.behind c (lost_chain c) s.outs h.out (λ tied. tied) all)
-ties {F} may s mid (Replies c request reply options) h all =
+ties {F} may s mid (RepliesOwnBytes c request reply options) h all =
     subst (λ (k : LiveState F). AllTied k) (sym h.state)
     (one_changed s.places s.queues h.before h.behind c (record c { phase = Own request reply }) s.outs h.out (λ tied. tied) all)
-ties {F} may s mid (Maps m') h all = subst (λ (k : LiveState F). AllTied k) (sym h.state) (mapped_tied s m' s.outs h.keeps all)
-ties {F} may s mid (Moves m' queues) h all =
+ties {F} may s mid (Remaps m') h all = subst (λ (k : LiveState F). AllTied k) (sym h.state) (mapped_tied s m' s.outs h.keeps all)
+ties {F} may s mid (MovesDevice m' queues) h all =
     subst (λ (k : LiveState F). AllTied k) (sym h.state) (subst (AllByRecursion (Tied m' queues)) (sym h.none_out) tt)
 
 run_ties : {F : Type 0} (may : May F) (s now : LiveState F) (es : List LiveEvent) → LiveRun may s es now → AllTied s → AllTied now
@@ -454,8 +456,8 @@ run_ties may s now (e ∷ es) run all = run_ties may run.0 now es run.2 (ties ma
 
 -- its room
 room_fits : (m : Memory) (ds : List Descriptor) (p : Phase) → RoomFits m ds (fault_of p) → has_places m (room_in p ds) ≡ true
-room_fits m ds (Faulty why) fits = refl
-room_fits m ds (Lost fault) fits = refl
+room_fits m ds (PoppedFaulty why) fits = refl
+room_fits m ds (Abandoned fault) fits = refl
 room_fits m ds p fits = fits
 
 -- its return has places by those of its walk, as it has by those of now

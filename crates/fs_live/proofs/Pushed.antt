@@ -41,7 +41,7 @@ suits_run (step ∷ steps) suits = (tt, suits.0, tt, suits_run steps suits.1)
 -- the flags that acts load last
 abbrev flags_in : List Act → List ℕ
 flags_in [] = []
-flags_in (act.Stores store ∷ acts) = flags_in acts
+flags_in (act.StoresBytes store ∷ acts) = flags_in acts
 flags_in (act.LoadsFlags found ∷ acts) = found
 
 flags_of : (stores : List Store) (flags : List ℕ) → flags_in (return_acts stores flags) ≡ flags

@@ -16,8 +16,9 @@ use Rattle.virtiofsd_fuse.specs.Serving.{May}
 use Rattle.fs_live.specs.Several.{LiveQueue, InFlightId, QueueEvent, RunsOver, may_take, took, untook, gave, returning}
 use Rattle.fs_live.specs.Several as several
 use Rattle.fs_live.proofs.SeveralRuns.{once, used_in_order}
-use Rattle.fs_live.specs.Live.{OutChain, LiveState, LiveEvent, Walks, Declines, Asks, Answers, Returns, Sleeps, Begins, Fills, Drops}
-use Rattle.fs_live.specs.Live.{Abandons, Replies, Maps, Moves, Happens, LiveRun, WalksIn}
+use Rattle.fs_live.specs.Live.{OutChain, LiveState, LiveEvent, Walks, Declines, DecodesRequest, EndsCall, PushesChain, Sleeps, Begins}
+use Rattle.fs_live.specs.Live.{FillsBuffer, Drops}
+use Rattle.fs_live.specs.Live.{Abandons, RepliesOwnBytes, Remaps, MovesDevice, Happens, LiveRun, WalksIn}
 use Rattle.fs_live.specs.Live.{Own, after_answer, after_asking, after_beginning, after_drop, after_loss, after_own, asked_chain, lost_chain}
 use Rattle.fs_live.specs.Live.{new_chain}
 use Rattle.fs_live.specs.Runs.{RunsOnQueue, OncePerLiveChain, LiveUsedInOrder, NotAnew, event_on, events_on, tickets_on, going}
@@ -168,7 +169,7 @@ module _ (i : ℕ) where
       → slice_get s.queues j ≡ Some v → c.queue ≡ j
       → c.taken ≡ v.queue → IsTrue (may_take v)
       → Carries s (record s { queues = changed_at s.queues j (λ _. took v); outs = s.outs ++ c ∷ [] }) w
-      (if b then several.Takes c.head ∷ [] else [])
+      (if b then several.PopsOne c.head ∷ [] else [])
   takes {F} s j w v true c is there at of_queue taken may =
       let same : j ≡ i = eqb-true j i is in
       let one : v ≡ w = same_some v w (sym at ∙ ap (λ (n : ℕ). slice_get s.queues n) same ∙ there) in
@@ -177,7 +178,7 @@ module _ (i : ℕ) where
       tickets-append s.outs (c ∷ [])
       ∙ ap (λ (l : List InFlightId). tickets_on i s.outs ++ l)
       (one_ticket c [] true (ap (λ (n : ℕ). n == i) of_queue ∙ is) ∙ ap (λ k. (k.position, c.head) ∷ []) taken) in
-      subst (λ (k : LiveQueue). Carries s mid k (several.Takes c.head ∷ [])) one (
+      subst (λ (k : LiveQueue). Carries s mid k (several.PopsOne c.head ∷ [])) one (
         took v,
         there_same s.queues j i (λ _. took v) w same there,
         λ es u outs run. (may, subst (λ (l : List InFlightId). RunsOver (going (took v)) l es u outs) outs_are run),
@@ -208,7 +209,7 @@ module _ (i : ℕ) where
       → slice_get s.queues i ≡ Some w → slice_get s.queues c.queue ≡ Some v → s.outs ≡ before ++ c ∷ behind
       → used ≡ stores_after_reply (returning v) c.head len
       → Carries s (record s { queues = changed_at s.queues c.queue (λ _. gave v); outs = before ++ behind }) w
-      (if b then several.Returns (c.taken.position, c.head) len used ∷ [] else [])
+      (if b then several.PushesOne (c.taken.position, c.head) len used ∷ [] else [])
   returns {F} s before behind c w v true len used is there at out used_is =
       let same : c.queue ≡ i = eqb-true c.queue i is in
       let one : v ≡ w = same_some v w (sym at ∙ ap (λ (n : ℕ). slice_get s.queues n) same ∙ there) in
@@ -216,7 +217,7 @@ module _ (i : ℕ) where
       let split : tickets_on i s.outs ≡ tickets_on i before ++ ticket_of c ∷ tickets_on i behind =
       ap (λ (l : List OutChain). tickets_on i l) out ∙ tickets-append before (c ∷ behind)
       ∙ ap (λ (l : List InFlightId). tickets_on i before ++ l) (one_ticket c behind true is) in
-      subst (λ (k : LiveQueue). Carries s mid k (several.Returns (c.taken.position, c.head) len used ∷ [])) one (
+      subst (λ (k : LiveQueue). Carries s mid k (several.PushesOne (c.taken.position, c.head) len used ∷ [])) one (
         gave v,
         there_same s.queues c.queue i (λ _. gave v) w same there,
         λ es u outs run. (
@@ -238,14 +239,14 @@ module _ (i : ℕ) where
   drops : {F : Type 0} (s : LiveState F) (before behind : List OutChain) (c : OutChain) (w v : LiveQueue) (b : Bool) → (c.queue == i) ≡ b
       → slice_get s.queues i ≡ Some w → slice_get s.queues c.queue ≡ Some v → s.outs ≡ before ++ c ∷ behind
       → v.queue.position ≡ (c.taken.position + 1) % 2 ^ 16
-      → Carries s (after_drop s before behind c v) w (if b then several.Drops (c.taken.position, c.head) ∷ [] else [])
+      → Carries s (after_drop s before behind c v) w (if b then several.DropsLast (c.taken.position, c.head) ∷ [] else [])
   drops {F} s before behind c w v true is there at out youngest =
       let same : c.queue ≡ i = eqb-true c.queue i is in
       let one : v ≡ w = same_some v w (sym at ∙ ap (λ (n : ℕ). slice_get s.queues n) same ∙ there) in
       let split : tickets_on i s.outs ≡ tickets_on i before ++ ticket_of c ∷ tickets_on i behind =
       ap (λ (l : List OutChain). tickets_on i l) out ∙ tickets-append before (c ∷ behind)
       ∙ ap (λ (l : List InFlightId). tickets_on i before ++ l) (one_ticket c behind true is) in
-      subst (λ (k : LiveQueue). Carries s (after_drop s before behind c v) k (several.Drops (c.taken.position, c.head) ∷ [])) one (
+      subst (λ (k : LiveQueue). Carries s (after_drop s before behind c v) k (several.DropsLast (c.taken.position, c.head) ∷ [])) one (
         untook v,
         there_same s.queues c.queue i (λ _. untook v) w same there,
         λ es u outs run. (
@@ -271,19 +272,19 @@ module _ (i : ℕ) where
   carries may s mid w (Walks j loaded ds came) there anew h = walks s mid j w h.w loaded ds came there h.there h.room h.walks
   carries {F} may s mid w (Declines j e) there anew h =
       subst (λ (k : LiveState F). Carries s k w []) (sym h.state) (refuses s j w h.w (j == i) (stops_queue e) refl there h.there)
-  carries {F} may s mid w (Asks c request told) there anew h =
+  carries {F} may s mid w (DecodesRequest c request told) there anew h =
       subst (λ (k : LiveState F). Carries s k w []) (sym h.state)
       (stays s (after_asking s h.before h.behind c request) w w there refl
       (goes_on h.before h.behind c (asked_chain c request s.options []) (c.queue == i) refl refl refl
       ∙ sym (ap (λ (l : List OutChain). tickets_on i l) h.out)))
-  carries {F} may s mid w (Answers c call answer) there anew h =
+  carries {F} may s mid w (EndsCall c call answer) there anew h =
       let calls = h.calls ++ (call, answer) ∷ [] in
       subst (λ (k : LiveState F). Carries s k w []) (sym h.state)
       (stays s (after_answer s h.before h.behind c h.request h.options calls h.files) w w there refl
       (goes_on h.before h.behind c (asked_chain c h.request h.options calls) (c.queue == i) refl refl refl
       ∙ sym (ap (λ (l : List OutChain). tickets_on i l) h.out)))
-  carries {F} may s mid w (Returns c x notice last used seen) there anew h =
-      subst (λ (k : LiveState F). Carries s k w (event_on i (Returns c x notice last used seen))) (sym h.state)
+  carries {F} may s mid w (PushesChain c x notice last used seen) there anew h =
+      subst (λ (k : LiveState F). Carries s k w (event_on i (PushesChain c x notice last used seen))) (sym h.state)
       (returns s h.before h.behind c w h.w (c.queue == i) (length x.reply) used refl there h.there h.out h.used_is)
   carries {F} may s mid w (Sleeps j store) there anew h =
       subst (λ (k : LiveState F). Carries s k w []) (sym h.state) (stays s s w w there refl refl)
@@ -291,7 +292,7 @@ module _ (i : ℕ) where
       let apart = apart_of j i (not_true (j == i) anew) in
       subst (λ (k : LiveState F). Carries s k w []) (sym h.state) (stays s (after_beginning s j v) w w
       (there_other s.queues j i (λ _. v) apart ∙ there) refl (dropped j s.outs apart))
-  carries {F} may s mid w (Fills c stores) there anew h =
+  carries {F} may s mid w (FillsBuffer c stores) there anew h =
       subst (λ (k : LiveState F). Carries s k w []) (sym h.state) (stays s s w w there refl refl)
   carries {F} may s mid w (Drops c) there anew h =
       subst (λ (k : LiveState F). Carries s k w (event_on i (Drops c))) (sym h.state)
@@ -300,14 +301,14 @@ module _ (i : ℕ) where
       subst (λ (k : LiveState F). Carries s k w []) (sym h.state)
       (stays s (after_loss s h.before h.behind c) w w there refl
       (goes_on h.before h.behind c (lost_chain c) (c.queue == i) refl refl refl ∙ sym (ap (λ (l : List OutChain). tickets_on i l) h.out)))
-  carries {F} may s mid w (Replies c request reply options) there anew h =
+  carries {F} may s mid w (RepliesOwnBytes c request reply options) there anew h =
       subst (λ (k : LiveState F). Carries s k w []) (sym h.state)
       (stays s (after_own s h.before h.behind c request reply options) w w there refl
       (goes_on h.before h.behind c (record c { phase = Own request reply }) (c.queue == i) refl refl refl
       ∙ sym (ap (λ (l : List OutChain). tickets_on i l) h.out)))
-  carries {F} may s mid w (Maps m) there anew h =
+  carries {F} may s mid w (Remaps m) there anew h =
       subst (λ (k : LiveState F). Carries s k w []) (sym h.state) (stays s (record s { places = m }) w w there refl refl)
-  carries may s mid w (Moves m queues) there anew h = absurd anew
+  carries may s mid w (MovesDevice m queues) there anew h = absurd anew
 
   pub runs_on : {F : Type 0} (may : May F) (s after : LiveState F) (es : List LiveEvent) (w : LiveQueue) → slice_get s.queues i ≡ Some w
       → AllByRecursion (NotAnew i) es → LiveRun may s es after →

@@ -26,7 +26,7 @@ use Rattle.plain_machine.specs.Step.{State, Exchange, Exchanged, Step, Calls, an
 use Rattle.plain_machine.specs.StepBy.{Act, Effects, StepBy, StepOfBy, ExchangesBy, AreStepLoadsOf, IsOfMemory, FindFlags, MayStoreLast}
 use Rattle.plain_machine.specs.StepBy.{after_stores, stores_among, offered_by, reply_stores, return_acts}
 use Rattle.plain_machine.proofs.StepByLemmas.{step_by_is_step}
-use Rattle.fs_live.specs.Live.{Phase, Faulty, Fetched, Asked, OutChain, LiveState, LiveEvent, Asks, Answers}
+use Rattle.fs_live.specs.Live.{Phase, PoppedFaulty, Fetched, Asked, OutChain, LiveState, LiveEvent, DecodesRequest, EndsCall}
 use Rattle.fs_live.specs.Live.{Happens, LiveRun}
 use Rattle.fs_live.specs.Live.{WalksSo, AsksSo, AnswersSo, ReturnsSo, calls_in, fault_of, new_chain, after_take, room_of, serving, acts_of}
 use Rattle.fs_live.specs.Live.{GoesBackWith}
@@ -169,9 +169,9 @@ pub between_alone : {F : Type 0} (may : May F) (s : LiveState F) (queues : List 
     → AllByRecursion IsOfChain es → Alone may s queues c k → LiveRun may k (es ++ back ∷ []) after
     → (now : LiveState F) × Alone may s queues c now × Happens may now back after
 between_alone {F} may s queues c k after [] back of a run = (k, a, subst (λ (x : LiveState F). Happens may k back x) (sym run.2) run.1)
-between_alone may s queues c k after (Asks d request told ∷ es) back of a run =
+between_alone may s queues c k after (DecodesRequest d request told ∷ es) back of a run =
     between_alone may s queues c run.0 after es back of.1 (asks_alone may s queues c k run.0 d request told a run.1) run.2
-between_alone may s queues c k after (Answers d call answer ∷ es) back of a run =
+between_alone may s queues c k after (EndsCall d call answer ∷ es) back of a run =
     between_alone may s queues c run.0 after es back of.1 (answers_alone_too may s queues c k run.0 d call answer a run.1) run.2
 between_alone may s queues c k after es back of a run = absurd of.0
 
@@ -193,7 +193,7 @@ start_alone {F} may s mid i v loaded ds head None none fetches is = record {
   served = tt;
 }
 start_alone {F} may s mid i v loaded ds head (Some why) none fetches is = record {
-  phase = Faulty why;
+  phase = PoppedFaulty why;
   outs = ap (λ (x : LiveState F). x.outs) is ∙ ap (λ (l : List OutChain). l ++ new_chain s i v loaded ds head (Some why) ∷ []) none;
   queues_are = ap (λ (x : LiveState F). x.queues) is;
   places = ap (λ (x : LiveState F). x.places) is;

@@ -8,7 +8,8 @@ use Rattle.std.specs.Int.{w16, from_le_bytes}
 use Rattle.std.specs.Prelude.{◌==◌, nat_lt}
 use Rattle.std.proofs.lemmas.Bool.Decides.{nat_tests}
 use Rattle.fs_queue.specs.Returning.{Store, stores_after_reply}
-use Rattle.fs_live.specs.Several.{ByEvent, LiveQueue, InFlightId, QueueEvent, Takes, Drops, Returns, RunsOver, UsedFrom, returns_among}
+use Rattle.fs_live.specs.Several.{ByEvent, LiveQueue, InFlightId, QueueEvent, PopsOne, DropsLast, PushesOne, RunsOver, UsedFrom}
+use Rattle.fs_live.specs.Several.{returns_among}
 use Rattle.fs_live.specs.Several.{took, gave, untook}
 use Rattle.fs_live.specs.Several.{wants, IsSerial, StoresAsTaken, heads_taken, heads_ended, IsOldestFirst, AtTheirPlaces}
 
@@ -24,17 +25,17 @@ past_drop w (r ∷ rs) h = (h.0, past_drop (gave w) rs h.1)
 pub used_in_order :
     (w w' : LiveQueue) (outs outs' : List InFlightId) (es : List QueueEvent) → RunsOver w outs es w' outs' → UsedFrom w (returns_among es)
 used_in_order w w' outs outs' [] run = tt
-used_in_order w w' outs outs' (Takes head ∷ es) run =
+used_in_order w w' outs outs' (PopsOne head ∷ es) run =
     past_take w (returns_among es) (used_in_order (took w) w' (outs ++ (w.queue.position, head) ∷ []) outs' es run.1)
-used_in_order w w' outs outs' (Drops t ∷ es) run =
+used_in_order w w' outs outs' (DropsLast t ∷ es) run =
     past_drop w (returns_among es) (used_in_order (untook w) w' (run.0 ++ run.1) outs' es run.4)
-used_in_order w w' outs outs' (Returns t len stores ∷ es) run = (run.3, used_in_order (gave w) w' (run.0 ++ run.1) outs' es run.4)
+used_in_order w w' outs outs' (PushesOne t len stores ∷ es) run = (run.3, used_in_order (gave w) w' (run.0 ++ run.1) outs' es run.4)
 
 -- in a serial run the two positions are one
 pub one_at_a_time : (w w' : LiveQueue) (outs outs' : List InFlightId) (es : List QueueEvent) → w.next_used ≡ w.queue.position →
     IsSerial es → RunsOver w outs es w' outs' → StoresAsTaken (w.queue) es
 one_at_a_time w w' outs outs' [] same serial run = tt
-one_at_a_time w w' outs outs' (Takes head ∷ Returns t len stores ∷ es) same serial run =
+one_at_a_time w w' outs outs' (PopsOne head ∷ PushesOne t len stores ∷ es) same serial run =
     let inner = run.1 in (
       inner.3 ∙ ap (λ (p : ℕ). stores_after_reply (record (w.queue) { position = p }) t.1 len) same
           ∙ ap (λ (h : ℕ). stores_after_reply (w.queue) h len) serial.0,
@@ -68,14 +69,14 @@ pub once : (w w' : LiveQueue) (outs outs' : List InFlightId) (es : List QueueEve
 once w w' outs outs' [] run =
     subst (λ (xs : List ℕ). IsPermutation (heads outs') xs) (ap heads run.1 ∙ sym (append-nil (heads outs)))
     (IsPermutation-refl (heads outs'))
-once w w' outs outs' (Takes head ∷ es) run =
+once w w' outs outs' (PopsOne head ∷ es) run =
     subst (λ (xs : List ℕ). IsPermutation (heads_ended es ++ heads outs') xs)
     (ap (λ (xs : List ℕ). xs ++ heads_taken es) (map-append (λ (t : InFlightId). t.1) outs ((w.queue.position, head) ∷ []))
     ∙ append_assoc (heads outs) (head ∷ []) (heads_taken es))
     (once (took w) w' (outs ++ (w.queue.position, head) ∷ []) outs' es run.1)
-once w w' outs outs' (Drops t ∷ es) run =
+once w w' outs outs' (DropsLast t ∷ es) run =
     one_ended (heads_ended es) (heads_taken es) (heads outs') t run.0 run.1 outs run.2 (once (untook w) w' (run.0 ++ run.1) outs' es run.4)
-once w w' outs outs' (Returns t len stores ∷ es) run =
+once w w' outs outs' (PushesOne t len stores ∷ es) run =
     one_ended (heads_ended es) (heads_taken es) (heads outs') t run.0 run.1 outs run.2 (once (gave w) w' (run.0 ++ run.1) outs' es run.4)
 
 -- ---- the oldest first
@@ -115,16 +116,16 @@ in_order : (w : LiveQueue) (outs : List InFlightId) (es : List QueueEvent) → w
     Follow w.next_used outs w.queue.position → IsOldestFirst w outs es → AtTheirPlaces w (returns_among es)
 unfolding Follow
 in_order w outs [] small follow oldest = tt
-in_order w outs (Takes head ∷ es) small follow oldest =
+in_order w outs (PopsOne head ∷ es) small follow oldest =
     places_past w (returns_among es)
     (in_order (took w) (outs ++ (w.queue.position, head) ∷ []) es small (follow_more w.next_used w.queue.position head outs follow) oldest)
-in_order w outs (Drops t ∷ es) small follow oldest =
+in_order w outs (DropsLast t ∷ es) small follow oldest =
     places_dropped w (returns_among es)
     (in_order (untook w) oldest.0 es small
     (follow_less w.next_used w.queue.position t oldest.0 small
     (subst (λ (ts : List InFlightId). Follow w.next_used ts w.queue.position) oldest.1 follow)) oldest.2)
-in_order w [] (Returns t len stores ∷ es) small follow oldest = absurd oldest
-in_order w (first ∷ outs) (Returns t len stores ∷ es) small follow oldest =
+in_order w [] (PushesOne t len stores ∷ es) small follow oldest = absurd oldest
+in_order w (first ∷ outs) (PushesOne t len stores ∷ es) small follow oldest =
     (ap (λ (u : InFlightId). u.0) oldest.0 ∙ follow.0, in_order (gave w) outs es (small_next w.next_used) follow.1 oldest.1)
 
 pub keeps_order : (w : LiveQueue) (es : List QueueEvent) → w.next_used ≡ w.queue.position → w.queue.position < 2 ^ 16 →

@@ -11,10 +11,10 @@ use Rattle.fs_queue.specs.Queue.{Queue, element_at, index_at}
 use Rattle.fs_queue.specs.Returning.{Store, writes_of, stores_after_reply}
 use Rattle.fs_queue.proofs.ReturnLemmas.{returns_by_stores}
 use Rattle.virtiofsd_fuse.specs.Serving.{May}
-use Rattle.plain_machine.specs.StepBy.{Stores, reply_stores, return_acts, stores_among}
+use Rattle.plain_machine.specs.StepBy.{StoresBytes, reply_stores, return_acts, stores_among}
 use Rattle.plain_machine.proofs.StepByLemmas.{reply_writes}
 use Rattle.fs_live.specs.Several.{LiveQueue, avail_event_at, returning, sleep_store}
-use Rattle.fs_live.specs.Live.{OutChain, LiveState, LiveEvent, Returns, Sleeps, Fills}
+use Rattle.fs_live.specs.Live.{OutChain, LiveState, LiveEvent, PushesChain, Sleeps, FillsBuffer}
 use Rattle.fs_live.specs.Live.{FillsSo, Happens, IsStoredIn, ReturnsSo, SleepsSo, acts_of, room_of}
 use Rattle.fs_live.specs.Runs.{StoresStayThere, StoresThere, queue_addresses, sleep_addresses}
 
@@ -91,7 +91,7 @@ sleep_there q next_used max_in_flight false true = two_there q.used 0
 sleep_there q next_used max_in_flight false false = two_there q.used 1
 
 -- stores in a room
-pub among_stores : (stores : List Store) → stores_among (map Stores stores) ≡ stores
+pub among_stores : (stores : List Store) → stores_among (map StoresBytes stores) ≡ stores
 among_stores [] = refl
 among_stores (store ∷ stores) = ap (λ (l : List Store). store ∷ l) (among_stores stores)
 
@@ -107,12 +107,12 @@ stores_within room (store ∷ stores) all =
     (stores_within room stores all.1)
 
 one_event : {F : Type 0} (may : May F) (s mid : LiveState F) (e : LiveEvent) → Happens may s e mid → StoresThere s e
-one_event may s mid (Returns c x notice last used seen) h =
+one_event may s mid (PushesChain c x notice last used seen) h =
     let out : ReturnsSo s c x notice last used seen mid = h in (
       subst (λ (l : List OutChain). Contains l c) (sym out.out)
           (Contains-append_right out.before (c ∷ out.behind) c (0, omega arith, refl)),
       subst (λ (k : Option LiveQueue). AllThere (room_of c ++ queue_addresses k)
-          (flat_map writes_of (stores_among (acts_of (Returns c x notice last used seen))))) (sym out.there)
+          (flat_map writes_of (stores_among (acts_of (PushesChain c x notice last used seen))))) (sym out.there)
           (return_there (returning out.w) (room_of c) c.head x.reply last used seen out.used_is),
     )
 one_event may s mid (Sleeps i store) h =
@@ -122,7 +122,7 @@ one_event may s mid (Sleeps i store) h =
           (subst (λ (k : Option Store). LandsThere so.w k) so.stores
           (sleep_there so.w.queue so.w.next_used so.w.max_in_flight so.w.event_index so.wanted)),
     )
-one_event may s mid (Fills c stores) h =
+one_event may s mid (FillsBuffer c stores) h =
     let so : FillsSo s c stores mid = h in (
       subst (λ (l : List OutChain). Contains l c) (sym so.out) (Contains-append_right so.before (c ∷ so.behind) c (0, omega arith, refl)),
       subst (λ (l : List Store). AllThere (room_of c) (flat_map writes_of l)) (sym (among_stores stores))

@@ -10,21 +10,22 @@ use Rattle.fs_regions.specs.Windows.{IsRangeFrom, IsWindowFrom}
 use Rattle.virtiofsd_fuse.specs.Serving.{May}
 use Rattle.fs_chain.specs.declared.chain_handle.ChainHandle.{ChainHandle}
 use Rattle.plain_machine.specs.StepBy.{byte_store}
-use Rattle.fs_live.specs.Live.{Faulty, Fills, Happens, LiveState, Lost, OutChain, Phase, room_of}
+use Rattle.fs_live.specs.Live.{Abandoned, FillsBuffer, Happens, LiveState, OutChain, Phase, PoppedFaulty}
+use Rattle.fs_live.specs.Live.{room_of}
 use Rattle.fs_live.specs.Runs.{told_by}
 
 -- a chain that has its reply buffer still: it isn't faulty, and its handle wasn't freed
 abbrev pub HasRoom : Phase → Type 0
-HasRoom (Faulty why) = ⊥
-HasRoom (Lost fault) = ⊥
+HasRoom (PoppedFaulty why) = ⊥
+HasRoom (Abandoned fault) = ⊥
 HasRoom _ = Unit {0}
 
 -- bytes that are stored one by one from byte `from` of a reply buffer on
 abbrev pub data_stores : (room : List ℕ) → (from : ℕ) → (bytes : List ℕ) → List Store
 data_stores room from bytes = map byte_store (zip (drop from room) bytes)
 
--- bytes that a caller stores at the start of a window of the reply buffer are the event `Fills`. The window
--- has the places of their addresses
+-- bytes that a caller stores at the start of a window of the reply buffer are the event `FillsBuffer`. The
+-- window has the places of their addresses
 abbrev pub HandleFills : {F : Type 0} → May F → Type 0
 HandleFills {F} may =
     (s : LiveState F) (c : OutChain) (before behind : List OutChain) (w : ChainHandle) (from : ℕ) (v : Window)
@@ -34,7 +35,7 @@ HandleFills {F} may =
     c.descriptors ≡ w.descriptors.items →
     IsWindowFrom w.regions true w.descriptors.items from v →
     length bytes ≤ v.len →
-    Happens may s (Fills c (data_stores (room_of c) from bytes)) s
+    Happens may s (FillsBuffer c (data_stores (room_of c) from bytes)) s
     × (located (location (places_in w.regions) Write) (take (length bytes) (drop from (room_of c)))
     ≡ Some (take (length bytes) (places_of v)))
 
@@ -51,5 +52,5 @@ HandleFillsRange {F} may =
     length bytes ≤ len →
     (address : ℕ)
     × (guest ≡ address % 2 ^ 64)
-    × (let fills = Fills c (record { address = address; bytes = bytes } ∷ []) in
+    × (let fills = FillsBuffer c (record { address = address; bytes = bytes } ∷ []) in
     Happens may s fills s × (told_by s fills ≡ take (length bytes) (drop from (room_of c))))

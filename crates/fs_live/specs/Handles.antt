@@ -44,8 +44,9 @@ use Rattle.fs_chain.specs.declared.chain_handle.ChainHandle.{ChainHandle}
 use Rattle.plain_machine.specs.Step.{Calls, EachSuits, Exchange}
 use Rattle.plain_machine.specs.StepBy.{Act}
 use Rattle.fs_live.specs.Several.{LiveQueue, seen_at}
-use Rattle.fs_live.specs.Live.{Answers, Asked, Asks, Begins, Declines, Faulty, Fetched, LiveEvent, LiveRun}
-use Rattle.fs_live.specs.Live.{LiveState, OutChain, Returns, Sleeps, Walks}
+use Rattle.fs_live.specs.Live.{Asked, Begins, Declines, DecodesRequest, EndsCall, Fetched, LiveEvent, LiveRun}
+use Rattle.fs_live.specs.Live.{PoppedFaulty}
+use Rattle.fs_live.specs.Live.{LiveState, OutChain, PushesChain, Sleeps, Walks}
 use Rattle.fs_live.specs.Live.{Happens, HasPlace, NoneWaits, acts_of, after_answer, after_asking}
 use Rattle.fs_live.specs.Live.{after_beginning, after_giving, after_walk, asked_chain, new_chain, room_of}
 use Rattle.fs_live.specs.Live.{serving, why_declined}
@@ -187,7 +188,7 @@ pub record IsKept (page_size options : ℕ) (request : List ℕ) (c : OutChain) 
       (drop 80 request) out made w.state
   pub session : (w.session.page_size ≡ page_size) × (w.session.options.0 ≡ options)
 
--- a decoding by a handle is the event `Asks`; the handle keeps the decoded request
+-- a decoding by a handle is the event `DecodesRequest`; the handle keeps the decoded request
 abbrev pub HandleAsks : {F : Type 0} → May F → Type 0
 HandleAsks {F} may =
     (s : LiveState F) (c : OutChain) (before behind : List OutChain) (w w' : ChainHandle) (session : Session)
@@ -200,11 +201,11 @@ HandleAsks {F} may =
     IsSessionOf s session →
     IsDecodedBy w session request front made w' →
     IsDecodedWhole made →
-    Happens may s (Asks c request (calls_told (drop 80 request) made))
+    Happens may s (DecodesRequest c request (calls_told (drop 80 request) made))
     (after_asking s before behind c request)
     × IsKept s.page_size s.options request (asked_chain c request s.options []) made w'
 
--- an answer by a handle is the event `Answers`; the handle's session then has the options that the chain
+-- an answer by a handle is the event `EndsCall`; the handle's session then has the options that the chain
 -- leaves by itself
 abbrev pub HandleAnswers : {F : Type 0} → May F → Type 0
 HandleAnswers {F} may =
@@ -219,7 +220,7 @@ HandleAnswers {F} may =
     may s.files (call_of (drop 80 request) made) (answer_of bytes a) files →
     let call = call_of (drop 80 request) made in
     let answer = answer_of bytes a in
-    Happens may s (Answers c call answer)
+    Happens may s (EndsCall c call answer)
     (after_answer s before behind c request options ((call, answer) ∷ []) files)
     × (w'.session.options.0
     ≡ (serving s.page_size options options request (room_of c) ((call, answer) ∷ [])).options)
@@ -242,7 +243,7 @@ HandleCalls {F} may =
     IsTrue (suits call answer) →
     may s.files call answer files →
     let calls = earlier ++ (call, answer) ∷ [] in
-    Happens may s (Answers c call answer) (after_answer s before behind c request options calls files)
+    Happens may s (EndsCall c call answer) (after_answer s before behind c request options calls files)
     × (later ≡ [] →
     w'.session.options.0 ≡ (serving s.page_size options options request (room_of c) calls).options)
 
@@ -281,13 +282,13 @@ abbrev pub IsReturn : {F : Type 0} → May F → LiveState F → (before behind 
     QueueState → List Act → (last : ℕ) → (notice : Bool) → PushStores → Type 0
 IsReturn {F} may s before behind c kept acts last notice stores =
     (x : Exchange) × (used : List Store) × (seen : List ℕ)
-    × (acts ≡ acts_of (Returns c x notice last used seen))
-    × Happens may s (Returns c x notice last used seen) (after_giving s before behind c (live_of kept))
+    × (acts ≡ acts_of (PushesChain c x notice last used seen))
+    × Happens may s (PushesChain c x notice last used seen) (after_giving s before behind c (live_of kept))
     × (slice_get (after_giving s before behind c (live_of kept)).queues c.queue ≡ Some (live_of (gave kept)))
     × (stores.seen_at ≡ seen_at (live_of kept))
 
--- the return by a handle of a chain whose calls were answered is the event `Returns`. Any chains of its queue
--- may have been popped and returned meanwhile
+-- the return by a handle of a chain whose calls were answered is the event `PushesChain`. Any chains of its
+-- queue may have been popped and returned meanwhile
 abbrev pub HandleReturns : {F : Type 0} → May F → Type 0
 HandleReturns {F} may =
     (s : LiveState F) (c : OutChain) (before behind : List OutChain) (w w' : ChainHandle) (kept : QueueState)
@@ -311,7 +312,7 @@ HandleFaulty {F} may =
     s.outs ≡ before ++ c ∷ behind →
     slice_get s.queues c.queue ≡ Some (live_of kept) →
     c.taken ≡ queue_of (course_of (record kept { next_avail = c.taken.position }) 0) →
-    c.phase ≡ Faulty why →
+    c.phase ≡ PoppedFaulty why →
     IsFaultyOut s.limit c w →
     (back : GoesBackBy kept [] [] w.state acts last notice) →
     IsReturn may s before behind c kept acts last notice back.stores

@@ -21,25 +21,25 @@ use Rattle.fuse_fs.specs.Calls.{FileCall, FileAnswer, suits}
 use Rattle.virtiofsd_fuse.specs.Grammar.{meaning}
 use Rattle.virtiofsd_fuse.specs.Serving.{May, ServedMessage, served, setting}
 use Rattle.plain_machine.specs.Step.{Exchange, Calls, answers_alone, calls_alone, faulty, served_exchange}
-use Rattle.plain_machine.specs.StepBy.{Act, Stores, reply_stores, return_acts}
+use Rattle.plain_machine.specs.StepBy.{Act, StoresBytes, reply_stores, return_acts}
 use Rattle.fs_live.specs.Several.{LiveQueue, avail_event_at, gave, may_take, returning, sleep_store, took}
 use Rattle.fs_live.specs.Several.{untook, used_event_at, wants}
 
 -- ---- states
 
 -- the phase of a chain in flight:
--- - `Faulty`: it is to be returned with an empty reply
+-- - `PoppedFaulty`: it is to be returned with an empty reply
 -- - `Fetched`: its request isn't decoded yet
 -- - `Asked`: its request was decoded as it was loaded, with the options of that moment; these calls were
 --   answered
 -- - `Own`: its caller replied with bytes of its own
--- - `Lost`: its handle was freed, so nothing more is done with it
+-- - `Abandoned`: its handle was freed, so nothing more is done with it
 pub data Phase : Type 0 where
-  Faulty : ChainFault → Phase
+  PoppedFaulty : ChainFault → Phase
   Fetched : Phase
   Asked : (request : List ℕ) → (options : ℕ) → Calls → Phase
   Own : (request reply : List ℕ) → Phase
-  Lost : Option ChainFault → Phase
+  Abandoned : Option ChainFault → Phase
 
 -- a chain in flight: the mappings when it was popped; its queue, as it was before the pop; the loads of the
 -- pop, the descriptors and the head; and its phase
@@ -54,14 +54,14 @@ pub record OutChain : Type 0 where
 
 -- the fault with which the chain was popped
 abbrev pub fault_of : Phase → Option ChainFault
-fault_of (Faulty why) = Some why
-fault_of (Lost fault) = fault
+fault_of (PoppedFaulty why) = Some why
+fault_of (Abandoned fault) = fault
 fault_of _ = None
 
 -- the addresses of the reply buffer: a faulty chain has none, and a lost one needs none
 abbrev pub room_in : Phase → List Descriptor → List ℕ
-room_in (Faulty why) ds = []
-room_in (Lost fault) ds = []
+room_in (PoppedFaulty why) ds = []
+room_in (Abandoned fault) ds = []
 room_in _ ds = addresses_of (writable ds)
 
 -- a chain that was decoded from this request, with these options, and whose calls so far are these
@@ -98,12 +98,12 @@ pub data LiveEvent : Type 0 where
   -- a pop of queue i was refused with this error, before any load, or because the queue was stopped meanwhile
   Declines : (i : ℕ) → QueueError → LiveEvent
   -- the request of a chain in flight was decoded: its first call, or none
-  Asks : OutChain → (request : List ℕ) → (told : List FileCall) → LiveEvent
+  DecodesRequest : OutChain → (request : List ℕ) → (told : List FileCall) → LiveEvent
   -- the pending call of the chain was answered
-  Answers : OutChain → FileCall → FileAnswer → LiveEvent
+  EndsCall : OutChain → FileCall → FileAnswer → LiveEvent
   -- it was returned. `last` bytes of the reply were stored last, and the stores `used` after the reply.
   -- By the two bytes at `seen_at` the driver enables or disables the notification
-  Returns :
+  PushesChain :
       OutChain → Exchange → (notice : Bool) → (last : ℕ) → (used : List Store) → (seen : List ℕ) → LiveEvent
   -- before the device sleeps, and when it wakes, it enables or disables the notifications of queue i
   Sleeps : (i : ℕ) → Store → LiveEvent
@@ -111,18 +111,18 @@ pub data LiveEvent : Type 0 where
   Begins : (i : ℕ) → LiveQueue → LiveEvent
   -- before a chain in flight is returned, some bytes are stored in its reply buffer, which its reply may
   -- count or not
-  Fills : OutChain → List Store → LiveEvent
+  FillsBuffer : OutChain → List Store → LiveEvent
   -- the chain popped last from its queue, and not decoded, is given up: it is available again
   Drops : OutChain → LiveEvent
   -- the handle of a chain is freed in any phase: the chain stays in flight
   Abandons : OutChain → LiveEvent
   -- the caller replies to a request with bytes of its own, instead of decoding it or of answering its pending
   -- call; it may set the options of the session then
-  Replies : OutChain → (request reply : List ℕ) → (options : ℕ) → LiveEvent
+  RepliesOwnBytes : OutChain → (request reply : List ℕ) → (options : ℕ) → LiveEvent
   -- addresses have other mappings from now on: those of other regions, or others in the same regions
-  Maps : Memory → LiveEvent
+  Remaps : Memory → LiveEvent
   -- the device moves: a record of it is made here, and its queues are reset by it there, over these mappings
-  Moves : Memory → List LiveQueue → LiveEvent
+  MovesDevice : Memory → List LiveQueue → LiveEvent
 
 -- the server's work for a chain after its answers so far, with the options of its decoding; `now`: the
 -- options at the moment of the answer
@@ -140,7 +140,7 @@ with_live s i w = record s { queues = changed_at s.queues i (λ _. w) }
 -- a popped chain isn't decoded yet, or it is faulty
 abbrev pub phase_by : Option ChainFault → Phase
 phase_by None = Fetched
-phase_by (Some why) = Faulty why
+phase_by (Some why) = PoppedFaulty why
 
 -- a chain as it is popped
 abbrev pub new_chain : {F : Type 0} → LiveState F → ℕ → LiveQueue → Loaded → List Descriptor → (head : ℕ) →
@@ -258,10 +258,10 @@ own_exchange head request reply = record { head = head; request = request; reply
 -- the exchange with which a chain is returned: an empty reply, if it is faulty; the server's reply, once no
 -- call is pending; or its caller's own bytes
 abbrev pub GoesBackWith : (page_size : ℕ) → OutChain → Phase → Exchange → Type 0
-GoesBackWith page_size c (Faulty why) x = x ≡ faulty c.head why
+GoesBackWith page_size c (PoppedFaulty why) x = x ≡ faulty c.head why
 GoesBackWith page_size c Fetched x = ⊥
 GoesBackWith page_size c (Own request reply) x = x ≡ own_exchange c.head request reply
-GoesBackWith page_size c (Lost fault) x = ⊥
+GoesBackWith page_size c (Abandoned fault) x = ⊥
 GoesBackWith page_size c (Asked request options calls) x =
     let given = serving page_size options options request (room_of c) calls in
     (given.calls ≡ calls_alone calls) × (x ≡ served_exchange c.head request given)
@@ -362,14 +362,14 @@ pub record DropsSo {F : Type 0} (s : LiveState F) (c : OutChain) (after : LiveSt
 
 -- a lost chain keeps its fault
 abbrev pub lost_chain : OutChain → OutChain
-lost_chain c = record c { phase = Lost (fault_of c.phase) }
+lost_chain c = record c { phase = Abandoned (fault_of c.phase) }
 
 -- the state after a handle is freed
 abbrev pub after_loss : {F : Type 0} → LiveState F → (before behind : List OutChain) → OutChain → LiveState F
 after_loss s before behind c = record s { outs = before ++ lost_chain c ∷ behind }
 
 -- a chain is lost to its queue, in any phase. If the file system did its pending call by then, the answer
--- (`Answers`) is an event before this one
+-- (`EndsCall`) is an event before this one
 pub record AbandonsSo {F : Type 0} (s : LiveState F) (c : OutChain) (after : LiveState F) : Type 0 where
   pub before : List OutChain
   pub behind : List OutChain
@@ -438,17 +438,17 @@ pub record MovesSo {F : Type 0} (s : LiveState F) (m : Memory) (queues : List Li
 abbrev pub Happens : {F : Type 0} → May F → LiveState F → LiveEvent → LiveState F → Type 0
 Happens may s (Walks i loaded ds came) after = WalksSo s i loaded ds came after
 Happens may s (Declines i e) after = DeclinesSo s i e after
-Happens may s (Asks c request told) after = AsksSo s c request told after
-Happens may s (Answers c call answer) after = AnswersSo may s c call answer after
-Happens may s (Returns c x notice last used seen) after = ReturnsSo s c x notice last used seen after
+Happens may s (DecodesRequest c request told) after = AsksSo s c request told after
+Happens may s (EndsCall c call answer) after = AnswersSo may s c call answer after
+Happens may s (PushesChain c x notice last used seen) after = ReturnsSo s c x notice last used seen after
 Happens may s (Sleeps i store) after = SleepsSo s i store after
 Happens may s (Begins i w) after = BeginsSo s i w after
-Happens may s (Fills c stores) after = FillsSo s c stores after
+Happens may s (FillsBuffer c stores) after = FillsSo s c stores after
 Happens may s (Drops c) after = DropsSo s c after
 Happens may s (Abandons c) after = AbandonsSo s c after
-Happens may s (Replies c request reply options) after = RepliesSo s c request reply options after
-Happens may s (Maps m) after = MapsSo s m after
-Happens may s (Moves m queues) after = MovesSo s m queues after
+Happens may s (RepliesOwnBytes c request reply options) after = RepliesSo s c request reply options after
+Happens may s (Remaps m) after = MapsSo s m after
+Happens may s (MovesDevice m queues) after = MovesSo s m queues after
 
 -- a run: events from a state to a state
 abbrev pub LiveRun : {F : Type 0} → May F → LiveState F → List LiveEvent → LiveState F → Type 0
@@ -460,13 +460,14 @@ LiveRun {F} may s (e ∷ es) after = (mid : LiveState F) × Happens may s e mid 
 -- the acts of an event. The calls' data is stored with the reply, at the return. `LoadsFlags` is the load of
 -- the two bytes that are seen: the available flags, or with the event index used_event
 abbrev pub acts_of : LiveEvent → List Act
-acts_of (Returns c x notice last used seen) = return_acts (reply_stores (room_of c) x.reply last ++ used) seen
-acts_of (Sleeps i store) = Stores store ∷ []
-acts_of (Fills c stores) = map Stores stores
+acts_of (PushesChain c x notice last used seen) =
+    return_acts (reply_stores (room_of c) x.reply last ++ used) seen
+acts_of (Sleeps i store) = StoresBytes store ∷ []
+acts_of (FillsBuffer c stores) = map StoresBytes stores
 acts_of _ = []
 
 -- the calls of a run, in the order of their answers
 abbrev pub calls_among : List LiveEvent → Calls
 calls_among [] = []
-calls_among (Answers c call answer ∷ es) = (call, answer) ∷ calls_among es
+calls_among (EndsCall c call answer ∷ es) = (call, answer) ∷ calls_among es
 calls_among (_ ∷ es) = calls_among es

@@ -26,8 +26,10 @@ use Rattle.fs_chain.specs.declared.state.ChainState.TheVariants as at
 use Rattle.fs_chain.specs.declared.chain_handle.ChainHandle.{ChainHandle}
 use Rattle.plain_machine.specs.Step.{Calls}
 use Rattle.plain_machine.specs.StepBy.{Act, reply_stores, return_acts}
-use Rattle.fs_live.specs.Live.{Abandons, Asked, Drops, Fetched, KeepsQueue, LiveState, Maps, MayBeOut, Moves}
-use Rattle.fs_live.specs.Live.{OutChain, Own, Replies, Happens, after_drop, after_loss, after_own, room_of}
+use Rattle.fs_live.specs.Live.{Abandons, Asked, Drops, Fetched, KeepsQueue, LiveState, MayBeOut, MovesDevice}
+use Rattle.fs_live.specs.Live.{Remaps}
+use Rattle.fs_live.specs.Live.{OutChain, Own, RepliesOwnBytes, Happens, after_drop, after_loss, after_own}
+use Rattle.fs_live.specs.Live.{room_of}
 use Rattle.fs_live.specs.Runs.{IsEven}
 use Rattle.fs_live.specs.Handles.{IsKept, IsOut, IsReached, IsReturn, live_of}
 
@@ -73,8 +75,8 @@ IfOut (at.Waits out waiting) P = P out
 IfOut (at.Lists out listing) P = P out
 IfOut _ P = ⊥
 
--- a reply of the caller's own to a chain that wasn't decoded is the event `Replies`. The request may be
--- any, as its caller loaded it
+-- a reply of the caller's own to a chain that wasn't decoded is the event `RepliesOwnBytes`. The request may
+-- be any, as its caller loaded it
 abbrev pub HandleReplies : {F : Type 0} → May F → Type 0
 HandleReplies {F} may =
     (s : LiveState F) (c : OutChain) (before behind : List OutChain) (w : ChainHandle) (serial options : ℕ)
@@ -86,7 +88,8 @@ HandleReplies {F} may =
     IsOut s.limit c w →
     FromTaken w.state (λ out. out.request_len ≡ length request) →
     own_error w.state w.serial serial (length reply) ≡ None →
-    Happens may s (Replies c request reply options) (after_own s before behind c request reply options)
+    Happens may s (RepliesOwnBytes c request reply options)
+        (after_own s before behind c request reply options)
     × IfOut w.state
     (λ out. IsOwn (record c { phase = Own request reply }) reply (at.HasReply out (own_reply (length reply))))
 
@@ -107,7 +110,7 @@ AskedIsHeld =
     IsHeldAsked c w
 
 -- a reply of the caller's own to a decoded chain, instead of the answer to its pending call, is the
--- event `Replies` too. The file system may have answered any of its calls by then
+-- event `RepliesOwnBytes` too. The file system may have answered any of its calls by then
 abbrev pub HandleRepliesInstead : {F : Type 0} → May F → Type 0
 HandleRepliesInstead {F} may =
     (s : LiveState F) (c : OutChain) (before behind : List OutChain) (w : ChainHandle)
@@ -116,7 +119,8 @@ HandleRepliesInstead {F} may =
     c.phase ≡ Asked request asked calls →
     IsHeldAsked c w →
     own_error w.state w.serial serial (length reply) ≡ None →
-    Happens may s (Replies c request reply options) (after_own s before behind c request reply options)
+    Happens may s (RepliesOwnBytes c request reply options)
+        (after_own s before behind c request reply options)
     × IfOut w.state
     (λ out. IsOwn (record c { phase = Own request reply }) reply (at.HasReply out (own_reply (length reply))))
 
@@ -147,14 +151,14 @@ HandleReturnsOwn {F} may =
 
 -- ---- other regions
 
--- setting other regions of a handle is the event `Maps`, and its next pops are events with them. For
+-- setting other regions of a handle is the event `Remaps`, and its next pops are events with them. For
 -- the queues of chains in flight, the new regions must map the addresses of returns just where the old
 -- ones do
 abbrev pub HandleMaps : {F : Type 0} → May F → Type 0
 HandleMaps {F} may =
     (s : LiveState F) (w : ChainHandle) →
     (s.outs ≡ []) ⊎ AllByRecursion (KeepsQueue s (places_in w.regions)) s.outs →
-    Happens may s (Maps (places_in w.regions)) (record s { places = places_in w.regions })
+    Happens may s (Remaps (places_in w.regions)) (record s { places = places_in w.regions })
 
 -- ---- moves
 
@@ -169,7 +173,7 @@ pub record AreBegunBy (queues : List Queue) (kept : List QueueState) : Type 0 wh
   pub few : AllByRecursion MayBeOut (map live_of kept)
 
 -- making a record of a run's options and queues while no chain is in flight, and reading it elsewhere,
--- is the event `Moves`. The options that are read are the run's. The queues that are reset from the
+-- is the event `MovesDevice`. The options that are read are the run's. The queues that are reset from the
 -- record are the run's from then on
 abbrev pub HandleMoves : {F : Type 0} → May F → Type 0
 HandleMoves {F} may =
@@ -181,4 +185,4 @@ HandleMoves {F} may =
     IsRecord bytes v' options queues →
     AreBegunBy queues there →
     (options ≡ s.options)
-    × Happens may s (Moves m (map live_of there)) (record s { places = m; queues = map live_of there })
+    × Happens may s (MovesDevice m (map live_of there)) (record s { places = m; queues = map live_of there })

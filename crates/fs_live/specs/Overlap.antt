@@ -11,7 +11,8 @@ use Rattle.virtiofsd_fuse.specs.Serving.{May}
 use Rattle.plain_machine.specs.Examples.{blank, descriptor_bytes, queue}
 use Rattle.plain_machine.specs.Step.{Exchange}
 use Rattle.fs_live.specs.Several.{LiveQueue}
-use Rattle.fs_live.specs.Live.{Fetched, Asked, OutChain, LiveState, Walks, Asks, Answers, Returns, LiveRun}
+use Rattle.fs_live.specs.Live.{Fetched, Asked, OutChain, LiveState, Walks, DecodesRequest, EndsCall}
+use Rattle.fs_live.specs.Live.{PushesChain, LiveRun}
 
 -- DESTROY, which makes a call
 abbrev pub destroy : List ℕ
@@ -149,11 +150,11 @@ Overlap {F} may =
     (before after : F) → may before Destroy Done after → LiveRun may (state before (at_positions 0 0) 1 [])
     (
     Walks 0 first_loads first_table (step.Chain 0 None)
-    ∷ Asks first destroy (Destroy ∷ [])
+    ∷ DecodesRequest first destroy (Destroy ∷ [])
     ∷ Walks 0 second_loads second_table (step.Chain 2 None)
-    ∷ Asks second unknown []
-    ∷ Returns second_asked second_exchange true 0 second_used (le16 0)
-    ∷ Answers first_asked Destroy Done
-    ∷ Returns first_answered first_exchange true 0 first_used (le16 0) ∷ []
+    ∷ DecodesRequest second unknown []
+    ∷ PushesChain second_asked second_exchange true 0 second_used (le16 0)
+    ∷ EndsCall first_asked Destroy Done
+    ∷ PushesChain first_answered first_exchange true 0 first_used (le16 0) ∷ []
     )
     (state after (at_positions 2 2) 0 [])

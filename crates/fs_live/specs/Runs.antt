@@ -23,8 +23,9 @@ use Rattle.fs_live.specs.Several.{heads_ended, returns_among, returning, avail_e
 use Rattle.fs_live.specs.Several.{used_event_at}
 use Rattle.fs_live.specs.Several as several
 pub use Rattle.fs_live.specs.Live.{IsEven}
-use Rattle.fs_live.specs.Live.{Phase, Asked, Own, OutChain, LiveState, LiveEvent, Walks, Returns, Sleeps}
-use Rattle.fs_live.specs.Live.{Begins, Fills, Drops, Maps, Moves, Happens, LiveRun, acts_of, calls_among}
+use Rattle.fs_live.specs.Live.{Phase, Asked, Own, OutChain, LiveState, LiveEvent, Walks, PushesChain, Sleeps}
+use Rattle.fs_live.specs.Live.{Begins, FillsBuffer, Drops, Remaps, MovesDevice, Happens, LiveRun, acts_of}
+use Rattle.fs_live.specs.Live.{calls_among}
 use Rattle.fs_live.specs.Live.{calls_in, room_of, serving}
 use Rattle.fs_live.specs.Live.{own_exchange}
 
@@ -101,7 +102,7 @@ pub record IsAStep {G : Type 0} (other : May G) (m : State G) (files : G) (w : L
         acts = return_acts (return_stores c.taken c.head (room_of c) x.reply last) seen;
         last = last;
       }) (after_alone m c files)
-  pub acts : acts_of (Returns c x notice last used seen)
+  pub acts : acts_of (PushesChain c x notice last used seen)
       ≡ return_acts (return_stores (returning w) c.head (room_of c) x.reply last) seen
 
 -- so it is for any acts of other chains between its pop and its return, and for any writes of the guest. The
@@ -112,7 +113,7 @@ ReturnedIsStepBy {F} {G} may other =
     (used : List Store) (seen : List ℕ) (m : State G) (files : G) →
     s.outs ≡ [] →
     LiveRun may s es now →
-    Happens may now (Returns c x notice last used seen) after →
+    Happens may now (PushesChain c x notice last used seen) after →
     IsServedPhase c.phase →
     IsBefore now c m →
     FileRun other m.files (calls_in c.phase) files →
@@ -134,7 +135,7 @@ pub record IsAReturn {G : Type 0} (m : State G) (limit : ℕ) (w : LiveQueue) (c
         last = last;
       }) (after_alone m c m.files)
   pub acts : (notice : Bool) →
-      acts_of (Returns c x notice last used seen)
+      acts_of (PushesChain c x notice last used seen)
       ≡ return_acts (return_stores (returning w) c.head (room_of c) x.reply last) seen
 
 -- so it is for each such chain of a run: no call is made, and the options stay
@@ -144,7 +145,7 @@ OwnIsReturned {F} G may =
     (used : List Store) (seen : List ℕ) (request reply : List ℕ) (m : State G) →
     s.outs ≡ [] →
     LiveRun may s es now →
-    Happens may now (Returns c x notice last used seen) after →
+    Happens may now (PushesChain c x notice last used seen) after →
     c.phase ≡ Own request reply →
     IsBefore now c m →
     (w : LiveQueue)
@@ -167,15 +168,16 @@ sleep_addresses (Some w) =
 
 -- the addresses that an event may write
 abbrev pub may_store : {F : Type 0} → LiveState F → LiveEvent → List ℕ
-may_store s (Returns c x notice last used seen) = room_of c ++ queue_addresses (slice_get s.queues c.queue)
-may_store s (Fills c stores) = room_of c
+may_store s (PushesChain c x notice last used seen) =
+    room_of c ++ queue_addresses (slice_get s.queues c.queue)
+may_store s (FillsBuffer c stores) = room_of c
 may_store s (Sleeps i store) = sleep_addresses (slice_get s.queues i)
 may_store s _ = []
 
 -- the chain that is returned, or in whose reply buffer bytes are stored, is in flight at that moment
 abbrev pub IsOutThen : {F : Type 0} → LiveState F → LiveEvent → Type 0
-IsOutThen s (Returns c x notice last used seen) = Contains s.outs c
-IsOutThen s (Fills c stores) = Contains s.outs c
+IsOutThen s (PushesChain c x notice last used seen) = Contains s.outs c
+IsOutThen s (FillsBuffer c stores) = Contains s.outs c
 IsOutThen s _ = Unit {0}
 
 -- the event stores nothing elsewhere
@@ -226,7 +228,7 @@ ReturnsHavePlaces {F} may =
     s.outs ≡ [] →
     AllByRecursion IsEven s.queues →
     LiveRun may s es now →
-    Happens may now (Returns c x notice last used seen) after →
+    Happens may now (PushesChain c x notice last used seen) after →
     (w : LiveQueue)
     × (slice_get now.queues c.queue ≡ Some w)
     × ReturnHasPlaces now.places w
@@ -237,10 +239,10 @@ ReturnsHavePlaces {F} may =
 
 -- the events of queue i: pops of a chain, chains that are given up, and returns
 abbrev pub event_on : ℕ → LiveEvent → List QueueEvent
-event_on i (Walks j loaded ds (step.Chain head fault)) = if j == i then several.Takes head ∷ [] else []
-event_on i (Drops c) = if c.queue == i then several.Drops (c.taken.position, c.head) ∷ [] else []
-event_on i (Returns c x notice last used seen) =
-    if c.queue == i then several.Returns (c.taken.position, c.head) (length x.reply) used ∷ [] else []
+event_on i (Walks j loaded ds (step.Chain head fault)) = if j == i then several.PopsOne head ∷ [] else []
+event_on i (Drops c) = if c.queue == i then several.DropsLast (c.taken.position, c.head) ∷ [] else []
+event_on i (PushesChain c x notice last used seen) =
+    if c.queue == i then several.PushesOne (c.taken.position, c.head) (length x.reply) used ∷ [] else []
 event_on i _ = []
 
 -- the events of queue i in a run
@@ -258,7 +260,7 @@ going w = record w { queue = record (w.queue) { stopped = false } }
 -- the event doesn't reset the queue, not from a record either
 abbrev pub NotAnew : ℕ → LiveEvent → Type 0
 NotAnew i (Begins j w) = (j == i) ≡ true → ⊥
-NotAnew i (Moves m queues) = ⊥
+NotAnew i (MovesDevice m queues) = ⊥
 NotAnew i _ = Unit {0}
 
 -- queue i of a run is a run of pops and returns, for any events on the other queues
@@ -313,10 +315,10 @@ told_of_queue (Some w) = addresses (element_at (returning w)) 8 ++ addresses (in
 -- - of a sleep, the two bytes of its store
 -- - of other stores in a reply buffer, just those
 abbrev pub told_by : {F : Type 0} → LiveState F → LiveEvent → List ℕ
-told_by s (Returns c x notice last used seen) =
+told_by s (PushesChain c x notice last used seen) =
     take (length x.reply) (room_of c) ++ told_of_queue (slice_get s.queues c.queue)
 told_by s (Sleeps i store) = addresses store.address 2
-told_by s (Fills c stores) = flat_map (λ store. addresses store.address (length store.bytes)) stores
+told_by s (FillsBuffer c stores) = flat_map (λ store. addresses store.address (length store.bytes)) stores
 told_by s _ = []
 
 -- over each memory, an event's stores mark the pages of the addresses that it reports, of blocks or of I/O
@@ -347,10 +349,10 @@ abbrev pub ReturnsTell : {F : Type 0} → May F → Type 0
 ReturnsTell {F} may =
     (s after : LiveState F) (c : OutChain) (x : Exchange) (notice : Bool) (last : ℕ) (used : List Store)
     (seen : List ℕ) →
-    Happens may s (Returns c x notice last used seen) after →
+    Happens may s (PushesChain c x notice last used seen) after →
     (w : LiveQueue)
     × (slice_get s.queues c.queue ≡ Some w)
-    × (told_by s (Returns c x notice last used seen)
+    × (told_by s (PushesChain c x notice last used seen)
     ≡ returned_addresses (returning w) c.head (room_of c) x.reply)
 
 -- ---- stops, and moves
@@ -380,13 +382,13 @@ MovedGoesOn {F} may =
     s.outs ≡ [] →
     AllByRecursion IsEven s.queues →
     LiveRun may s es now →
-    Happens may now (Moves m queues) moved →
+    Happens may now (MovesDevice m queues) moved →
     map untold queues ≡ map untold now.queues →
-    Happens may now (Maps m) moved
+    Happens may now (Remaps m) moved
     × (m ≡ now.places → moved ≡ now)
     × ((later : List LiveEvent) (end : LiveState F) →
     LiveRun may moved later end →
-    LiveRun may s (es ++ Maps m ∷ later) end)
+    LiveRun may s (es ++ Remaps m ∷ later) end)
     × (m ≡ now.places →
     (later : List LiveEvent) (end : LiveState F) →
     LiveRun may moved later end →

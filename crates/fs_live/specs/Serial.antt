@@ -14,7 +14,8 @@ use Rattle.plain_machine.specs.Run.{KickRun, Turn}
 use Rattle.plain_machine.specs.Step.{State, Exchange, Exchanged, Step}
 use Rattle.plain_machine.specs.StepBy.{FindFlags, MayStoreLast, after_stores, stores_among}
 use Rattle.fs_live.specs.Several.{LiveQueue}
-use Rattle.fs_live.specs.Live.{OutChain, LiveState, LiveEvent, Walks, Asks, Answers, Returns, LiveRun}
+use Rattle.fs_live.specs.Live.{OutChain, LiveState, LiveEvent, Walks, DecodesRequest, EndsCall, PushesChain}
+use Rattle.fs_live.specs.Live.{LiveRun}
 use Rattle.fs_live.specs.Live.{acts_of, calls_in, room_of}
 use Rattle.fs_live.specs.Runs.{request_in}
 
@@ -34,7 +35,7 @@ pub record Single : Type 0 where
   pub seen : List ℕ
 
 abbrev pub return_in : Single → LiveEvent
-return_in r = Returns r.chain r.exchange r.notice r.last r.used r.seen
+return_in r = PushesChain r.chain r.exchange r.notice r.last r.used r.seen
 
 -- the chain's events: its pop, those between, and its return
 abbrev pub events_in : Single → List LiveEvent
@@ -43,8 +44,8 @@ events_in r =
 
 -- between them the chain is decoded and answered, and nothing else happens
 abbrev pub IsOfChain : LiveEvent → Type 0
-IsOfChain (Asks c request told) = Unit {0}
-IsOfChain (Answers c call answer) = Unit {0}
+IsOfChain (DecodesRequest c request told) = Unit {0}
+IsOfChain (EndsCall c call answer) = Unit {0}
 IsOfChain _ = ⊥
 
 -- the plain machine over a memory

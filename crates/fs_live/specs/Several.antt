@@ -46,21 +46,21 @@ InFlightId = ℕ × ℕ
 -- an event of a queue: a chain with this head is popped; the chain that was popped last is given up; a
 -- chain is returned with a reply of `len` bytes, by these stores
 pub data QueueEvent : Type 0 where
-  Takes : (head : ℕ) → QueueEvent
-  Drops : InFlightId → QueueEvent
-  Returns : InFlightId → (len : ℕ) → List Store → QueueEvent
+  PopsOne : (head : ℕ) → QueueEvent
+  DropsLast : InFlightId → QueueEvent
+  PushesOne : InFlightId → (len : ℕ) → List Store → QueueEvent
 
 -- a run, with the chains in flight before and after it
 abbrev pub RunsOver : LiveQueue → List InFlightId → List QueueEvent → LiveQueue → List InFlightId → Type 0
 RunsOver w outs [] w' outs' = (w' ≡ w) × (outs' ≡ outs)
-RunsOver w outs (Takes head ∷ es) w' outs' =
+RunsOver w outs (PopsOne head ∷ es) w' outs' =
     IsTrue (may_take w) × RunsOver (took w) (outs ++ (w.queue.position, head) ∷ []) es w' outs'
-RunsOver w outs (Drops t ∷ es) w' outs' =
+RunsOver w outs (DropsLast t ∷ es) w' outs' =
     (before : List InFlightId) × (behind : List InFlightId)
     × (outs ≡ before ++ t ∷ behind)
     × (w.queue.position ≡ (t.0 + 1) % 2 ^ 16)
     × RunsOver (untook w) (before ++ behind) es w' outs'
-RunsOver w outs (Returns t len stores ∷ es) w' outs' =
+RunsOver w outs (PushesOne t len stores ∷ es) w' outs' =
     (before : List InFlightId) × (behind : List InFlightId)
     × (outs ≡ before ++ t ∷ behind)
     × (stores ≡ stores_after_reply (returning w) t.1 len)
@@ -69,16 +69,16 @@ RunsOver w outs (Returns t len stores ∷ es) w' outs' =
 -- the heads that were popped
 abbrev pub heads_taken : List QueueEvent → List ℕ
 heads_taken [] = []
-heads_taken (Takes head ∷ es) = head ∷ heads_taken es
-heads_taken (Drops t ∷ es) = heads_taken es
-heads_taken (Returns t len stores ∷ es) = heads_taken es
+heads_taken (PopsOne head ∷ es) = head ∷ heads_taken es
+heads_taken (DropsLast t ∷ es) = heads_taken es
+heads_taken (PushesOne t len stores ∷ es) = heads_taken es
 
 -- the heads that were returned, or given up
 abbrev pub heads_ended : List QueueEvent → List ℕ
 heads_ended [] = []
-heads_ended (Takes head ∷ es) = heads_ended es
-heads_ended (Drops t ∷ es) = t.1 ∷ heads_ended es
-heads_ended (Returns t len stores ∷ es) = t.1 ∷ heads_ended es
+heads_ended (PopsOne head ∷ es) = heads_ended es
+heads_ended (DropsLast t ∷ es) = t.1 ∷ heads_ended es
+heads_ended (PushesOne t len stores ∷ es) = t.1 ∷ heads_ended es
 
 -- each chain that was popped was returned once, or was given up once, or is in flight
 abbrev pub OncePerChain : Type 0
@@ -90,9 +90,9 @@ OncePerChain =
 -- the stores of the returns, in their order
 abbrev pub returns_among : List QueueEvent → List (InFlightId × ℕ × List Store)
 returns_among [] = []
-returns_among (Takes head ∷ es) = returns_among es
-returns_among (Drops t ∷ es) = returns_among es
-returns_among (Returns t len stores ∷ es) = (t, len, stores) ∷ returns_among es
+returns_among (PopsOne head ∷ es) = returns_among es
+returns_among (DropsLast t ∷ es) = returns_among es
+returns_among (PushesOne t len stores ∷ es) = (t, len, stores) ∷ returns_among es
 
 -- they fill one used position after another, in any order of the pops
 abbrev pub UsedFrom : LiveQueue → List (InFlightId × ℕ × List Store) → Type 0
@@ -108,13 +108,13 @@ UsedInOrder =
 -- one chain at a time: each pop is followed by its return
 abbrev pub IsSerial : List QueueEvent → Type 0
 IsSerial [] = Unit {0}
-IsSerial (Takes head ∷ Returns t len stores ∷ es) = (t.1 ≡ head) × IsSerial es
+IsSerial (PopsOne head ∷ PushesOne t len stores ∷ es) = (t.1 ≡ head) × IsSerial es
 IsSerial _ = ⊥
 
 -- then a return's stores are those of the queue as it was before the pop
 abbrev pub StoresAsTaken : Queue → List QueueEvent → Type 0
 StoresAsTaken q [] = Unit {0}
-StoresAsTaken q (Takes head ∷ Returns t len stores ∷ es) =
+StoresAsTaken q (PopsOne head ∷ PushesOne t len stores ∷ es) =
     (stores ≡ stores_after_reply q head len) × StoresAsTaken (advanced q) es
 StoresAsTaken q _ = ⊥
 
@@ -130,11 +130,11 @@ OneAtATime =
 -- VIRTIO_F_IN_ORDER (2.7.9): only the oldest chain is returned, and only the youngest is given up
 abbrev pub IsOldestFirst : LiveQueue → List InFlightId → List QueueEvent → Type 0
 IsOldestFirst w outs [] = Unit {0}
-IsOldestFirst w outs (Takes head ∷ es) = IsOldestFirst (took w) (outs ++ (w.queue.position, head) ∷ []) es
-IsOldestFirst w outs (Drops t ∷ es) =
+IsOldestFirst w outs (PopsOne head ∷ es) = IsOldestFirst (took w) (outs ++ (w.queue.position, head) ∷ []) es
+IsOldestFirst w outs (DropsLast t ∷ es) =
     (before : List InFlightId) × (outs ≡ before ++ t ∷ []) × IsOldestFirst (untook w) before es
-IsOldestFirst w [] (Returns t len stores ∷ es) = ⊥
-IsOldestFirst w (first ∷ outs) (Returns t len stores ∷ es) = (t ≡ first) × IsOldestFirst (gave w) outs es
+IsOldestFirst w [] (PushesOne t len stores ∷ es) = ⊥
+IsOldestFirst w (first ∷ outs) (PushesOne t len stores ∷ es) = (t ≡ first) × IsOldestFirst (gave w) outs es
 
 -- each return is at the position of its chain's pop
 abbrev pub AtTheirPlaces : LiveQueue → List (InFlightId × ℕ × List Store) → Type 0

@@ -16,7 +16,8 @@ use Rattle.fs_chain.specs.declared.state.ChainReply.{ChainReply}
 use Rattle.fs_chain.specs.Events.{tells_of}
 use Rattle.fs_chain.specs.Queues.{at_return, gave}
 use Rattle.fs_chain.specs.Pushes.{PushesBy}
-use Rattle.notify.specs.Kicks.{Rules, right, NotifyState, Publishes, IndexArrives, Checks, Runs, ahead, moved}
+use Rattle.notify.specs.Kicks.{Rules, right, NotifyState, Publishes, IndexArrives, ChecksWish, Runs, ahead}
+use Rattle.notify.specs.Kicks.{moved}
 use Rattle.notify.specs.Kicks.{must, after}
 use Rattle.fs_notify.specs.Takers.{SaysWish}
 
@@ -46,7 +47,7 @@ ChecksBySeen =
     → u.published ≡ (gave q).next_used
     → u.unchecked ≡ 1
     → SaysWish q.event_index seen u.event u.muted
-    → (after (rules_of q) u Checks).owes ≡ (u.owes || tells_of q seen)
+    → (after (rules_of q) u ChecksWish).owes ≡ (u.owes || tells_of q seen)
 
 -- the store of the used index, the barrier and the load, in this order, are a run of the model, while the
 -- driver has made no more chains available than the queue has descriptors
@@ -59,8 +60,8 @@ ReturnsInOrder =
     → u.unchecked ≡ 0
     → ahead u.published u.position + 1 ≤ q.layout.size
     → let rules = rules_of q in
-    let end = after rules (after rules (after rules u (Publishes 1)) (IndexArrives 1)) Checks in
-    Runs rules u (Publishes 1 ∷ IndexArrives 1 ∷ Checks ∷ []) end × (end.published ≡ (gave q).next_used)
+    let end = after rules (after rules (after rules u (Publishes 1)) (IndexArrives 1)) ChecksWish in
+    Runs rules u (Publishes 1 ∷ IndexArrives 1 ∷ ChecksWish ∷ []) end × (end.published ≡ (gave q).next_used)
 
 -- the plain machine has no event index: it publishes and checks by the available ring's flags
 abbrev pub MachineChecks : Type 0

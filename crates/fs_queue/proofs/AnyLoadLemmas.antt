@@ -4,7 +4,7 @@ use Rattle.std.proofs.Common.{None, inl, inr, refl, ap, sym, ◌∙◌, subst, a
 use Rattle.std.specs.Prelude.{if◌then◌else◌, ◌==◌, ◌&&◌, option_map}
 use Rattle.vm_memory.specs.Memory.{Memory}
 use Rattle.std.proofs.lemmas.Bool.{eqb-true, eq-eqb, ltb-false, lt-ltb}
-use Rattle.fs_queue.specs.Chain.{Descriptor, DescriptorTable, Visit, WalkStep, Ordinary, Table, Faulty, Stops, walk_step, next_visit}
+use Rattle.fs_queue.specs.Chain.{Descriptor, DescriptorTable, Visit, WalkStep, Ordinary, Indirect, Faulty, Stops, walk_step, next_visit}
 use Rattle.fs_queue.specs.Chain.{onward, first_visit}
 use Rattle.fs_queue.specs.Chain.{after_walk_step, with_front, Found, IsChain, HasFault, StopsQueue}
 use Rattle.fs_queue.specs.Chain.{entry_address}
@@ -183,8 +183,8 @@ read_after size v l ls (Ordinary d) None x inside at is next found more =
     (sym (ended size ls (IsChain [])) ∙ found)
 read_after size v l ls (Ordinary d) (Some u) x inside at is next found more =
     found_in_front size v u l ls d x (more_steps size v l ls (Some u) inside (ap (next_visit v) is ∙ next)) (ap joined is) (more u found)
-read_after size v l ls (Table t) None x inside at is next found more = absurd (cc)
-read_after size v l ls (Table t) (Some u) x inside at is next found more =
+read_after size v l ls (Indirect t) None x inside at is next found more = absurd (cc)
+read_after size v l ls (Indirect t) (Some u) x inside at is next found more =
     found_behind size v u l ls x (more_steps size v l ls (Some u) inside (ap (next_visit v) is ∙ next)) (ap joined is) (more u found)
 read_after size v l ls (Faulty fault) o x inside at is next found more =
     inl (here size v l ls (Faulty fault) (more_steps size v l ls None inside (ap (next_visit v) is)) at is)

@@ -7,7 +7,7 @@ use Rattle.vm_iotlb.specs.declared.permissions.Permissions.TheVariants.{Read}
 use Rattle.vm_memory.specs.Memory.{Memory, reach}
 use Rattle.fs_queue.specs.declared.fault.ChainFault.{ChainFault}
 use Rattle.fs_queue.specs.Queue.{Queue}
-use Rattle.fs_queue.specs.Chain.{Descriptor, DescriptorTable, Visit, WalkStep, Ordinary, Table, Faulty, Stops, descriptor_at, has_next}
+use Rattle.fs_queue.specs.Chain.{Descriptor, DescriptorTable, Visit, WalkStep, Ordinary, Indirect, Faulty, Stops, descriptor_at, has_next}
 use Rattle.fs_queue.specs.Chain.{walk_step, walk_step_at}
 use Rattle.fs_queue.specs.Chain.{indirect_step, ordinary_step, is_indirect, ends_in_64_bits, next_visit, onward, path, first_visit, walk}
 use Rattle.fs_queue.proofs.WalkLemmas.{tables_left}
@@ -23,7 +23,7 @@ either P false x y p q = q refl
 -- a chain of as many descriptors as the queue has takes no more, and no table leads to another from within one
 pub Allows : (size : ℕ) → Visit → WalkStep → Type 0
 Allows size v (Ordinary d) = eqb v.earlier size ≡ false
-Allows size v (Table t) = (v.table.indirect ≡ false) × (t.indirect ≡ true)
+Allows size v (Indirect t) = (v.table.indirect ≡ false) × (t.indirect ≡ true)
 Allows size v (Faulty f) = Unit {0}
 Allows size v Stops = Unit {0}
 
@@ -39,7 +39,7 @@ ordinary : (size : ℕ) (v : Visit) (d : Descriptor) → eqb v.earlier size ≡ 
 unfolding Allows
 ordinary size v d h = h
 
-names_table : (size : ℕ) (v : Visit) (t : DescriptorTable) → v.table.indirect ≡ false → t.indirect ≡ true → Allows size v (Table t)
+names_table : (size : ℕ) (v : Visit) (t : DescriptorTable) → v.table.indirect ≡ false → t.indirect ≡ true → Allows size v (Indirect t)
 unfolding Allows
 names_table size v t h e = (h, e)
 
@@ -84,7 +84,7 @@ unfolding Allows
 falls size v (Ordinary d) le h =
     let some : (v.earlier ≡ size → ⊥) = eqb-false v.earlier size h in
     if_more size (has_next d) _ _ (omega (arith, some, le)) (omega (arith, some, le))
-falls size v (Table t) le h = (rw (h.0, h.1) (omega arith), le)
+falls size v (Indirect t) le h = (rw (h.0, h.1) (omega arith), le)
 falls size v (Faulty f) le h = tt
 falls size v Stops le h = tt
 

@@ -12,7 +12,7 @@ use Rattle.fs_queue.specs.declared.fault.ChainFault.TheVariants.{TooLong, NextOu
 use Rattle.fs_queue.specs.declared.fault.ChainFault.TheVariants.{IndirectLength, TableUnreachable, OverLimit, RequestUnreachable}
 use Rattle.fs_queue.specs.declared.fault.ChainFault.TheVariants.{RoomUnreachable}
 use Rattle.fs_queue.specs.Queue.{Queue}
-use Rattle.fs_queue.specs.Chain.{Descriptor, DescriptorTable, Visit, WalkStep, Ordinary, Table, Faulty, Stops, has_next, is_indirect}
+use Rattle.fs_queue.specs.Chain.{Descriptor, DescriptorTable, Visit, WalkStep, Ordinary, Indirect, Faulty, Stops, has_next, is_indirect}
 use Rattle.fs_queue.specs.Chain.{ends_in_64_bits, indirect_step, ordinary_step, walk_step}
 use Rattle.fs_queue.specs.Chain.{walk_step_at, next_visit, onward, path, first_visit, walk, with_front, after_walk_step, Found, IsChain}
 use Rattle.fs_queue.specs.Chain.{HasFault, StopsQueue, found, chain}
@@ -29,7 +29,7 @@ use Rattle.fs_queue.proofs.PathLemmas.{still_few}
 -- what a step comes to, in the standard's words
 Says : Memory → Queue → Visit → WalkStep → Type 0
 Says m q v (Ordinary d) = EntryIsThere m v × PassesOrdinary q v (entry_of m v) × (d ≡ entry_of m v)
-Says m q v (Table t) = EntryIsThere m v × PassesTable v (entry_of m v)
+Says m q v (Indirect t) = EntryIsThere m v × PassesTable v (entry_of m v)
 Says m q v (Faulty fault) = StepHasFault m q v fault
 Says m q v Stops = StepStops m v
 
@@ -47,7 +47,7 @@ unfolding Says
 says_ordinary m q v there passes = (there, passes, refl)
 
 says_table :
-    (m : Memory) (q : Queue) (v : Visit) (t : DescriptorTable) → EntryIsThere m v → PassesTable v (entry_of m v) → Says m q v (Table t)
+    (m : Memory) (q : Queue) (v : Visit) (t : DescriptorTable) → EntryIsThere m v → PassesTable v (entry_of m v) → Says m q v (Indirect t)
 unfolding Says
 says_table m q v t there passes = (there, passes)
 
@@ -86,7 +86,7 @@ wrong_length n h = one_of (or_cases (n == 0) (not (n % 16 == 0)) h)
 long_enough :
     (m : Memory) (q : Queue) (v : Visit) → NamesTableFromOwn m v → ((entry_of m v).len == 0 || not ((entry_of m v).len % 16 == 0)) ≡ false →
     Says m q v (cond (not (ends_in_64_bits (entry_of m v))) (Faulty AddressOverflow)
-    (Table (record { address = (entry_of m v).addr; entries = (entry_of m v).len / 16; indirect = true })))
+    (Indirect (record { address = (entry_of m v).addr; entries = (entry_of m v).len / 16; indirect = true })))
 long_enough m q v names length =
     let parts = or_parts ((entry_of m v).len == 0) (not ((entry_of m v).len % 16 == 0)) length in
     let some : 0 < (entry_of m v).len = some_bytes (entry_of m v).len parts.0 in
@@ -183,7 +183,7 @@ with_step : (m : Memory) (q : Queue) (n : ℕ) (v : Visit) (x : WalkStep) → Sa
     (after_walk_step x (found m q.size (onward (path m q.size n) (next_visit v x))))
 unfolding Says
 with_step m q n v (Ordinary d) says rest = before_ordinary m q v _ d _ says.0 says.1 says.2 rest
-with_step m q n v (Table t) says rest = before_table m q v _ _ says.0 says.1 rest
+with_step m q n v (Indirect t) says rest = before_table m q v _ _ says.0 says.1 rest
 with_step m q n v (Faulty fault) says rest = alone m q v (λ w. StepHasFault m q w fault) says
 with_step m q n v Stops says rest = alone m q v (StepStops m) says
 

@@ -14,7 +14,8 @@ use Rattle.fs_queue.specs.declared.chain_walk.WalkEnd.TheVariants as comes_to
 use Rattle.fs_queue.specs.declared.chain_walk.Progress as code
 use Rattle.fs_queue.specs.declared.chain_walk.Progress.TheVariants as says
 use Rattle.fs_queue.specs.Queue.{Queue}
-use Rattle.fs_queue.specs.Chain.{Descriptor, Visit, WalkStep, Ordinary, Table, Faulty, Stops, after_walk_step, with_front, Found, IsChain}
+use Rattle.fs_queue.specs.Chain.{Descriptor, Visit, WalkStep, Ordinary, Indirect, Faulty, Stops, after_walk_step, with_front, Found}
+use Rattle.fs_queue.specs.Chain.{IsChain}
 use Rattle.fs_queue.specs.Chain.{HasFault, StopsQueue, chain, first_visit}
 use Rattle.fs_queue.specs.WalkingView.{found_of}
 use Rattle.fs_queue.specs.Chain.{entry_address}
@@ -41,7 +42,7 @@ by_step : (size : ℕ) (v : Visit) (w : WalkStep) (ls : List Load) (ds : List De
     option_map (prepend (with_joining ds (joining w))) (found_by size ls (ahead_after size v w))
     ≡ option_map (prepend ds) (option_map (after_walk_step w) (found_by size ls (ahead_after size v w)))
 by_step size v (Ordinary d) ls ds = pushed ds d _
-by_step size v (Table t) ls ds = alone ds _
+by_step size v (Indirect t) ls ds = alone ds _
 by_step size v (Faulty f) ls ds = rw (ended size ls (HasFault f)) refl
 by_step size v Stops ls ds = rw (ended size ls StopsQueue) refl
 

@@ -32,7 +32,7 @@ unfolding offer
 offer_next_avail m limit q on = rw on refl
 
 abbrev pub on_return_places : ReturnPlaces → Offer → Offer
-on_return_places (held.Holds used flags) rest = rest
+on_return_places (held.HasBoth used flags) rest = rest
 on_return_places (Lacks e) rest = Refuses e
 
 two : (used flags : Option (List Place)) (rest : Offer) →
@@ -80,7 +80,7 @@ stays_offered m limit h (HasFault fault) stays = refl
 stays_offered m limit h StopsQueue stays = absurd stays
 
 nothing_missing : (p : ReturnPlaces) (rest : Offer) → missing_of p ≡ None → on_return_places p rest ≡ rest
-nothing_missing (held.Holds used flags) rest e = refl
+nothing_missing (held.HasBoth used flags) rest e = refl
 nothing_missing (Lacks e) rest none = absurd (cc)
 
 -- if the return can be written and the walk doesn't stop the queue, a chain is offered
@@ -110,11 +110,11 @@ missing_reached m l position =
     rw (r1, r2) (by_places (located (location m Write) (used_addresses (at_position l position)))
     (located (location m Read) (addresses l.avail 2)))
 
-held_missing : (p : ReturnPlaces) (a b : List Place) → held.Holds a b ≡ p → missing_of p ≡ None
+held_missing : (p : ReturnPlaces) (a b : List Place) → held.HasBoth a b ≡ p → missing_of p ≡ None
 held_missing p a b e = sym (ap missing_of e)
 
 -- the windows of the return are those of their addresses
-pub found_return_places : (used flags : List Place) (o1 o2 : Option (List Place)) → held.Holds used flags ≡ return_places_found o1 o2 →
+pub found_return_places : (used flags : List Place) (o1 o2 : Option (List Place)) → held.HasBoth used flags ≡ return_places_found o1 o2 →
     (o1 ≡ Some used) × (o2 ≡ Some flags)
 found_return_places used flags None o2 e = absurd (cc)
 found_return_places used flags (Some a) None e = absurd (cc)
@@ -129,7 +129,7 @@ offer_lacks m limit l position at e head places =
 
 pub offer_found : (m : Memory) (limit : ℕ) (l : QueueLayout) (position at : ℕ) (a b : List Place) (f : Found) →
     avail.Head at ≡ next_avail m (at_position l position) →
-    held.Holds a b ≡ return_places_at m (at_position l position) → f ≡ chain m (at_position l position) at →
+    held.HasBoth a b ≡ return_places_at m (at_position l position) → f ≡ chain m (at_position l position) at →
     offer m limit (at_position l position) ≡ offer_of m limit at f
 offer_found m limit l position at a b f head places found =
     offer_head m limit l position at head
@@ -183,7 +183,7 @@ held_found limit room f stop.AvailFlagsUnreachable r = absurd r
 
 pub refused_found : (m : Memory) (limit room : ℕ) (l : QueueLayout) (position at : ℕ) (a b : List Place) (e : QueueError) →
     avail.Head at ≡ next_avail m (at_position l position) →
-    held.Holds a b ≡ return_places_at m (at_position l position) → RefusesHeld limit room (chain m (at_position l position) at) e →
+    held.HasBoth a b ≡ return_places_at m (at_position l position) → RefusesHeld limit room (chain m (at_position l position) at) e →
     Takes m limit (at_position l position) (Err e)
 refused_found m limit room l position at a b e head places r =
     refused_walk m limit l position at e head (held_missing _ a b places) (held_found limit room (chain m (at_position l position) at) e r)
@@ -198,7 +198,7 @@ fetched_of m limit at StopsQueue c h = absurd h
 -- a chain that was walked and has its windows is taken
 pub taken_found : (m : Memory) (limit : ℕ) (l : QueueLayout) (position at : ℕ) (w : ReturnWindows) (c : Result Chain ChainFault) →
     avail.Head at ≡ next_avail m (at_position l position) →
-    held.Holds (places w.used.items) (places w.flags.items) ≡ return_places_at m (at_position l position) →
+    held.HasBoth (places w.used.items) (places w.flags.items) ≡ return_places_at m (at_position l position) →
     HoldsFound m limit (chain m (at_position l position) at) c →
     Takes m limit (at_position l position) (Ok (Some (record { head = at; chain = c; return_windows = w })))
 taken_found m limit l position at w c head found h =

@@ -10,7 +10,7 @@ use Rattle.fs_queue.specs.declared.fault.ChainFault.{ChainFault}
 use Rattle.fs_queue.specs.declared.fault.ChainFault.TheVariants.{TooLong, NextOutOfTable, AddressOverflow, IndirectWithNext, IndirectNested}
 use Rattle.fs_queue.specs.declared.fault.ChainFault.TheVariants.{IndirectLength}
 use Rattle.fs_queue.specs.Queue.{Queue}
-use Rattle.fs_queue.specs.Chain.{Descriptor, DescriptorTable, Visit, WalkStep, Ordinary, Table, Faulty, Stops, has_next, is_indirect}
+use Rattle.fs_queue.specs.Chain.{Descriptor, DescriptorTable, Visit, WalkStep, Ordinary, Indirect, Faulty, Stops, has_next, is_indirect}
 use Rattle.fs_queue.specs.Chain.{ends_in_64_bits, indirect_step}
 use Rattle.fs_queue.specs.Chain.{ordinary_step, walk_step, walk_step_at, next_visit, onward, path, first_visit, walk}
 use Rattle.fs_queue.specs.WalkingView.{in_table}
@@ -71,7 +71,7 @@ next_by_next m q v w f =
     ap (next_visit v) (next_ordinary m q v f.there f.passes) ∙ rw f.more (ap Some (same_visit v w (entry_of m v) f.table f.index f.earlier))
 
 pub next_table : (m : Memory) (size : ℕ) (v : Visit) → EntryIsThere m v → PassesTable v (entry_of m v) →
-    walk_step m size v ≡ Table (record { address = (entry_of m v).addr; entries = (entry_of m v).len / 16; indirect = true })
+    walk_step m size v ≡ Indirect (record { address = (entry_of m v).addr; entries = (entry_of m v).len / 16; indirect = true })
 next_table m size v there passes =
     rw (
       within v.index v.table.entries there.inside,
@@ -137,7 +137,7 @@ unfolding Goes
 goes_next m q v there passes w e = inl (by_next m q v w (has_next (entry_of m v)) there passes refl e)
 
 goes_table : (m : Memory) (q : Queue) (v : Visit) → EntryIsThere m v → PassesTable v (entry_of m v) →
-    Goes m q v (Table (record { address = (entry_of m v).addr; entries = (entry_of m v).len / 16; indirect = true }))
+    Goes m q v (Indirect (record { address = (entry_of m v).addr; entries = (entry_of m v).len / 16; indirect = true }))
 unfolding Goes
 goes_table m q v there passes w e =
     let same : in_table (record { address = (entry_of m v).addr; entries = (entry_of m v).len / 16; indirect = true }) 0 v.earlier

@@ -8,7 +8,7 @@ use Rattle.vm_iotlb.specs.declared.permissions.Permissions.TheVariants.{Read}
 use Rattle.vm_memory.specs.Memory.{Memory, bytes, reach}
 use Rattle.fs_queue.specs.declared.fault.ChainFault.TheVariants.{NextOutOfTable}
 use Rattle.fs_queue.specs.Queue.{Queue}
-use Rattle.fs_queue.specs.Chain.{Visit, WalkStep, Ordinary, Table, Faulty, Stops, walk_step, next_visit, onward, path, first_visit}
+use Rattle.fs_queue.specs.Chain.{Visit, WalkStep, Ordinary, Indirect, Faulty, Stops, walk_step, next_visit, onward, path, first_visit}
 use Rattle.fs_queue.specs.Chain.{after_walk_step, Found, IsChain, found, chain}
 use Rattle.fs_queue.specs.Chain.{entry_address}
 use Rattle.fs_queue.specs.Loads.{Load, Ahead, Reads, Ends, holding, reads_entry, step_by, ahead_at, ahead_after, ahead_of_next, end_of}
@@ -64,7 +64,7 @@ at_found m size k v = by_test (reads_entry v) refl
 
 end_found : (w : WalkStep) → after_walk_step w (IsChain []) ≡ after_walk_step w (end_of w)
 end_found (Ordinary d) = refl
-end_found (Table t) = refl
+end_found (Indirect t) = refl
 end_found (Faulty f) = refl
 end_found Stops = refl
 

@@ -4,7 +4,7 @@ use Rattle.std.specs.Prelude.{◌≡◌, ◌⊎◌, ℕ, ◌+◌, ◌<◌, ◌�
 use Rattle.std.specs.Prelude.{if◌then◌else◌}
 use Rattle.fs_queue.specs.declared.fault.ChainFault.TheVariants.{NextOutOfTable}
 use Rattle.fs_queue.specs.Queue.{Queue}
-use Rattle.fs_queue.specs.Chain.{Descriptor, Visit, WalkStep, Ordinary, Table, Faulty, Stops, next_visit}
+use Rattle.fs_queue.specs.Chain.{Descriptor, Visit, WalkStep, Ordinary, Indirect, Faulty, Stops, next_visit}
 use Rattle.fs_queue.specs.Chain.{onward, first_visit, Found, IsChain, HasFault, StopsQueue}
 use Rattle.fs_queue.specs.Chain.{entry_address}
 use Rattle.fs_queue.specs.Loads.{Load, Ahead, Reads, Ends, reads_entry, step_by, ahead_at, ahead_after}
@@ -48,7 +48,7 @@ steps_by size (l ∷ ls) v =
 -- the descriptors that join the chain at a step: one or none
 abbrev pub joined : WalkStep → List Descriptor
 joined (Ordinary d) = d ∷ []
-joined (Table table) = []
+joined (Indirect table) = []
 joined (Faulty fault) = []
 joined Stops = []
 

@@ -61,7 +61,7 @@ entry_address v = v.table.address + 16 * v.index
 -- a fault of the chain; or a stop of the queue
 pub data WalkStep : Type 0 where
   Ordinary : Descriptor → WalkStep
-  Table : DescriptorTable → WalkStep
+  Indirect : DescriptorTable → WalkStep
   Faulty : ChainFault → WalkStep
   Stops : WalkStep
 
@@ -77,7 +77,7 @@ indirect_step v d =
     else if v.table.indirect then Faulty IndirectNested
     else if d.len == 0 || not (d.len % 16 == 0) then Faulty IndirectLength
     else if not (ends_in_64_bits d) then Faulty AddressOverflow
-    else Table (record { address = d.addr; entries = d.len / 16; indirect = true })
+    else Indirect (record { address = d.addr; entries = d.len / 16; indirect = true })
 
 -- the step at any other descriptor. A chain has no more descriptors than its queue's size (2.7.5.3.1)
 abbrev pub ordinary_step : (size : ℕ) → Visit → Descriptor → WalkStep
@@ -103,7 +103,7 @@ walk_step m size v =
 abbrev pub next_visit : Visit → WalkStep → Option Visit
 next_visit v (Ordinary d) =
     if has_next d then Some (record { table = v.table; index = d.next; earlier = v.earlier + 1 }) else None
-next_visit v (Table table) = Some (record { table = table; index = 0; earlier = v.earlier })
+next_visit v (Indirect table) = Some (record { table = table; index = 0; earlier = v.earlier })
 next_visit v (Faulty fault) = None
 next_visit v Stops = None
 
@@ -144,7 +144,7 @@ with_front d StopsQueue = StopsQueue
 -- the result of a walk, from its first step and the result of the other steps
 abbrev pub after_walk_step : WalkStep → Found → Found
 after_walk_step (Ordinary d) rest = with_front d rest
-after_walk_step (Table table) rest = rest
+after_walk_step (Indirect table) rest = rest
 after_walk_step (Faulty fault) rest = HasFault fault
 after_walk_step Stops rest = StopsQueue
 

@@ -8,7 +8,7 @@ use Rattle.vm_memory.specs.Memory.{Memory, memory_of, bytes, reach}
 use Rattle.fs_queue.specs.declared.fault.QueueError.TheVariants.{RingEntryUnreachable}
 use Rattle.fs_queue.specs.Queue.{Queue, avail_index_at, ring_entry_at}
 use Rattle.fs_queue.specs.NextAvail.{NextAvail, Refused, next_avail}
-use Rattle.fs_queue.specs.Chain.{Visit, entry_address, WalkStep, Ordinary, Table, Faulty, Stops, walk_step}
+use Rattle.fs_queue.specs.Chain.{Visit, entry_address, WalkStep, Ordinary, Indirect, Faulty, Stops, walk_step}
 use Rattle.fs_queue.specs.Chain.{next_visit, first_visit, after_walk_step, Found, IsChain, HasFault}
 use Rattle.fs_queue.specs.Chain.{StopsQueue, chain}
 
@@ -56,7 +56,7 @@ ahead_at size v =
 -- the result of a walk after its last step, without the descriptors
 abbrev pub end_of : WalkStep → Found
 end_of (Ordinary d) = IsChain []
-end_of (Table table) = IsChain []
+end_of (Indirect table) = IsChain []
 end_of (Faulty fault) = HasFault fault
 end_of Stops = StopsQueue
 

@@ -3,7 +3,7 @@ use Rattle.std.specs.Prelude.{ℕ, ◌+◌, ◌-◌, if◌then◌else◌, List, 
 use Rattle.fs_queue.specs.declared.chain_walk.ChainWalk.{ChainWalk}
 use Rattle.fs_queue.specs.declared.chain_walk.Progress as code
 use Rattle.fs_queue.specs.declared.chain_walk.Progress.TheVariants as says
-use Rattle.fs_queue.specs.Chain.{Descriptor, Visit, WalkStep, Ordinary, Table, Faulty, Stops}
+use Rattle.fs_queue.specs.Chain.{Descriptor, Visit, WalkStep, Ordinary, Indirect, Faulty, Stops}
 use Rattle.fs_queue.specs.Chain.{entry_address}
 use Rattle.fs_queue.specs.Loads.{Load, Ahead, Reads, Ends}
 use Rattle.fs_queue.specs.WalkingView.{found_of}
@@ -29,7 +29,7 @@ IfWants (says.Ends walked) P = Unit {0}
 -- the descriptor that joins the chain at a step, if one does
 abbrev pub joining : WalkStep → Option Descriptor
 joining (Ordinary d) = Some d
-joining (Table table) = None
+joining (Indirect table) = None
 joining (Faulty fault) = None
 joining Stops = None
 

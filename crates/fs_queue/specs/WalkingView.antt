@@ -8,7 +8,8 @@ use Rattle.fs_queue.specs.declared.chain_walk.WalkEnd as walked
 use Rattle.fs_queue.specs.declared.chain_walk.WalkEnd.TheVariants as comes_to
 use Rattle.fs_queue.specs.declared.layout.QueueLayout.{QueueLayout}
 use Rattle.fs_queue.specs.Queue.{Queue, resumed}
-use Rattle.fs_queue.specs.Chain.{Descriptor, DescriptorTable, Visit, WalkStep, Ordinary, Table, Faulty, Stops}
+use Rattle.fs_queue.specs.Chain.{Descriptor, DescriptorTable, Visit, WalkStep, Ordinary, Indirect, Faulty}
+use Rattle.fs_queue.specs.Chain.{Stops}
 use Rattle.fs_queue.specs.Chain.{Found, IsChain, HasFault, StopsQueue}
 
 -- the queue of a layout at a position, not stopped
@@ -22,7 +23,7 @@ in_table table index earlier = record { table = table; index = index; earlier = 
 -- the definitions' step for a step of the code
 abbrev pub walk_step_of : code_step.WalkStep → WalkStep
 walk_step_of (says.Ordinary d) = Ordinary d
-walk_step_of (says.Table table) = Table table
+walk_step_of (says.Table table) = Indirect table
 walk_step_of (says.Faulty fault) = Faulty fault
 walk_step_of says.Stops = Stops
 

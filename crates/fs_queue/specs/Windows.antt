@@ -20,14 +20,14 @@ use Rattle.fs_queue.specs.Taking.{may_lack_memory, after_refusal}
 -- the places of a return: of the used element and the used index, and of the available flags (2.7.8 and
 -- 2.7.7). Or the refusal if one of their addresses isn't mapped
 pub data ReturnPlaces : Type 0 where
-  Holds : (used flags : List Place) → ReturnPlaces
+  HasBoth : (used flags : List Place) → ReturnPlaces
   Lacks : QueueError → ReturnPlaces
 
 -- the places of a return from the two lists; the first list that is missing is the refusal
 abbrev pub return_places_found : (used flags : Option (List Place)) → ReturnPlaces
 return_places_found None flags = Lacks stop.UsedUnreachable
 return_places_found (Some used) None = Lacks stop.AvailFlagsUnreachable
-return_places_found (Some used) (Some flags) = Holds used flags
+return_places_found (Some used) (Some flags) = HasBoth used flags
 
 -- the addresses of the used element, then those of the used index
 abbrev pub used_addresses : Queue → List ℕ
@@ -41,12 +41,12 @@ return_places_at m q =
 
 -- the refusal, if places of a return are missing
 abbrev pub missing_of : ReturnPlaces → Option QueueError
-missing_of (Holds used flags) = None
+missing_of (HasBoth used flags) = None
 missing_of (Lacks e) = Some e
 
 -- the places of a return's windows, unless there is a refusal
 abbrev pub return_places_of : Option QueueError → ReturnWindows → ReturnPlaces
-return_places_of None windows = Holds (places windows.used.items) (places windows.flags.items)
+return_places_of None windows = HasBoth (places windows.used.items) (places windows.flags.items)
 return_places_of (Some e) windows = Lacks e
 
 -- windows have the places of a queue's return: `used` those of the used element and then the used index,

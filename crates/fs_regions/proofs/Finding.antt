@@ -5,7 +5,8 @@ use Rattle.std.proofs.lemmas.Bool.{eq-eqb}
 use Rattle.fs_queue.specs.declared.chain_walk.WalkEnd as walked
 use Rattle.fs_queue.specs.declared.chain_walk.WalkEnd.TheVariants as comes_to
 use Rattle.fs_queue.specs.declared.fault.ChainFault.{ChainFault}
-use Rattle.fs_queue.specs.Chain.{Descriptor, Visit, WalkStep, Ordinary, Table, Faulty, Stops, after_walk_step, with_front, Found, IsChain}
+use Rattle.fs_queue.specs.Chain.{Descriptor, Visit, WalkStep, Ordinary, Indirect, Faulty, Stops, after_walk_step, with_front, Found}
+use Rattle.fs_queue.specs.Chain.{IsChain}
 use Rattle.fs_queue.specs.Chain.{HasFault, StopsQueue, entry_address}
 use Rattle.fs_queue.specs.WalkingView.{found_of}
 use Rattle.fs_queue.specs.Loads.{Load, Ahead, Reads, Ends, step_by, ahead_after, found_exactly, is_whole}
@@ -55,7 +56,7 @@ by_step : (size : ℕ) (v : Visit) (w : WalkStep) (ls : List Load) (ds : List De
     ≡ option_map (standing_before ds)
     (option_map (after_walk_step w) (found_exactly size ls (ahead_after size v w)))
 by_step size v (Ordinary d) ls ds = pushed ds d _
-by_step size v (Table t) ls ds = alone ds _
+by_step size v (Indirect t) ls ds = alone ds _
 by_step size v (Faulty f) ls ds = ap (option_map (standing_before ds)) (ended_alone size ls (HasFault f) (λ _. HasFault f) refl)
 by_step size v Stops ls ds = ap (option_map (standing_before ds)) (ended_alone size ls StopsQueue (λ _. StopsQueue) refl)
 

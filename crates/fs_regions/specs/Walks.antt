@@ -252,25 +252,25 @@ FetchesBy m limit q loaded ds head None =
 
 -- the loads so far bring a pop to this test, with these descriptors. The buffers of a chain over the limit
 -- aren't tested
-abbrev pub ComesTo : Memory → (limit : ℕ) → Queue → Loaded → List Descriptor → Test → Type 0
-ComesTo m limit q loaded ds OfIndex = (loaded ≡ nothing) × (ds ≡ [])
-ComesTo m limit q loaded ds OfRingEntry =
+abbrev pub LeadsTo : Memory → (limit : ℕ) → Queue → Loaded → List Descriptor → Test → Type 0
+LeadsTo m limit q loaded ds OfIndex = (loaded ≡ nothing) × (ds ≡ [])
+LeadsTo m limit q loaded ds OfRingEntry =
     (option_map length loaded.index ≡ Some 2)
     × (asks_entry (by_index q loaded.index) ≡ true)
     × (loaded.entry ≡ None)
     × (loaded.entries ≡ [])
     × (ds ≡ [])
-ComesTo m limit q loaded ds OfReturn =
+LeadsTo m limit q loaded ds OfReturn =
     (head : ℕ)
     × (waits_by q loaded.index loaded.entry ≡ Some (Head head))
     × (loaded.entries ≡ [])
     × (ds ≡ [])
-ComesTo m limit q loaded ds (OfEntry v) =
+LeadsTo m limit q loaded ds (OfEntry v) =
     (head : ℕ)
     × Waits m q loaded head
     × (v.index < v.table.entries)
     × Brings q.size loaded.entries (ahead_at q.size (first_visit q head)) ds (Reads v)
-ComesTo m limit q loaded ds (OfBuffers found) =
+LeadsTo m limit q loaded ds (OfBuffers found) =
     (head : ℕ)
     × Waits m q loaded head
     × FindsBy m q loaded head (IsChain found)
@@ -281,13 +281,13 @@ ComesTo m limit q loaded ds (OfBuffers found) =
 abbrev pub Misses : Memory → (limit : ℕ) → Queue → Loaded → List Descriptor → IovaRange → Permissions → Type 0
 Misses m limit q loaded ds range access =
     (test : Test)
-    × ComesTo m limit q loaded ds test
+    × LeadsTo m limit q loaded ds test
     × (first_miss m (needed_at q test) ≡ Some (range, access))
 
 -- a pop comes to a test, and misses nothing there: the table maps each address that it needs
 abbrev pub MissesNothing : Memory → (limit : ℕ) → Queue → Loaded → List Descriptor → Test → Type 0
 MissesNothing m limit q loaded ds test =
-    ComesTo m limit q loaded ds test × (first_miss m (needed_at q test) ≡ None)
+    LeadsTo m limit q loaded ds test × (first_miss m (needed_at q test) ≡ None)
 
 -- the walk finds this by the loads that were made
 abbrev pub FindsAlone : Memory → Queue → Loaded → Found → Type 0

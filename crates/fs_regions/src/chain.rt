@@ -21,8 +21,8 @@ pub(crate) fn access_of(write_only: bool) -> Permissions
 }
 
 /// The longest window of the bytes of one direction of a chain from byte `from` on: in one descriptor
-/// and one region, and mapped in one piece. None past their end, or if byte `from` isn't
-/// mapped or its address exceeds 64 bits.
+/// and one region, and mapped in one piece. None past their end, or if byte `from` isn't mapped or
+/// its address exceeds 64 bits.
 pub fn window_from(
     regions: &GuestMap,
     descriptors: &[Descriptor],

@@ -26,7 +26,7 @@ use Rattle.fs_device.specs.CommandView.{command_of}
 use Rattle.fs_shared.specs.declared.entry.JournalEntry.{JournalEntry}
 use Rattle.fs_shared.specs.Replay.{Anything, ReplayEntry, forget, Served, Stopped, Done, ReplaysKick, Plays, Replays}
 use Rattle.fs_shared.specs.Replay as replay
-use Rattle.fs_shared.specs.Held.{Fixed, came_of, entry_of, fixed_of, journal_of}
+use Rattle.fs_shared.specs.Held.{FixedParts, came_of, entry_of, fixed_of, journal_of}
 use Rattle.fs_shared.proofs.Forgetting.{plays_forgets}
 
 pub replays_push : (s mid after : State (Unit {0})) (es : List ReplayEntry) (e : ReplayEntry) → Replays s es mid →
@@ -119,7 +119,7 @@ kicked_keeps may s after i (Served x notice) pages t = step_keeps may s after i 
 kicked_keeps may s after i (Stopped e) pages t = step_keeps may s after i [] (Refused e) t.1
 
 -- of two effects that keep them, either does
-either_keeps : {F : Type 0} (f : Fixed) (b : Bool) (x y : Effect F) → fixed_of x.1 ≡ f → fixed_of y.1 ≡ f →
+either_keeps : {F : Type 0} (f : FixedParts) (b : Bool) (x y : Effect F) → fixed_of x.1 ≡ f → fixed_of y.1 ≡ f →
     fixed_of (if◌then◌else◌ {A = Effect F} b x y).1 ≡ f
 either_keeps f true x y left right = left
 either_keeps f false x y left right = right

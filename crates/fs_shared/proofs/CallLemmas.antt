@@ -12,7 +12,7 @@ use Rattle.fs_shared.specs.declared.entry.Kicked as kicked
 use Rattle.fs_shared.specs.declared.entry.Receipt.{Receipt}
 use Rattle.fs_shared.specs.declared.entry.Start.{Start}
 use Rattle.fs_shared.specs.Calls.{JournalsOrRefuses, KicksBy}
-use Rattle.fs_shared.specs.Held.{Held, Fixed, came_of, fixed_of, start_of}
+use Rattle.fs_shared.specs.Held.{Held, FixedParts, came_of, fixed_of, start_of}
 use Rattle.fs_shared.specs.Replay.{ReplayEntry, Replays, forget}
 use Rattle.fs_shared.proofs.Appending.{plays_keeps}
 use Rattle.fs_shared.proofs.Replaying.{acts_replay, kicks_replay}
@@ -63,7 +63,7 @@ kick_replays {F} may start s after before now i result held does =
     let t = start_of start (fixed_of s) in
     let old : Held F = record { machine = s; start = t; journal = before } in
     let new : Held F = record { machine = after; start = t; journal = now } in
-    subst (λ (f : Fixed). Replays (start_of start f) now (forget after)) (kicks_keep may old new i result (does t))
+    subst (λ (f : FixedParts). Replays (start_of start f) now (forget after)) (kicks_keep may old new i result (does t))
     (kicks_replay may old new i result held (does t))
 
 -- that start is the one of before
@@ -77,7 +77,7 @@ kick_starts {F} may start s after before now i result does =
     let t = start_of start (fixed_of s) in
     let old : Held F = record { machine = s; start = t; journal = before } in
     let new : Held F = record { machine = after; start = t; journal = now } in
-    subst (λ (f : Fixed). KicksBy may old i result (record { machine = after; start = start_of start f; journal = now }))
+    subst (λ (f : FixedParts). KicksBy may old i result (record { machine = after; start = start_of start f; journal = now }))
     (kicks_keep may old new i result (does t)) (does t)
 
 -- so it is after a write or another layout
@@ -90,7 +90,7 @@ act_replays {F} may start s after before now command result held does =
     let t = start_of start (fixed_of s) in
     let old : Held F = record { machine = s; start = t; journal = before } in
     let new : Held F = record { machine = after; start = t; journal = now } in
-    subst (λ (f : Fixed). Replays (start_of start f) now (forget after)) (acts_keep may old new command result (does t))
+    subst (λ (f : FixedParts). Replays (start_of start f) now (forget after)) (acts_keep may old new command result (does t))
     (acts_replay may old new command result held (does t))
 
 pub act_starts : {F : Type 0} (may : May F) (start : Start) (s after : State F) (before now : List ReplayEntry) (command : Command)
@@ -103,5 +103,6 @@ act_starts {F} may start s after before now command result does =
     let t = start_of start (fixed_of s) in
     let old : Held F = record { machine = s; start = t; journal = before } in
     let new : Held F = record { machine = after; start = t; journal = now } in
-    subst (λ (f : Fixed). JournalsOrRefuses may old command result (record { machine = after; start = start_of start f; journal = now }))
+    subst (λ (f : FixedParts). JournalsOrRefuses may old command result (record {
+        machine = after; start = start_of start f; journal = now }))
     (acts_keep may old new command result (does t)) (does t)

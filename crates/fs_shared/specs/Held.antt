@@ -46,7 +46,7 @@ journal_of entries = map entry_of entries
 
 -- the parts of a state that no call on a shared device changes: the numbers of the IOMMU's table and of the
 -- set of I/O pages, whether the IOMMU is on, the limit and the page size
-pub record Fixed : Type 0 where
+pub record FixedParts : Type 0 where
   pub table : ℕ
   pub io_pages : ℕ
   pub translates : Bool
@@ -54,7 +54,7 @@ pub record Fixed : Type 0 where
   pub page_size : ℕ
 
 -- these parts of a state
-abbrev pub fixed_of : {F : Type 0} → State F → Fixed
+abbrev pub fixed_of : {F : Type 0} → State F → FixedParts
 fixed_of s =
     record {
       table = s.memory.table;
@@ -65,7 +65,7 @@ fixed_of s =
     }
 
 -- the state in which the journal began
-abbrev pub start_of : Start → Fixed → State (Unit {0})
+abbrev pub start_of : Start → FixedParts → State (Unit {0})
 start_of start fixed = record {
   memory = record {
     host = start.host;

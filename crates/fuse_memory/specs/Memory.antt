@@ -215,11 +215,11 @@ directory_opened None = Opened None 0
 directory_opened (Some e) = Failed e
 
 -- READDIR: any entries or ENOMEM, or the reason to refuse
-abbrev pub Lists : Option ℕ → FileAnswer → Type 0
-Lists (Some e) answer = answer ≡ Failed e
-Lists None (Failed e) = e ≡ ENOMEM
-Lists None (Entries listed) = ⊤
-Lists None answer = ⊥
+abbrev pub AnswersListing : Option ℕ → FileAnswer → Type 0
+AnswersListing (Some e) answer = answer ≡ Failed e
+AnswersListing None (Failed e) = e ≡ ENOMEM
+AnswersListing None (Entries listed) = ⊤
+AnswersListing None answer = ⊥
 
 -- the answers and changes of each call, by the files before and after; those of other calls are free
 abbrev pub MayDo : FileTree → FileCall → FileAnswer → FileTree → Type 0
@@ -250,7 +250,7 @@ MayDo before (Release who node flags handle flush unlock owner) answer after = K
 MayDo before (Opendir who node flags) answer after =
     (answer ≡ directory_opened (no_directory (before.file node))) × Keeps before after
 MayDo before (Readdir who node handle size offset) answer after =
-    Lists (no_directory (before.file node)) answer × Keeps before after
+    AnswersListing (no_directory (before.file node)) answer × Keeps before after
 MayDo before call answer after = ⊤
 
 -- the file system's relation

@@ -14,7 +14,7 @@ use Rattle.fuse_wire.specs.Opcodes.{opcode_of}
 use Rattle.fuse_fs.specs.Calls.{FileCall, FileAnswer}
 use Rattle.fuse_fs.specs.Calls as call
 use Rattle.server_segments.specs.declared.error.Error.TheVariants.{EncodeMessage}
-use Rattle.server_requests.specs.Reading.{ReadFailure, Faults, Sends, Reading, and_then, needs, give, many, rest, reading_of, ◌>>=◌, ◌>>◌}
+use Rattle.server_requests.specs.Reading.{ReadFailure, Faults, Sends, Parser, and_then, needs, give, many, rest, reading_of, ◌>>=◌, ◌>>◌}
 use Rattle.server_requests.specs.Reading.{within, last_name, two_names, name_and_value}
 use Rattle.server_requests.specs.Extras.{new_link, new_name}
 use Rattle.server_requests.specs.Fronts as fronts
@@ -167,12 +167,12 @@ module _ (g : Given) where
   abbrev Ends : Result (Meaning × List ℕ) ReadFailure → Type 0
   Ends r = RepliesHeaded (ended g.header.unique r)
 
-  then_ends : {A : Type 0} (r : Result (A × List ℕ) ReadFailure) (f : A → Reading Meaning) → ((x : A) (more : List ℕ) → Ends (f x more)) →
+  then_ends : {A : Type 0} (r : Result (A × List ℕ) ReadFailure) (f : A → Parser Meaning) → ((x : A) (more : List ℕ) → Ends (f x more)) →
       Ends (and_then r (λ x. f x.0 x.1))
   then_ends (Ok x) f good = good x.0 x.1
   then_ends (Err e) f good = refused_headed g.header.unique e
 
-  if_ends : (b : Bool) (p q : Reading Meaning) (bytes : List ℕ) → Ends (p bytes) → Ends (q bytes) → Ends ((if b then p else q) bytes)
+  if_ends : (b : Bool) (p q : Parser Meaning) (bytes : List ℕ) → Ends (p bytes) → Ends (q bytes) → Ends ((if b then p else q) bytes)
   if_ends true p q bytes x y = x
   if_ends false p q bytes x y = y
 
@@ -184,7 +184,7 @@ module _ (g : Given) where
       then_ends (fronts.counted g.header.len 0 bytes) (λ inner. within inner last_name >>= λ name. one g (c g.header name)) (λ inner more.
       then_ends (within inner last_name more) (λ name. one g (c g.header name)) (λ name rest. tt))
 
-  bytes_ends : {R A : Type 0} (front : Given → Reading (R × List ℕ)) (parts : Given → R → Reading A) (c : InHeader → R → A →
+  bytes_ends : {R A : Type 0} (front : Given → Parser (R × List ℕ)) (parts : Given → R → Parser A) (c : InHeader → R → A →
       FileCall) (bytes : List ℕ) → Ends (grammar.bytes_row front parts c g bytes)
   bytes_ends front parts c bytes =
       then_ends (front g bytes) (λ x. within x.1 (parts g x.0) >>= λ y. one g (c g.header x.0 y)) (λ x more.

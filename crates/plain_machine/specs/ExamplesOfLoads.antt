@@ -20,7 +20,7 @@ use Rattle.plain_machine.specs.Step.{Exchanged, Refused}
 use Rattle.plain_machine.specs.Examples.{blank, descriptor_bytes, device, may, queue, request}
 use Rattle.plain_machine.specs.Examples.{unknown_exchange, unknown_reply}
 use Rattle.plain_machine.specs.StepBy.{StepBy, StepLoads, Effects, offered_by, byte_store, return_stores}
-use Rattle.plain_machine.specs.StepBy.{Stores, LoadsFlags, return_acts, FindFlags, MayStoreLast}
+use Rattle.plain_machine.specs.StepBy.{StoresBytes, LoadsFlags, return_acts, FindFlags, MayStoreLast}
 use Rattle.plain_machine.specs.StepBy.{return_addresses, stores_among}
 
 -- an entry of the table at 0
@@ -75,19 +75,20 @@ returned_in_order = refl
 
 -- the flags are loaded after all of the stores
 flags_behind : return_acts (record { address = 0x202; bytes = le16 1 } ∷ []) (le16 1)
-    ≡ Stores (record { address = 0x202; bytes = le16 1 }) ∷ LoadsFlags (le16 1) ∷ []
+    ≡ StoresBytes (record { address = 0x202; bytes = le16 1 }) ∷ LoadsFlags (le16 1) ∷ []
 flags_behind = refl
 
 -- the flags are loaded as a store wrote them before, and as they were before the store (a ring at
 -- 0x100, whose flags are at 0x100)
 flags_as_stored : FindFlags blank queue
-    (LoadsFlags (le16 0) ∷ Stores (record { address = 0x100; bytes = le16 1 }) ∷ LoadsFlags (le16 1) ∷ [])
+    (LoadsFlags (le16 0) ∷ StoresBytes (record { address = 0x100; bytes = le16 1 })
+        ∷ LoadsFlags (le16 1) ∷ [])
 unfolding place addresses stored_all
 flags_as_stored = (refl, (refl, tt))
 
 -- a load of the flags is no store
-stores_alone : stores_among (LoadsFlags (le16 0) ∷ Stores (byte_store (0x2000, 7)) ∷ LoadsFlags (le16 1)
-    ∷ Stores (byte_store (0x2001, 8)) ∷ []) ≡ byte_store (0x2000, 7) ∷ byte_store (0x2001, 8) ∷ []
+stores_alone : stores_among (LoadsFlags (le16 0) ∷ StoresBytes (byte_store (0x2000, 7)) ∷ LoadsFlags (le16 1)
+    ∷ StoresBytes (byte_store (0x2001, 8)) ∷ []) ≡ byte_store (0x2000, 7) ∷ byte_store (0x2001, 8) ∷ []
 stores_alone = refl
 
 -- to return a chain, the device stores to its reply buffer, the used element and the used index

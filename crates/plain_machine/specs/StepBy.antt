@@ -58,7 +58,7 @@ after_stores m stores = stored_all m (flat_map writes_of stores)
 -- an access to memory after the calls of a step: a store, or a load of two bytes. The load is of the
 -- available flags (2.7.7), or of used_event with the event index (2.7.10)
 pub data Act : Type 0 where
-  Stores : Store → Act
+  StoresBytes : Store → Act
   LoadsFlags : (found : List ℕ) → Act
 
 -- the accesses of a step in order, and the number of reply bytes that were stored last
@@ -69,12 +69,12 @@ pub record Effects : Type 0 where
 -- the stores among these accesses
 abbrev pub stores_among : List Act → List Store
 stores_among [] = []
-stores_among (Stores store ∷ acts) = store ∷ stores_among acts
+stores_among (StoresBytes store ∷ acts) = store ∷ stores_among acts
 stores_among (LoadsFlags found ∷ acts) = stores_among acts
 
 -- the accesses that return a chain: all stores, and then the load of the flags (2.7.8, 2.7.7)
 abbrev pub return_acts : List Store → (flags : List ℕ) → List Act
-return_acts stores flags = map Stores stores ++ LoadsFlags flags ∷ []
+return_acts stores flags = map StoresBytes stores ++ LoadsFlags flags ∷ []
 
 -- no store and no load
 abbrev pub DoesNothing : Effects → Type 0
@@ -177,7 +177,7 @@ MayStoreLast m room n = (n ≡ 0) ⊎ IsFrontApart m room n
 -- each load of flags returns the bytes that memory holds by then
 abbrev pub FindFlags : Memory → Queue → List Act → Type 0
 FindFlags m q [] = Unit {0}
-FindFlags m q (Stores store ∷ acts) = FindFlags (after_stores m (store ∷ [])) q acts
+FindFlags m q (StoresBytes store ∷ acts) = FindFlags (after_stores m (store ∷ [])) q acts
 FindFlags m q (LoadsFlags found ∷ acts) = (found ≡ bytes m q.avail 2) × FindFlags m q acts
 
 -- a step's loads are of one memory: its bytes before the calls, and the flags by then. The reply bytes

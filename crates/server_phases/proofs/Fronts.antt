@@ -17,7 +17,7 @@ use Rattle.virtiofsd_fuse.specs.DataApart.{is_write}
 use Rattle.server_phases.specs.Asking.{IsRequestFront, BeginsRecord}
 
 -- a reading that left something else
-abbrev pub leaving : {R : Type 0} → reading.Read R → List ℕ → reading.Read R
+abbrev pub leaving : {R : Type 0} → reading.Parsed R → List ℕ → reading.Parsed R
 leaving (Ok x) left = Ok (x.0, left)
 leaving (Err e) left = Err e
 
@@ -29,7 +29,7 @@ short_same n xs ys e =
     grind (arith, nat_tests)
 
 read_by : {R : Type 0} → (t u : Bool) (n : ℕ) (make : List ℕ → R) (front all : List ℕ) → t ≡ u → take n front ≡ take n all
-    → ◌≡◌ {A = reading.Read R} (and_then {A = List ℕ × List ℕ} {B = R × List ℕ}
+    → ◌≡◌ {A = reading.Parsed R} (and_then {A = List ℕ × List ℕ} {B = R × List ℕ}
     (cond u (Err (Faults DecodeMessage)) (Ok (take n all, drop n all))) (λ x. Ok (make x.0, x.1)))
     (leaving (and_then {A = List ℕ × List ℕ} {B = R × List ℕ} (cond t (Err (Faults DecodeMessage)) (Ok (take n front, drop n front)))
     (λ x. Ok (make x.0, x.1))) (drop n all))
@@ -51,13 +51,13 @@ pub record_by_front :
     {R : Type 0} → (s : RecordShape R) (front all more : List ℕ) (r : R) → take (size s.parts) front ≡ take (size s.parts) all
     → Ok (r, more) ≡ reading_of s front → Ok (r, drop (size s.parts) all) ≡ reading_of s all
 record_by_front {R} s front all more r e h =
-    ap (λ (x : reading.Read R). leaving x (drop (size s.parts) all)) h ∙ sym (read_by_front s front all e)
+    ap (λ (x : reading.Parsed R). leaving x (drop (size s.parts) all)) h ∙ sym (read_by_front s front all e)
 
 pub fault_by_front :
     {R : Type 0} → (s : RecordShape R) (front all : List ℕ) (f : Error) → take (size s.parts) front ≡ take (size s.parts) all
     → Err (Faults f) ≡ reading_of s front → Err (Faults f) ≡ reading_of s all
 fault_by_front {R} s front all f e h =
-    ap (λ (x : reading.Read R). leaving x (drop (size s.parts) all)) h ∙ sym (read_by_front s front all e)
+    ap (λ (x : reading.Parsed R). leaving x (drop (size s.parts) all)) h ∙ sym (read_by_front s front all e)
 
 -- a request by its first bytes and the others
 front_and_rest : (front request : List ℕ) → IsRequestFront front request → request ≡ front ++ drop (length front) request
@@ -84,12 +84,12 @@ write_is (Some _) e = absurd (cc)
 write_is None e = absurd (cc)
 
 -- the bytes behind a record that was read
-abbrev pub left_over : {R : Type 0} → List ℕ → reading.Read R → List ℕ
+abbrev pub left_over : {R : Type 0} → List ℕ → reading.Parsed R → List ℕ
 left_over bytes (Ok x) = x.1
 left_over bytes (Err e) = bytes
 
 behind_by : {R : Type 0} → (t : Bool) (n : ℕ) (make : List ℕ → R) (bytes more : List ℕ) (r : R)
-    → ◌≡◌ {A = reading.Read R} (Ok (r, more)) (and_then {A = List ℕ × List ℕ} {B = R × List ℕ}
+    → ◌≡◌ {A = reading.Parsed R} (Ok (r, more)) (and_then {A = List ℕ × List ℕ} {B = R × List ℕ}
     (cond t (Err (Faults DecodeMessage)) (Ok (take n bytes, drop n bytes))) (λ x. Ok (make x.0, x.1)))
     → drop n bytes ≡ more
 behind_by true n make bytes more r e = absurd (cc)

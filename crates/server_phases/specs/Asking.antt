@@ -8,7 +8,7 @@ use Rattle.fuse_in.specs.declared.session.InHeader.{InHeader}
 use Rattle.fuse_in.specs.Records.{in_header}
 use Rattle.fuse_fs.specs.declared.answers.Context.{Context}
 use Rattle.fuse_fs.specs.Answers.{context_of}
-use Rattle.server_requests.specs.Reading.{Reading, reading_of}
+use Rattle.server_requests.specs.Reading.{Parser, reading_of}
 use Rattle.server_segments.specs.declared.error.Error.TheVariants.{EncodeMessage}
 use Rattle.virtiofsd_fuse.specs.DataApart.{begins_a_write}
 use Rattle.virtiofsd_fuse.specs.Grammar.{Meaning, Asks, FileCommand, Given, ended, given}
@@ -66,7 +66,7 @@ abbrev pub told_reply : (room : ℕ) → List ℕ → DecodedRequest
 told_reply room reply = if nat_lt room (length reply) then asked.Fault EncodeMessage else asked.Reply reply
 
 -- a request is decoded by a row of the grammar; bytes: those behind its header
-abbrev pub IsRowTold : (page_size options : ℕ) → InHeader → (room : ℕ) → (Given → Reading Meaning) →
+abbrev pub IsRowTold : (page_size options : ℕ) → InHeader → (room : ℕ) → (Given → Parser Meaning) →
     (bytes : List ℕ) → DecodedRequest → Type 0
 IsRowTold page_size options h room row bytes asked =
     IsDecoded (setting page_size options room) (ended h.unique (row (given h options room) bytes))

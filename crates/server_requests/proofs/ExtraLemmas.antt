@@ -14,7 +14,7 @@ use Rattle.fuse_fs.specs.Calls.{SecurityContext, Extra}
 use Rattle.server_segments.specs.declared.error.Error.{Error}
 use Rattle.server_segments.specs.declared.error.Error.TheVariants.{DecodeMessage, MissingParameter, MissingExtension, InvalidHeaderLength}
 use Rattle.server_segments.specs.declared.error.Error.TheVariants.{InvalidCString}
-use Rattle.server_requests.specs.Reading.{Read, ReadFailure, Faults, and_then, at_zero, reading_of, value_of, front_name}
+use Rattle.server_requests.specs.Reading.{Parsed, ReadFailure, Faults, and_then, at_zero, reading_of, value_of, front_name}
 use Rattle.server_requests.specs.Extras.{SentParts, takes_security, takes_group, security_context, group_number, one_group, security_part}
 use Rattle.server_requests.specs.Extras.{group_part, part, extension, extensions, extra_in, parts_of, nothing_sent, new_name, new_link}
 use Rattle.server_requests.proofs.RecordLemmas.{read_front}
@@ -118,7 +118,7 @@ abbrev with_label : SentParts → Result SecurityContext ReadFailure → Result 
 with_label sent (Ok x) = Ok (record { was_sent = true; security = Some x; group = sent.group })
 with_label sent (Err r) = Err r
 
-label_by : (sent : SentParts) (r : Read SecurityContext) → value_of (and_then r
+label_by : (sent : SentParts) (r : Parsed SecurityContext) → value_of (and_then r
     (λ x. Ok (sent_pair (record { was_sent = true; security = Some x.0; group = sent.group }) x.1))) ≡ with_label sent (value_of r)
 label_by sent (Ok x) = refl
 label_by sent (Err r) = refl
@@ -150,7 +150,7 @@ abbrev with_group : SentParts → Result ℕ ReadFailure → Result SentParts Re
 with_group sent (Ok n) = Ok (record { was_sent = sent.was_sent; security = sent.security; group = Some n })
 with_group sent (Err r) = Err r
 
-group_by : (sent : SentParts) (r : Read ℕ) →
+group_by : (sent : SentParts) (r : Parsed ℕ) →
     value_of (and_then r (λ x. Ok (sent_pair (record { was_sent = sent.was_sent; security = sent.security; group = Some x.0 }) x.1)))
     ≡ with_group sent (value_of r)
 group_by sent (Ok x) = refl
@@ -196,7 +196,7 @@ abbrev with_others : List ℕ → Result SentParts ReadFailure → Result (SentP
 with_others others (Ok sent) = Ok (sent, others)
 with_others others (Err r) = Err r
 
-part_by : (others : List ℕ) (r : Read SentParts) → and_then r (λ x. Ok (x.0, others)) ≡ with_others others (value_of r)
+part_by : (others : List ℕ) (r : Parsed SentParts) → and_then r (λ x. Ok (x.0, others)) ≡ with_others others (value_of r)
 part_by others (Ok x) = refl
 part_by others (Err r) = refl
 

@@ -12,7 +12,7 @@ use Rattle.server_segments.specs.declared.error.Error.TheVariants.{InvalidCStrin
 use Rattle.server_segments.specs.declared.error.Error.TheVariants.{MissingParameter}
 use Rattle.server_segments.specs.declared.error.Error.{Error}
 use Rattle.fuse_in.specs.Shapes.{RecordShape}
-use Rattle.server_requests.specs.Reading.{Read, ReadFailure, Faults, and_then, at_zero, before_zero, last_name, two_names, name_and_value}
+use Rattle.server_requests.specs.Reading.{Parsed, ReadFailure, Faults, and_then, at_zero, before_zero, last_name, two_names, name_and_value}
 use Rattle.server_requests.specs.Reading.{front_name, value_of, reading_of}
 use Rattle.vm_values.specs.Bits.{has_bit}
 use Rattle.fuse_in.specs.declared.nodes.SetxattrIn.{SetxattrIn}
@@ -24,7 +24,7 @@ abbrev second_of : List ℕ → Result (List ℕ) ReadFailure → Result (List �
 second_of old (Ok new) = Ok (old, new)
 second_of old (Err r) = Err r
 
-second : (old : List ℕ) (r : Read (List ℕ)) → value_of (and_then r (λ x. Ok ((old, x.0), x.1))) ≡ second_of old (value_of r)
+second : (old : List ℕ) (r : Parsed (List ℕ)) → value_of (and_then r (λ x. Ok ((old, x.0), x.1))) ≡ second_of old (value_of r)
 second old (Ok x) = refl
 second old (Err r) = refl
 
@@ -204,7 +204,7 @@ counted_none len k all h =
     rw test refl
 
 -- a record, and the bytes after it
-with_value : {R : Type 0} → (r : R) (x : Read (List ℕ)) → value_of (and_then x (λ b. Ok ((r, b.0), b.1))) ≡ paired r (value_of x)
+with_value : {R : Type 0} → (r : R) (x : Parsed (List ℕ)) → value_of (and_then x (λ b. Ok ((r, b.0), b.1))) ≡ paired r (value_of x)
 with_value r (Ok b) = refl
 with_value r (Err e) = refl
 
@@ -230,7 +230,7 @@ flagless (Ok x) = Ok (without_flags x.0, x.1)
 flagless (Err r) = Err r
 
 flagless_by :
-    (x : Read (SetxattrInCompat × List ℕ)) → value_of (and_then x (λ y. Ok ((without_flags y.0.0, y.0.1), y.1))) ≡ flagless (value_of x)
+    (x : Parsed (SetxattrInCompat × List ℕ)) → value_of (and_then x (λ y. Ok ((without_flags y.0.0, y.0.1), y.1))) ≡ flagless (value_of x)
 flagless_by (Ok y) = refl
 flagless_by (Err r) = refl
 

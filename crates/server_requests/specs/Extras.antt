@@ -12,7 +12,7 @@ use Rattle.server_segments.specs.declared.error.Error.TheVariants.{MissingExtens
 use Rattle.server_segments.specs.declared.error.Error.TheVariants.{InvalidCString}
 use Rattle.fuse_values.specs.Values.{received_extra}
 use Rattle.server_requests.specs.declared.extensions.SoFar.{SoFar}
-use Rattle.server_requests.specs.Reading.{ReadFailure, Faults, Reading, and_then, ◌>>=◌, ◌>>◌, give, refuse}
+use Rattle.server_requests.specs.Reading.{ReadFailure, Faults, Parser, and_then, ◌>>=◌, ◌>>◌, give, refuse}
 use Rattle.server_requests.specs.Reading.{needs, rest, exactly, within, name_or, front_name, reading_of}
 
 -- FUSE_SECURITY_CTX (bit 32 of the options) is agreed
@@ -40,7 +40,7 @@ sent_of s =
     record { was_sent = s.was_sent; security = parts.security; group = parts.group }
 
 -- a security context that isn't empty: its name and its label
-unfoldable pub security_context : Reading SecurityContext
+unfoldable pub security_context : Parser SecurityContext
 security_context =
     reading_of secctx >>= λ head. needs (not (head.size == 0)) (Faults DecodeMessage) >> rest >>= λ more.
     needs (not (length more == 0)) (Faults MissingParameter) >> within more (
@@ -52,20 +52,20 @@ abbrev pub group_number : RecordShape ℕ
 group_number = record { parts = u32 ∷ []; make = λ n. n; says = λ n. n & end }
 
 -- a list of exactly one group
-unfoldable pub one_group : Reading ℕ
+unfoldable pub one_group : Parser ℕ
 one_group =
     reading_of supp_groups
     >>= λ head. needs (head.nr_groups == 1) (Faults DecodeMessage) >> reading_of group_number
 
 -- a security context is added to the extensions so far; kind 0 is empty
-abbrev pub security_part : ℕ → SentParts → ℕ → Reading SentParts
+abbrev pub security_part : ℕ → SentParts → ℕ → Parser SentParts
 security_part options sent kind =
     needs (takes_security options && not sent.was_sent && nat_le kind 1) (Faults DecodeMessage)
     >> (if kind == 0 then give (record { was_sent = true; security = sent.security; group = sent.group })
     else (security_context >>= λ x. give (record { was_sent = true; security = Some x; group = sent.group })))
 
 -- a group is added to the extensions so far
-abbrev pub group_part : ℕ → SentParts → Reading SentParts
+abbrev pub group_part : ℕ → SentParts → Parser SentParts
 group_part options sent =
     needs (takes_group options && is_none sent.group) (Faults DecodeMessage)
     >> one_group
@@ -73,14 +73,14 @@ group_part options sent =
 
 -- an extension's body, read as its kind says: 0 and 1 are security contexts, 32 is a group, others are
 -- faults
-unfoldable pub part : ℕ → SentParts → ℕ → Reading SentParts
+unfoldable pub part : ℕ → SentParts → ℕ → Parser SentParts
 part options sent kind =
     if nat_lt 32 kind then refuse (Faults DecodeMessage)
     else if kind == 32 then group_part options sent
     else security_part options sent kind
 
 -- one extension is read; further bytes of its body are ignored
-unfoldable pub extension : ℕ → SentParts → Reading SentParts
+unfoldable pub extension : ℕ → SentParts → Parser SentParts
 extension options sent =
     reading_of ext_header
     >>= λ head. needs (nat_le 8 head.size) (Faults InvalidHeaderLength) >> exactly (head.size - 8) >>= λ body.
@@ -111,17 +111,17 @@ extra_in options bytes =
     else Ok (parts_of nothing_sent)
 
 -- all bytes left are extensions
-abbrev pub extra : ℕ → Reading Extra
+abbrev pub extra : ℕ → Parser Extra
 extra options = λ bytes. and_then (extra_in options bytes) (λ x. Ok (x, []))
 
 -- the name of a new node, and its extensions
-unfoldable pub new_name : ℕ → Reading (List ℕ × Extra)
+unfoldable pub new_name : ℕ → Parser (List ℕ × Extra)
 new_name options =
     front_name >>= λ name. extra options
     >>= λ more. needs name.1 (Faults InvalidCString) >> give (name.0, more)
 
 -- the name of a new symbolic link, its target, and its extensions
-unfoldable pub new_link : ℕ → Reading NewLink
+unfoldable pub new_link : ℕ → Parser NewLink
 new_link options =
     front_name >>= λ name. front_name
     >>= λ link. extra options >>= λ more. needs (name.1 && link.1) (Faults InvalidCString)

@@ -10,11 +10,11 @@ use Rattle.fuse_fs.specs.Lengths.{first, past}
 use Rattle.fuse_in.specs.Records.{init_in_ext, setxattr_in, setxattr_in_compat}
 use Rattle.fuse_wire.specs.Records.{forget_one}
 use Rattle.server_segments.specs.declared.error.Error.TheVariants.{InvalidHeaderLength}
-use Rattle.server_requests.specs.Reading.{Faults, Read, Reading, ◌>>=◌, ◌>>◌, give, needs, exactly}
+use Rattle.server_requests.specs.Reading.{Faults, Parsed, Parser, ◌>>=◌, ◌>>◌, give, needs, exactly}
 use Rattle.server_requests.specs.Reading.{reading_of}
 
 -- the bytes of a request behind its header and k bytes of record, by the header's length
-unfoldable pub counted : (len k : ℕ) → Reading (List ℕ)
+unfoldable pub counted : (len k : ℕ) → Parser (List ℕ)
 counted len k = needs (nat_le (40 + k) len) (Faults InvalidHeaderLength) >> exactly (len - 40 - k)
 
 -- n bytes are left in these segments, but not in the first of them
@@ -26,7 +26,7 @@ abbrev pub counted_split : (len k : ℕ) → (segments : List ℕ) → Bool
 counted_split len k segments = is_split (len - 40 - k) (past k segments)
 
 -- a record of k bytes, and the bytes after it, by the header's length
-unfoldable pub with_bytes : {R : Type 0} → RecordShape R → (k len : ℕ) → Reading (R × List ℕ)
+unfoldable pub with_bytes : {R : Type 0} → RecordShape R → (k len : ℕ) → Parser (R × List ℕ)
 with_bytes s k len = reading_of s >>= λ r. counted len k >>= λ bytes. give (r, bytes)
 
 -- the length of SETXATTR's record: 16 with FUSE_SETXATTR_EXT (bit 29 of the options), else 8
@@ -38,21 +38,21 @@ abbrev pub without_flags : SetxattrInCompat → SetxattrIn
 without_flags r = record { size = r.size; flags = r.flags; setxattr_flags = 0; padding = 0 }
 
 -- the record of SETXATTR, longer with FUSE_SETXATTR_EXT (bit 29 of the options), and the bytes after it
-unfoldable pub setxattr_front : (options len : ℕ) → Reading (SetxattrIn × List ℕ)
+unfoldable pub setxattr_front : (options len : ℕ) → Parser (SetxattrIn × List ℕ)
 setxattr_front options len =
     if has_bit options 29 then with_bytes setxattr_in 16 len
     else (with_bytes setxattr_in_compat 8 len >>= λ x. give (without_flags x.0, x.1))
 
 -- struct fuse_forget_one: a node, and the number to subtract from its lookup count
-abbrev pub forget_pair : Reading (ℕ × ℕ)
+abbrev pub forget_pair : Parser (ℕ × ℕ)
 forget_pair = reading_of forget_one >>= λ r. give (r.nodeid, r.nlookup)
 
 -- at least one pair was read
-abbrev pub has_pairs : Read (List (ℕ × ℕ)) → Bool
+abbrev pub has_pairs : Parsed (List (ℕ × ℕ)) → Bool
 has_pairs (Ok x) = nat_lt 0 (length x.0)
 has_pairs (Err r) = false
 
 -- the upper half of the client's options: with FUSE_INIT_EXT (bit 30 of `flags`) it is read from
 -- the rest of the record, else it is 0
-abbrev pub flags2_of : InitInCompat → Reading ℕ
+abbrev pub flags2_of : InitInCompat → Parser ℕ
 flags2_of r = if has_bit r.flags 30 then (reading_of init_in_ext >>= λ more. give more.flags2) else give 0

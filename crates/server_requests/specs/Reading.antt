@@ -12,12 +12,12 @@ pub data ReadFailure : Type 0 where
   Sends : (errno : ℕ) → ReadFailure
 
 -- the result of a reading: a value and the bytes after it, or a failure
-abbrev pub Read : Type 0 → Type 0
-Read X = Result (X × List ℕ) ReadFailure
+abbrev pub Parsed : Type 0 → Type 0
+Parsed X = Result (X × List ℕ) ReadFailure
 
 -- a reading of a value from the front of some bytes
-abbrev pub Reading : Type 0 → Type 0
-Reading X = List ℕ → Read X
+abbrev pub Parser : Type 0 → Type 0
+Parser X = List ℕ → Parsed X
 
 -- a result passes its value on; a failure remains
 abbrev pub and_then :
@@ -27,46 +27,46 @@ and_then (Err r) f = Err r
 
 infixl 10 ◌>>=◌
 -- one reading, and then another
-abbrev pub ◌>>=◌ : {A B : Type 0} → Reading A → (A → Reading B) → Reading B
+abbrev pub ◌>>=◌ : {A B : Type 0} → Parser A → (A → Parser B) → Parser B
 p >>= f = λ bytes. and_then (p bytes) (λ x. f x.0 x.1)
 
 infixl 10 ◌>>◌
 -- one reading, whose value is dropped, and then another
-abbrev pub ◌>>◌ : {A B : Type 0} → Reading A → Reading B → Reading B
+abbrev pub ◌>>◌ : {A B : Type 0} → Parser A → Parser B → Parser B
 p >> q = λ bytes. and_then (p bytes) (λ x. q x.1)
 
 -- a value, without reading
-abbrev pub give : {A : Type 0} → A → Reading A
+abbrev pub give : {A : Type 0} → A → Parser A
 give x = λ bytes. Ok (x, bytes)
 
 -- a failure for all bytes
-abbrev pub refuse : {A : Type 0} → ReadFailure → Reading A
+abbrev pub refuse : {A : Type 0} → ReadFailure → Parser A
 refuse r = λ bytes. Err r
 
 -- a failure unless the test holds; no byte is read
-abbrev pub needs : Bool → ReadFailure → Reading (Unit {0})
+abbrev pub needs : Bool → ReadFailure → Parser (Unit {0})
 needs test r = λ bytes. if test then Ok (tt, bytes) else Err r
 
 -- all bytes that are left
-abbrev pub rest : Reading (List ℕ)
+abbrev pub rest : Parser (List ℕ)
 rest = λ bytes. Ok (bytes, [])
 
 -- the next n bytes, or DecodeMessage if there are fewer
-abbrev pub exactly : ℕ → Reading (List ℕ)
+abbrev pub exactly : ℕ → Parser (List ℕ)
 exactly n =
     λ bytes. if nat_lt (length bytes) n then Err (Faults DecodeMessage) else Ok (take n bytes, drop n bytes)
 
 -- n values, one after another
-unfoldable pub many : {A : Type 0} → ℕ → Reading A → Reading (List A)
+unfoldable pub many : {A : Type 0} → ℕ → Parser A → Parser (List A)
 many zero p = give []
 many (suc n) p = p >>= λ x. many n p >>= λ xs. give (x ∷ xs)
 
 -- a record, field by field
-unfoldable pub reading_of : {R : Type 0} → RecordShape R → Reading R
+unfoldable pub reading_of : {R : Type 0} → RecordShape R → Parser R
 reading_of s = exactly (size s.parts) >>= λ bytes. give (made s.parts s.make bytes)
 
 -- a reading of these bytes alone; those that it leaves are ignored
-abbrev pub within : {A : Type 0} → List ℕ → Reading A → Reading A
+abbrev pub within : {A : Type 0} → List ℕ → Parser A → Parser A
 within bytes p = λ others. and_then (p bytes) (λ x. Ok (x.0, others))
 
 -- one more byte before the zero byte
@@ -79,43 +79,43 @@ at_zero [] = None
 at_zero (b ∷ bs) = if b == 0 then Some ([], bs) else before_zero b (at_zero bs)
 
 -- the bytes before the zero byte and those after it, or the fault e without a zero byte
-abbrev pub ended_or : Error → Option (List ℕ × List ℕ) → Read (List ℕ)
+abbrev pub ended_or : Error → Option (List ℕ × List ℕ) → Parsed (List ℕ)
 ended_or e None = Err (Faults e)
 ended_or e (Some split) = Ok split
 
 -- a name up to its zero byte, or the fault e without a zero byte
-abbrev pub name_or : Error → Reading (List ℕ)
+abbrev pub name_or : Error → Parser (List ℕ)
 name_or e = λ bytes. ended_or e (at_zero bytes)
 
 -- one name in all bytes that are left, which end with their only zero byte
-unfoldable pub last_name : Reading (List ℕ)
+unfoldable pub last_name : Parser (List ℕ)
 last_name =
     name_or InvalidCString
     >>= λ name. rest >>= λ more. needs (length more == 0) (Faults InvalidCString) >> give name
 
 -- all bytes are the name if there is no zero byte
-abbrev pub name_by : List ℕ → Option (List ℕ × List ℕ) → Read (List ℕ × Bool)
+abbrev pub name_by : List ℕ → Option (List ℕ × List ℕ) → Parsed (List ℕ × Bool)
 name_by bytes None = Ok ((bytes, false), [])
 name_by bytes (Some split) = Ok ((split.0, true), split.1)
 
 -- a name up to its zero byte, or all bytes if there is none, and whether there is a zero byte
-unfoldable pub front_name : Reading (List ℕ × Bool)
+unfoldable pub front_name : Parser (List ℕ × Bool)
 front_name =
     λ bytes. if length bytes == 0 then Err (Faults MissingParameter) else name_by bytes (at_zero bytes)
 
 -- two names in all bytes that are left: the first zero byte ends the first name
-unfoldable pub two_names : Reading (List ℕ × List ℕ)
+unfoldable pub two_names : Parser (List ℕ × List ℕ)
 two_names = name_or MissingParameter >>= λ old. last_name >>= λ new. give (old, new)
 
 -- a name, and a value of this size in all bytes that are left
-unfoldable pub name_and_value : (size : ℕ) → Reading (List ℕ × List ℕ)
+unfoldable pub name_and_value : (size : ℕ) → Parser (List ℕ × List ℕ)
 name_and_value size =
     name_or MissingParameter >>= λ name. rest
     >>= λ value. needs (size == length value) (Faults (InvalidXattrSize (size, length value)))
     >> give (name, value)
 
 -- the value that was read, without the bytes after it
-abbrev pub value_of : {A : Type 0} → Read A → Result A ReadFailure
+abbrev pub value_of : {A : Type 0} → Parsed A → Result A ReadFailure
 value_of (Ok x) = Ok x.0
 value_of (Err r) = Err r
 
@@ -125,6 +125,6 @@ outcome view (Ok x) = Ok (view x)
 outcome view (Err e) = Err (Faults e)
 
 -- the result of a function that reads, with the bytes that it leaves
-abbrev pub read_result : {A : Type 0} → Result A Error → List ℕ → Read A
+abbrev pub read_result : {A : Type 0} → Result A Error → List ℕ → Parsed A
 read_result (Ok x) more = Ok (x, more)
 read_result (Err e) more = Err (Faults e)

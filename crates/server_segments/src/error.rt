@@ -10,7 +10,7 @@ use thiserror::Error as ThisError;
 pub enum Error {
     #[error("the request can't be decoded")]
     DecodeMessage,
-    #[error("the reply doesn't fit its room")]
+    #[error("the reply doesn't fit the reply buffer")]
     EncodeMessage,
     /// The server never returns it.
     #[error("the reply can't be flushed")]
@@ -27,7 +27,7 @@ pub enum Error {
     #[error("a name has no zero byte")]
     InvalidCString2,
     /// The `size` of `struct fuse_setxattr_in`, and the value's length, in bytes.
-    #[error("the value's size was told wrong")]
+    #[error("the value hasn't the size that the request says")]
     InvalidXattrSize((u32, usize)),
     #[error("the lengths of a chain's parts add up to too much")]
     DescriptorChainOverflow,

@@ -16,7 +16,7 @@ use Rattle.fuse_wire.specs.Opcodes.{opcode_of}
 use Rattle.fuse_fs.specs.Answers.{data_answer, written_answer}
 use Rattle.fuse_fs.specs.Calls.{FileCall, suits, Failed}
 use Rattle.fuse_fs.specs.Transfers.{moved}
-use Rattle.server_requests.specs.Reading.{Reading, ◌>>◌, Faults, Sends, and_then, within, value_of, reading_of, last_name}
+use Rattle.server_requests.specs.Reading.{Parser, ◌>>◌, Faults, Sends, and_then, within, value_of, reading_of, last_name}
 use Rattle.virtiofsd_fuse.specs.Grammar.{IsFault, Replies, Asks, One, Starts, Given, given, one, row, row_of, meant, meaning, record_row}
 use Rattle.virtiofsd_fuse.specs.Grammar.{name_row, bytes_row, ended}
 use Rattle.server_requests.specs.Fronts.{counted, flags2_of}
@@ -66,7 +66,7 @@ name_read g call all bytes h =
 
 -- a request that is a record and bytes after it
 pub bytes_read : {R A : Type 0}
-    → (g : Given) (front : Given → Reading (R × List ℕ)) (parts : Given → R → Reading A) (call : InHeader → R → A → FileCall) (all : List ℕ)
+    → (g : Given) (front : Given → Parser (R × List ℕ)) (parts : Given → R → Parser A) (call : InHeader → R → A → FileCall) (all : List ℕ)
     (r : R) (bytes : List ℕ) → Ok (r, bytes) ≡ value_of (front g all)
     → ended g.header.unique (bytes_row front parts call g all) ≡ ask_of g.header.unique (call g.header r) (value_of (parts g r bytes))
 bytes_read g front parts call all r bytes h =
@@ -79,7 +79,7 @@ name_fault g call all e h = ended_fault g.header.unique (λ x. and_then (within 
     (counted g.header.len 0 all) h
 
 pub bytes_fault : {R A : Type 0} →
-    (g : Given) (front : Given → Reading (R × List ℕ)) (parts : Given → R → Reading A) (call : InHeader → R → A → FileCall) (all : List ℕ)
+    (g : Given) (front : Given → Parser (R × List ℕ)) (parts : Given → R → Parser A) (call : InHeader → R → A → FileCall) (all : List ℕ)
     (e : Error) → Err (Faults e) ≡ value_of (front g all) → ended g.header.unique (bytes_row front parts call g all) ≡ IsFault e
 bytes_fault g front parts call all e h =
     ended_fault g.header.unique (λ x. and_then (within x.0.1 (parts g x.0.0) x.1) (λ y. one g (call g.header x.0.0 y.0) y.1)) e
@@ -99,13 +99,13 @@ symlink_fault g all e h =
 
 -- at most 2^20 bytes
 pub sized :
-    {A : Type 0} → (n : ℕ) (p : Reading A) (bytes : List ℕ) → n ≤ 2 ^ 20 → value_of ((at_most_a_mebibyte n >> p) bytes) ≡ value_of (p bytes)
+    {A : Type 0} → (n : ℕ) (p : Parser A) (bytes : List ℕ) → n ≤ 2 ^ 20 → value_of ((at_most_a_mebibyte n >> p) bytes) ≡ value_of (p bytes)
 sized n p bytes h =
     let test : nat_le n (2 ^ 20) ≡ true = grind (arith, nat_tests) in
     rw test refl
 
 pub too_large :
-    {A : Type 0} → (n : ℕ) (p : Reading A) (bytes : List ℕ) → 2 ^ 20 < n → value_of ((at_most_a_mebibyte n >> p) bytes) ≡ Err (Sends ENOMEM)
+    {A : Type 0} → (n : ℕ) (p : Parser A) (bytes : List ℕ) → 2 ^ 20 < n → value_of ((at_most_a_mebibyte n >> p) bytes) ≡ Err (Sends ENOMEM)
 too_large n p bytes h =
     let test : nat_le n (2 ^ 20) ≡ false = grind (arith, nat_tests) in
     rw test refl

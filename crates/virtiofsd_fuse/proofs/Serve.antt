@@ -6,7 +6,7 @@ use Rattle.std.specs.Prelude.{IsTrue, OnOk, nat_lt, ◌-◌, Option}
 use Rattle.fuse_fs.specs.Calls.{FileCall, FileAnswer, FileRun, suits, Init, Listed, Failed, Done, HasEntry, HasAttr, Opened, Created, Bytes}
 use Rattle.fuse_fs.specs.Calls.{Count, Stats, Wrote, Offset, Entries}
 use Rattle.fuse_fs.specs.Calls.{Wants}
-use Rattle.server_requests.specs.Reading.{ReadFailure, Faults, Read, Reading, and_then, value_of, within}
+use Rattle.server_requests.specs.Reading.{ReadFailure, Faults, Parsed, Parser, and_then, value_of, within}
 use Rattle.virtiofsd_fuse.specs.Grammar.{Meaning, IsFault, Replies, IsSilent, Asks, One, Starts, refused, ended, Lists}
 use Rattle.server_replies.specs.WholeReplies.{error_bytes, with_written, whole_or_none, listing_bytes}
 use Rattle.virtiofsd_fuse.specs.Listings.{ListRequest, readdir_call}
@@ -192,24 +192,24 @@ abbrev pub ask_of : {A : Type 0} → ℕ → (A → FileCall) → Result A ReadF
 ask_of unique f (Ok x) = Asks (One unique (f x))
 ask_of unique f (Err r) = refused unique r
 
-pub ended_ask : {A : Type 0} (unique : ℕ) (f : A → FileCall) (r : Read A) →
+pub ended_ask : {A : Type 0} (unique : ℕ) (f : A → FileCall) (r : Parsed A) →
     ended unique (and_then r (λ x. Ok (Asks (One unique (f x.0)), x.1))) ≡ ask_of unique f (value_of r)
 ended_ask unique f (Ok x) = refl
 ended_ask unique f (Err r) = refl
 
 -- what isn't read is a fault
-pub ended_fault : {A : Type 0} (unique : ℕ) (f : A × List ℕ → Read Meaning) (e : Error) (r : Read A) → Err (Faults e) ≡ value_of r →
+pub ended_fault : {A : Type 0} (unique : ℕ) (f : A × List ℕ → Parsed Meaning) (e : Error) (r : Parsed A) → Err (Faults e) ≡ value_of r →
     ended unique (and_then r f) ≡ IsFault e
 ended_fault unique f e (Ok x) h = absurd (cc)
 ended_fault unique f e (Err r) h = let same : Faults e ≡ r = cc in ap (refused unique) (sym same)
 
-within_value : {A : Type 0} (others : List ℕ) (r : Read A) → value_of (and_then r (λ x. Ok (x.0, others))) ≡ value_of r
+within_value : {A : Type 0} (others : List ℕ) (r : Parsed A) → value_of (and_then r (λ x. Ok (x.0, others))) ≡ value_of r
 within_value others (Ok x) = refl
 within_value others (Err e) = refl
 
 -- bytes that were read are read again
 pub ended_parts :
-    {X A : Type 0} (unique : ℕ) (bytes_of : X → List ℕ) (p : X → Reading A) (f : X → A → FileCall) (r : Read X) (x : X) → Ok x ≡ value_of r
+    {X A : Type 0} (unique : ℕ) (bytes_of : X → List ℕ) (p : X → Parser A) (f : X → A → FileCall) (r : Parsed X) (x : X) → Ok x ≡ value_of r
     → ended unique (and_then r (λ z. and_then (within (bytes_of z.0) (p z.0) z.1) (λ v. Ok (Asks (One unique (f z.0 v.0)), v.1))))
     ≡ ask_of unique (f x) (value_of (p x (bytes_of x)))
 ended_parts unique bytes_of p f (Ok z) x h =

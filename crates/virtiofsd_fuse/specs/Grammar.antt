@@ -20,7 +20,7 @@ use Rattle.fuse_fs.specs.Calls.{FileCall, Extra, Destroy, Getlk, Setlk, Setlkw, 
 use Rattle.fuse_fs.specs.Calls.{NotifyReply, TmpFile}
 use Rattle.server_segments.specs.declared.error.Error.{Error}
 use Rattle.server_segments.specs.declared.error.Error.TheVariants.{DecodeMessage, EncodeMessage}
-use Rattle.server_requests.specs.Reading.{ReadFailure, Faults, Sends, Reading, ◌>>=◌, ◌>>◌, give, refuse}
+use Rattle.server_requests.specs.Reading.{ReadFailure, Faults, Sends, Parser, ◌>>=◌, ◌>>◌, give, refuse}
 use Rattle.server_requests.specs.Reading.{needs, reading_of, within, last_name, two_names, name_and_value}
 use Rattle.server_requests.specs.Reading.{rest, many}
 use Rattle.server_calls.specs.Requests.{lookup_call, forget_call, getattr_call, setattr_call, readlink_call}
@@ -72,7 +72,7 @@ abbrev pub given : InHeader → (options room : ℕ) → Given
 given header options room = record { header = header; options = options; room = room }
 
 -- one call, whose reply has the request's unique number
-abbrev pub one : Given → FileCall → Reading Meaning
+abbrev pub one : Given → FileCall → Parser Meaning
 one g call = give (Asks (One g.header.unique call))
 
 -- all known options
@@ -84,7 +84,7 @@ abbrev pub default_options : ℕ
 default_options = 0x10448449829
 
 -- INIT with its records: the versions are compared, then the client's known options are found
-abbrev pub started : Given → InitInCompat → ℕ → Reading Meaning
+abbrev pub started : Given → InitInCompat → ℕ → Parser Meaning
 started g r flags2 =
     if nat_lt r.major 7 then refuse (Sends EPROTO)
     else if nat_lt 7 r.major then give (Replies (reply_bytes g.header.unique versions_bytes))
@@ -93,113 +93,113 @@ started g r flags2 =
     r.max_readahead))
 
 -- the row of a request that is one record
-abbrev pub record_row : {R : Type 0} → RecordShape R → (InHeader → R → FileCall) → Given → Reading Meaning
+abbrev pub record_row : {R : Type 0} → RecordShape R → (InHeader → R → FileCall) → Given → Parser Meaning
 record_row s call g = reading_of s >>= λ r. one g (call g.header r)
 
 -- the row of a request that is only its header
-abbrev pub header_row : (InHeader → FileCall) → Given → Reading Meaning
+abbrev pub header_row : (InHeader → FileCall) → Given → Parser Meaning
 header_row call g = one g (call g.header)
 
 -- the row of a request that is one name
-abbrev pub name_row : (InHeader → List ℕ → FileCall) → Given → Reading Meaning
+abbrev pub name_row : (InHeader → List ℕ → FileCall) → Given → Parser Meaning
 name_row call g =
     counted g.header.len 0 >>= λ bytes. within bytes last_name >>= λ name. one g (call g.header name)
 
 -- the row of a record and bytes behind it; the record may decide how the bytes are read
 abbrev pub bytes_row :
-    {R A : Type 0} → (Given → Reading (R × List ℕ)) → (Given → R → Reading A) → (InHeader → R → A → FileCall)
-    → Given → Reading Meaning
+    {R A : Type 0} → (Given → Parser (R × List ℕ)) → (Given → R → Parser A) → (InHeader → R → A → FileCall)
+    → Given → Parser Meaning
 bytes_row front parts call g = front g >>= λ x. within x.1 (parts g x.0) >>= λ y. one g (call g.header x.0 y)
 
 -- the row of a record of k bytes and one name
 abbrev pub record_name_row :
-    {R : Type 0} → RecordShape R → (k : ℕ) → (InHeader → R → List ℕ → FileCall) → Given → Reading Meaning
+    {R : Type 0} → RecordShape R → (k : ℕ) → (InHeader → R → List ℕ → FileCall) → Given → Parser Meaning
 record_name_row s k call = bytes_row (λ g. with_bytes s k g.header.len) (λ g r. last_name) call
 
 -- the row of a record of k bytes and two names
 abbrev pub two_names_row : {R : Type 0} → RecordShape R → (k : ℕ) →
-    (InHeader → R → List ℕ × List ℕ → FileCall) → Given → Reading Meaning
+    (InHeader → R → List ℕ × List ℕ → FileCall) → Given → Parser Meaning
 two_names_row s k call = bytes_row (λ g. with_bytes s k g.header.len) (λ g r. two_names) call
 
 -- the row of a record of k bytes and the name of a new node
 abbrev pub new_name_row : {R : Type 0} → RecordShape R → (k : ℕ) →
-    (InHeader → R → List ℕ × Extra → FileCall) → Given → Reading Meaning
+    (InHeader → R → List ℕ × Extra → FileCall) → Given → Parser Meaning
 new_name_row s k call = bytes_row (λ g. with_bytes s k g.header.len) (λ g r. new_name g.options) call
 
 -- SYMLINK: the name and the target
-abbrev pub symlink_row : Given → Reading Meaning
+abbrev pub symlink_row : Given → Parser Meaning
 symlink_row g =
     counted g.header.len 0
     >>= λ bytes. within bytes (new_link g.options) >>= λ x. one g (symlink_call g.header x)
 
 -- a size of more than 2^20 bytes is the error ENOMEM
-abbrev pub at_most_a_mebibyte : ℕ → Reading (Unit {0})
+abbrev pub at_most_a_mebibyte : ℕ → Parser (Unit {0})
 at_most_a_mebibyte n = needs (nat_le n (2 ^ 20)) (Sends ENOMEM)
 
 -- GETXATTR: struct fuse_getxattr_in and the attribute's name
-abbrev pub getxattr_row : Given → Reading Meaning
+abbrev pub getxattr_row : Given → Parser Meaning
 getxattr_row =
     bytes_row (λ g. with_bytes getxattr_in 8 g.header.len) (λ g r. at_most_a_mebibyte r.size >> last_name)
     getxattr_call
 
 -- LISTXATTR: struct fuse_getxattr_in
-abbrev pub listxattr_row : Given → Reading Meaning
+abbrev pub listxattr_row : Given → Parser Meaning
 listxattr_row g =
     reading_of getxattr_in >>= λ r. at_most_a_mebibyte r.size >> one g (listxattr_call g.header r)
 
 -- SETXATTR: the attribute's name and its value
-abbrev pub setxattr_row : Given → Reading Meaning
+abbrev pub setxattr_row : Given → Parser Meaning
 setxattr_row =
     bytes_row (λ g. setxattr_front g.options g.header.len) (λ g r. name_and_value r.size) setxattr_call
 
 -- a READ is a fault if the reply's header doesn't fit in the reply buffer
-abbrev pub read_asked : Given → ReadIn → Reading Meaning
+abbrev pub read_asked : Given → ReadIn → Parser Meaning
 read_asked g r = needs (nat_le 16 g.room) (Faults EncodeMessage) >> one g (read_call g.header (g.room - 16) r)
 
 -- READ: struct fuse_read_in
-abbrev pub read_row : Given → Reading Meaning
+abbrev pub read_row : Given → Parser Meaning
 read_row g = reading_of read_in >>= λ r. read_asked g r
 
 -- WRITE: struct fuse_write_in, and the data, which is all bytes behind it
-abbrev pub write_row : Given → Reading Meaning
+abbrev pub write_row : Given → Parser Meaning
 write_row g = reading_of write_in >>= λ r. rest >>= λ bytes. one g (write_call g.header r bytes)
 
 -- READDIR and READDIRPLUS ask for at most 2^20 bytes and at most the reply buffer's length, else
 -- the error is ENOMEM. It is a fault if the reply's header doesn't fit
-abbrev pub listing_asked : Bool → ReadIn → Given → Reading Meaning
+abbrev pub listing_asked : Bool → ReadIn → Given → Parser Meaning
 listing_asked with_nodes r g =
     at_most_a_mebibyte r.size >> needs (nat_le r.size g.room) (Sends ENOMEM)
     >> needs (nat_le 16 g.room) (Faults EncodeMessage)
     >> give (Asks (Lists g.header.unique (listing_of with_nodes g.header r)))
 
 -- READDIR and READDIRPLUS: struct fuse_read_in
-abbrev pub listing_row : (with_nodes : Bool) → Given → Reading Meaning
+abbrev pub listing_row : (with_nodes : Bool) → Given → Parser Meaning
 listing_row with_nodes g = reading_of read_in >>= λ r. listing_asked with_nodes r g
 
 -- BATCH_FORGET with this number of pairs: their bytes are at most 2^20, else the error is ENOMEM
-abbrev pub forgets_asked : ℕ → Given → Reading Meaning
+abbrev pub forgets_asked : ℕ → Given → Parser Meaning
 forgets_asked count g =
     at_most_a_mebibyte (count * 16) >> many count forget_pair
     >>= λ pairs. one g (batch_forget_call g.header pairs)
 
 -- BATCH_FORGET: struct fuse_batch_forget_in, and `count` times struct fuse_forget_one
-abbrev pub batch_forget_row : Given → Reading Meaning
+abbrev pub batch_forget_row : Given → Parser Meaning
 batch_forget_row g = reading_of batch_forget_in >>= λ r. forgets_asked r.count g
 
 -- INIT: struct fuse_init_in, whose last 48 bytes are read only with FUSE_INIT_EXT
-abbrev pub init_row : Given → Reading Meaning
+abbrev pub init_row : Given → Parser Meaning
 init_row g = reading_of init_in_compat >>= λ r. flags2_of r >>= λ flags2. started g r flags2
 
 -- a request without a call and without a reply
-abbrev pub silent_row : Given → Reading Meaning
+abbrev pub silent_row : Given → Parser Meaning
 silent_row g = give IsSilent
 
 -- a request that isn't served, since no window of a file is mapped into the guest: the error is ENOSYS
-abbrev pub unserved_row : Given → Reading Meaning
+abbrev pub unserved_row : Given → Parser Meaning
 unserved_row g = refuse (Sends ENOSYS)
 
 -- the row of an opcode
-unfoldable pub row : Given → Opcode → Reading Meaning
+unfoldable pub row : Given → Opcode → Parser Meaning
 row g op.Lookup = name_row lookup_call g
 row g op.Forget = record_row forget_in forget_call g
 row g op.Read = read_row g
@@ -261,12 +261,12 @@ ended unique (Ok x) = x.0
 ended unique (Err r) = refused unique r
 
 -- the row of an opcode, or the error ENOSYS for a number without one
-abbrev pub row_of : Given → Option Opcode → Reading Meaning
+abbrev pub row_of : Given → Option Opcode → Parser Meaning
 row_of g None = refuse (Sends ENOSYS)
 row_of g (Some opcode) = row g opcode
 
 -- the bytes behind the header: ENOMEM for a length above 0x101000, else the opcode's row
-abbrev pub body : Given → Reading Meaning
+abbrev pub body : Given → Parser Meaning
 body g = needs (nat_le g.header.len 0x101000) (Sends ENOMEM) >> row_of g (opcode_of g.header.opcode)
 
 -- the meaning of the bytes behind the header

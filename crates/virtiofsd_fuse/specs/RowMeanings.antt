@@ -11,7 +11,7 @@ use Rattle.server_calls.specs.Requests.{owns_memory, read_call}
 use Rattle.server_segments.specs.declared.error.Error.{Error}
 use Rattle.server_segments.specs.Errors.{is_memory}
 use Rattle.server_replies.specs.WholeReplies.{error_bytes, reply_bytes, versions_bytes}
-use Rattle.server_requests.specs.Reading.{Reading}
+use Rattle.server_requests.specs.Reading.{Parser}
 use Rattle.virtiofsd_fuse.specs.Grammar.{Meaning, IsFault, Replies, IsSilent, Asks, One, Starts, Lists, Given}
 use Rattle.virtiofsd_fuse.specs.Grammar.{given, ended, forgets_asked, known_options}
 use Rattle.virtiofsd_fuse.specs.Listings.{listing_of}
@@ -36,22 +36,22 @@ is_single _ = true
 
 -- the result of reading a request with this meaning. splits: its bytes may lie in several segments;
 -- takes: memory may be allocated for it
-abbrev pub Reads : (splits takes : Bool) → InHeader → RequestMeaning → Meaning → Type 0
-Reads splits takes h (value.Call call) m =
+abbrev pub ReadsAs : (splits takes : Bool) → InHeader → RequestMeaning → Meaning → Type 0
+ReadsAs splits takes h (value.Call call) m =
     (m ≡ Asks (One h.unique (call_of [] call)))
     × CallSays h (call_of [] call)
     × (takes ≡ false → owns_memory (call_of [] call) ≡ false)
-Reads splits takes h (value.Error errno) m = m ≡ Replies (error_bytes h.unique errno)
-Reads splits takes h value.Silence m = m ≡ IsSilent
-Reads splits takes h (value.Fault e) m =
+ReadsAs splits takes h (value.Error errno) m = m ≡ Replies (error_bytes h.unique errno)
+ReadsAs splits takes h value.Silence m = m ≡ IsSilent
+ReadsAs splits takes h (value.Fault e) m =
     (is_memory e ≡ false → m ≡ IsFault e) × ((splits && takes) ≡ false → is_memory e ≡ false)
 
 -- the result of reading these bytes behind the header by a row, for every room
 abbrev pub RowReads : (splits : Bool) → (takes : Given → Bool) → InHeader → (options : ℕ) →
-    (Given → Reading Meaning) → (bytes : List ℕ) → RequestMeaning → Type 0
+    (Given → Parser Meaning) → (bytes : List ℕ) → RequestMeaning → Type 0
 RowReads splits takes h options row bytes told =
     (room : ℕ) →
-    Reads splits (takes (given h options room)) h told (ended h.unique (row (given h options room) bytes))
+    ReadsAs splits (takes (given h options room)) h told (ended h.unique (row (given h options room) bytes))
 
 -- the result of reading a READ with this meaning and room: its record, or the fault
 abbrev pub ReadIsRead : InHeader → (room : ℕ) → Result ReadIn Error → Meaning → Type 0

@@ -8,7 +8,7 @@ use Rattle.server_segments.specs.declared.error.Error.{Error}
 use Rattle.server_segments.specs.declared.error.Error.TheVariants.{EncodeMessage}
 use Rattle.fuse_in.specs.declared.session.InHeader.{InHeader}
 use Rattle.virtiofsd_fuse.specs.declared.server.Server.{Server}
-use Rattle.server_requests.specs.Reading.{Reading}
+use Rattle.server_requests.specs.Reading.{Parser}
 use Rattle.virtiofsd_fuse.specs.Listings.{ListRequest, ListingResult, list_entries, readdir_call}
 use Rattle.virtiofsd_fuse.specs.Grammar.{Meaning, IsFault, Replies, IsSilent, Asks, FileCommand, One, Starts}
 use Rattle.virtiofsd_fuse.specs.Grammar.{Lists, Given, given, ended, row, default_options}
@@ -144,7 +144,7 @@ ServerHandles may before room m result written after =
     after.options.0 after.fs
 
 -- a server handles a row of the grammar, which reads these bytes behind the header
-abbrev pub RowHandles : {F : Type 0} → May F → Server F → (room : ℕ) → InHeader → (Given → Reading Meaning)
+abbrev pub RowHandles : {F : Type 0} → May F → Server F → (room : ℕ) → InHeader → (Given → Parser Meaning)
     → List ℕ → Result ℕ Error → List ℕ → Server F → Type 0
 RowHandles may before room head row bytes result written after =
     ServerHandles may before room (ended head.unique (row (given head before.options.0 room) bytes)) result

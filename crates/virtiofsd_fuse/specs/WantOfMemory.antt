@@ -7,7 +7,7 @@ use Rattle.fuse_wire.specs.declared.opcodes.Opcode.TheVariants as op
 use Rattle.fuse_wire.specs.Opcodes.{opcode_of}
 use Rattle.fuse_fs.specs.Lengths.{past}
 use Rattle.server_segments.specs.ReaderAndWriterView.{ReaderView}
-use Rattle.server_requests.specs.Reading.{Reading, ReadFailure, reading_of}
+use Rattle.server_requests.specs.Reading.{Parser, ReadFailure, reading_of}
 use Rattle.server_requests.specs.Fronts.{counted_split, setxattr_len}
 use Rattle.server_calls.specs.Requests.{owns_memory}
 use Rattle.virtiofsd_fuse.specs.Grammar.{Meaning, Asks, One, Given, given, ended, row}
@@ -18,7 +18,7 @@ meaning_owns (Asks (One unique call)) = owns_memory call
 meaning_owns _ = false
 
 -- the meaning of a row's bytes is a call that owns memory
-abbrev pub row_owns : Given → (Given → Reading Meaning) → List ℕ → Bool
+abbrev pub row_owns : Given → (Given → Parser Meaning) → List ℕ → Bool
 row_owns g row bytes = meaning_owns (ended g.header.unique (row g bytes))
 
 -- the meaning of an opcode's bytes is a call that owns memory

@@ -14,7 +14,7 @@ use Rattle.fs_chain.specs.declared.queue.QueueState.{QueueState}
 use Rattle.fs_chain.specs.declared.chain_handle.ChainHandle.{ChainHandle}
 use Rattle.fs_live.specs.Filling.{HandleFills, HandleFillsRange, data_stores}
 use Rattle.fs_live.specs.Handles.{HandleWalks, live_of}
-use Rattle.fs_live.specs.Live.{Fills, LiveEvent, LiveRun, LiveState, OutChain, Walks, after_walk, new_chain, room_of}
+use Rattle.fs_live.specs.Live.{FillsBuffer, LiveEvent, LiveRun, LiveState, OutChain, Walks, after_walk, new_chain, room_of}
 use Rattle.fs_live.specs.Runs.{told_by}
 use Rattle.worked_callers.specs.OwnReplies.{IsAt}
 use Rattle.worked_callers.proofs.OwnRuns.{popped}
@@ -24,7 +24,7 @@ module _ {F : Type 0} (may : May F) (walks_law : HandleWalks may) (old one : Cha
     (bytes : List ℕ) (s : LiveState F) (i : ℕ) (here : IsAt may s i old before) where
   pub filled_window : HandleFills may → (v : Window) → IsWindowFrom one.regions true one.descriptors.items from v → length bytes ≤ v.len
       → (popped : LiveEvent) × (c : OutChain) × (end : LiveState F)
-      × LiveRun may s (popped ∷ Fills c (data_stores (room_of c) from bytes) ∷ []) end
+      × LiveRun may s (popped ∷ FillsBuffer c (data_stores (room_of c) from bytes) ∷ []) end
       × (located (location (places_in one.regions) Write) (take (length bytes) (drop from (room_of c)))
       ≡ Some (take (length bytes) (places_of v)))
   filled_window law v window few =
@@ -38,7 +38,7 @@ module _ {F : Type 0} (may : May F) (walks_law : HandleWalks may) (old one : Cha
   pub filled_range : HandleFillsRange may → (guest len : ℕ) → IsRangeFrom true one.descriptors.items from guest len → length bytes ≤ len
       → (popped : LiveEvent) × (c : OutChain) × (mid : LiveState F) × (address : ℕ)
       × (guest ≡ address % 2 ^ 64)
-      × (let fills = Fills c (record { address = address; bytes = bytes } ∷ []) in
+      × (let fills = FillsBuffer c (record { address = address; bytes = bytes } ∷ []) in
       LiveRun may s (popped ∷ fills ∷ []) mid × (told_by mid fills ≡ take (length bytes) (drop from (room_of c))))
   filled_range law guest len range few =
       let ds = one.descriptors.items in

@@ -16,7 +16,8 @@ use Rattle.fs_chain.specs.declared.queue.QueueState.{QueueState}
 use Rattle.fs_chain.specs.declared.popping.PopOutcome.TheVariants as says
 use Rattle.fs_chain.specs.declared.chain_handle.ChainHandle.{ChainHandle}
 use Rattle.fs_live.specs.Handles.{HandleAsks, HandleWalks, IsHeld, IsOut, IsReached, IsSessionOf, live_of}
-use Rattle.fs_live.specs.Live.{Abandons, Answers, Asks, Happens, LiveEvent, LiveRun, LiveState, OutChain, Walks, after_answer, after_asking}
+use Rattle.fs_live.specs.Live.{Abandons, DecodesRequest, EndsCall, Happens, LiveEvent, LiveRun, LiveState, OutChain, Walks, after_answer}
+use Rattle.fs_live.specs.Live.{after_asking}
 use Rattle.fs_live.specs.Live.{after_loss, after_walk, asked_chain, calls_among, new_chain}
 use Rattle.fs_live.specs.Others.{HandleAbandons}
 use Rattle.worked_callers.proofs.ServedBeside.{chain_is, reached_by}
@@ -57,7 +58,7 @@ module _ {F : Type 0} (may : May F) (walks_law : HandleWalks may) (asks_law : Ha
       let d : OutChain = asked_chain c request s.options [] in
       let end : LiveState F = after_loss s₂ s.outs [] d in
       let walked : LiveEvent = Walks i loaded ds came in
-      let told : LiveEvent = Asks c request (call ∷ []) in (
+      let told : LiveEvent = DecodesRequest c request (call ∷ []) in (
         (
           walked ∷ told ∷ Abandons d ∷ [],
           end,
@@ -69,7 +70,7 @@ module _ {F : Type 0} (may : May F) (walks_law : HandleWalks may) (asks_law : Ha
             let s₃ : LiveState F = after_answer s₂ s.outs [] d request s.options ((call, answer) ∷ []) files in
             let e : OutChain = asked_chain c request s.options ((call, answer) ∷ []) in
             let last : LiveState F = after_loss s₃ s.outs [] e in
-            let answered : Happens may s₂ (Answers d call answer) s₃ = record {
+            let answered : Happens may s₂ (EndsCall d call answer) s₃ = record {
               before = s.outs;
               behind = [];
               out = refl;
@@ -83,7 +84,7 @@ module _ {F : Type 0} (may : May F) (walks_law : HandleWalks may) (asks_law : Ha
               may_so = so;
               state = refl;
             } in (
-              walked ∷ told ∷ Answers d call answer ∷ Abandons e ∷ [],
+              walked ∷ told ∷ EndsCall d call answer ∷ Abandons e ∷ [],
               last,
               (s₁, first, (s₂, asking.0, (s₃, answered, (last, (abandons_law s₃ e s.outs [] refl).0, refl)))),
               refl,

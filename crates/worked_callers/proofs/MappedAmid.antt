@@ -16,8 +16,8 @@ use Rattle.fs_chain.specs.declared.popping.PopOutcome.TheVariants as says
 use Rattle.fs_chain.specs.declared.chain_handle.ChainHandle.{ChainHandle}
 use Rattle.plain_machine.specs.StepBy.{Act}
 use Rattle.fs_live.specs.Handles.{HandleWalks, IsHeld, IsOut, IsReached, live_of}
-use Rattle.fs_live.specs.Live.{Happens, IfKeepsReturns, KeepsQueue, KeepsReturns, LiveEvent, LiveRun, LiveState, Maps, OutChain, Own}
-use Rattle.fs_live.specs.Live.{Replies, Returns, Walks, after_giving, after_own, after_walk, calls_among, new_chain, room_of}
+use Rattle.fs_live.specs.Live.{Happens, IfKeepsReturns, KeepsQueue, KeepsReturns, LiveEvent, LiveRun, LiveState, OutChain, Own, Remaps}
+use Rattle.fs_live.specs.Live.{PushesChain, RepliesOwnBytes, Walks, after_giving, after_own, after_walk, calls_among, new_chain, room_of}
 use Rattle.fs_live.specs.Others.{GoesBackOwn, HandleMaps, HandleReplies, HandleReturnsOwn, IsOwn}
 use Rattle.fs_live.specs.Several.{LiveQueue, took}
 use Rattle.fs_live.proofs.Queues.{same_some, there_same}
@@ -61,8 +61,8 @@ mapped_amid {F} may walks_law maps_law replies_law returns_law old one two other
     let all : AllByRecursion (KeepsQueue s₁ m) s₁.outs =
     subst (λ (outs : List OutChain). AllByRecursion (KeepsQueue s₁ m) (outs ++ c ∷ [])) (sym none) (keeps_c, tt) in
     let s₂ : LiveState F = record s₁ { places = m } in
-    let mapped : Happens may s₁ (Maps m) s₂ = maps_law s₁ other (inr all) in
-    let reached₂ = reached_by may s₁ s₂ (Maps m) (reached_by may s s₁ (Walks i loaded ds came) reached first) mapped in
+    let mapped : Happens may s₁ (Remaps m) s₂ = maps_law s₁ other (inr all) in
+    let reached₂ = reached_by may s₁ s₂ (Remaps m) (reached_by may s s₁ (Walks i loaded ds came) reached first) mapped in
     let replied = replies_law s₂ c s.outs [] one serial s.options request reply reached₂ small refl refl held len clear in
     let d : OutChain = record c { phase = Own request reply } in
     let s₃ : LiveState F = after_own s₂ s.outs [] c request reply s.options in
@@ -71,7 +71,8 @@ mapped_amid {F} may walks_law maps_law replies_law returns_law old one two other
     let next_used = returns_law s₃ d s.outs [] two.state after request reply goes_back.0 0 notice refl there₁
     (taken_of before after goes taken_is) refl own goes_back.1 in
     let s₄ : LiveState F = after_giving s₃ s.outs [] d (live_of after) in (
-      Walks i loaded ds came ∷ Maps m ∷ Replies c request reply s.options ∷ Returns d next_used.0 notice 0 next_used.1 next_used.2 ∷ [],
+      Walks i loaded ds came ∷ Remaps m ∷ RepliesOwnBytes c request reply s.options
+          ∷ PushesChain d next_used.0 notice 0 next_used.1 next_used.2 ∷ [],
       s₄,
       (s₁, first, (s₂, mapped, (s₃, replied.0, (s₄, next_used.4, refl)))),
       refl,

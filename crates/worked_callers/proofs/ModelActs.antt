@@ -33,7 +33,7 @@ use Rattle.notify.specs.Kicks.{NotifyState}
 use Rattle.notify.specs.Threads.{DropsOne, Loads, SleepsNow, TakesOne, ThreadedQueue, Walker, WishIsThere, Wishes, after_act, walks}
 use Rattle.fs_notify.specs.Givers.{PublishesByStore, rules_of}
 use Rattle.fs_notify.specs.Takers.{AsksByStore, DropIsAnAct, FindsNoneByWalk, IsCounted, IsOf, SaysWish, TakesByWalk, ways_of}
-use Rattle.worked_callers.specs.Notified.{ActsTo, IsWish, PopsWithIndex}
+use Rattle.worked_callers.specs.Notified.{ActsTo, IsStoredWish, PopsWithIndex}
 
 -- ---- the wish
 
@@ -41,7 +41,7 @@ none_some : (store : Store) → ◌≡◌ {A = Option Store} None (Some store) �
 none_some store is = cc
 
 pub wish_is : AsksByStore → (q : QueueState) (store : Option NotificationStore) → option_map store_of store ≡ notification_store q true
-    → IsCounted q → (s : ThreadedQueue) → IsOf q s → s.holder ≡ Walker → IsWish q s store
+    → IsCounted q → (s : ThreadedQueue) → IsOf q s → s.holder ≡ Walker → IsStoredWish q s store
 wish_is law q None is counted s of walker =
     let asked = law q s counted of walker in
     absurd (none_some asked.0 (is ∙ asked.1))

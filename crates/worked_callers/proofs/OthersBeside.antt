@@ -30,8 +30,10 @@ use Rattle.fs_chain.specs.declared.popping.PopOutcome.TheVariants as says
 use Rattle.fs_chain.specs.declared.chain_handle.ChainHandle.{ChainHandle}
 use Rattle.plain_machine.specs.StepBy.{Act, reply_stores, return_acts}
 use Rattle.fs_live.specs.Handles.{HandleWalks, IsHeld, IsOut, IsReached, live_of}
-use Rattle.fs_live.specs.Live.{Abandons, Drops, Happens, IsEven, LiveEvent, LiveRun, LiveState, MayBeOut, Moves, OutChain, Own, Replies}
-use Rattle.fs_live.specs.Live.{Returns, Walks, after_drop, after_giving, after_loss, after_own, after_walk, calls_among, new_chain, room_of}
+use Rattle.fs_live.specs.Live.{Abandons, Drops, Happens, IsEven, LiveEvent, LiveRun, LiveState, MayBeOut, MovesDevice, OutChain, Own}
+use Rattle.fs_live.specs.Live.{RepliesOwnBytes}
+use Rattle.fs_live.specs.Live.{PushesChain, Walks, after_drop, after_giving, after_loss, after_own, after_walk, calls_among, new_chain}
+use Rattle.fs_live.specs.Live.{room_of}
 use Rattle.fs_live.specs.Others.{AreBegunBy, GoesBackOwn, HandleAbandons, HandleDrops, HandleMoves, HandleReplies, HandleReturnsOwn, IfOut}
 use Rattle.fs_live.specs.Others.{IsOwn, recorded}
 use Rattle.fs_live.specs.Several.{took}
@@ -164,7 +166,7 @@ replied_beside {F} may walks_law replies_law returns_law old one two before afte
     let next_used = returns_law s₂ d s.outs [] two.state after request reply goes_back.0 0 notice refl there₁
     (taken_of before after goes taken_is) refl own goes_back.1 in
     let s₃ : LiveState F = after_giving s₂ s.outs [] d (live_of after) in (
-      Walks i loaded ds came ∷ Replies c request reply s.options ∷ Returns d next_used.0 notice 0 next_used.1 next_used.2 ∷ [],
+      Walks i loaded ds came ∷ RepliesOwnBytes c request reply s.options ∷ PushesChain d next_used.0 notice 0 next_used.1 next_used.2 ∷ [],
       s₃,
       (s₁, first, (s₂, replied.0, (s₃, next_used.4, refl))),
       refl,
@@ -223,7 +225,8 @@ pub moved_by : {F : Type 0} (may : May F) (law : HandleMoves may) (q after : Que
     1 ≤ q.max_in_flight → q.max_in_flight ≤ read.size →
     (s : LiveState F) (here : QueueState) (m : Memory) (bytes : List ℕ) (v v' : Version) (options : ℕ) → s.outs ≡ [] →
     s.queues ≡ live_of here ∷ [] → IsRecord bytes v s.options (recorded here ∷ []) → IsRecord bytes v' options (read ∷ []) →
-    (options ≡ s.options) × (next : LiveState F) × Happens may s (Moves m (live_of after ∷ [])) next × (next.queues ≡ live_of after ∷ [])
+    (options ≡ s.options) × (next : LiveState F) × Happens may s (MovesDevice m (live_of after ∷ [])) next
+        × (next.queues ≡ live_of after ∷ [])
     × (next.places ≡ m) × (next.outs ≡ [])
     × (next.options ≡ s.options) × (next.limit ≡ s.limit)
 moved_by {F} may law q after layout read stopped size desc avail used is after_is some few s here m bytes v v' options none queues

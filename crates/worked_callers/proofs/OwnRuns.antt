@@ -41,9 +41,10 @@ use Rattle.fs_chain.specs.declared.chain_handle.ChainHandle.{ChainHandle}
 use Rattle.plain_machine.specs.MarkedPages.{returned_addresses}
 use Rattle.plain_machine.specs.Step.{Calls, Exchange}
 use Rattle.plain_machine.specs.StepBy.{Act}
-use Rattle.fs_live.specs.Guest.{Device, PagesOfRun, Writes}
+use Rattle.fs_live.specs.Guest.{DeviceEvent, PagesOfRun, Writes}
 use Rattle.fs_live.specs.Handles.{HandleAsks, HandleWalks, IsHeld, IsOut, IsReached, IsSessionOf, live_of}
-use Rattle.fs_live.specs.Live.{Answers, Asks, GoesBackWith, Happens, LiveEvent, LiveRun, LiveState, OutChain, Own, Phase, Replies, Returns}
+use Rattle.fs_live.specs.Live.{DecodesRequest, EndsCall, GoesBackWith, Happens, LiveEvent, LiveRun, LiveState, OutChain, Own, Phase}
+use Rattle.fs_live.specs.Live.{PushesChain, RepliesOwnBytes}
 use Rattle.fs_live.specs.Live.{Walks, after_answer, after_asking, after_giving, after_own, after_walk, asked_chain, calls_among, new_chain}
 use Rattle.fs_live.specs.Live.{room_of}
 use Rattle.fs_live.specs.Others.{AskedIsHeld, GoesBackOwn, HandleReplies, HandleRepliesInstead, HandleReturnsOwn, IfOut, IsHeldAsked, IsOwn}
@@ -93,14 +94,14 @@ module _ {F : Type 0} (may : May F) (returns_law : HandleReturnsOwn may) (before
       → slice_get s.queues c.queue ≡ Some (live_of before) → slice_get s₁.queues c.queue ≡ Some (live_of after)
       → s₁.queues ≡ changed_at s.queues c.queue (λ _. took (live_of before)) → c.taken ≡ (live_of before).queue → c.places ≡ s.places
       → s₁.limit ≡ s.limit → s₁.page_size ≡ s.page_size
-      → Happens may s₁ (Replies c request reply options) (after_own s₁ s.outs [] c request reply options)
+      → Happens may s₁ (RepliesOwnBytes c request reply options) (after_own s₁ s.outs [] c request reply options)
       → IsOwn (record c { phase = Own request reply }) reply st
       → ((room bytes : List ℕ) (last : ℕ) → (acts : List Act) × GoesBackOwn after room bytes st acts last notice)
       → ReturnsOwn may s c.queue before (gave after) request reply calls notice
   replied_from s s₁ c st earlier calls options run calls_are outs there there₁ queues taken places limit page_size replies own back =
       let q = live_of before in
       let i = c.queue in
-      let replied : LiveEvent = Replies c request reply options in
+      let replied : LiveEvent = RepliesOwnBytes c request reply options in
       let d : OutChain = record c { phase = Own request reply } in
       let s₂ : LiveState F = after_own s₁ s.outs [] c request reply options in
       let goes_back = back (room_of d) reply 0 in
@@ -160,7 +161,7 @@ module _ {F : Type 0} (may : May F) (s : LiveState F) (i : ℕ) (before after : 
       (subst (λ (p : Phase). GoesBackWith r.now.page_size r.chain p r.exchange) r.phase_is r.returns.goes)
 
   pub reports : ReturnsTell may → (w : LiveQueue) × (slice_get r.now.queues r.chain.queue ≡ Some w)
-      × (told_by r.now (Returns r.chain r.exchange notice 0 r.used r.seen)
+      × (told_by r.now (PushesChain r.chain r.exchange notice 0 r.used r.seen)
       ≡ returned_addresses (returning w) r.chain.head (room_of r.chain) reply)
   reports law =
       let told = law r.now r.end r.chain r.exchange notice 0 r.used r.seen r.returns in
@@ -170,8 +171,9 @@ module _ {F : Type 0} (may : May F) (s : LiveState F) (i : ℕ) (before after : 
 
 both_events : (i head : ℕ) (loaded : Loaded) (ds : List Descriptor) (c d : OutChain) (request reply : List ℕ) (options : ℕ) (x : Exchange)
     (notice : Bool) (used : List Store) (seen : List ℕ) → (i == i) ≡ true → (d.queue == i) ≡ true
-    → events_on i (Walks i loaded ds (step.Chain head None) ∷ Replies c request reply options ∷ Returns d x notice 0 used seen ∷ [])
-    ≡ several.Takes head ∷ several.Returns (d.taken.position, d.head) (length x.reply) used ∷ []
+    → events_on i (Walks i loaded ds (step.Chain head None) ∷ RepliesOwnBytes c request reply options
+        ∷ PushesChain d x notice 0 used seen ∷ [])
+    ≡ several.PopsOne head ∷ several.PushesOne (d.taken.position, d.head) (length x.reply) used ∷ []
 both_events i head loaded ds c d request reply options x notice used seen same so = rw (same, so) refl
 
 module _ {F : Type 0} (may : May F) (walks_law : HandleWalks may) (replies_law : HandleReplies may) (returns_law : HandleReturnsOwn may)
@@ -205,11 +207,11 @@ module _ {F : Type 0} (may : May F) (walks_law : HandleWalks may) (replies_law :
       let c : OutChain = new_chain s i q pop.loaded ds head None in
       let s₁ : LiveState F = after_walk s i q pop.loaded ds (step.Chain head None) in
       let walked : LiveEvent = Walks i pop.loaded ds (step.Chain head None) in
-      let told : LiveEvent = Replies c request reply s.options in
+      let told : LiveEvent = RepliesOwnBytes c request reply s.options in
       let replied = replies_law s₁ c s.outs [] one serial s.options request reply (reached_by may s s₁ walked here.reached pop.happens)
       here.small refl refl pop.held len clear in
       let whole = replied_fetched s i here in
-      let returned : LiveEvent = Returns whole.chain whole.exchange notice 0 whole.used whole.seen in (
+      let returned : LiveEvent = PushesChain whole.chain whole.exchange notice 0 whole.used whole.seen in (
         whole,
         walked,
         told,
@@ -217,9 +219,9 @@ module _ {F : Type 0} (may : May F) (walks_law : HandleWalks may) (replies_law :
         λ first second third last m.
             law s whole.end
             (
-            Writes first ∷ Device walked
-            ∷ Writes second ∷ Device told
-            ∷ Writes third ∷ Device returned
+            Writes first ∷ DeviceEvent walked
+            ∷ Writes second ∷ DeviceEvent told
+            ∷ Writes third ∷ DeviceEvent returned
             ∷ Writes last ∷ []
             )
             m (s₁, pop.happens, (whole.now, replied.0, (whole.end, whole.returns, refl))) (tt, (tt, (tt, tt))),
@@ -234,16 +236,16 @@ module _ {F : Type 0} (may : May F) (walks_law : HandleWalks may) (replies_law :
       let c : OutChain = new_chain s i q pop.loaded ds head None in
       let s₁ : LiveState F = after_walk s i q pop.loaded ds (step.Chain head None) in
       let walked : LiveEvent = Walks i pop.loaded ds (step.Chain head None) in
-      let told : LiveEvent = Replies c request reply s.options in
+      let told : LiveEvent = RepliesOwnBytes c request reply s.options in
       let replied = replies_law s₁ c s.outs [] one serial s.options request reply (reached_by may s s₁ walked here.reached pop.happens)
       here.small refl refl pop.held len clear in
       let whole = replied_fetched s i here in
-      let returned : LiveEvent = Returns whole.chain whole.exchange notice 0 whole.used whole.seen in
+      let returned : LiveEvent = PushesChain whole.chain whole.exchange notice 0 whole.used whole.seen in
       let es : List LiveEvent = walked ∷ told ∷ returned ∷ [] in
       let run : LiveRun may s es whole.end = (s₁, pop.happens, (whole.now, replied.0, (whole.end, whole.returns, refl))) in
       let ticket : InFlightId = (whole.chain.taken.position, whole.chain.head) in
       let events : List QueueEvent =
-      several.Takes head ∷ several.Returns ticket (length whole.exchange.reply) whole.used ∷ [] in
+      several.PopsOne head ∷ several.PushesOne ticket (length whole.exchange.reply) whole.used ∷ [] in
       let are : events_on i es ≡ events = both_events i head pop.loaded ds c whole.chain request reply s.options whole.exchange notice
       whole.used whole.seen (eq-eqb i i refl) (eq-eqb i i refl) in
       let queue = runs s whole.end es i q here.there (tt, (tt, (tt, tt))) run in
@@ -307,7 +309,7 @@ module _ {F : Type 0} (may : May F) (walks_law : HandleWalks may) (asks_law : Ha
       let c : OutChain = new_chain s i q pop.loaded ds head None in
       let s₁ : LiveState F = after_walk s i q pop.loaded ds (step.Chain head None) in
       let walked : LiveEvent = Walks i pop.loaded ds (step.Chain head None) in
-      let told : LiveEvent = Asks c request (call ∷ []) in
+      let told : LiveEvent = DecodesRequest c request (call ∷ []) in
       let asking = asks_law s₁ c s.outs [] one two session request request (asks.Call made)
       (reached_by may s s₁ walked here.reached pop.happens) here.small refl refl pop.held in_session asked tt in
       let s₂ : LiveState F = after_asking s₁ s.outs [] c request in
@@ -335,7 +337,7 @@ module _ {F : Type 0} (may : May F) (walks_law : HandleWalks may) (asks_law : Ha
       let c : OutChain = new_chain s i q pop.loaded ds head None in
       let s₁ : LiveState F = after_walk s i q pop.loaded ds (step.Chain head None) in
       let walked : LiveEvent = Walks i pop.loaded ds (step.Chain head None) in
-      let told : LiveEvent = Asks c request (call ∷ []) in
+      let told : LiveEvent = DecodesRequest c request (call ∷ []) in
       let asking = asks_law s₁ c s.outs [] one two session request request (asks.Call made)
       (reached_by may s s₁ walked here.reached pop.happens) here.small refl refl pop.held in_session asked tt in
       let s₂ : LiveState F = after_asking s₁ s.outs [] c request in
@@ -344,7 +346,7 @@ module _ {F : Type 0} (may : May F) (walks_law : HandleWalks may) (asks_law : Ha
       let calls : Calls = (call, answer) ∷ [] in
       let s₃ : LiveState F = after_answer s₂ s.outs [] d request s.options calls files in
       let e : OutChain = asked_chain c request s.options calls in
-      let answered : Happens may s₂ (Answers d call answer) s₃ = record {
+      let answered : Happens may s₂ (EndsCall d call answer) s₃ = record {
         before = s.outs;
         behind = [];
         out = refl;
@@ -368,5 +370,5 @@ module _ {F : Type 0} (may : May F) (walks_law : HandleWalks may) (asks_law : Ha
       let replied = instead_law s₃ e s.outs [] three serial s.options s₃.options request reply calls refl refl held' clear in
       let own = own_kept three.state three four (record e { phase = Own request reply }) reply replied.1 kept in
       replied_from may returns_law before after request reply notice goes s s₃ e four.state
-      (walked ∷ told ∷ Answers d call answer ∷ []) calls s₃.options
+      (walked ∷ told ∷ EndsCall d call answer ∷ []) calls s₃.options
       (s₁, pop.happens, (s₂, asking.0, (s₃, answered, refl))) refl refl here.there pop.there refl refl refl refl refl replied.0 own back

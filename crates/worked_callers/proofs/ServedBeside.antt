@@ -31,23 +31,23 @@ use Rattle.plain_machine.specs.StepBy.{Act}
 use Rattle.fs_live.specs.Handles.{HandleAsks, HandleCalls, HandleFaulty, HandleReturns, HandleSleeps, HandleWalks, IsFaultyOut, IsHeld}
 use Rattle.fs_live.specs.Handles.{IsKept, IsOut, IsReached, IsSessionOf, IsDecodedWhole, calls_told, live_of}
 use Rattle.fs_live.specs.Live.{
-  Answers,
-  Asks,
+  EndsCall,
+  DecodesRequest,
   Abandons,
   Begins,
   Declines,
   Drops,
-  Fills,
+  FillsBuffer,
   Happens,
   HasPlace,
   LiveEvent,
   LiveRun,
   LiveState,
-  Maps,
-  Moves,
+  Remaps,
+  MovesDevice,
   OutChain,
-  Replies,
-  Returns,
+  RepliesOwnBytes,
+  PushesChain,
   Sleeps,
   Walks,
   after_answer,
@@ -81,17 +81,17 @@ calls_behind : (e : LiveEvent) (es fs : List LiveEvent) → calls_among (es ++ f
     calls_among (e ∷ (es ++ fs)) ≡ calls_among (e ∷ es) ++ calls_among fs
 calls_behind (Walks i loaded ds came) es fs is = is
 calls_behind (Declines i e) es fs is = is
-calls_behind (Asks c request told) es fs is = is
-calls_behind (Answers c call answer) es fs is = ap (λ (calls : Calls). (call, answer) ∷ calls) is
-calls_behind (Returns c x notice last used seen) es fs is = is
+calls_behind (DecodesRequest c request told) es fs is = is
+calls_behind (EndsCall c call answer) es fs is = ap (λ (calls : Calls). (call, answer) ∷ calls) is
+calls_behind (PushesChain c x notice last used seen) es fs is = is
 calls_behind (Sleeps i store) es fs is = is
 calls_behind (Begins i w) es fs is = is
-calls_behind (Fills c stores) es fs is = is
+calls_behind (FillsBuffer c stores) es fs is = is
 calls_behind (Drops c) es fs is = is
 calls_behind (Abandons c) es fs is = is
-calls_behind (Replies c request reply options) es fs is = is
-calls_behind (Maps m) es fs is = is
-calls_behind (Moves m queues) es fs is = is
+calls_behind (RepliesOwnBytes c request reply options) es fs is = is
+calls_behind (Remaps m) es fs is = is
+calls_behind (MovesDevice m queues) es fs is = is
 
 pub calls_of_both : (es fs : List LiveEvent) → calls_among (es ++ fs) ≡ calls_among es ++ calls_among fs
 calls_of_both [] fs = refl
@@ -178,12 +178,12 @@ module _ {F : Type 0} (may : May F) (law : HandleCalls may) (w w' : ChainHandle)
       let d = asked_chain c request options earlier in
       let more : Calls = earlier ++ (call, answer) ∷ [] in
       let next : LiveState F = after_answer s before behind d request options more run.0 in
-      let happens : Happens may s (Answers d call answer) next =
+      let happens : Happens may s (EndsCall d call answer) next =
       (law s d before behind w w' request options made given earlier later call answer run.0 out refl kept has calls_are run.1 run.2).0 in
       let rest = answered_all next c before behind more later files refl (kept_on s.page_size options request c earlier more made w kept)
       (calls_are ∙ sym (append_assoc earlier ((call, answer) ∷ []) later)) run.3 in
       record {
-        es = Answers d call answer ∷ rest.es;
+        es = EndsCall d call answer ∷ rest.es;
         end = rest.end;
         run = (next, happens, rest.run);
         outs = rest.outs;
@@ -268,10 +268,11 @@ module _ {F : Type 0} (may : May F) (walks_law : HandleWalks may) (asks_law : Ha
       let next_used = returns_law ans.end d s.outs [] two three after request s.options made given goes_back.0 goes_back.1 notice ans.outs
       there₃ (taken_of before after goes taken_is) refl
       (each_suits may s.files files calls run) kept₃ has goes_back.2 in
-      let last = Returns d next_used.0 notice goes_back.1 next_used.1 next_used.2 in
+      let last = PushesChain d next_used.0 notice goes_back.1 next_used.1 next_used.2 in
       let s₄ : LiveState F = after_giving ans.end s.outs [] d (live_of after) in
       record {
-        es = Walks i loaded ds (step.Chain head None) ∷ Asks c request (calls_told (drop 80 request) made) ∷ (ans.es ++ last ∷ []);
+        es = Walks i loaded ds (step.Chain head None) ∷ DecodesRequest c request (calls_told (drop 80 request) made)
+            ∷ (ans.es ++ last ∷ []);
         end = s₄;
         run = (s₁, first, (s₂, asking.0, run_more may s₂ ans.end s₄ ans.es last ans.run next_used.4));
         calls_are = calls_of_both ans.es (last ∷ []) ∙ append-nil (calls_among ans.es) ∙ ans.calls;
@@ -284,7 +285,7 @@ module _ {F : Type 0} (may : May F) (walks_law : HandleWalks may) (asks_law : Ha
           descriptors = ds;
           head = head;
           fault = None;
-          between = Asks c request (calls_told (drop 80 request) made) ∷ ans.es;
+          between = DecodesRequest c request (calls_told (drop 80 request) made) ∷ ans.es;
           chain = d;
           exchange = next_used.0;
           notice = notice;
@@ -345,7 +346,7 @@ faulty_beside {F} may walks_law faulty_law old one later before after head fault
     let next_used = faulty_law s₁ c s.outs [] later after fault goes_back.0 goes_back.1 notice refl there₁
     (taken_of before after goes taken_is) refl (faulty_later s.limit c one later same held) goes_back.2 in
     let s₂ : LiveState F = after_giving s₁ s.outs [] c (live_of after) in (
-      Walks i loaded ds came ∷ Returns c next_used.0 notice goes_back.1 next_used.1 next_used.2 ∷ [],
+      Walks i loaded ds came ∷ PushesChain c next_used.0 notice goes_back.1 next_used.1 next_used.2 ∷ [],
       s₂,
       (s₁, first, (s₂, next_used.4, refl)),
       refl,

@@ -21,7 +21,8 @@ use Rattle.plain_machine.specs.Step.{Calls}
 use Rattle.plain_machine.specs.StepBy.{Act}
 use Rattle.fs_live.specs.Handles.{HandleAsks, HandleCalls, HandleReturns, HandleWalks, IsHeld, IsKept, IsOut, IsReached, IsSessionOf}
 use Rattle.fs_live.specs.Handles.{calls_told, live_of}
-use Rattle.fs_live.specs.Live.{Asks, Happens, LiveEvent, LiveRun, LiveState, OutChain, Returns, Walks, after_asking, after_giving}
+use Rattle.fs_live.specs.Live.{DecodesRequest, Happens, LiveEvent, LiveRun, LiveState, OutChain, PushesChain, Walks, after_asking}
+use Rattle.fs_live.specs.Live.{after_giving}
 use Rattle.fs_live.specs.Live.{after_walk, asked_chain, calls_among, new_chain, room_of}
 use Rattle.fs_live.specs.Several.{LiveQueue, took}
 use Rattle.fs_live.proofs.Queues.{same_some, there_same}
@@ -91,14 +92,14 @@ module _ {F : Type 0} (may : May F) (walks_law : HandleWalks may) (asks_law : Ha
       let asking = asks_law s₂ c s.outs (c' ∷ []) one one₂ session request request made reached₂ small
       (append_assoc s.outs (c ∷ []) (c' ∷ [])) refl held in_session asked
       (told_with_reply made one₂ one₃ given has) in
-      let asks = Asks c request (calls_told (drop 80 request) made) in
+      let asks = DecodesRequest c request (calls_told (drop 80 request) made) in
       let s₃ : LiveState F = after_asking s₂ s.outs (c' ∷ []) c request in
       let d : OutChain = asked_chain c request s.options [] in
       let others : List OutChain = s.outs ++ d ∷ [] in
       let asking' = asks_law s₃ c' others [] two two₂ session' request' request' made' (reached_by may s₂ s₃ asks reached₂ asking.0) small
       (sym (append_assoc s.outs (d ∷ []) (c' ∷ []))) refl held'
       in_session' asked' (told_with_reply made' two₂ two₃ given' has') in
-      let asks' = Asks c' request' (calls_told (drop 80 request') made') in
+      let asks' = DecodesRequest c' request' (calls_told (drop 80 request') made') in
       let s₄ : LiveState F = after_asking s₃ others [] c' request' in
       let kept : IsKept s.page_size s.options request d made one₂ = asking.1 in
       let kept' : IsKept s.page_size s.options request' (asked_chain c' request' s.options []) made' two₂ = asking'.1 in
@@ -132,8 +133,8 @@ module _ {F : Type 0} (may : May F) (walks_law : HandleWalks may) (asks_law : Ha
       (ap (λ (l : List LiveQueue). slice_get l i) ans.queues_are ∙ returned'.5) (late_of before mid after goes taken taken') refl
       (each_suits may between files late run) kept₆ has goes_back.2 in
       let s₆ : LiveState F = after_giving ans.end s.outs [] e (live_of (gave after)) in
-      let last' = Returns e' returned'.0 notice' goes_back'.1 returned'.1 returned'.2 in
-      let last = Returns e next_used.0 notice goes_back.1 next_used.1 next_used.2 in
+      let last' = PushesChain e' returned'.0 notice' goes_back'.1 returned'.1 returned'.2 in
+      let last = PushesChain e next_used.0 notice goes_back.1 next_used.1 next_used.2 in
       let ends : List LiveEvent = ans.es ++ last ∷ [] in (
         Walks i walk.0 ds came ∷ Walks i walk'.0 ds' came' ∷ asks ∷ asks' ∷ (ans'.es ++ last' ∷ ends),
         s₆,

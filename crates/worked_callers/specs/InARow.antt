@@ -7,7 +7,7 @@ use Rattle.virtiofsd_fuse.specs.Examples.{le16, le32, zeros}
 use Rattle.plain_machine.specs.Examples.{blank, descriptor_bytes, put}
 use Rattle.plain_machine.specs.Step.{Exchange}
 use Rattle.plain_machine.specs.StepBy.{after_stores, stores_among}
-use Rattle.fs_live.specs.Live.{Answers, Asked, Asks, OutChain, acts_of}
+use Rattle.fs_live.specs.Live.{Asked, DecodesRequest, EndsCall, OutChain, acts_of}
 use Rattle.fs_live.specs.Overlap.{destroy, first, first_loads, first_table, second, second_loads}
 use Rattle.fs_live.specs.Overlap.{second_table, unknown}
 use Rattle.fs_live.specs.Serial.{Single, return_in}
@@ -69,7 +69,7 @@ one = record {
   descriptors = first_table;
   head = 0;
   fault = None;
-  between = Asks first unknown [] ∷ [];
+  between = DecodesRequest first unknown [] ∷ [];
   chain = first_asked;
   exchange = first_exchange;
   notice = true;
@@ -86,7 +86,7 @@ two = record {
   descriptors = second_table;
   head = 2;
   fault = None;
-  between = Asks second destroy (Destroy ∷ []) ∷ Answers second_asked Destroy Done ∷ [];
+  between = DecodesRequest second destroy (Destroy ∷ []) ∷ EndsCall second_asked Destroy Done ∷ [];
   chain = second_answered;
   exchange = second_exchange;
   notice = true;

@@ -16,9 +16,9 @@ use Rattle.fs_notify.specs.Amid.{LoadsAmid, WalksAmid}
 use Rattle.fs_notify.specs.Takers.{IsIndex, IsOf, SaysWish, ways_of, wish_at}
 
 -- the store that was returned is the wish in memory, after two acts of the model's thread
-abbrev pub IsWish : QueueState → ThreadedQueue → Option NotificationStore → Type 0
-IsWish q s None = ⊥
-IsWish q s (Some store) =
+abbrev pub IsStoredWish : QueueState → ThreadedQueue → Option NotificationStore → Type 0
+IsStoredWish q s None = ⊥
+IsStoredWish q s (Some store) =
     let wished = after_act (ways_of q) (after_act (ways_of q) s Wishes) WishIsThere in
     (store.address ≡ wish_at q)
     × SaysWish q.event_index (to_le_bytes w16 store.value) wished.event wished.muted

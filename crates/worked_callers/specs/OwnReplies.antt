@@ -10,9 +10,10 @@ use Rattle.fs_chain.specs.declared.chain_handle.ChainHandle.{ChainHandle}
 use Rattle.fs_chain.specs.declared.queue.QueueState.{QueueState}
 use Rattle.plain_machine.specs.MarkedPages.{Marks, returned_addresses}
 use Rattle.plain_machine.specs.Step.{Calls, Exchange, State}
-use Rattle.fs_live.specs.Guest.{Device, Writes, after_moments}
+use Rattle.fs_live.specs.Guest.{DeviceEvent, Writes, after_moments}
 use Rattle.fs_live.specs.Handles.{IsReached, live_of}
-use Rattle.fs_live.specs.Live.{Happens, LiveEvent, LiveRun, LiveState, OutChain, Own, Returns, calls_among}
+use Rattle.fs_live.specs.Live.{Happens, LiveEvent, LiveRun, LiveState, OutChain, Own, PushesChain}
+use Rattle.fs_live.specs.Live.{calls_among}
 use Rattle.fs_live.specs.Live.{room_of}
 use Rattle.fs_live.specs.Runs.{IsAReturn, events_on, going, tickets_on, told_by}
 use Rattle.fs_live.specs.Several.{LiveQueue, StoresAsTaken, UsedFrom, heads_ended, heads_taken, returning}
@@ -46,7 +47,7 @@ pub record ReturnsOwn {F : Type 0} (may : May F) (s : LiveState F) (i : ℕ) (be
   pub used : List Store
   pub seen : List ℕ
   pub end : LiveState F
-  pub returns : Happens may now (Returns chain exchange notice 0 used seen) end
+  pub returns : Happens may now (PushesChain chain exchange notice 0 used seen) end
   pub outs_are : end.outs ≡ s.outs
   pub queues_are : end.queues ≡ changed_at s.queues i (λ _. live_of after)
 
@@ -72,7 +73,7 @@ ReportsOwn {F} may s i before after request reply notice =
     (r : ReturnsOwn may s i before after request reply [] notice)
     × (w : LiveQueue)
     × (slice_get r.now.queues r.chain.queue ≡ Some w)
-    × (told_by r.now (Returns r.chain r.exchange notice 0 r.used r.seen)
+    × (told_by r.now (PushesChain r.chain r.exchange notice 0 r.used r.seen)
     ≡ returned_addresses (returning w) r.chain.head (room_of r.chain) reply)
 
 -- the addresses that the guest writes
@@ -88,14 +89,14 @@ LogsOwn {F} may s i before after request reply notice =
     × (popped : LiveEvent) × (replied : LiveEvent)
     × (r.earlier ≡ popped ∷ replied ∷ [])
     × ((first second third last : List (ℕ × ℕ)) (m : Memory) →
-    let returned = Returns r.chain r.exchange notice 0 r.used r.seen in
+    let returned = PushesChain r.chain r.exchange notice 0 r.used r.seen in
     Marks m (written first
     ++ (written second ++ (written third ++ (told_by r.now returned ++ (written last ++ [])))))
     (after_moments m
     (
-    Writes first ∷ Device popped
-    ∷ Writes second ∷ Device replied
-    ∷ Writes third ∷ Device returned
+    Writes first ∷ DeviceEvent popped
+    ∷ Writes second ∷ DeviceEvent replied
+    ∷ Writes third ∷ DeviceEvent returned
     ∷ Writes last ∷ []
     )).host)
 

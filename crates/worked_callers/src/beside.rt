@@ -18,7 +18,8 @@ ghost use Rattle.fs_chain.specs.declared.decoding.Decoded.TheVariants as asks;
 ghost use Rattle.fs_chain.specs.declared.state.ChainState.TheVariants as at;
 ghost use Rattle.plain_machine.specs.Step.{Calls};
 ghost use Rattle.fs_live.specs.Handles.{IsKept, IsReached, IsSessionOf, changes_options, live_of, load_count};
-ghost use Rattle.fs_live.specs.Live.{Answers, Asked, Begins, Declines, Happens, HasPlace, LiveEvent, LiveRun};
+ghost use Rattle.fs_live.specs.Live.{Asked, Begins, Declines, EndsCall, Happens, HasPlace, LiveEvent};
+ghost use Rattle.fs_live.specs.Live.{LiveRun};
 ghost use Rattle.fs_live.specs.Live.{LiveState, NoneWaits, OutChain, Sleeps, calls_among, room_of};
 ghost use Rattle.fs_live.specs.Live.{why_declined};
 ghost use Rattle.fs_live.specs.Runs.{EachStoresThere, events_on, going, tickets_on};
@@ -91,7 +92,7 @@ pub fn answer_beside<F: FileSystem>(
         → IsKept s.page_size options request c (asks.Call made) handle.old
         → F.may s.files (call_of (drop 80 request) made) (answer_of [] answer) files
         → (next : LiveState F)
-        × Happens F.may s (Answers c (call_of (drop 80 request) made) (answer_of [] answer)) next
+        × Happens F.may s (EndsCall c (call_of (drop 80 request) made) (answer_of [] answer)) next
         × (changes_options (meaning options request (length (room_of c))) (answer_of [] answer ∷ []) ≡ false
         → (next.options ≡ s.options) × (handle.new.session.options.0 ≡ options))
         × (changes_options (meaning options request (length (room_of c))) (answer_of [] answer ∷ []) ≡ true

@@ -7,7 +7,7 @@ ghost use Rattle.vm_memory.specs.Memory.{located, location};
 ghost use Rattle.fs_regions.specs.Places.{places_in};
 ghost use Rattle.fs_chain.specs.declared.state.ChainState.TheVariants as at;
 ghost use Rattle.fs_live.specs.Filling.{data_stores};
-ghost use Rattle.fs_live.specs.Live.{Fills, LiveEvent, LiveRun, LiveState, OutChain, room_of};
+ghost use Rattle.fs_live.specs.Live.{FillsBuffer, LiveEvent, LiveRun, LiveState, OutChain, room_of};
 ghost use Rattle.fs_live.specs.Runs.{told_by};
 ghost use Rattle.worked_callers.specs.OwnReplies.{IsAt};
 
@@ -31,7 +31,7 @@ pub fn fill_window<F: FileSystem>(
     ensures fills { IfOk result (λ v. (s : LiveState F) (i : ℕ)
         → IsAt F.may s i handle.old queue.old
         → (popped : LiveEvent) × (c : OutChain) × (end : LiveState F)
-        × LiveRun F.may s (popped ∷ Fills c (data_stores (room_of c) from bytes.now) ∷ []) end
+        × LiveRun F.may s (popped ∷ FillsBuffer c (data_stores (room_of c) from bytes.now) ∷ []) end
         × (located (location (places_in handle.new.regions) Write)
         (take (length bytes.now) (drop from (room_of c)))
         ≡ Some (take (length bytes.now) (places_of v)))) }
@@ -62,7 +62,7 @@ pub fn fill_range<F: FileSystem>(
         → IsAt F.may s i handle.old queue.old
         → (popped : LiveEvent) × (c : OutChain) × (mid : LiveState F) × (address : ℕ)
         × (guest ≡ address % 2 ^ 64)
-        × (let fills = Fills c (record { address = address; bytes = bytes.now } ∷ []) in
+        × (let fills = FillsBuffer c (record { address = address; bytes = bytes.now } ∷ []) in
         LiveRun F.may s (popped ∷ fills ∷ []) mid
         × (told_by mid fills ≡ take (length bytes.now) (drop from (room_of c))))) }
 {

@@ -6,7 +6,7 @@ ghost use Rattle.fs_queue.specs.Returning.{Store};
 ghost use Rattle.fs_queue.specs.ReturningView.{stores_of};
 ghost use Rattle.notify.specs.Kicks as kicks;
 ghost use Rattle.notify.specs.Kicks.{NotifyState, Runs, ahead};
-ghost use Rattle.notify.specs.Threads.{Returns, ThreadedQueue, Walker, after_act, may_act};
+ghost use Rattle.notify.specs.Threads.{ReturnsSome, ThreadedQueue, Walker, after_act, may_act};
 ghost use Rattle.fs_notify.specs.Givers.{rules_of};
 ghost use Rattle.fs_notify.specs.Takers.{IsOf, SaysWish, ways_of};
 
@@ -24,8 +24,8 @@ pub fn push_one(
     ensures returns { OnOk result ((s : ThreadedQueue)
         → IsOf queue.old s
         → s.holder ≡ Walker
-        → IsTrue (may_act (ways_of queue.old) s (Returns 1))
-        × IsOf queue.new (after_act (ways_of queue.old) s (Returns 1))) }
+        → IsTrue (may_act (ways_of queue.old) s (ReturnsSome 1))
+        × IsOf queue.new (after_act (ways_of queue.old) s (ReturnsSome 1))) }
     ensures publishes { IfOk result (λ told. (u : NotifyState)
         → u.published ≡ queue.old.next_used
         → (let published = (kicks.after (rules_of queue.old) u (kicks.Publishes 1)).published in
@@ -37,7 +37,7 @@ pub fn push_one(
         → u.published ≡ queue.new.next_used
         → u.unchecked ≡ 1
         → SaysWish queue.old.event_index (to_le_bytes w16 seen) u.event u.muted
-        → (kicks.after (rules_of queue.old) u kicks.Checks).owes ≡ (u.owes || told.0)) }
+        → (kicks.after (rules_of queue.old) u kicks.ChecksWish).owes ≡ (u.owes || told.0)) }
     ensures order { OnOk result ((u : NotifyState)
         → u.published ≡ queue.old.next_used
         → u.index ≡ u.published
@@ -45,8 +45,8 @@ pub fn push_one(
         → ahead u.published u.position + 1 ≤ queue.old.layout.size
         → (let rules = rules_of queue.old in
         let end = kicks.after rules (kicks.after rules (kicks.after rules u (kicks.Publishes 1))
-        (kicks.IndexArrives 1)) kicks.Checks in
-        Runs rules u (kicks.Publishes 1 ∷ kicks.IndexArrives 1 ∷ kicks.Checks ∷ []) end
+        (kicks.IndexArrives 1)) kicks.ChecksWish in
+        Runs rules u (kicks.Publishes 1 ∷ kicks.IndexArrives 1 ∷ kicks.ChecksWish ∷ []) end
         × (end.published ≡ queue.new.next_used))) }
 {
     law_takers();

@@ -12,7 +12,8 @@ ghost use Rattle.fs_chain.specs.Queues.{gave};
 ghost use Rattle.fs_chain.specs.declared.state.ChainState.TheVariants as at;
 ghost use Rattle.plain_machine.specs.StepBy.{Act};
 ghost use Rattle.fs_live.specs.Handles.{IsReached, live_of};
-ghost use Rattle.fs_live.specs.Live.{Begins, Happens, LiveEvent, LiveRun, LiveState, Maps, Moves, NoneWaits};
+ghost use Rattle.fs_live.specs.Live.{Begins, Happens, LiveEvent, LiveRun, LiveState, MovesDevice, NoneWaits};
+ghost use Rattle.fs_live.specs.Live.{Remaps};
 ghost use Rattle.fs_live.specs.Live.{calls_among};
 ghost use Rattle.fs_live.specs.Others.{GoesBackOwn, recorded};
 ghost use Rattle.fs_live.specs.Runs.{IsEven, tickets_on};
@@ -118,7 +119,7 @@ pub fn reply_beside<F: FileSystem>(
     give_own_back(handle, queue)
 }
 
-/// Other regions, while no chain is in flight, are the event `Maps`.
+/// Other regions, while no chain is in flight, are the event `Remaps`.
 pub fn map_beside<F: FileSystem>(
     handle: &mut ChainHandle,
     regions: GuestMap,
@@ -127,7 +128,7 @@ pub fn map_beside<F: FileSystem>(
     ensures maps { OnOk result ((s : LiveState F)
         → s.outs ≡ []
         → (next : LiveState F)
-        × Happens F.may s (Maps (places_in handle.new.regions)) next
+        × Happens F.may s (Remaps (places_in handle.new.regions)) next
         × (next.places ≡ places_in handle.new.regions)
         × (next.queues ≡ s.queues)) }
 {
@@ -148,7 +149,7 @@ pub fn stopped_by(read: &Queue) -> Option<QueueError>
 }
 
 /// Resets the one queue of a device from that of a record: to its position, and stopped if it was. That is
-/// the event `Moves`, and the options are those of before.
+/// the event `MovesDevice`, and the options are those of before.
 pub fn begin_by_record<F: FileSystem>(queue: &mut QueueState, read: &Queue)
     requires some { 1 ≤ queue.old.max_in_flight }
     requires few { queue.old.max_in_flight ≤ read.now.size }
@@ -160,7 +161,7 @@ pub fn begin_by_record<F: FileSystem>(queue: &mut QueueState, read: &Queue)
         → IsRecord bytes v' options (read.now ∷ [])
         → (options ≡ s.options)
         × (next : LiveState F)
-        × Happens F.may s (Moves m (live_of queue.new ∷ [])) next
+        × Happens F.may s (MovesDevice m (live_of queue.new ∷ [])) next
         × (next.queues ≡ live_of queue.new ∷ [])
         × (next.places ≡ m)
         × (next.outs ≡ [])

@@ -13,7 +13,7 @@ ghost use Rattle.notify.specs.Threads.{ActsOver, Asker, DropsOne, Loads, Nobody,
 ghost use Rattle.notify.specs.Threads.{TakesOne, ThreadedQueue, Walker, WishIsThere, Wishes, after_act};
 ghost use Rattle.notify.specs.Threads.{may_act};
 ghost use Rattle.fs_notify.specs.Takers.{IsCounted, IsOf, MutesBy, ways_of};
-ghost use Rattle.worked_callers.specs.Notified.{ActsTo, IsWalkedBy, IsWish, PopsWithIndex, calls_of};
+ghost use Rattle.worked_callers.specs.Notified.{ActsTo, IsStoredWish, IsWalkedBy, PopsWithIndex, calls_of};
 
 use crate::beside::walk_to_end;
 use crate::wholes::walk_chain;
@@ -31,7 +31,7 @@ pub fn are_counted(queue: &QueueState)
 
 /// The store that enables notifications is the model's wish for the next chain.
 pub fn store_wish(queue: &QueueState) -> Option<NotificationStore>
-    ensures { (s : ThreadedQueue) → IsOf queue.now s → s.holder ≡ Walker → IsWish queue.now s result }
+    ensures { (s : ThreadedQueue) → IsOf queue.now s → s.holder ≡ Walker → IsStoredWish queue.now s result }
 {
     law_takers();
     are_counted(queue);
@@ -78,7 +78,7 @@ pub fn sleep_if_idle(
     ensures wish { IfOk result (λ store. (s : ThreadedQueue)
         → IsOf queue.old s
         → s.holder ≡ Walker
-        → IsWish queue.old s store) }
+        → IsStoredWish queue.old s store) }
     ensures sleeps { OnOk result ((n : ℕ)
         × ((s : ThreadedQueue)
         → IsOf queue.old s

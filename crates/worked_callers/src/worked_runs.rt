@@ -7,7 +7,7 @@ ghost use Rattle.plain_machine.specs.Examples.{blank};
 ghost use Rattle.plain_machine.specs.Step.{Exchanged, State};
 ghost use Rattle.plain_machine.specs.StepBy.{Effects, StepBy};
 ghost use Rattle.fs_live.specs.InitBeside as init;
-ghost use Rattle.fs_live.specs.Live.{LiveEvent, LiveRun, LiveState, Moves, room_of};
+ghost use Rattle.fs_live.specs.Live.{LiveEvent, LiveRun, LiveState, MovesDevice, room_of};
 ghost use Rattle.fs_live.specs.Overlap.{at_positions, first_answered, first_exchange, state};
 ghost use Rattle.fs_live.specs.Rewritten as rewritten;
 ghost use Rattle.fs_live.specs.Runs.{EachIsTold, IsBefore, ReturnHasPlaces, after_alone, chain_loads};
@@ -85,7 +85,7 @@ pub fn moved<F: FileSystem>()
         → LiveRun F.may (state after (at_positions 2 2) 0 []) later end
         → (es : List LiveEvent)
         × LiveRun F.may (state before (at_positions 0 0) 1 [])
-        (es ++ Moves blank (at_positions 2 2 ∷ []) ∷ later) end
+        (es ++ MovesDevice blank (at_positions 2 2 ∷ []) ∷ later) end
         × LiveRun F.may (state before (at_positions 0 0) 1 []) (es ++ later) end }
 {
     law_examples::<F>();

@@ -100,7 +100,7 @@ impl Ring {
         // [Wishes] or [HasWished]; with nobody asleep [Silences]
         let told = state.want_kicks(is_for_another, server, memory);
         // [GoesBusy] if no chain is left, or a thread is woken already. Else [Signals], and then
-        // [GoesBusy]. With nobody asleep [Leaves].
+        // [GoesBusy]. With nobody asleep [Unlocks].
         let wakes = is_for_another && !state.is_woken && (told.is_err() || state.has_more(memory));
         state.is_woken |= wakes;
         wakes
@@ -109,7 +109,7 @@ impl Ring {
     /// Returns the event that interrupts the driver, if it is to be interrupted.
     fn give_back(&self, state: &mut State, server: &mut impl Server) -> Option<Arc<File>> {
         let mut owed = None;
-        // [Returns]; of the used ring [Publishes], a full barrier, [Checks]
+        // [ReturnsSome]; of the used ring [Publishes], a full barrier, [ChecksWish]
         match server.give_back(&mut state.queue) {
             Ok(true) => owed = state.interrupt(),
             Ok(false) => {}
@@ -174,7 +174,7 @@ impl Ring {
             }
             send(&mut owed);
             // [Wishes], and one more round, whose pop is the look once more: [SleepsNow] or
-            // [WalksOn]. Or [HasWished] before this round, whose pop was that look
+            // [KeepsWalking]. Or [HasWished] before this round, whose pop was that look
             let is_for_kicks = looked != Looked::Missing;
             let looked = match looked {
                 Looked::Missing => looked,

@@ -4,7 +4,7 @@ use Rattle.fs_queue.specs.Queue.{Queue}
 use Rattle.fs_record.specs.Record.{IsRecord}
 use Rattle.fs_regions.specs.Places.{places_in}
 use Rattle.fs_live.specs.Handles.{live_of}
-use Rattle.fs_live.specs.Live.{LiveEvent, Moves}
+use Rattle.fs_live.specs.Live.{LiveEvent, MovesDevice}
 use Rattle.fs_live.specs.Others.{recorded}
 use Rattle.fs_live.specs.Several.{LiveQueue}
 use Rattle.worked_callers.proofs.MovedAmid.{reached_run}
@@ -46,7 +46,7 @@ returns g c =
                 let moved = c.begin_by_record.ensures.moves s₁ left m saved.0 saved.1 found.1 read_options (one.4 ∙ none) queues₁
                 made read in
                 let s₂ = moved.1 in
-                let event : LiveEvent = Moves m (live_of begun ∷ []) in
+                let event : LiveEvent = MovesDevice m (live_of begun ∷ []) in
                 let limit₂ = moved.7 ∙ one.7 in
                 let two = last s₂ 0 (reached_by may s₁ s₂ event (reached_run may s s₁ one.0 reached one.2) moved.2)
                 (ap (λ (l : List LiveQueue). slice_get l 0) moved.3) moved.4 (limit₂ ∙ limit')

@@ -3,7 +3,7 @@ use Rattle.fs_regions.specs.declared.step.CourseStep.TheVariants as step
 use Rattle.fuse_fs.specs.Calls.{Destroy, Done}
 use Rattle.virtiofsd_fuse.specs.Examples.{le16}
 use Rattle.plain_machine.specs.Examples.{blank}
-use Rattle.fs_live.specs.Live.{Answers, Asks, Happens, LiveEvent, LiveRun, Moves, Returns, Walks}
+use Rattle.fs_live.specs.Live.{DecodesRequest, EndsCall, Happens, LiveEvent, LiveRun, MovesDevice, PushesChain, Walks}
 use Rattle.fs_live.specs.Overlap.{at_positions, destroy, first, first_answered, first_asked, first_exchange, first_loads, first_table}
 use Rattle.fs_live.specs.Overlap.{first_used}
 use Rattle.fs_live.specs.Overlap.{second, second_asked, second_exchange, second_loads, second_table, second_used, state, unknown}
@@ -16,12 +16,12 @@ returns g c before after so later end more =
     let start = state before (at_positions 0 0) 1 [] in
     let now = state after (at_positions 2 2) 0 [] in
     let es : List LiveEvent =
-    Walks 0 first_loads first_table (step.Chain 0 None) ∷ Asks first destroy (Destroy ∷ [])
-    ∷ Walks 0 second_loads second_table (step.Chain 2 None) ∷ Asks second unknown []
-    ∷ Returns second_asked second_exchange true 0 second_used (le16 0) ∷ Answers first_asked Destroy Done
-    ∷ Returns first_answered first_exchange true 0 first_used (le16 0) ∷ [] in
+    Walks 0 first_loads first_table (step.Chain 0 None) ∷ DecodesRequest first destroy (Destroy ∷ [])
+    ∷ Walks 0 second_loads second_table (step.Chain 2 None) ∷ DecodesRequest second unknown []
+    ∷ PushesChain second_asked second_exchange true 0 second_used (le16 0) ∷ EndsCall first_asked Destroy Done
+    ∷ PushesChain first_answered first_exchange true 0 first_used (le16 0) ∷ [] in
     let run : LiveRun may start es now = c.law_examples.ensures.overlap before after so in
-    let moves : Happens may now (Moves blank (at_positions 2 2 ∷ [])) now =
+    let moves : Happens may now (MovesDevice blank (at_positions 2 2 ∷ [])) now =
     record { none_out = refl; same = refl; even = ((refl, omega arith), tt); few = ((omega arith, omega arith), tt); state = refl } in
     let law = c.law_runs.ensures.moves start now now es blank (at_positions 2 2 ∷ []) refl ((refl, omega arith), tt) run moves refl in
-    (es, joined may start now end es (Moves blank (at_positions 2 2 ∷ []) ∷ later) run (now, moves, more), law.3 refl later end more)
+    (es, joined may start now end es (MovesDevice blank (at_positions 2 2 ∷ []) ∷ later) run (now, moves, more), law.3 refl later end more)
