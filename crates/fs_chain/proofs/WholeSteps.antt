@@ -106,7 +106,7 @@ answers {F} may m i q head request room calls files given reply behind used flag
             ++ act.LoadsFlags flags ∷ [])
             (sym is_reply)
             ∙ ap (λ (ss : List Store). map act.StoresBytes (reply_stores room given.reply (front_len reply) ++ ss)
-                ++ act.LoadsFlags flags ∷ [])
+            ++ act.LoadsFlags flags ∷ [])
             stores;
         state = ap (λ (o : ℕ). after_chain m i q o files) (sym is_options);
         told = told;

@@ -76,7 +76,7 @@ PushReturnsOne =
     → IsOf k s
     → s.holder ≡ Walker
     → IsTrue (may_act (ways_of k) s (ReturnsSome 1))
-        × IsOf (gave k) (after_act (ways_of k) s (ReturnsSome 1)))
+    × IsOf (gave k) (after_act (ways_of k) s (ReturnsSome 1)))
 
 -- ---- pops
 

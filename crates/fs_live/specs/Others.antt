@@ -89,7 +89,7 @@ HandleReplies {F} may =
     FromTaken w.state (λ out. out.request_len ≡ length request) →
     own_error w.state w.serial serial (length reply) ≡ None →
     Happens may s (RepliesOwnBytes c request reply options)
-        (after_own s before behind c request reply options)
+    (after_own s before behind c request reply options)
     × IfOut w.state
     (λ out. IsOwn (record c { phase = Own request reply }) reply (at.HasReply out (own_reply (length reply))))
 
@@ -120,7 +120,7 @@ HandleRepliesInstead {F} may =
     IsHeldAsked c w →
     own_error w.state w.serial serial (length reply) ≡ None →
     Happens may s (RepliesOwnBytes c request reply options)
-        (after_own s before behind c request reply options)
+    (after_own s before behind c request reply options)
     × IfOut w.state
     (λ out. IsOwn (record c { phase = Own request reply }) reply (at.HasReply out (own_reply (length reply))))
 

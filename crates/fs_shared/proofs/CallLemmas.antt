@@ -104,5 +104,8 @@ act_starts {F} may start s after before now command result does =
     let old : Held F = record { machine = s; start = t; journal = before } in
     let new : Held F = record { machine = after; start = t; journal = now } in
     subst (λ (f : FixedParts). JournalsOrRefuses may old command result (record {
-        machine = after; start = start_of start f; journal = now }))
+      machine = after;
+      start = start_of start f;
+      journal = now;
+    }))
     (acts_keep may old new command result (does t)) (does t)

@@ -82,7 +82,7 @@ flags_behind = refl
 -- 0x100, whose flags are at 0x100)
 flags_as_stored : FindFlags blank queue
     (LoadsFlags (le16 0) ∷ StoresBytes (record { address = 0x100; bytes = le16 1 })
-        ∷ LoadsFlags (le16 1) ∷ [])
+    ∷ LoadsFlags (le16 1) ∷ [])
 unfolding place addresses stored_all
 flags_as_stored = (refl, (refl, tt))
 

@@ -25,7 +25,7 @@ pair_short bytes e h = rw (← h) refl
 
 behind_one :
     {A : Type 0} (done : List A) (x : A) (r : Parsed (List A)) → behind done (and_then r (λ y. Ok (x ∷ y.0, y.1)))
-        ≡ behind (done ++ x ∷ []) r
+    ≡ behind (done ++ x ∷ []) r
 behind_one done x (Ok y) = ap (λ (all : List _). Ok (all, y.1)) (sym (append_assoc done (x ∷ []) y.0))
 behind_one done x (Err e) = refl
 

@@ -226,7 +226,7 @@ pub moved_by : {F : Type 0} (may : May F) (law : HandleMoves may) (q after : Que
     (s : LiveState F) (here : QueueState) (m : Memory) (bytes : List ℕ) (v v' : Version) (options : ℕ) → s.outs ≡ [] →
     s.queues ≡ live_of here ∷ [] → IsRecord bytes v s.options (recorded here ∷ []) → IsRecord bytes v' options (read ∷ []) →
     (options ≡ s.options) × (next : LiveState F) × Happens may s (MovesDevice m (live_of after ∷ [])) next
-        × (next.queues ≡ live_of after ∷ [])
+    × (next.queues ≡ live_of after ∷ [])
     × (next.places ≡ m) × (next.outs ≡ [])
     × (next.options ≡ s.options) × (next.limit ≡ s.limit)
 moved_by {F} may law q after layout read stopped size desc avail used is after_is some few s here m bytes v v' options none queues

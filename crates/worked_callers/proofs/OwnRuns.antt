@@ -172,7 +172,7 @@ module _ {F : Type 0} (may : May F) (s : LiveState F) (i : ℕ) (before after : 
 both_events : (i head : ℕ) (loaded : Loaded) (ds : List Descriptor) (c d : OutChain) (request reply : List ℕ) (options : ℕ) (x : Exchange)
     (notice : Bool) (used : List Store) (seen : List ℕ) → (i == i) ≡ true → (d.queue == i) ≡ true
     → events_on i (Walks i loaded ds (step.Chain head None) ∷ RepliesOwnBytes c request reply options
-        ∷ PushesChain d x notice 0 used seen ∷ [])
+    ∷ PushesChain d x notice 0 used seen ∷ [])
     ≡ several.PopsOne head ∷ several.PushesOne (d.taken.position, d.head) (length x.reply) used ∷ []
 both_events i head loaded ds c d request reply options x notice used seen same so = rw (same, so) refl
 

@@ -7,5 +7,5 @@ pub returns : goal.returns
 returns c w first second n m stores more same small =
     c.law_queues.ensures.order w
     (PopsOne first ∷ PopsOne second ∷ PushesOne (w.queue.position, first) n stores
-        ∷ PushesOne (next_position w.queue, second) m more ∷ []) same
+    ∷ PushesOne (next_position w.queue, second) m more ∷ []) same
     small (refl, (refl, tt))
