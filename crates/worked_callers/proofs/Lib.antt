@@ -12,4 +12,5 @@ pub mod OwnRuns
 pub mod Served
 pub mod ServedBeside
 pub mod ServedCrossed
+pub mod StaysAlike
 pub mod TakenTwo

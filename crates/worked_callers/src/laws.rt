@@ -1,12 +1,18 @@
 //! The outcome of a pop's call is the offer of each memory over the handle's regions that has the loads.
 
-ghost use Rattle.std.specs.Prelude.{◌≡◌, [], None, IfOk, IfSome};
+ghost use Rattle.std.specs.Prelude.{◌≡◌, [], List, None, Some, IfOk, IfSome, length};
+ghost use Rattle.vm_memory.specs.Memory.{Memory};
 ghost use Rattle.vm_memory_core.specs.Host.{Host};
+ghost use Rattle.fs_queue.specs.Chain.{entry_address};
+ghost use Rattle.fs_queue.specs.Loads.{AreEntriesOf, IsLoadOf, Load};
+ghost use Rattle.fs_queue.specs.SteppingView.{visit_of};
 ghost use Rattle.fs_regions.specs.Laws.{HasLoaded};
 ghost use Rattle.fs_regions.specs.Places.{memory_over, places_in};
-ghost use Rattle.fs_regions.specs.Walks.{Loaded, IsWalkAt, nothing, queue_of};
+ghost use Rattle.fs_regions.specs.Walks.{IsWalkAt, Loaded, ReadOutOf, nothing, queue_of};
 ghost use Rattle.fs_regions.specs.declared.course.Course.{Course};
+ghost use Rattle.fs_regions.specs.declared.entries.EntriesWalk.{EntriesWalk};
 ghost use Rattle.fs_regions.specs.declared.walk.QueueWalk.{QueueWalk};
+ghost use Rattle.fs_regions.specs.declared.walk.QueueWalk.TheVariants as asks;
 ghost use Rattle.fs_chain.specs.Laws.{GoesOnByLoads, TellsOffer};
 ghost use Rattle.fs_chain.specs.Loads.{whole};
 ghost use Rattle.fs_chain.specs.Walks.{RefusalHasEvents, course_of};
@@ -15,6 +21,7 @@ ghost use Rattle.fs_chain.specs.declared.state.PopId.{PopId};
 
 use fs_chain::laws::law_walks;
 use fs_chain::{ChainError, ChainHandle, LoadOutcome, PopOutcome, QueueState};
+use fs_regions::laws::law_read_out;
 
 /// Begins a pop. Its outcome is the offer of each memory over the regions: nothing was loaded yet.
 pub fn begin(
@@ -39,7 +46,7 @@ pub fn begin(
 }
 
 /// Goes on with a pop. Its outcome is the offer of each memory that has the pop's loads, and the request's
-/// bytes.
+/// bytes. A memory that has the bytes of a part of a table has each entry that the pop reads out of them.
 pub fn go_on(
     handle: &mut ChainHandle,
     queue: &mut QueueState,
@@ -51,7 +58,22 @@ pub fn go_on(
         → handle.old.state ≡ at.Walking course pop_id walk
         → IsWalkAt (places_in handle.old.regions) (queue_of course) loaded handle.old.descriptors.items walk
         → GoesOnByLoads loaded course walk (whole handle.old bytes.now) handle.old handle.new told)) }
+    ensures read_out { IfOk result
+        (λ on. IfSome on
+        (λ told. (loaded : Loaded) (course : Course) (pop_id : PopId) (walk : EntriesWalk) (m : Memory)
+        → queue.old.stopped ≡ None
+        → handle.old.state ≡ at.Walking course pop_id (asks.Entries walk)
+        → IsWalkAt (places_in handle.old.regions) (queue_of course) loaded handle.old.descriptors.items
+        (asks.Entries walk)
+        → IsLoadOf m (length (whole handle.old bytes.now)) (record {
+          address = entry_address (visit_of walk.walk);
+          came = Some (whole handle.old bytes.now);
+        })
+        → (reads : List Load)
+        × ReadOutOf (entry_address (visit_of walk.walk)) (whole handle.old bytes.now) reads
+        × AreEntriesOf m reads)) }
 {
+    law_read_out();
     law_walks();
     match handle.pop(queue, bytes) {
         Ok(LoadOutcome::On(told)) => Ok(Some(told)),

@@ -1,17 +1,25 @@
 //! With the event index, a chain is a step of the plain machine, which takes the two bytes that are seen for
-//! its flags. The driver is notified by used_event (VIRTIO 1.2, 2.7.7.2).
+//! its flags. The driver is notified by used_event (VIRTIO 1.2, 2.7.7.2). A chain that is pushed at another
+//! position than that of its pop is answered as by a machine whose queue is there.
 
-ghost use Rattle.std.specs.Prelude.{◌≡◌, ℕ, List, [], length, None, Some, Ok, IfOk, OnOk, true};
+ghost use Rattle.std.specs.Prelude.{◌≡◌, ◌≤◌, ◌^◌, ℕ, List, [], Bool, None, IfOk, OnOk};
+ghost use Rattle.vm_memory_core.specs.Host.{Host};
 ghost use Rattle.fuse_fs.specs.Calls.{FileRun};
 ghost use Rattle.server_phases.specs.Answering.{TellsBytes};
-ghost use Rattle.plain_machine.specs.Step.{Calls, Exchange, Exchanged, State};
-ghost use Rattle.plain_machine.specs.StepBy.{Act, Effects, StepBy, StepLoads};
+ghost use Rattle.plain_machine.specs.Step.{Calls, Exchange, Exchanged, State, Step};
+ghost use Rattle.plain_machine.specs.StepBy.{Act, AnswersBy, Effects, ReturnsFaultyBy, StepBy, StepLoads};
+ghost use Rattle.plain_machine.specs.StepBy.{after_stores, stores_among};
 ghost use Rattle.fs_queue.specs.Returning.{tells};
-ghost use Rattle.fs_regions.specs.Walks.{queue_of};
+ghost use Rattle.fs_queue.specs.Taking.{CannotFetch, IsRequest, Offers};
+ghost use Rattle.fs_queue.specs.WalkingView.{at_position};
+ghost use Rattle.fs_queue.specs.declared.fault.ChainFault.{ChainFault};
+ghost use Rattle.fs_regions.specs.Places.{memory_over, places_in};
+ghost use Rattle.fs_regions.specs.Walks.{Loaded, OffersBy, queue_of};
 ghost use Rattle.fs_chain.specs.Events.{seen_at, tells_of};
 ghost use Rattle.fs_chain.specs.Walks.{course_of};
 ghost use Rattle.fs_chain.specs.Whole.{GoesBackBy, IsMachineBefore, IsSession, IsWalked, after_chain};
 ghost use Rattle.fs_chain.specs.declared.state.ChainState.TheVariants as at;
+ghost use Rattle.worked_callers.specs.OverMemory.{HasEachLoad, KeepsBuffersApart};
 
 use crate::wholes::{reply, walk_by, walk_chain};
 use fs_chain::laws::law_chains;
@@ -42,8 +50,11 @@ pub fn give_back_by(
     }
 }
 
-/// A chain that is in flight alone, without data in its answer and not a listing, is a step by the two
-/// bytes seen. Returns whether the driver is notified, and the address of the two bytes.
+/// Serves a chain without data in its answer, not a listing. Beside other chains of its queue, it is answered
+/// as by a machine whose queue is at the position of the push. If it is in flight alone, it is a step by the
+/// two bytes seen. Over a memory with all loaded bytes, in which no byte of the reply buffer lies in another,
+/// it is the machine's step over that memory. Returns whether the driver is notified, and the address of the
+/// two bytes.
 pub fn serve_by<F: FileSystem>(
     handle: &mut ChainHandle,
     queue: &mut QueueState,
@@ -55,11 +66,23 @@ pub fn serve_by<F: FileSystem>(
 ) -> Result<(bool, u64), ChainError>
     requires free { handle.old.state ≡ at.Free }
     requires goes { queue.old.stopped ≡ None }
-    requires none_out { queue.old.next_used ≡ queue.old.next_avail }
     requires data { TellsBytes [] answer }
     ensures told { IfOk result (λ told. (told.0 ≡ tells_of queue.old seen)
         × (told.1 ≡ seen_at queue.old.event_index queue.old.layout)) }
+    ensures answered { IfOk result (λ told. (i : ℕ) (m : State F) (files : F)
+        → handle.old.limit ≤ 2 ^ 31
+        → IsSession session m
+        → (calls : Calls)
+        × (FileRun F.may m.files calls files
+        → (head : ℕ) × (room : List ℕ) × (loaded : Loaded) × (x : Exchange) × (e : Effects)
+        × OffersBy (places_in handle.old.regions) handle.old.limit
+        (queue_of (course_of queue.old handle.old.limit)) loaded request.now
+        (Offers head (IsRequest request.now room))
+        × AnswersBy F.may m i (at_position queue.old.layout queue.old.next_used) head request.now room calls x
+        (tells seen) e (after_chain m i (at_position queue.old.layout queue.old.next_used)
+        handle.new.session.options.0 files))) }
     ensures step { IfOk result (λ told. (i : ℕ) (m : State F) (files : F)
+        → queue.old.next_used ≡ queue.old.next_avail
         → IsMachineBefore handle.old queue.old i m
         → IsSession session m
         → (calls : Calls)
@@ -67,6 +90,20 @@ pub fn serve_by<F: FileSystem>(
         × (x.request ≡ request.now)
         × StepBy F.may m i l calls (Exchanged x (tells seen)) e (after_chain m i
         (queue_of (course_of queue.old handle.old.limit)) handle.new.session.options.0 files))) }
+    ensures memory { IfOk result (λ told. (i : ℕ) (m : State F) (files : F) (h : Host)
+        → queue.old.next_used ≡ queue.old.next_avail
+        → IsMachineBefore handle.old queue.old i m
+        → IsSession session m
+        → HasEachLoad (memory_over h handle.old.regions) handle.old queue.old given.now request.now
+        → KeepsBuffersApart (memory_over h handle.old.regions) handle.old queue.old given.now
+        → (calls : Calls)
+        × (FileRun F.may m.files calls files
+        → (x : Exchange) × (acts : List Act) × (wants : Bool)
+        × (x.request ≡ request.now)
+        × Step F.may (record m { memory = memory_over h handle.old.regions }) i calls (Exchanged x wants)
+        (record (after_chain m i (queue_of (course_of queue.old handle.old.limit))
+        handle.new.session.options.0 files)
+        { memory = after_stores (memory_over h handle.old.regions) (stores_among acts) }))) }
 {
     law_chains::<F>();
     let (_, request_len, _) = walk_chain(handle, queue, given)?;
@@ -93,8 +130,8 @@ pub fn walk_faulty(
     }
 }
 
-/// A faulty chain that is in flight alone is a step too. Returns whether the driver is notified, and
-/// the address of the two bytes.
+/// Pops and pushes a faulty chain. It is pushed without a reply at any position, and is a step if it is in
+/// flight alone. Returns whether the driver is notified, and the address of the two bytes.
 pub fn serve_faulty<F: FileSystem>(
     handle: &mut ChainHandle,
     queue: &mut QueueState,
@@ -103,10 +140,16 @@ pub fn serve_faulty<F: FileSystem>(
 ) -> Result<(bool, u64), ChainError>
     requires free { handle.old.state ≡ at.Free }
     requires goes { queue.old.stopped ≡ None }
-    requires none_out { queue.old.next_used ≡ queue.old.next_avail }
     ensures told { IfOk result (λ told. (told.0 ≡ tells_of queue.old seen)
         × (told.1 ≡ seen_at queue.old.event_index queue.old.layout)) }
+    ensures answered { IfOk result (λ told. (i : ℕ) (m : State F)
+        → (head : ℕ) × (fault : ChainFault) × (loaded : Loaded) × (x : Exchange) × (e : Effects)
+        × OffersBy (places_in handle.old.regions) handle.old.limit
+        (queue_of (course_of queue.old handle.old.limit)) loaded [] (Offers head (CannotFetch fault))
+        × ReturnsFaultyBy m i (at_position queue.old.layout queue.old.next_used) head fault [] x (tells seen)
+        e (after_chain m i (at_position queue.old.layout queue.old.next_used) m.options m.files)) }
     ensures step { IfOk result (λ told. (i : ℕ) (m : State F)
+        → queue.old.next_used ≡ queue.old.next_avail
         → IsMachineBefore handle.old queue.old i m
         → (l : StepLoads) × (x : Exchange) × (e : Effects)
         × StepBy F.may m i l [] (Exchanged x (tells seen)) e

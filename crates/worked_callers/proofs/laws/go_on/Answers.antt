@@ -1,4 +1,8 @@
 use Rattle.std.proofs.Common.{subst}
+use Rattle.fs_queue.specs.Chain.{entry_address}
+use Rattle.fs_queue.specs.SteppingView.{visit_of}
+use Rattle.fs_regions.specs.Walks.{AddsEntries}
+use Rattle.fs_regions.specs.declared.walk.QueueWalk.TheVariants as asks
 use Rattle.fs_chain.specs.declared.loads.LoadOutcome.{LoadOutcome}
 use Rattle.fs_chain.specs.declared.loads.LoadOutcome.TheVariants as wents
 use Rattle.fs_chain.specs.Loads.{GoesSo, whole}
@@ -16,4 +20,11 @@ returns-in-Ok-On c =
       offered = λ loaded course pop_id walk goes here stands.
           c.law_walks.ensures.goes_on loaded course pop_id walk (whole w bytes) w c.pop.new.self q c.pop.new.queue told goes here
           on.4 stands;
+      read_out = λ loaded course pop_id walk m goes here stands loads.
+          let from = entry_address (visit_of walk.walk) in
+          let bs = whole w bytes in
+          let by = c.law_walks.ensures.goes_on loaded course pop_id (asks.Entries walk) bs w c.pop.new.self q c.pop.new.queue told goes
+          here on.4 stands in
+          let adds : AddsEntries from bs by.came loaded by.after = by.adds in
+          (adds.reads, adds.read_out, c.law_read_out.ensures m from bs adds.reads loads adds.read_out);
     }

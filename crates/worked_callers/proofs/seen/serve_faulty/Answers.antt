@@ -1,8 +1,9 @@
 use Rattle.std.proofs.Common.{◌≡◌, ℕ, List, [], sym, subst, ◌∙◌}
 use Rattle.fs_queue.specs.Returning.{tells}
+use Rattle.fs_queue.specs.WalkingView.{at_position}
 use Rattle.fs_regions.specs.Walks.{queue_of}
 use Rattle.plain_machine.specs.Step.{Exchanged}
-use Rattle.plain_machine.specs.StepBy.{StepBy}
+use Rattle.plain_machine.specs.StepBy.{Effects, ReturnsFaultyBy, StepBy}
 use Rattle.fs_chain.specs.Events.{tells_of}
 use Rattle.fs_chain.specs.Walks.{course_of}
 use Rattle.fs_chain.specs.Whole.{FaultyChainBy, after_chain, step_loads}
@@ -21,7 +22,7 @@ returns g c =
     let fault = c.in_ok-walk_faulty.field-0-1 in
     let q = queue_of (course_of before old.limit) in
     let keeps = queue_keeps old popped_handle before back_queue (says.Faulty head fault) c.requires.goes tt walked in
-    let in_order = keeps.0 ∙ c.requires.none_out in
+    let there = at_position before.layout before.next_used in
     record {
       told = if_ok c.give_back_by.result _ _
           (λ told back.
@@ -32,12 +33,31 @@ returns g c =
           let so = told_before before.layout before back_queue goes.2.stores goes.2.flags told.0 keeps.0 keeps.1 law in
           (subst (λ (bs : List ℕ). told.0 ≡ tells_of before bs) goes.3 so.0, sym goes.4 ∙ so.1))
           c.give_back_by.ensures.back;
+      answered = if_ok c.give_back_by.result _ _
+          (λ told back i m.
+          let goes = back [] [] in
+          let e : Effects = record { acts = goes.0; last = goes.1 } in
+          let run : FaultyChainBy walked.0 fault goes.0 goes.1 head told.0 old before =
+          record { popped_handle = popped_handle; taken = back_queue; walks = walked.1; back = back_queue; returns = goes.2 } in
+          let law = c.law_chains.ensures.faulty_answered walked.0 fault goes.0 goes.1 head i told.0 old before m run c.requires.goes in (
+            head,
+            fault,
+            law.0,
+            law.3,
+            e,
+            law.2,
+            subst (λ (bs : List ℕ). ReturnsFaultyBy m i there head fault [] law.3 (tells bs) e (after_chain m i there m.options m.files))
+                goes.3
+                (subst (λ (n : ℕ). ReturnsFaultyBy m i (at_position before.layout n) head fault [] law.3 (tells goes.2.flags) e
+                (after_chain m i (at_position before.layout n) m.options m.files)) keeps.0 law.4),
+          ))
+          c.give_back_by.ensures.back;
       step = if_ok c.give_back_by.result _ _
-          (λ told back i m first.
+          (λ told back i m alone first.
           let goes = back [] [] in
           let run : FaultyChainBy walked.0 fault goes.0 goes.1 head told.0 old before =
           record { popped_handle = popped_handle; taken = back_queue; walks = walked.1; back = back_queue; returns = goes.2 } in
-          let law = c.law_chains.ensures.faulty walked.0 fault goes.0 goes.1 head i told.0 old before m first run in_order in (
+          let law = c.law_chains.ensures.faulty walked.0 fault goes.0 goes.1 head i told.0 old before m first run (keeps.0 ∙ alone) in (
             step_loads law.0 law.2 [],
             law.4,
             record { acts = goes.0; last = goes.1 },

@@ -1,0 +1,70 @@
+//! A pop that misses addresses of an IOMMU's table is no step. The bytes for which a pop asks are mapped.
+
+ghost use Rattle.std.specs.Prelude.{◌≡◌, ◌<◌, ◌≤◌, ◌+◌, false, IfOk, None, Some};
+ghost use Rattle.vm_iotlb.specs.declared.iova.IovaRange.{IovaRange};
+ghost use Rattle.vm_iotlb.specs.declared.permissions.Permissions.{Permissions};
+ghost use Rattle.fs_queue.specs.declared.fault.QueueError.{QueueError};
+ghost use Rattle.fs_regions.specs.Misses.{last_page};
+ghost use Rattle.fs_regions.specs.Places.{places_in};
+ghost use Rattle.fs_regions.specs.Walks.{Loaded, Misses, queue_of};
+ghost use Rattle.fs_chain.specs.Events.{event_fault, event_miss};
+ghost use Rattle.fs_chain.specs.Walks.{HasEvents, IsAllBut, course_of};
+ghost use Rattle.fs_chain.specs.Whole.{WantsBytes};
+ghost use Rattle.fs_chain.specs.declared.state.ChainState.TheVariants as at;
+
+use crate::wholes::walk_by;
+use fs_chain::laws::{law_chains, law_misses};
+use fs_chain::{ChainError, ChainHandle, LoadOutcome, PopOutcome, QueueState};
+use fuse_fs::FileSystem;
+
+/// Pops by these bytes. A miss leaves the queue as it was and the handle free. It is of the addresses that
+/// the pop needs first by its loads, and a table of whole pages can map them. If the table doesn't map
+/// used_event or avail_event, the pop misses the first of these addresses.
+pub fn miss(
+    handle: &mut ChainHandle,
+    queue: &mut QueueState,
+    given: &[&[u8]],
+) -> Result<LoadOutcome, ChainError>
+    requires free { handle.old.state ≡ at.Free }
+    requires goes { queue.old.stopped ≡ None }
+    ensures missed { IfOk result (λ told. (range : IovaRange) (access : Permissions)
+        → told ≡ LoadOutcome.On (PopOutcome.Missing range access)
+        → HasEvents handle.old queue.old
+        → (queue.new ≡ queue.old)
+        × (handle.new.state ≡ at.Free)
+        × IsAllBut handle.old handle.new
+        × (loaded : Loaded)
+        × Misses (places_in handle.old.regions) handle.old.limit
+        (queue_of (course_of queue.old handle.old.limit)) loaded handle.new.descriptors.items range access) }
+    ensures mapped { IfOk result (λ told. (range : IovaRange) (access : Permissions)
+        → told ≡ LoadOutcome.On (PopOutcome.Missing range access)
+        → HasEvents handle.old queue.old
+        → (0 < range.length) × (range.base.0 + range.length ≤ last_page)) }
+    ensures events { IfOk result
+        (λ told. (e : QueueError) (range : IovaRange) (access : Permissions)
+        → event_fault (places_in handle.old.regions) queue.old ≡ Some e
+        → event_miss (places_in handle.old.regions) queue.old ≡ Some (range, access)
+        → (told ≡ LoadOutcome.On (PopOutcome.Missing range access)) × (queue.new ≡ queue.old)) }
+{
+    law_misses();
+    walk_by(handle, queue, given)
+}
+
+/// Pops by these bytes. Returns the outcome, and whether the bytes that the pop asks for have a window. If it
+/// asks for bytes, they have one.
+pub fn find_window<F: FileSystem>(
+    handle: &mut ChainHandle,
+    queue: &mut QueueState,
+    given: &[&[u8]],
+) -> Result<(LoadOutcome, bool), ChainError>
+    requires free { handle.old.state ≡ at.Free }
+    requires goes { queue.old.stopped ≡ None }
+    ensures found { IfOk result (λ r. r.1 ≡ false → WantsBytes r.0 → ⊥) }
+{
+    law_chains::<F>();
+    let told = walk_by(handle, queue, given)?;
+    match handle.still_wanted() {
+        Some(_) => Ok((told, true)),
+        None => Ok((told, false)),
+    }
+}
