@@ -1,6 +1,7 @@
 pub mod ActingLemmas
 pub mod CalledActs
 pub mod CalledLemmas
+pub mod CalledLogs
 mod ChainValues
 mod IotlbValues
 pub mod IotlbLemmas

@@ -4,6 +4,7 @@ pub mod Calls
 pub mod Handles
 pub mod Notifications
 pub mod LawsCalled
+pub mod LogsCalled
 pub mod Listing
 pub mod Memory
 pub mod Names

@@ -20,6 +20,7 @@ pub mod laws_acting;
 pub mod laws_called;
 pub mod laws_moving;
 mod listing;
+pub mod logs_called;
 mod memory;
 mod missing;
 mod names;
