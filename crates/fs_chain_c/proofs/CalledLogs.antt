@@ -1,5 +1,5 @@
 -- Calls of the exports meet the hypotheses of `law_log`.
-use Rattle.std.proofs.Common.{◌≡◌, ◌++◌, ◌-◌, ◌^◌, ◌∙◌, ℕ, List, Option, Some, None, ap, drop, min, subst, sym, take}
+use Rattle.std.proofs.Common.{◌≡◌, ◌-◌, ◌^◌, ◌∙◌, ℕ, List, Option, Some, None, ap, drop, min, subst, sym, take}
 use Rattle.std.proofs.lemmas.List.{take_at}
 use Rattle.fs_chain.specs.declared.chain_handle.ChainHandle.{ChainHandle}
 use Rattle.fs_chain_c.specs.declared.pushing.FsStores.{FsStores}

@@ -2,6 +2,7 @@ pub mod ActingLemmas
 pub mod CalledActs
 pub mod CalledLemmas
 pub mod CalledLogs
+pub mod CalledMoves
 mod ChainValues
 mod IotlbValues
 pub mod IotlbLemmas
@@ -13,6 +14,7 @@ pub mod MovingLemmas
 pub mod NamePlaces
 pub mod NotifyLemmas
 pub mod QueueLemmas
+pub mod QueueStates
 pub mod RangeLemmas
 pub mod RecordLemmas
 pub mod SameQueues

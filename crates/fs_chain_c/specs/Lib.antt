@@ -5,6 +5,7 @@ pub mod Handles
 pub mod Notifications
 pub mod LawsCalled
 pub mod LogsCalled
+pub mod MovesCalled
 pub mod Listing
 pub mod Memory
 pub mod Names

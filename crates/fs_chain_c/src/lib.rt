@@ -23,6 +23,7 @@ mod listing;
 pub mod logs_called;
 mod memory;
 mod missing;
+pub mod moves_called;
 mod names;
 mod notifications;
 mod parts;
