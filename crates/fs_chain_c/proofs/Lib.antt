@@ -3,6 +3,8 @@ pub mod CalledActs
 pub mod CalledLemmas
 pub mod CalledLogs
 pub mod CalledMoves
+pub mod CalledPops
+pub mod CalledSpans
 mod ChainValues
 mod IotlbValues
 pub mod IotlbLemmas

@@ -6,6 +6,8 @@ pub mod Notifications
 pub mod LawsCalled
 pub mod LogsCalled
 pub mod MovesCalled
+pub mod PopsCalled
+pub mod SpansCalled
 pub mod Listing
 pub mod Memory
 pub mod Names

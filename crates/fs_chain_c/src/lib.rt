@@ -28,6 +28,7 @@ mod names;
 mod notifications;
 mod parts;
 mod popping;
+pub mod pops_called;
 mod pushing;
 mod queue;
 mod ranges;
@@ -36,6 +37,7 @@ mod record_place;
 mod replies;
 mod saved_bytes;
 mod setting;
+pub mod spans_called;
 mod windows;
 
 pub use exports::{
