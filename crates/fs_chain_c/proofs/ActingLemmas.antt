@@ -48,7 +48,7 @@ use Rattle.fs_chain_c.specs.declared.queue.FsQueue.{FsQueue}
 use Rattle.fs_chain_c.proofs.NotifyLemmas.{told_store}
 use Rattle.fs_chain_c.proofs.SameQueues.{put_back, state_same}
 
-no_error : (e : ChainError) → 0 ≡ chain_error_number e → ⊥
+pub no_error : (e : ChainError) → 0 ≡ chain_error_number e → ⊥
 no_error error.OutOfMemory is = cc
 no_error error.BadArgument is = cc
 no_error e is = cc
@@ -243,7 +243,7 @@ no_error_load error.OtherKind is = apart 32 75 refl is
 no_error_load error.ChainInFlight is = apart 32 76 refl is
 no_error_load error.Pushing is = apart 32 78 refl is
 
-no_error_idle : IsNoError 33
+pub no_error_idle : IsNoError 33
 no_error_idle error.OutOfMemory is = apart 33 9 refl is
 no_error_idle error.BadArgument is = apart 33 66 refl is
 no_error_idle error.ShortBuffer is = apart 33 69 refl is
@@ -297,7 +297,7 @@ pops_walk (bs ∷ given) b b' q q' k step status never is goes pops =
     }
 
 -- the core's queue of the first call
-first_state : (given : List (List ℕ)) (b b' : ChainHandle) (q q' : FsQueue) (step : FsPop) (status : ℕ) → IsNoError status
+pub first_state : (given : List (List ℕ)) (b b' : ChainHandle) (q q' : FsQueue) (step : FsPop) (status : ℕ) → IsNoError status
     → PopsBy given b b' q q' step status → (k : QueueState) × IsQueueState q k
 first_state [] b b' q q' step status never pops =
     elim pops.1 [ inl none ↦ absurd (never error.BadArgument none.1) | inr is ↦ (is.1, is.2) ]

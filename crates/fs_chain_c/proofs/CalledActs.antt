@@ -27,7 +27,7 @@ use Rattle.fs_chain_c.specs.States.{handle_state}
 use Rattle.fs_chain_c.proofs.CalledLemmas.{counted, no_argument, no_order}
 use Rattle.fs_chain_c.proofs.SameQueues.{state_same}
 
-apart : (m n : ℕ) → (m == n) ≡ false → m ≡ n → ⊥
+pub apart : (m n : ℕ) → (m == n) ≡ false → m ≡ n → ⊥
 apart m n never is = grind (arith, nat_tests, never, is)
 
 -- ---- by the number of a handle's state
@@ -41,7 +41,7 @@ out_at (at.Lists out listing) is = refl
 out_at (at.HasReply out reply) is = refl
 out_at (at.Pushing out) is = refl
 
-free_at : (st : state.ChainState) → state_number st ≡ 1 → st ≡ at.Free
+pub free_at : (st : state.ChainState) → state_number st ≡ 1 → st ≡ at.Free
 free_at at.Free is = refl
 free_at (at.Walking course pop_id walk) is = absurd (apart 2 1 refl is)
 free_at (at.Taken out) is = absurd (apart 3 1 refl is)

@@ -1,6 +1,10 @@
 pub mod ActingLemmas
 pub mod CalledActs
 pub mod CalledLemmas
+pub mod CalledLogs
+pub mod CalledMoves
+pub mod CalledPops
+pub mod CalledSpans
 mod ChainValues
 mod IotlbValues
 pub mod IotlbLemmas
@@ -12,6 +16,7 @@ pub mod MovingLemmas
 pub mod NamePlaces
 pub mod NotifyLemmas
 pub mod QueueLemmas
+pub mod QueueStates
 pub mod RangeLemmas
 pub mod RecordLemmas
 pub mod SameQueues

@@ -112,7 +112,7 @@ opcode_more front more long =
 -- ---- what is told
 
 -- a call that is told is the first one of what the request means
-asks_of : (s : Setting) (m : Meaning) (bytes : List ℕ) (made : values.FileCall) (out : InFlight) (kept : state.ChainState)
+pub asks_of : (s : Setting) (m : Meaning) (bytes : List ℕ) (made : values.FileCall) (out : InFlight) (kept : state.ChainState)
     → KeepsCall s m bytes made out kept
     → (command : FileCommand) × (m ≡ Asks command) × (call_of bytes made ≡ first_call command)
 asks_of s m bytes made out (at.Waits same w) h = (h.1.0, h.1.1, h.1.2)
@@ -120,7 +120,7 @@ asks_of s m bytes made out (at.Lists same l) h = (h.1.0, h.1.1, h.1.2)
 asks_of s m bytes made out _ h = absurd h
 
 -- requests that begin so keep this call
-abbrev Keeps : InFlight → state.ChainState → Session → (request : List ℕ) → values.FileCall → Type 0
+abbrev pub Keeps : InFlight → state.ChainState → Session → (request : List ℕ) → values.FileCall → Type 0
 Keeps out kept s request made =
     (all : List ℕ) → out.request_len ≡ length all → IsRequestFront request all
     → KeepsCall (setting s.page_size s.options.0 out.room_len) (meaning s.options.0 all out.room_len) (drop 80 all) made out kept

@@ -4,6 +4,10 @@ pub mod Calls
 pub mod Handles
 pub mod Notifications
 pub mod LawsCalled
+pub mod LogsCalled
+pub mod MovesCalled
+pub mod PopsCalled
+pub mod SpansCalled
 pub mod Listing
 pub mod Memory
 pub mod Names

@@ -27,6 +27,13 @@ pub(crate) fn wrong_order() -> u32
     u32::from(ChainError::WrongOrder.number())
 }
 
+/// The status of an argument that isn't valid: BadArgument.
+pub(crate) fn bad_argument() -> u32
+    ensures { result ≡ 66 }
+{
+    u32::from(ChainError::BadArgument.number())
+}
+
 /// The version of the header that the archive was built with.
 #[unsafe(no_mangle)]
 pub extern "C" fn pk_version() -> u32

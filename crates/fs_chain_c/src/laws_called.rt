@@ -1,10 +1,12 @@
 //! Calls of the exports that meet the hypotheses of the laws of notifications. C doesn't call these.
 
 ghost use Rattle.std.specs.Prelude.{◌≡◌};
+ghost use Rattle.fs_chain.specs.Numbers.{chain_error_number};
+ghost use Rattle.fs_chain.specs.declared.error.ChainError.TheVariants.{ChainInFlight};
 ghost use Rattle.fs_chain_c.specs.LawsCalled.{ActsAsDrop, ActsAsReturn, ActsAsSleep};
 ghost use Rattle.fs_chain_c.specs.LawsCalled.{ChecksSo, SilencesSo, WishesSo};
 
-use crate::exports::{pk_chain_state, pk_drop, pk_pop, pk_pushed};
+use crate::exports::{pk_chain_state, pk_drop, pk_pop, pk_pushed, wrong_order};
 use crate::handle::FsChain;
 use crate::laws::law_notifications;
 use crate::laws_acting::law_acts;
@@ -56,7 +58,7 @@ pub fn drop_one(alloc: Global, chain: &mut FsChain, queue: &mut FsQueue) -> u32
     let _used = queue.next_used;
     let _most = queue.max_in_flight;
     if pk_chain_state(chain) != 3 {
-        return 73;
+        return wrong_order();
     }
     pk_drop(alloc, chain, queue)
 }
@@ -80,14 +82,14 @@ pub fn return_one(
 
 /// Begins a pop with a free handle. If as many chains are in flight as may be, the thread may sleep.
 pub fn find_full(alloc: Global, chain: &mut FsChain, queue: &mut FsQueue, pop: &mut FsPop) -> u32
-    ensures { result ≡ 76 → ActsAsSleep queue.old queue.new }
+    ensures { result ≡ chain_error_number ChainInFlight → ActsAsSleep queue.old queue.new }
 {
     law_acts();
     let _next = queue.next_avail;
     let _used = queue.next_used;
     let _most = queue.max_in_flight;
     if pk_chain_state(chain) != 1 {
-        return 73;
+        return wrong_order();
     }
     pk_pop(alloc, chain, queue, &[], pop)
 }

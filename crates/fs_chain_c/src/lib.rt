@@ -20,12 +20,15 @@ pub mod laws_acting;
 pub mod laws_called;
 pub mod laws_moving;
 mod listing;
+pub mod logs_called;
 mod memory;
 mod missing;
+pub mod moves_called;
 mod names;
 mod notifications;
 mod parts;
 mod popping;
+pub mod pops_called;
 mod pushing;
 mod queue;
 mod ranges;
@@ -34,6 +37,7 @@ mod record_place;
 mod replies;
 mod saved_bytes;
 mod setting;
+pub mod spans_called;
 mod windows;
 
 pub use exports::{

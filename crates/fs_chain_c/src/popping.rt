@@ -9,10 +9,10 @@ use fs_chain::{ChainError, ChainHandle, LoadOutcome, PopOutcome};
 use vm_memory_core::VolatileSlice;
 
 /// Load these bytes, and call again with them.
-const LOAD: u32 = 32;
+pub const LOAD: u32 = 32;
 
 /// No chain is available.
-const IDLE: u32 = 33;
+pub const IDLE: u32 = 33;
 
 /// An I/O address isn't mapped in the table.
 pub const MISS: u32 = 39;

@@ -1,0 +1,37 @@
+-- Calls of the exports meet the hypotheses of `law_log`.
+use Rattle.std.proofs.Common.{◌≡◌, ◌-◌, ◌^◌, ◌∙◌, ℕ, List, Option, Some, None, ap, drop, min, subst, sym, take}
+use Rattle.std.proofs.lemmas.List.{take_at}
+use Rattle.fs_chain.specs.declared.chain_handle.ChainHandle.{ChainHandle}
+use Rattle.fs_chain_c.specs.declared.pushing.FsStores.{FsStores}
+use Rattle.fs_chain_c.specs.declared.queue.FsQueue.{FsQueue}
+use Rattle.fs_chain_c.specs.declared.ranges.FsRange.{FsRange}
+use Rattle.fs_chain_c.specs.Handles.{Pushes}
+use Rattle.fs_chain_c.specs.Logging.{PushTellsAddresses, RangesAreRoom}
+use Rattle.fs_chain_c.specs.LogsCalled.{AreItsAddresses, MarksReply, MarksUsed}
+use Rattle.fs_chain_c.specs.Pushing.{PushesHandle}
+use Rattle.fs_chain_c.specs.Ranges.{FillsRanges, TellsRanges}
+use Rattle.fs_chain_c.proofs.CalledLemmas.{no_order}
+
+fills_by : RangesAreRoom → (b : ChainHandle) (from most count : ℕ) (ranges ranges' : List FsRange)
+    → FillsRanges b from most ranges ranges' count → AreItsAddresses b from (take count ranges')
+fills_by law b from most count ranges ranges' fills =
+    let rs = fills.0 in
+    let first : take count ranges' ≡ rs =
+    ap (λ (l : List FsRange). take count l) fills.3 ∙ take_at rs (drop count ranges) count fills.1 in
+    subst (λ (l : List FsRange). AreItsAddresses b from l) (sym first) (λ low. law b from most rs low fills.4)
+
+pub marks_reply : RangesAreRoom → (before after : Option ChainHandle) (from most : ℕ) (ranges ranges' : List FsRange) (count : ℕ)
+    → TellsRanges before from most ranges count after ranges' → MarksReply before from count ranges'
+marks_reply law None None from most ranges ranges' count tells = tells.0
+marks_reply law None (Some b') from most ranges ranges' count tells = absurd tells
+marks_reply law (Some b) None from most ranges ranges' count tells = absurd tells
+marks_reply law (Some b) (Some b') from most ranges ranges' count tells =
+    fills_by law b from (min most (2 ^ 64 - 1 - from)) count ranges ranges' tells.0
+
+pub marks_used : PushTellsAddresses → (before after : Option ChainHandle) (q q' : FsQueue) (front front' : List ℕ) (told : FsStores)
+    (status : ℕ) → Pushes before q front status told after q' front' → status ≡ 0 → MarksUsed q told
+marks_used law None None q q' front front' told status pushes done = absurd (no_order (sym done ∙ pushes.0))
+marks_used law None (Some b') q q' front front' told status pushes done = absurd pushes
+marks_used law (Some b) None q q' front front' told status pushes done = absurd pushes
+marks_used law (Some b) (Some b') q q' front front' told status pushes done =
+    law b b' q q' front front' told (subst (λ (n : ℕ). PushesHandle b q front told n b' q' front') done pushes)

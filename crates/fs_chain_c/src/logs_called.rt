@@ -1,0 +1,40 @@
+//! Calls of the exports that meet the hypotheses of `law_log`. C doesn't call these.
+
+ghost use Rattle.std.specs.Prelude.{◌≡◌};
+ghost use Rattle.fs_chain_c.specs.LogsCalled.{MarksReply, MarksUsed};
+
+use crate::exports::pk_push;
+use crate::handle::FsChain;
+use crate::laws_moving::law_log;
+use crate::pushing::FsStores;
+use crate::queue::FsQueue;
+use crate::ranges::{FsRange, pk_reply_ranges};
+use std::alloc::Global;
+
+/// Fills the ranges of a reply buffer from one of its bytes on. Their addresses are the buffer's.
+pub fn mark_reply(
+    alloc: Global,
+    chain: &mut FsChain,
+    from: u64,
+    len: u64,
+    ranges: &mut [FsRange],
+) -> usize
+    ensures { MarksReply chain.old.held.value from result ranges.new }
+{
+    law_log();
+    pk_reply_ranges(alloc, chain, from, len, ranges)
+}
+
+/// Begins a push. The addresses of its element and index are those of the next used position.
+pub fn mark_used(
+    alloc: Global,
+    chain: &mut FsChain,
+    queue: &mut FsQueue,
+    front: &mut [u8],
+    stores: &mut FsStores,
+) -> u32
+    ensures { result ≡ 0 → MarksUsed queue.old stores.new }
+{
+    law_log();
+    pk_push(alloc, chain, queue, front, stores)
+}
