@@ -30,7 +30,7 @@ use Rattle.fs_chain.specs.declared.state.ChainState as state
 use Rattle.fs_chain.specs.declared.state.ChainState.TheVariants as at
 use Rattle.fs_chain.specs.declared.state.InFlight.{InFlight}
 use Rattle.fs_chain.proofs.WholeWalks.{walk_comes}
-use Rattle.notify.specs.Threads.{ThreadedQueue, DropsOne, ReturnsSome, Silences, Walker, after_act, may_act}
+use Rattle.notify.specs.Threads.{ThreadedQueue, DropsOne, ReturnsChains, Silences, Walker, after_act, may_act}
 use Rattle.fs_notify.proofs.Drops.{drops, ends_return, full}
 use Rattle.fs_notify.proofs.Amid.{finds_none_amid, straight, takes_amid}
 use Rattle.fs_notify.proofs.Wishes.{mutes}
@@ -122,7 +122,7 @@ abbrev ReturnsTo : (q q' : FsQueue) → QueueState → ThreadedQueue → Type 0
 ReturnsTo q q' k s =
     (q' ≡ put q (gave k))
     × (IsCounted k → IsOf k s → s.holder ≡ Walker
-    → IsTrue (may_act (ways_of k) s (ReturnsSome 1)) × IsOf (gave k) (after_act (ways_of k) s (ReturnsSome 1)))
+    → IsTrue (may_act (ways_of k) s (ReturnsChains 1)) × IsOf (gave k) (after_act (ways_of k) s (ReturnsChains 1)))
 
 return_kept : (b b' : ChainHandle) (q q' : FsQueue) (k : QueueState) (seen notify : ℕ) (s : ThreadedQueue) →
     EndsKept b q k seen notify 0 b' q' → ReturnsTo q q' k s

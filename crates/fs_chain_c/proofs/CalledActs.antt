@@ -11,14 +11,14 @@ use Rattle.fs_chain.specs.declared.error.ChainError.TheVariants.{ChainInFlight}
 use Rattle.fs_chain.specs.declared.queue.QueueState.{QueueState}
 use Rattle.fs_chain.specs.declared.state.ChainState as state
 use Rattle.fs_chain.specs.declared.state.ChainState.TheVariants as at
-use Rattle.notify.specs.Threads.{Asker, DropsOne, ReturnsSome, Silences, SleepsNow, ThreadStep, ThreadedQueue, Walker, after_act, may_act}
+use Rattle.notify.specs.Threads.{Asker, DropsOne, ReturnsChains, Silences, SleepsNow, ThreadStep, ThreadedQueue, Walker, after_act, may_act}
 use Rattle.fs_notify.specs.Takers.{IsCounted, IsOf, ways_of}
 use Rattle.fs_chain_c.specs.declared.notifications.FsStore.{FsStore}
 use Rattle.fs_chain_c.specs.declared.popping.FsPop.{FsPop}
 use Rattle.fs_chain_c.specs.declared.queue.FsQueue.{FsQueue}
 use Rattle.fs_chain_c.specs.Acting.{DropsAChain, PopFindsFull, PushReturnsOne, SilencesBy, StoresSilence}
 use Rattle.fs_chain_c.specs.Handles.{DropsChain, EndsPush, Pops}
-use Rattle.fs_chain_c.specs.LawsCalled.{ActsSo, ActsAsDrop, ActsAsReturn, SilencesSo, ActsAsSleep, asked_by, walked_by}
+use Rattle.fs_chain_c.specs.LawsCalled.{ActsSo, ActsAsDrop, ActsAsReturn, SilencesSo, ActsAsSleep, state_with_wish, walked_by}
 use Rattle.fs_chain_c.specs.Notifications.{AsksKicks, SetsNotification}
 use Rattle.fs_chain_c.specs.Popping.{PopsHandle}
 use Rattle.fs_chain_c.specs.Pushing.{DropsHandleChain, EndsHandlePush}
@@ -128,7 +128,7 @@ returns_by : PushReturnsOne → (b b' : ChainHandle) (q q' : FsQueue) (seen noti
     → EndsHandlePush b q seen notify 0 b' q' → ActsAsReturn q q'
 returns_by law b b' q q' seen notify small (inl none) = absurd (no_argument none.2.0)
 returns_by law b b' q q' seen notify small (inr is) =
-    acts_so (ReturnsSome 1) (λ k. gave k) walked_by (λ k. put q (gave k)) (λ t. t.holder ≡ Walker) q q' is.1 is.2
+    acts_so (ReturnsChains 1) (λ k. gave k) walked_by (λ k. put q (gave k)) (λ t. t.holder ≡ Walker) q q' is.1 is.2
     (counted q is.1 is.2 small.0 small.1 small.2) (λ s. (refl, refl)) (λ s. refl) (λ t. law b b' q q' seen notify t (inr is))
 
 pub returns_so : PushReturnsOne → (before now : Option ChainHandle) (q q' : FsQueue) (seen notify status : ℕ) → IsSmall q
@@ -143,7 +143,7 @@ sleeps_by : PopFindsFull → (b b' : ChainHandle) (q q' : FsQueue) (step : FsPop
     → PopsHandle b q [] step (chain_error_number ChainInFlight) b' q' → ActsAsSleep q q'
 sleeps_by law b b' q q' step small free (inl none) = absurd (apart 76 66 refl none.1)
 sleeps_by law b b' q q' step small free (inr is) =
-    acts_so SleepsNow (λ k. k) asked_by (λ k. q) (λ t. (t.holder ≡ Asker) × (t.hidden ≡ false)) q q' is.1 is.2
+    acts_so SleepsNow (λ k. k) state_with_wish (λ k. q) (λ t. (t.holder ≡ Asker) × (t.hidden ≡ false)) q q' is.1 is.2
     (counted q is.1 is.2 small.0 small.1 small.2) (λ s. (refl, refl)) (λ s. (refl, refl))
     (λ t. let made = law b b' q q' step t free (inr is) in (made.0, made.1, made.2, λ small of waits. made.3 of waits.0 waits.1))
 

@@ -15,7 +15,7 @@ use Rattle.fs_chain_c.specs.declared.popping.FsPop.{FsPop}
 use Rattle.fs_chain_c.specs.declared.queue.FsQueue.{FsQueue}
 use Rattle.fs_chain_c.specs.Acting.{PopFindsNone, PopTakesOne, PopsBy, PopsByIndex, load}
 use Rattle.fs_chain_c.specs.Handles.{Pops}
-use Rattle.fs_chain_c.specs.LawsCalled.{asked_by, walked_by}
+use Rattle.fs_chain_c.specs.LawsCalled.{state_with_wish, walked_by}
 use Rattle.fs_chain_c.specs.Popping.{PopsHandle}
 use Rattle.fs_chain_c.specs.PopsCalled.{FindsNoneSo, PopsWith, PopsWithFirst, TakesOneSo, given_so_far}
 use Rattle.fs_chain_c.specs.Queues.{IsQueueState, put, stop_of}
@@ -117,7 +117,7 @@ finds_none_so law given before after q q' step status small zero_is so done =
       so.1.3,
       first.1,
       λ s fits.
-          let asked : ThreadedQueue = asked_by k s in
+          let asked : ThreadedQueue = state_with_wish k s in
           let made = law bytes b b' q q' step asked by in
           let same : made.0 ≡ k = state_same q made.0 k made.1 first.1 in
           subst (λ (j : QueueState). IsCounted j → asked.index < 2 ^ 16 → j.stopped ≡ None → IsOf j asked → asked.holder ≡ Asker

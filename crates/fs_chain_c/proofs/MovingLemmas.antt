@@ -23,7 +23,7 @@ use Rattle.fs_chain_c.specs.declared.queue.FsQueue.{FsQueue}
 use Rattle.fs_chain_c.specs.Moving.{AreQueueStates, HasItsWidths, HasNoneInFlight, HasValidMaximum, MovesByRecord, RestoresARecord}
 use Rattle.fs_chain_c.specs.Moving.{SavesARecord, recorded}
 use Rattle.fs_chain_c.specs.Queues.{IsQueue, IsQueueState, stop_of}
-use Rattle.fs_chain_c.specs.Records.{HasNoneOut, ReadBack, HasRecord, NoDevice, NoPlace, NoRecord, ReadsSo, RestoreOutcome, SavesSo}
+use Rattle.fs_chain_c.specs.Records.{HasNoneOut, Restored, HasRecord, NoDevice, TooFewQueues, NoRecord, ReadsSo, RestoreOutcome, SavesSo}
 use Rattle.fs_chain_c.specs.Records.{bytes_of, numbers_over, queue_of, read_status, restored_over, saved_status}
 
 same_some : {A : Type 0} (x y : A) → Some x ≡ Some y → x ≡ y
@@ -152,12 +152,12 @@ no_record n is = omega (arith, is)
 
 abbrev ReadSo : FsDevice → List FsQueue → (saved : List ℕ) → (count : ℕ) → FsDevice → List FsQueue → Type 0
 ReadSo d queues saved count d' queues' =
-    (options : ℕ) × (qs : List Queue) × ReadsSo d queues saved (ReadBack options qs) count d' queues'
+    (options : ℕ) × (qs : List Queue) × ReadsSo d queues saved (Restored options qs) count d' queues'
 
 read_so : (d : FsDevice) (queues : List FsQueue) (saved : List ℕ) (how : RestoreOutcome) (count : ℕ) (d' : FsDevice)
     (queues' : List FsQueue) → 0 ≡ read_status how → ReadsSo d queues saved how count d' queues' → ReadSo d queues saved count d' queues'
-read_so d queues saved (ReadBack options qs) count d' queues' is so = (options, qs, so)
-read_so d queues saved (NoPlace options qs) count d' queues' is so = absurd (no_error error.ShortBuffer is)
+read_so d queues saved (Restored options qs) count d' queues' is so = (options, qs, so)
+read_so d queues saved (TooFewQueues options qs) count d' queues' is so = absurd (no_error error.ShortBuffer is)
 read_so d queues saved (NoRecord e) count d' queues' is so = absurd (no_record (restore_error_number e) is)
 read_so d queues saved NoDevice count d' queues' is so = absurd (no_error error.BadArgument is)
 

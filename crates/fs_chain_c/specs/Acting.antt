@@ -14,7 +14,7 @@ use Rattle.fs_chain.specs.declared.loads.LoadOutcome.TheVariants as wents
 use Rattle.fs_chain.specs.declared.popping.PopOutcome.{PopOutcome}
 use Rattle.fs_chain.specs.declared.queue.QueueState.{QueueState}
 use Rattle.fs_chain.specs.declared.state.ChainState.TheVariants as at
-use Rattle.notify.specs.Threads.{ThreadedQueue, Asker, DropsOne, ReturnsSome, Silences, SleepsNow, TakesOne}
+use Rattle.notify.specs.Threads.{ThreadedQueue, Asker, DropsOne, ReturnsChains, Silences, SleepsNow, TakesOne}
 use Rattle.notify.specs.Threads.{Walker, after_act, may_act}
 use Rattle.fs_notify.specs.Amid.{LoadsAmid, WalksAmid}
 use Rattle.fs_notify.specs.Takers.{HasPopped, IsCounted, IsIndex, IsOf, SaysWish, ways_of, wish_at}
@@ -75,8 +75,8 @@ PushReturnsOne =
     × (IsCounted k
     → IsOf k s
     → s.holder ≡ Walker
-    → IsTrue (may_act (ways_of k) s (ReturnsSome 1))
-    × IsOf (gave k) (after_act (ways_of k) s (ReturnsSome 1)))
+    → IsTrue (may_act (ways_of k) s (ReturnsChains 1))
+    × IsOf (gave k) (after_act (ways_of k) s (ReturnsChains 1)))
 
 -- ---- pops
 

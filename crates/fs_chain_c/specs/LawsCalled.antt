@@ -6,7 +6,8 @@ use Rattle.fs_chain.specs.declared.queue.QueueState.{QueueState}
 use Rattle.fs_chain.specs.declared.chain_handle.ChainHandle.{ChainHandle}
 use Rattle.fs_chain.specs.Queues.{gave, in_flight, untook}
 use Rattle.notify.specs.Kicks.{NotifyState, ChecksWish, after}
-use Rattle.notify.specs.Threads.{Asker, DropsOne, ReturnsSome, Silences, SleepsNow, ThreadStep, ThreadedQueue}
+use Rattle.notify.specs.Threads.{Asker, DropsOne, ReturnsChains, Silences, SleepsNow, ThreadStep}
+use Rattle.notify.specs.Threads.{ThreadedQueue}
 use Rattle.notify.specs.Threads.{Walker, after_act, may_act}
 use Rattle.fs_notify.specs.Givers.{rules_of}
 use Rattle.fs_notify.specs.Takers.{IsOf, ways_of}
@@ -21,8 +22,8 @@ abbrev pub walked_by : QueueState → ThreadedQueue → ThreadedQueue
 walked_by k s = record s { position = k.next_avail; out = in_flight k; holder = Walker }
 
 -- the same of a thread whose wish is in memory, behind a barrier
-abbrev pub asked_by : QueueState → ThreadedQueue → ThreadedQueue
-asked_by k s = record s { position = k.next_avail; out = in_flight k; holder = Asker; hidden = false }
+abbrev pub state_with_wish : QueueState → ThreadedQueue → ThreadedQueue
+state_with_wish k s = record s { position = k.next_avail; out = in_flight k; holder = Asker; hidden = false }
 
 -- a giver that published this queue's next used chain and didn't check yet, while the driver's two bytes are
 -- these
@@ -75,8 +76,8 @@ ActsAsDrop q q' = ActsSo DropsOne (λ k. untook k) walked_by (λ k. put q (untoo
 
 -- the end of a push is the return of one chain
 abbrev pub ActsAsReturn : FsQueue → FsQueue → Type 0
-ActsAsReturn q q' = ActsSo (ReturnsSome 1) (λ k. gave k) walked_by (λ k. put q (gave k)) q q'
+ActsAsReturn q q' = ActsSo (ReturnsChains 1) (λ k. gave k) walked_by (λ k. put q (gave k)) q q'
 
 -- a pop that is refused because as many chains are in flight as may be lets the thread sleep
 abbrev pub ActsAsSleep : FsQueue → FsQueue → Type 0
-ActsAsSleep q q' = ActsSo SleepsNow (λ k. k) asked_by (λ k. q) q q'
+ActsAsSleep q q' = ActsSo SleepsNow (λ k. k) state_with_wish (λ k. q) q q'

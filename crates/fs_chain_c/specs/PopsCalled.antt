@@ -9,7 +9,7 @@ use Rattle.fs_notify.specs.Takers.{HasPopped, IsOf, ways_of}
 use Rattle.fs_chain_c.specs.declared.popping.FsPop.{FsPop}
 use Rattle.fs_chain_c.specs.declared.queue.FsQueue.{FsQueue}
 use Rattle.fs_chain_c.specs.Acting.{PopsBy, PopsByIndex}
-use Rattle.fs_chain_c.specs.LawsCalled.{asked_by, walked_by}
+use Rattle.fs_chain_c.specs.LawsCalled.{state_with_wish, walked_by}
 use Rattle.fs_chain_c.specs.Queues.{IsQueueState, put}
 
 -- the first `n` of these bytes, the last ones first
@@ -44,8 +44,8 @@ FindsNoneSo given before q after q' =
     → (k' : QueueState)
     × (q' ≡ put q k')
     × PopsByIndex (given_so_far n given) b b' k k' PopOutcome.Idle (λ index. s.index ≡ index
-    → IsTrue (may_act (ways_of k) (asked_by k s) SleepsNow)
-    × IsOf k' (after_act (ways_of k) (asked_by k s) SleepsNow)))
+    → IsTrue (may_act (ways_of k) (state_with_wish k s) SleepsNow)
+    × IsOf k' (after_act (ways_of k) (state_with_wish k s) SleepsNow)))
 
 -- the model's thread may take the chain in each such state
 abbrev pub TakesOneSo :

@@ -128,29 +128,29 @@ HasNoRecord d saved e =
 -- how restoring ends: the record is read; there are too few queues for it; the bytes aren't a record for this
 -- device; or the numbers aren't a device's
 pub data RestoreOutcome : Type 0 where
-  ReadBack : (options : ℕ) → List Queue → RestoreOutcome
-  NoPlace : (options : ℕ) → List Queue → RestoreOutcome
+  Restored : (options : ℕ) → List Queue → RestoreOutcome
+  TooFewQueues : (options : ℕ) → List Queue → RestoreOutcome
   NoRecord : RestoreError → RestoreOutcome
   NoDevice : RestoreOutcome
 
 -- the status of restoring a record
 abbrev pub read_status : RestoreOutcome → ℕ
-read_status (ReadBack options qs) = 0
-read_status (NoPlace options qs) = chain_error_number ShortBuffer
+read_status (Restored options qs) = 0
+read_status (TooFewQueues options qs) = chain_error_number ShortBuffer
 read_status (NoRecord e) = 80 + restore_error_number e
 read_status NoDevice = chain_error_number BadArgument
 
 -- the effect of each: device and queues go on from the record, or don't change
 abbrev pub ReadsSo : FsDevice → List FsQueue → (saved : List ℕ) → RestoreOutcome → (count : ℕ) → FsDevice →
     List FsQueue → Type 0
-ReadsSo d queues saved (ReadBack options qs) count d' queues' =
+ReadsSo d queues saved (Restored options qs) count d' queues' =
     IsDevice d
     × HasRecord d saved options qs
     × (count ≡ length qs)
     × (count ≤ length queues)
     × (d' ≡ record d { options = options })
     × (queues' ≡ restored_over queues qs)
-ReadsSo d queues saved (NoPlace options qs) count d' queues' =
+ReadsSo d queues saved (TooFewQueues options qs) count d' queues' =
     IsDevice d
     × HasRecord d saved options qs
     × (count ≡ length qs)

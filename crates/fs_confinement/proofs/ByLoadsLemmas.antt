@@ -32,7 +32,7 @@ use Rattle.fs_queue.proofs.ReadLemmas.{length-bytes}
 use Rattle.fs_queue.proofs.RingLemmas.{IsPair, pick, index_lost, index_tells, entry_tells, ring_is_still}
 use Rattle.fs_queue.proofs.StillLemmas.{IsSound, sound_at, sound_next, outside, mapped, still_exactly}
 use Rattle.fs_confinement.specs.ReadSet.{ring_reads, entry_reads, walk_reads, request_reads, chain_reads, waiting_reads}
-use Rattle.fs_confinement.specs.ByLoads.{came_at, all_came, asked_by, request_came, WalksReadTheirLoads, OffersReadTheirLoads}
+use Rattle.fs_confinement.specs.ByLoads.{came_at, all_came, request_addresses, request_came, WalksReadTheirLoads, OffersReadTheirLoads}
 
 -- ---- a walk
 
@@ -288,7 +288,7 @@ module _ (m : Memory) (q : Queue) (head : ℕ) (ls : List Load) where
       ∙ ap (λ (xs : List ℕ). xs ++ []) walked
   request_read (b ∷ bs) ds room walked is exact len =
       ap (λ (f : Found). walk_reads m q head ++ request_reads f) is ∙ ap (λ (xs : List ℕ). xs ++ addresses_of (readable ds)) walked
-      ∙ ap (λ (o : Option Found). all_came ls ++ asked_by o) (sym exact)
+      ∙ ap (λ (o : Option Found). all_came ls ++ request_addresses o) (sym exact)
 
   whole_came : (request : List ℕ) (ds : List Descriptor) (room : List ℕ) (o : Offer) (c : Bool) → Walked → chain m q head ≡ IsChain ds →
       chain_exactly ls q head ≡ Some (IsChain ds) →

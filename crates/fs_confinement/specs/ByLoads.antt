@@ -19,14 +19,14 @@ abbrev pub all_came : List Load → List ℕ
 all_came ls = flat_map (λ l. came_at l.address l.came) ls
 
 -- the addresses of the request in the chain that was found
-abbrev pub asked_by : Option Found → List ℕ
-asked_by None = []
-asked_by (Some found) = request_reads found
+abbrev pub request_addresses : Option Found → List ℕ
+request_addresses None = []
+request_addresses (Some found) = request_reads found
 
 -- the addresses of the loaded request bytes, in the chain of the offered head
 abbrev pub request_came : Queue → List Load → (request : List ℕ) → Offer → List ℕ
 request_came q ls [] offered = []
-request_came q ls (b ∷ bs) (Offers head fetched) = asked_by (chain_exactly ls q head)
+request_came q ls (b ∷ bs) (Offers head fetched) = request_addresses (chain_exactly ls q head)
 request_came q ls (b ∷ bs) (Refuses e) = []
 request_came q ls (b ∷ bs) Idle = []
 

@@ -23,11 +23,12 @@ use Rattle.plain_machine.specs.StepBy.{StepOfBy, ExchangesBy, Effects, AnswersBy
 use Rattle.plain_machine.specs.StepBy.{offered_by}
 use Rattle.fs_live.specs.Several.{LiveQueue}
 use Rattle.fs_live.specs.Live.{Phase, PoppedFaulty, Fetched, Asked, Own, Abandoned, OutChain, LiveState, LiveEvent, Walks, Declines}
-use Rattle.fs_live.specs.Live.{DecodesRequest, EndsCall}
+use Rattle.fs_live.specs.Live.{DecodesRequest, ReceivesAnswer}
 use Rattle.fs_live.specs.Live.{PushesChain}
-use Rattle.fs_live.specs.Live.{Sleeps, Begins, FillsBuffer, Drops, Abandons, RepliesOwnBytes, Remaps, MovesDevice, Happens, IsUnreplied}
+use Rattle.fs_live.specs.Live.{StoresNotification, ResetsQueue, FillsBuffer, Drops, Abandons, RepliesOwnBytes, Remaps, MovesDevice, Happens}
+use Rattle.fs_live.specs.Live.{IsUnreplied}
 use Rattle.fs_live.specs.Live.{LiveRun, WalksIn}
-use Rattle.fs_live.specs.Live.{GoesBackWith, lost_chain, new_chain, fault_of, own_exchange, room_in, room_of, calls_in, serving}
+use Rattle.fs_live.specs.Live.{GoesBackWith, abandoned_chain, new_chain, fault_of, own_exchange, room_in, room_of, calls_in, serving}
 use Rattle.fs_live.specs.Runs.{OwnIsReturned, ReturnedIsStepBy, IsAskedIn, IsServedPhase, after_alone, chain_loads, options_left}
 
 -- ---- lists of chains
@@ -99,8 +100,8 @@ pub asked_walked : (limit : ℕ) (c : OutChain) (request : List ℕ) (options : 
 asked_walked limit c request options calls good whole h =
     (subst (λ (f : Option ChainFault). FetchesBy c.places limit c.taken c.loaded c.descriptors c.head f) good h.0, whole)
 
--- a chain that is lost keeps what it was fetched by
-lost_walked : (limit : ℕ) (c : OutChain) → Walked limit c → Walked limit (lost_chain c)
+-- a chain that is abandoned keeps what it was fetched by
+lost_walked : (limit : ℕ) (c : OutChain) → Walked limit c → Walked limit (abandoned_chain c)
 lost_walked limit c h = (h.0, tt)
 
 -- so does one that its caller replies to, whose bytes have room
@@ -129,7 +130,7 @@ keeps {F} may s after (DecodesRequest c request told) h all =
     subst (λ (k : LiveState F). AllWalked k) (sym h.state)
     (all_both P h.before (record c { phase = Asked request s.options [] } ∷ h.behind) parts.0
     (asked_walked s.limit c request s.options [] (ap fault_of h.fresh) h.whole parts.1, parts.2))
-keeps {F} may s after (EndsCall c call answer) h all =
+keeps {F} may s after (ReceivesAnswer c call answer) h all =
     let P = Walked s.limit in
     let parts = one_walked s h.before h.behind c h.out all in
     let whole : length h.request ≡ total_len (readable c.descriptors) = subst (λ (p : Phase). IsWhole p c.descriptors) h.asked parts.1.1 in
@@ -139,8 +140,8 @@ keeps {F} may s after (EndsCall c call answer) h all =
 keeps {F} may s after (PushesChain c x notice last used seen) h all =
     let parts = one_walked s h.before h.behind c h.out all in
     subst (λ (k : LiveState F). AllWalked k) (sym h.state) (all_both (Walked s.limit) h.before h.behind parts.0 parts.2)
-keeps {F} may s after (Sleeps i store) h all = subst (λ (k : LiveState F). AllWalked k) (sym h.state) all
-keeps {F} may s after (Begins i w) h all =
+keeps {F} may s after (StoresNotification i store) h all = subst (λ (k : LiveState F). AllWalked k) (sym h.state) all
+keeps {F} may s after (ResetsQueue i w) h all =
     subst (λ (k : LiveState F). AllWalked k) (sym h.state) (all_filter (Walked s.limit) (λ c. not (c.queue == i)) s.outs all)
 keeps {F} may s after (FillsBuffer c stores) h all = subst (λ (k : LiveState F). AllWalked k) (sym h.state) all
 keeps {F} may s after (Drops c) h all =
@@ -149,7 +150,7 @@ keeps {F} may s after (Drops c) h all =
 keeps {F} may s after (Abandons c) h all =
     let parts = one_walked s h.before h.behind c h.out all in
     subst (λ (k : LiveState F). AllWalked k) (sym h.state)
-    (all_both (Walked s.limit) h.before (lost_chain c ∷ h.behind) parts.0 (lost_walked s.limit c parts.1, parts.2))
+    (all_both (Walked s.limit) h.before (abandoned_chain c ∷ h.behind) parts.0 (lost_walked s.limit c parts.1, parts.2))
 keeps {F} may s after (RepliesOwnBytes c request reply options) h all =
     let parts = one_walked s h.before h.behind c h.out all in
     subst (λ (k : LiveState F). AllWalked k) (sym h.state)

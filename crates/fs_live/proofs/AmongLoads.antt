@@ -15,7 +15,7 @@ use Rattle.fs_chain.specs.declared.state.ChainState.TheVariants as at
 use Rattle.fs_chain.specs.declared.popping.PopOutcome.TheVariants as says
 use Rattle.fs_chain.specs.declared.chain_handle.ChainHandle.{ChainHandle}
 use Rattle.fs_live.specs.Among.{HandleLoadsAmong, WalksAmong, load_count_among}
-use Rattle.fs_live.specs.Handles.{counted}
+use Rattle.fs_live.specs.Handles.{loads_after}
 use Rattle.fs_live.proofs.Among.{AfterCall, IsALoad, Stands, all_among, load_stands, on_call, standing, stands_still, wants_unrefused}
 use Rattle.fs_live.proofs.Loads.{made, made_more, room_for_one}
 
@@ -26,7 +26,7 @@ StandsAfter k old w before = (l : Loaded) × Stands l old w before × (k ≤ mad
 -- one call more
 one_more : (stopped : Option QueueError) (bs : List ℕ) (k : ℕ) (l : Loaded) (old v new : ChainHandle) (before now after : QueueState)
     (told : went.LoadOutcome) → WantsBytes told → Stands l old v before
-    → k ≤ made l → AfterCall stopped bs l old v new before now after told → StandsAfter (counted told k) old new before
+    → k ≤ made l → AfterCall stopped bs l old v new before now after told → StandsAfter (loads_after told k) old new before
 one_more stopped bs k l old v new before now after wents.Part wants from come so =
     (so.0, so.2, subst (λ (x : Loaded). k ≤ made x) (sym so.1) come)
 one_more (Some why) bs k l old v new before now after (wents.On (says.Load n)) wants from come so = absurd (subst IsALoad so tt)
@@ -56,7 +56,7 @@ stands_after (bs ∷ given) old new before now after told goes wants walks =
     let call = on_call bs earlier.0 old walks.1 new before now after told from walks.8 in
     one_more now.stopped bs k earlier.0 old walks.1 new before now after told wants from earlier.2 call
 
-at_last : (told : went.LoadOutcome) (k n : ℕ) → suc k ≤ n → counted told k ≤ n
+at_last : (told : went.LoadOutcome) (k n : ℕ) → suc k ≤ n → loads_after told k ≤ n
 at_last wents.Part k n few = omega (arith, few)
 at_last (wents.On told) k n few = few
 

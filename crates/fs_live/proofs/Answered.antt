@@ -30,7 +30,7 @@ use Rattle.fs_chain.specs.declared.chain_handle.ChainHandle.{ChainHandle}
 use Rattle.fs_chain.proofs.WholeOffers.{fits_limit}
 use Rattle.plain_machine.specs.Step.{Calls, answers_alone}
 use Rattle.fs_live.specs.Live.{Phase, fault_of, room_in, room_of}
-use Rattle.fs_live.specs.Handles.{HandleAnswers, HandleAsks, HandleCalls, IsDecodedWhole, calls_told}
+use Rattle.fs_live.specs.Handles.{HandleCalls, HandleDecodesRequest, HandleReceivesAnswer, IsDecodedWhole, calls_told}
 use Rattle.fs_live.proofs.Alone.{Walked, walked_there}
 use Rattle.fs_live.proofs.EachCall.{each_waits}
 use Rattle.fs_live.proofs.Left.{options_left_by}
@@ -71,7 +71,7 @@ told_calls s m behind out (asks.More n) st is tells = absurd is
 told_calls s m behind out asks.Nothing st is tells = by_reply s m behind out st tells
 told_calls s m behind out (asks.Fault e) st is tells = sym (ap (λ (k : ServedMessage). k.calls) tells.1)
 
-pub handle_asks : {F : Type 0} (may : May F) → HandleAsks may
+pub handle_asks : {F : Type 0} (may : May F) → HandleDecodesRequest may
 handle_asks {F} may s c before behind w w' session request front made reached small out fresh kept session_is asked is =
     let ds = c.descriptors in
     let walked : Walked s.limit c = walked_there may reached.0 s reached.1 c before behind reached.2 reached.3 out in
@@ -140,7 +140,7 @@ answered_by page_size options n left request bytes made a told out (at.Waits kep
     )
 answered_by page_size options n left request bytes made a told out st after keeps waits data_told given can = absurd waits
 
-pub handle_answers : {F : Type 0} (may : May F) → HandleAnswers may
+pub handle_answers : {F : Type 0} (may : May F) → HandleReceivesAnswer may
 handle_answers {F} may s c before behind w w' request options made a bytes told files is_out asked kept answered can so =
     let n = length (room_of c) in
     let left = w'.session.options.0 in

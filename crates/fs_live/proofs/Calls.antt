@@ -7,7 +7,7 @@ use Rattle.fs_regions.specs.Walks.{Loaded}
 use Rattle.fuse_fs.specs.Calls.{FileRun}
 use Rattle.virtiofsd_fuse.specs.Serving.{May}
 use Rattle.fs_live.specs.Several.{LiveQueue}
-use Rattle.fs_live.specs.Live.{LiveState, LiveEvent, Walks, EndsCall}
+use Rattle.fs_live.specs.Live.{LiveState, LiveEvent, Walks, ReceivesAnswer}
 use Rattle.fs_live.specs.Live.{Happens, WalksIn, calls_among}
 use Rattle.fs_live.specs.Runs.{CallsAreARun}
 
@@ -22,7 +22,7 @@ one_event : {F : Type 0} (may : May F) (s mid : LiveState F) (end : F) (e : Live
     → FileRun may s.files (calls_among (e ∷ es)) end
 one_event {F} may s mid end (Walks i loaded ds came) es h run =
     subst (λ (f : F). FileRun may f (calls_among es) end) (walk_files s mid i h.w loaded ds came h.walks) run
-one_event {F} may s mid end (EndsCall c call answer) es h run =
+one_event {F} may s mid end (ReceivesAnswer c call answer) es h run =
     let is : mid.files ≡ h.files = ap (λ (k : LiveState F). k.files) h.state in
     (mid.files, h.is_one, subst (λ (f : F). may s.files call answer f) (sym is) h.may_so, run)
 one_event {F} may s mid end e es h run =

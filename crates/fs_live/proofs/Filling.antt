@@ -15,7 +15,7 @@ use Rattle.fs_queue.specs.Taking.{addresses_of, writable}
 use Rattle.fs_regions.specs.Places.{places_in}
 use Rattle.virtiofsd_fuse.specs.Serving.{May}
 use Rattle.plain_machine.specs.StepBy.{byte_store}
-use Rattle.fs_live.specs.Filling.{HandleFills, HandleFillsRange, HasRoom}
+use Rattle.fs_live.specs.Filling.{HandleFillsBuffer, HandleFillsRange, HasRoom}
 use Rattle.fs_live.specs.Live.{Abandoned, IsStoredIn, Phase, PoppedFaulty, room_in, room_of}
 use Rattle.fs_live.proofs.Queues.{same_some}
 
@@ -79,7 +79,7 @@ addresses_front a n len few =
 
 -- ---- the events
 
-pub handle_fills : {F : Type 0} (may : May F) → HandleFills may
+pub handle_fills : {F : Type 0} (may : May F) → HandleFillsBuffer may
 handle_fills {F} may s c before behind w from v bytes out has same window few =
     let n = length bytes in
     let room = room_of c in

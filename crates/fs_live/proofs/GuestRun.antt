@@ -8,7 +8,7 @@ use Rattle.plain_machine.specs.StepBy.{after_stores, stores_among}
 use Rattle.plain_machine.proofs.PageLemmas.{marks_join, none_written, ways_stay, writes_mark}
 use Rattle.fs_live.specs.Guest.{DeviceEvent, PagesOfRun, StaysThere, Writes, after_moments, over_places, told_through}
 use Rattle.fs_live.specs.Live.{LiveEvent, MovesDevice, Remaps}
-use Rattle.fs_live.specs.Live.{acts_of}
+use Rattle.fs_live.specs.Live.{event_acts}
 use Rattle.fs_live.specs.Runs.{told_by}
 use Rattle.fs_live.proofs.Pages.{event_told}
 
@@ -25,8 +25,8 @@ pages_of_run may s after (Writes ws ∷ ms) m run stay =
     (ways_stay m ws) (writes_mark m ws)
     (pages_of_run may s after ms (stored_all m ws) run stay)
 pages_of_run may s after (DeviceEvent e ∷ ms) m run stay =
-    let ws = flat_map writes_of (stores_among (acts_of e)) in
-    let n : Memory = after_stores m (stores_among (acts_of e)) in
+    let ws = flat_map writes_of (stores_among (event_acts e)) in
+    let n : Memory = after_stores m (stores_among (event_acts e)) in
     let laid : over_places e n ≡ n = stays_laid e n stay.0 in
     let first : Marks m (told_by s e) n.host = event_told may s run.0 e run.1 m in
     let later : Marks n (told_through may run.0 ms after run.2) (after_moments n ms).host =

@@ -17,7 +17,7 @@ use Rattle.virtiofsd_fuse.specs.Examples.{le16}
 use Rattle.virtiofsd_fuse.specs.Grammar.{meaning, meant, row}
 use Rattle.virtiofsd_fuse.specs.Serving.{May}
 use Rattle.plain_machine.specs.Examples.{blank, queue}
-use Rattle.fs_live.specs.Live.{AsksSo, AnswersSo, ReturnsSo, WalksSo}
+use Rattle.fs_live.specs.Live.{DecodesRequestSo, ReceivesAnswerSo, PushesChainSo, WalksSo}
 use Rattle.fs_live.specs.Overlap.{at_positions, state}
 use Rattle.fs_live.specs.InitBeside.{
   InitBeside,
@@ -77,7 +77,7 @@ first_walks : {F : Type 0} (f : F) →
 first_walks f = record { w = at_positions 0 0; there = refl; room = refl; goes = refl; walks = (first_fetches, refl) }
 
 first_asks : {F : Type 0} (f : F) →
-    AsksSo (state f (at_positions 1 0) 0 (first ∷ [])) first lookup (looks ∷ []) (state f (at_positions 1 0) 0 (first_asked ∷ []))
+    DecodesRequestSo (state f (at_positions 1 0) 0 (first ∷ [])) first lookup (looks ∷ []) (state f (at_positions 1 0) 0 (first_asked ∷ []))
 unfolding addresses meaning reading_of meant row last_name counted reply_bytes error_bytes fields.field_bytes
 first_asks f = record { before = []; behind = []; out = refl; fresh = refl; whole = refl; tells = refl; state = refl }
 
@@ -85,13 +85,13 @@ second_walks : {F : Type 0} (f : F) → WalksSo (state f (at_positions 1 0) 0 (f
     (step.Chain 2 None) (state f (at_positions 2 0) 0 (first_asked ∷ second ∷ []))
 second_walks f = record { w = at_positions 1 0; there = refl; room = refl; goes = refl; walks = (second_fetches, refl) }
 
-second_asks : {F : Type 0} (f : F) → AsksSo (state f (at_positions 2 0) 0 (first_asked ∷ second ∷ [])) second init (starts ∷ [])
+second_asks : {F : Type 0} (f : F) → DecodesRequestSo (state f (at_positions 2 0) 0 (first_asked ∷ second ∷ [])) second init (starts ∷ [])
     (state f (at_positions 2 0) 0 (first_asked ∷ second_asked ∷ []))
 unfolding addresses meaning reading_of meant row reply_bytes error_bytes fields.field_bytes
 second_asks f = record { before = first_asked ∷ []; behind = []; out = refl; fresh = refl; whole = refl; tells = refl; state = refl }
 
 second_answers : {F : Type 0} (may : May F) (before after : F) → may before starts (Wants 0) after →
-    AnswersSo may (state before (at_positions 2 0) 0 (first_asked ∷ second_asked ∷ [])) second_asked starts (Wants 0)
+    ReceivesAnswerSo may (state before (at_positions 2 0) 0 (first_asked ∷ second_asked ∷ [])) second_asked starts (Wants 0)
     (state after (at_positions 2 0) 1 (first_asked ∷ second_answered ∷ []))
 unfolding addresses meaning reading_of meant row reply_bytes error_bytes started_bytes fields.field_bytes
 second_answers may before after so = record {
@@ -110,7 +110,7 @@ second_answers may before after so = record {
 }
 
 second_returns : {F : Type 0} (f : F) →
-    ReturnsSo (state f (at_positions 2 0) 1 (first_asked ∷ second_answered ∷ [])) second_answered second_exchange true 0 second_used
+    PushesChainSo (state f (at_positions 2 0) 1 (first_asked ∷ second_answered ∷ [])) second_answered second_exchange true 0 second_used
     (le16 0) (state f (at_positions 2 1) 1 (first_asked ∷ []))
 unfolding addresses meaning reading_of meant row reply_bytes error_bytes started_bytes fields.field_bytes
 second_returns f = record {
@@ -127,7 +127,7 @@ second_returns f = record {
 }
 
 first_answers : {F : Type 0} (may : May F) (before after : F) → may before looks (Failed 2) after →
-    AnswersSo may (state before (at_positions 2 1) 1 (first_asked ∷ [])) first_asked looks (Failed 2)
+    ReceivesAnswerSo may (state before (at_positions 2 1) 1 (first_asked ∷ [])) first_asked looks (Failed 2)
     (state after (at_positions 2 1) 1 (first_answered ∷ []))
 unfolding addresses meaning reading_of meant row last_name counted reply_bytes error_bytes fields.field_bytes
 first_answers may before after so = record {
@@ -145,7 +145,8 @@ first_answers may before after so = record {
   state = refl;
 }
 
-first_returns : {F : Type 0} (f : F) → ReturnsSo (state f (at_positions 2 1) 1 (first_answered ∷ [])) first_answered first_exchange true 0
+first_returns : {F : Type 0} (f : F)
+    → PushesChainSo (state f (at_positions 2 1) 1 (first_answered ∷ [])) first_answered first_exchange true 0
     first_used (le16 0) (state f (at_positions 2 2) 1 [])
 unfolding addresses meaning reading_of meant row last_name counted reply_bytes error_bytes fields.field_bytes
 first_returns f = record {

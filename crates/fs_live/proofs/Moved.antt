@@ -7,8 +7,8 @@ use Rattle.vm_memory.specs.Memory.{Memory}
 use Rattle.fs_queue.specs.Queue.{Queue}
 use Rattle.virtiofsd_fuse.specs.Serving.{May}
 use Rattle.fs_live.specs.Several.{LiveQueue, InFlightId}
-use Rattle.fs_live.specs.Live.{BeginsSo, Happens, KeepsQueue, LiveEvent, LiveRun, LiveState, MovesSo, OutChain, Remaps}
-use Rattle.fs_live.specs.Runs.{IsEven, MovedGoesOn, StandsEven, tickets_on, untold}
+use Rattle.fs_live.specs.Live.{Happens, KeepsQueue, LiveEvent, LiveRun, LiveState, MovesDeviceSo, OutChain, Remaps, ResetsQueueSo}
+use Rattle.fs_live.specs.Runs.{HasNoneInFlight, MovedGoesOn, StandsEven, tickets_on, untold}
 use Rattle.fs_live.proofs.Placed.{Ahead, run_kept, started}
 use Rattle.fs_live.proofs.Queues.{kept_not, one_ticket, same_some}
 
@@ -51,8 +51,8 @@ module _ (i : ℕ) where
   none_filtered (c ∷ cs) none = one_stays c cs (c.queue == i) refl none (none_filtered cs)
 
   pub none_out_even : {F : Type 0} (may : May F) (s now : LiveState F) (es : List LiveEvent) (w : LiveQueue) → s.outs ≡ []
-      → AllByRecursion IsEven s.queues → LiveRun may s es now
-      → slice_get now.queues i ≡ Some w → tickets_on i now.outs ≡ [] → IsEven w
+      → AllByRecursion HasNoneInFlight s.queues → LiveRun may s es now
+      → slice_get now.queues i ≡ Some w → tickets_on i now.outs ≡ [] → HasNoneInFlight w
   none_out_even may s now es w none even run there out =
       let kept = run_kept i may s now es run (started i s none even) in
       subst (λ (ts : List InFlightId). Ahead now.places w (length ts)) out (kept w there)
@@ -61,7 +61,7 @@ pub stands_even : {F : Type 0} (may : May F) → StandsEven may
 stands_even {F} may s now es i w none even run there out = (
   none_out_even i may s now es w none even run there out,
   λ after begins.
-      let so : BeginsSo now i w after = begins in
+      let so : ResetsQueueSo now i w after = begins in
       so.state
       ∙ ap (λ (l : List LiveQueue). record now { queues = l; outs = filter (λ c. not (c.queue == i)) now.outs })
       (same_there now.queues i w there)
@@ -70,7 +70,8 @@ stands_even {F} may s now es i w none even run there out = (
 
 -- ---- moves
 
-all_even : (ws : List LiveQueue) → ((i : ℕ) (w : LiveQueue) → slice_get ws i ≡ Some w → IsEven w) → AllByRecursion IsEven ws
+all_even : (ws : List LiveQueue) → ((i : ℕ) (w : LiveQueue) → slice_get ws i ≡ Some w → HasNoneInFlight w)
+    → AllByRecursion HasNoneInFlight ws
 all_even [] each = tt
 all_even (w ∷ ws) each = (each 0 w refl, all_even ws (λ i v there. each (suc i) v there))
 
@@ -81,7 +82,7 @@ same_queue w v queue next_used rest =
     ∙ ap (λ (r : ℕ). record { queue = v.queue; next_used = r; max_in_flight = w.max_in_flight; event_index = w.event_index }) next_used
     ∙ ap (λ (u : ℕ × Bool). record { queue = v.queue; next_used = v.next_used; max_in_flight = u.0; event_index = u.1 }) rest
 
-same_queues : (ws vs : List LiveQueue) → AllByRecursion IsEven ws → AllByRecursion IsEven vs →
+same_queues : (ws vs : List LiveQueue) → AllByRecursion HasNoneInFlight ws → AllByRecursion HasNoneInFlight vs →
     map (λ w. w.queue) ws ≡ map (λ w. w.queue) vs → map untold ws ≡ map untold vs → ws ≡ vs
 same_queues [] [] even stand queues rest_is = refl
 same_queues [] (v ∷ vs) even stand queues rest_is = absurd (no_cons v.queue (map (λ w. w.queue) vs) (sym queues))
@@ -103,8 +104,8 @@ joined may s mid end (e ∷ es) later run more = (run.0, run.1, joined may run.0
 
 pub moved_goes_on : {F : Type 0} (may : May F) → MovedGoesOn may
 moved_goes_on {F} may s now moved es m queues none even run moves told =
-    let so : MovesSo now m queues moved = moves in
-    let stand : AllByRecursion IsEven now.queues =
+    let so : MovesDeviceSo now m queues moved = moves in
+    let stand : AllByRecursion HasNoneInFlight now.queues =
     all_even now.queues
     (λ i w there. none_out_even i may s now es w none even run there (ap (λ (cs : List OutChain). tickets_on i cs) so.none_out)) in
     let same : queues ≡ now.queues = same_queues queues now.queues so.even stand so.same told in

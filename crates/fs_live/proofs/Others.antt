@@ -33,8 +33,9 @@ use Rattle.fs_live.specs.Several.{LiveQueue, returning, seen_at}
 use Rattle.fs_live.specs.Several as several
 use Rattle.fs_live.specs.Live.{GoesBackWith, IsUnreplied, KeepsQueue, OutChain, Own, Phase, fault_of, own_exchange, room_in, room_of}
 use Rattle.fs_live.specs.Handles.{live_of}
-use Rattle.fs_live.specs.Others.{AskedIsHeld, HandleAbandons, HandleDrops, HandleMaps, HandleMoves, HandleReplies, HandleRepliesInstead}
-use Rattle.fs_live.specs.Others.{HandleReturnsOwn, IfOut, IsOwn, recorded}
+use Rattle.fs_live.specs.Others.{AskedIsHeld, HandleAbandons, HandleDrops, HandleMovesDevice, HandleRemaps, HandleRepliesInstead}
+use Rattle.fs_live.specs.Others.{HandleRepliesOwnBytes}
+use Rattle.fs_live.specs.Others.{HandlePushesOwn, IfOut, IsOwn, recorded}
 use Rattle.fs_live.proofs.Alone.{Walked, walked_there}
 use Rattle.fs_live.proofs.Pushed.{seen_of}
 use Rattle.fs_live.proofs.Queues.{none_some, there_same}
@@ -102,7 +103,7 @@ chain_tests true room len is = len_fits room len is
 chain_fits : (mine serial room len : ℕ) → own_chain_error mine serial room len ≡ None → Fits room len
 chain_fits mine serial room len none = chain_tests (mine == serial) room len none
 
-pub handle_replies : {F : Type 0} (may : May F) → HandleReplies may
+pub handle_replies : {F : Type 0} (may : May F) → HandleRepliesOwnBytes may
 handle_replies {F} may s c before behind w serial options request reply reached small out fresh held len none =
     let ds = c.descriptors in
     let walked : Walked s.limit c = walked_there may reached.0 s reached.1 c before behind reached.2 reached.3 out in
@@ -192,7 +193,7 @@ told_len : (o : InFlight) (n : ℕ) → Fits o.room_len n → reply_len o (own_r
 told_len o n few = ap (λ (k : ℕ). min (min k o.room_len) (2 ^ 32 - 1)) (none_before n)
     ∙ ap (λ (k : ℕ). min k (2 ^ 32 - 1)) (min-eq_left few.0) ∙ min-eq_left (low_again n few.1)
 
-pub handle_returns_own : {F : Type 0} (may : May F) → HandleReturnsOwn may
+pub handle_returns_own : {F : Type 0} (may : May F) → HandlePushesOwn may
 handle_returns_own {F} may s c before behind st kept request reply acts last notice out there taken phase own back =
     let o = own.out in
     let n = length reply in
@@ -237,7 +238,7 @@ handle_returns_own {F} may s c before behind st kept request reply acts last not
 
 -- ---- other places, and moves
 
-pub handle_maps : {F : Type 0} (may : May F) → HandleMaps may
+pub handle_maps : {F : Type 0} (may : May F) → HandleRemaps may
 handle_maps {F} may s w keeps =
     let all : AllByRecursion (KeepsQueue s (places_in w.regions)) s.outs =
     elim keeps [
@@ -249,7 +250,7 @@ all_recorded : (ks : List QueueState) → map (λ w. w.queue) (map live_of ks) �
 all_recorded [] = refl
 all_recorded (k ∷ ks) = ap (λ (l : List Queue). recorded k ∷ l) (all_recorded ks)
 
-pub handle_moves : {F : Type 0} (may : May F) → HandleMoves may
+pub handle_moves : {F : Type 0} (may : May F) → HandleMovesDevice may
 handle_moves {F} may s here there m bytes v v' options queues none queues_are made read begun =
     let one = one_reading v v' s.options options (map recorded here) queues bytes bytes [] [] made read refl in
     let now : map (λ w. w.queue) s.queues ≡ map recorded here =

@@ -16,7 +16,7 @@ use Rattle.virtiofsd_fuse.specs.Examples.{le16}
 use Rattle.virtiofsd_fuse.specs.Grammar.{meaning, meant, row}
 use Rattle.virtiofsd_fuse.specs.Serving.{May}
 use Rattle.plain_machine.specs.Examples.{blank, queue}
-use Rattle.fs_live.specs.Live.{AsksSo, AnswersSo, ReturnsSo, WalksSo}
+use Rattle.fs_live.specs.Live.{DecodesRequestSo, ReceivesAnswerSo, PushesChainSo, WalksSo}
 use Rattle.fs_live.specs.Overlap.{
   Overlap,
   at_positions,
@@ -81,7 +81,8 @@ first_walks : {F : Type 0} (f : F) →
 first_walks f = record { w = at_positions 0 0; there = refl; room = refl; goes = refl; walks = (first_fetches, refl) }
 
 first_asks : {F : Type 0} (f : F) →
-    AsksSo (state f (at_positions 1 0) 1 (first ∷ [])) first destroy (Destroy ∷ []) (state f (at_positions 1 0) 1 (first_asked ∷ []))
+    DecodesRequestSo (state f (at_positions 1 0) 1 (first ∷ [])) first destroy (Destroy ∷ [])
+    (state f (at_positions 1 0) 1 (first_asked ∷ []))
 unfolding addresses meaning reading_of meant row reply_bytes error_bytes fields.field_bytes
 first_asks f = record { before = []; behind = []; out = refl; fresh = refl; whole = refl; tells = refl; state = refl }
 
@@ -89,13 +90,13 @@ second_walks : {F : Type 0} (f : F) → WalksSo (state f (at_positions 1 0) 1 (f
     (step.Chain 2 None) (state f (at_positions 2 0) 1 (first_asked ∷ second ∷ []))
 second_walks f = record { w = at_positions 1 0; there = refl; room = refl; goes = refl; walks = (second_fetches, refl) }
 
-second_asks : {F : Type 0} (f : F) → AsksSo (state f (at_positions 2 0) 1 (first_asked ∷ second ∷ [])) second unknown []
+second_asks : {F : Type 0} (f : F) → DecodesRequestSo (state f (at_positions 2 0) 1 (first_asked ∷ second ∷ [])) second unknown []
     (state f (at_positions 2 0) 1 (first_asked ∷ second_asked ∷ []))
 unfolding addresses meaning reading_of meant row reply_bytes error_bytes fields.field_bytes
 second_asks f = record { before = first_asked ∷ []; behind = []; out = refl; fresh = refl; whole = refl; tells = refl; state = refl }
 
 second_returns : {F : Type 0} (f : F) →
-    ReturnsSo (state f (at_positions 2 0) 1 (first_asked ∷ second_asked ∷ [])) second_asked second_exchange true 0 second_used (le16 0)
+    PushesChainSo (state f (at_positions 2 0) 1 (first_asked ∷ second_asked ∷ [])) second_asked second_exchange true 0 second_used (le16 0)
     (state f (at_positions 2 1) 1 (first_asked ∷ []))
 unfolding addresses meaning reading_of meant row reply_bytes error_bytes fields.field_bytes
 second_returns f = record {
@@ -112,7 +113,7 @@ second_returns f = record {
 }
 
 first_answers : {F : Type 0} (may : May F) (before after : F) → may before Destroy Done after →
-    AnswersSo may (state before (at_positions 2 1) 1 (first_asked ∷ [])) first_asked Destroy Done
+    ReceivesAnswerSo may (state before (at_positions 2 1) 1 (first_asked ∷ [])) first_asked Destroy Done
     (state after (at_positions 2 1) 0 (first_answered ∷ []))
 unfolding addresses meaning reading_of meant row reply_bytes error_bytes fields.field_bytes
 first_answers may before after so = record {
@@ -130,7 +131,8 @@ first_answers may before after so = record {
   state = refl;
 }
 
-first_returns : {F : Type 0} (f : F) → ReturnsSo (state f (at_positions 2 1) 0 (first_answered ∷ [])) first_answered first_exchange true 0
+first_returns : {F : Type 0} (f : F)
+    → PushesChainSo (state f (at_positions 2 1) 0 (first_answered ∷ [])) first_answered first_exchange true 0
     first_used (le16 0) (state f (at_positions 2 2) 0 [])
 unfolding addresses meaning reading_of meant row reply_bytes error_bytes fields.field_bytes
 first_returns f = record {

@@ -20,7 +20,8 @@ use Rattle.plain_machine.specs.StepBy.{reply_stores, stores_among}
 use Rattle.plain_machine.proofs.PageLemmas.{writes_mark}
 use Rattle.plain_machine.proofs.StepByLemmas.{reply_writes}
 use Rattle.fs_live.specs.Several.{LiveQueue, avail_event_at, returning, sleep_store}
-use Rattle.fs_live.specs.Live.{FillsBuffer, Happens, LiveEvent, LiveState, OutChain, PushesChain, ReturnsSo, Sleeps, SleepsSo, acts_of}
+use Rattle.fs_live.specs.Live.{FillsBuffer, Happens, LiveEvent, LiveState, OutChain, PushesChain, PushesChainSo, StoresNotification}
+use Rattle.fs_live.specs.Live.{StoresNotificationSo, event_acts}
 use Rattle.fs_live.specs.Live.{room_of}
 use Rattle.fs_live.specs.Runs.{LogsAsTold, MarksAsTold, PagesAreTold, ReturnsTell, page_of, told_by, told_of_queue, written_by}
 use Rattle.fs_live.proofs.Stored.{among_return, among_stores}
@@ -98,10 +99,10 @@ module _ (q : Queue) (head : ℕ) (room reply : List ℕ) where
 
 -- both by one list of addresses that sets the same marks
 both_told : {F : Type 0} (s : LiveState F) (e : LiveEvent) →
-    ((p : ℕ → Bool) → list_any p (written_by (acts_of e)) ≡ list_any p (told_by s e)) → MarksAsTold s e × LogsAsTold s e
+    ((p : ℕ → Bool) → list_any p (written_by (event_acts e)) ≡ list_any p (told_by s e)) → MarksAsTold s e × LogsAsTold s e
 both_told s e same = (
   λ m.
-      let ws = flat_map writes_of (stores_among (acts_of e)) in
+      let ws = flat_map writes_of (stores_among (event_acts e)) in
       let marks = writes_mark m ws in record {
         blocks = λ block page.
             marks.blocks block page
@@ -114,7 +115,7 @@ both_told s e same = (
 )
 
 returns_told : {F : Type 0} (s mid : LiveState F) (c : OutChain) (x : Exchange) (notice : Bool) (last : ℕ) (used : List Store)
-    (seen : List ℕ) → (h : ReturnsSo s c x notice last used seen mid)
+    (seen : List ℕ) → (h : PushesChainSo s c x notice last used seen mid)
     → told_by s (PushesChain c x notice last used seen) ≡ returned_addresses (returning h.w) c.head (room_of c) x.reply
 returns_told s mid c x notice last used seen h =
     ap (λ (k : Option LiveQueue). take (length x.reply) (room_of c) ++ told_of_queue k) h.there
@@ -145,14 +146,14 @@ fills_told (store ∷ stores) =
     ∙ ap (λ (l : List ℕ). addresses store.address (length store.bytes) ++ l) (fills_told stores)
 
 one_event : {F : Type 0} (may : May F) (s mid : LiveState F) (e : LiveEvent) → Happens may s e mid → (p : ℕ → Bool) →
-    list_any p (written_by (acts_of e)) ≡ list_any p (told_by s e)
+    list_any p (written_by (event_acts e)) ≡ list_any p (told_by s e)
 one_event may s mid (PushesChain c x notice last used seen) h p =
-    let so : ReturnsSo s c x notice last used seen mid = h in
+    let so : PushesChainSo s c x notice last used seen mid = h in
     ap (λ (l : List Store). list_any p (firsts (flat_map writes_of l))) (among_return (reply_stores (room_of c) x.reply last ++ used) seen)
     ∙ any_stored (returning so.w) c.head (room_of c) x.reply p last used so.used_is
     ∙ ap (list_any p) (sym (returns_told s mid c x notice last used seen so))
-one_event may s mid (Sleeps i store) h p =
-    let so : SleepsSo s i store mid = h in
+one_event may s mid (StoresNotification i store) h p =
+    let so : StoresNotificationSo s i store mid = h in
     ap (list_any p) (subst TellsTwo so.stores (sleep_told so.w.queue so.w.next_used so.w.max_in_flight so.w.event_index so.wanted))
 one_event may s mid (FillsBuffer c stores) h p =
     ap (list_any p) (ap (λ (l : List Store). firsts (flat_map writes_of l)) (among_stores stores) ∙ fills_told stores)

@@ -15,13 +15,14 @@ use Rattle.fs_regions.specs.Walks.{Loaded}
 use Rattle.virtiofsd_fuse.specs.Serving.{May}
 use Rattle.fs_live.specs.Several.{LiveQueue, InFlightId, took, untook, gave, returning}
 use Rattle.fs_live.specs.Live.{Phase, PoppedFaulty, Own, Abandoned, OutChain, LiveState, LiveEvent, Walks, Declines, DecodesRequest}
-use Rattle.fs_live.specs.Live.{EndsCall}
-use Rattle.fs_live.specs.Live.{PushesChain, Sleeps, Begins, FillsBuffer, Drops, Abandons, RepliesOwnBytes, Remaps, MovesDevice, Happens}
+use Rattle.fs_live.specs.Live.{ReceivesAnswer}
+use Rattle.fs_live.specs.Live.{PushesChain, StoresNotification, ResetsQueue, FillsBuffer, Drops, Abandons, RepliesOwnBytes, Remaps}
+use Rattle.fs_live.specs.Live.{MovesDevice, Happens}
 use Rattle.fs_live.specs.Live.{LiveRun}
 use Rattle.fs_live.specs.Live.{IfKeepsReturns, KeepsQueue, KeepsReturns, WalksIn, after_answer, after_asking, after_beginning, after_drop}
-use Rattle.fs_live.specs.Live.{after_giving, after_loss, after_own, asked_chain, fault_of, lost_chain, new_chain}
+use Rattle.fs_live.specs.Live.{abandoned_chain, after_abandoning, after_giving, after_own, asked_chain, fault_of, new_chain}
 use Rattle.fs_live.specs.Live.{room_in, why_declined}
-use Rattle.fs_live.specs.Runs.{HasUsedEvent, IsEven, ReturnHasPlaces, ReturnsHavePlaces, has_places, tickets_on}
+use Rattle.fs_live.specs.Runs.{HasNoneInFlight, HasUsedEvent, ReturnHasPlaces, ReturnsHavePlaces, has_places, tickets_on}
 use Rattle.fs_live.proofs.Alone.{Walked, all_both, all_left, all_right, walked_there}
 use Rattle.fs_live.proofs.Declined.{has_events, seen_has_a_place}
 use Rattle.fs_live.proofs.Offered.{RoomFits, fetched_fits, goes_back}
@@ -36,13 +37,13 @@ Next m w = (return_fault m (returning w) ≡ None) × HasUsedEvent m w × (w.nex
 
 -- so have n returns from the next one on, and behind them is the position where the next chain is taken
 abbrev pub Ahead : Memory → LiveQueue → ℕ → Type 0
-Ahead m w zero = IsEven w
+Ahead m w zero = HasNoneInFlight w
 Ahead m w (suc n) = Next m w × Ahead m (gave w) n
 
 small_next : (p : ℕ) → (p + 1) % 2 ^ 16 < 2 ^ 16
 small_next p = omega arith
 
-even_took : (w : LiveQueue) → IsEven w → IsEven (gave (took w))
+even_took : (w : LiveQueue) → HasNoneInFlight w → HasNoneInFlight (gave (took w))
 even_took w even = (ap (λ (r : ℕ). (r + 1) % 2 ^ 16) even.0, small_next w.queue.position)
 
 ahead_took :
@@ -79,7 +80,7 @@ small_back p = omega arith
 
 ahead_dropped : (m : Memory) (w : LiveQueue) (n : ℕ) → Ahead m w (suc n) → Ahead m (untook w) n
 ahead_dropped m w zero ahead =
-    let even : IsEven (gave w) = ahead.1 in (back_one w.next_used w.queue.position ahead.0.2 even.0, small_back w.queue.position)
+    let even : HasNoneInFlight (gave w) = ahead.1 in (back_one w.next_used w.queue.position ahead.0.2 even.0, small_back w.queue.position)
 ahead_dropped m w (suc n) ahead = (ahead.0, ahead_dropped m (gave w) n ahead.1)
 
 -- by a memory that keeps a queue's returns there are as many ahead
@@ -95,9 +96,9 @@ ahead_mapped m m' w (suc n) keeps ahead = (next_mapped m m' w keeps ahead.0, ahe
 
 -- ---- states
 
-even_at : (ws : List LiveQueue) (i : ℕ) (w : LiveQueue) → AllByRecursion IsEven ws → slice_get ws i ≡ Some w → IsEven w
+even_at : (ws : List LiveQueue) (i : ℕ) (w : LiveQueue) → AllByRecursion HasNoneInFlight ws → slice_get ws i ≡ Some w → HasNoneInFlight w
 even_at [] i w all there = absurd (none_some w there)
-even_at (v ∷ ws) zero w all there = subst IsEven (same_some v w there) all.0
+even_at (v ∷ ws) zero w all there = subst HasNoneInFlight (same_some v w there) all.0
 even_at (v ∷ ws) (suc i) w all there = even_at ws i w all.1 there
 
 one_left : (i j : ℕ) (c : OutChain) (cs : List OutChain) (b : Bool) → (c.queue == j) ≡ b → (j == i) ≡ true →
@@ -250,7 +251,7 @@ module _ (i : ℕ) where
       (stays s (after_asking s h.before h.behind c request) refl refl
       (goes_on i h.before h.behind c (asked_chain c request s.options []) (c.queue == i) refl refl refl
       ∙ sym (ap (λ (l : List OutChain). tickets_on i l) h.out)) kept)
-  keeps {F} may s mid (EndsCall c call answer) h kept =
+  keeps {F} may s mid (ReceivesAnswer c call answer) h kept =
       let calls = h.calls ++ (call, answer) ∷ [] in
       subst (λ (k : LiveState F). Kept k) (sym h.state)
       (stays s (after_answer s h.before h.behind c h.request h.options calls h.files) refl refl
@@ -263,8 +264,8 @@ module _ (i : ℕ) where
       (changes s mid' c.queue h.w (gave h.w) (c.queue == i) refl refl refl h.there
       (λ is ahead. (subst (λ (n : ℕ). Ahead s.places h.w n) (out ∙ one_less i h.before h.behind c is) ahead).1)
       (λ is. none_less i h.before h.behind c is ∙ sym out) kept)
-  keeps {F} may s mid (Sleeps j store) h kept = subst (λ (k : LiveState F). Kept k) (sym h.state) kept
-  keeps {F} may s mid (Begins j v) h kept =
+  keeps {F} may s mid (StoresNotification j store) h kept = subst (λ (k : LiveState F). Kept k) (sym h.state) kept
+  keeps {F} may s mid (ResetsQueue j v) h kept =
       subst (λ (k : LiveState F). Kept k) (sym h.state)
       (changes s (after_beginning s j v) j h.old v (j == i) refl refl refl h.there
       (λ is ahead. subst (λ (l : List InFlightId). Ahead s.places v (length l)) (sym (none_left i j s.outs is)) h.both)
@@ -279,8 +280,9 @@ module _ (i : ℕ) where
       (λ is. none_less i h.before h.behind c is ∙ sym out) kept)
   keeps {F} may s mid (Abandons c) h kept =
       subst (λ (k : LiveState F). Kept k) (sym h.state)
-      (stays s (after_loss s h.before h.behind c) refl refl
-      (goes_on i h.before h.behind c (lost_chain c) (c.queue == i) refl refl refl ∙ sym (ap (λ (l : List OutChain). tickets_on i l) h.out))
+      (stays s (after_abandoning s h.before h.behind c) refl refl
+      (goes_on i h.before h.behind c (abandoned_chain c) (c.queue == i) refl refl refl ∙ sym
+      (ap (λ (l : List OutChain). tickets_on i l) h.out))
       kept)
   keeps {F} may s mid (RepliesOwnBytes c request reply options) h kept =
       subst (λ (k : LiveState F). Kept k) (sym h.state)
@@ -298,7 +300,7 @@ module _ (i : ℕ) where
   run_kept may s now (e ∷ es) run kept = run_kept may run.0 now es run.2 (keeps may s run.0 e run.1 kept)
 
   -- from no chain out on
-  pub started : {F : Type 0} (s : LiveState F) → s.outs ≡ [] → AllByRecursion IsEven s.queues → Kept s
+  pub started : {F : Type 0} (s : LiveState F) → s.outs ≡ [] → AllByRecursion HasNoneInFlight s.queues → Kept s
   started s none even = λ w there. subst (λ (cs : List OutChain). Ahead s.places w (out_on i cs)) (sym none)
       (even_at s.queues i w even there)
 
@@ -421,7 +423,7 @@ ties {F} may s mid (Declines j e) h all =
 ties {F} may s mid (DecodesRequest c request told) h all =
     subst (λ (k : LiveState F). AllTied k) (sym h.state)
     (one_changed s.places s.queues h.before h.behind c (asked_chain c request s.options []) s.outs h.out (λ tied. tied) all)
-ties {F} may s mid (EndsCall c call answer) h all =
+ties {F} may s mid (ReceivesAnswer c call answer) h all =
     subst (λ (k : LiveState F). AllTied k) (sym h.state)
     (one_changed s.places s.queues h.before h.behind c (asked_chain c h.request h.options (h.calls ++ (call, answer) ∷ [])) s.outs h.out
     (λ tied. tied) all)
@@ -430,8 +432,9 @@ ties {F} may s mid (PushesChain c x notice last used seen) h all =
     (all_tied s.places s.queues c.queue h.w (gave h.w) (h.before ++ h.behind) h.there
     (λ m m' keeps. record { returns = keeps.returns; event = keeps.event })
     (one_less_tied s.places s.queues h.before h.behind c s.outs h.out all))
-ties {F} may s mid (Sleeps j store) h all = subst (λ (k : LiveState F). AllTied k) (sym h.state) all
-ties {F} may s mid (Begins j v) h all = subst (λ (k : LiveState F). AllTied k) (sym h.state) (left_tied s.places s.queues j v s.outs all)
+ties {F} may s mid (StoresNotification j store) h all = subst (λ (k : LiveState F). AllTied k) (sym h.state) all
+ties {F} may s mid (ResetsQueue j v) h all =
+    subst (λ (k : LiveState F). AllTied k) (sym h.state) (left_tied s.places s.queues j v s.outs all)
 ties {F} may s mid (FillsBuffer c stores) h all = subst (λ (k : LiveState F). AllTied k) (sym h.state) all
 ties {F} may s mid (Drops c) h all =
     subst (λ (k : LiveState F). AllTied k) (sym h.state)
@@ -440,7 +443,7 @@ ties {F} may s mid (Drops c) h all =
     (one_less_tied s.places s.queues h.before h.behind c s.outs h.out all))
 ties {F} may s mid (Abandons c) h all =
     subst (λ (k : LiveState F). AllTied k) (sym h.state)
-    (one_changed s.places s.queues h.before h.behind c (lost_chain c) s.outs h.out (λ tied. tied) all)
+    (one_changed s.places s.queues h.before h.behind c (abandoned_chain c) s.outs h.out (λ tied. tied) all)
 ties {F} may s mid (RepliesOwnBytes c request reply options) h all =
     subst (λ (k : LiveState F). AllTied k) (sym h.state)
     (one_changed s.places s.queues h.before h.behind c (record c { phase = Own request reply }) s.outs h.out (λ tied. tied) all)

@@ -26,7 +26,7 @@ use Rattle.plain_machine.specs.StepBy.{Act, reply_stores, return_acts}
 use Rattle.fs_live.specs.Several.{returning, seen_at}
 use Rattle.fs_live.specs.Several as several
 use Rattle.fs_live.specs.Live.{Phase, room_in, room_of, GoesBackWith}
-use Rattle.fs_live.specs.Handles.{HandleFaulty, HandleReturns, live_of}
+use Rattle.fs_live.specs.Handles.{HandleFaulty, HandlePushesChain, live_of}
 use Rattle.fs_live.proofs.Left.{out_left, seen_left}
 use Rattle.fs_live.proofs.Queues.{there_same}
 
@@ -59,7 +59,7 @@ flags_back kept st used room behind flags acts last back = absurd back
 abbrev pub seen_of : (event_index : Bool) → Queue → ℕ
 seen_of event_index q = seen_at (record { queue = q; next_used = 0; max_in_flight = 0; event_index = event_index })
 
-pub handle_returns : {F : Type 0} (may : May F) → HandleReturns may
+pub handle_returns : {F : Type 0} (may : May F) → HandlePushesChain may
 handle_returns {F} may s c before behind w w' kept request options made given acts last notice out there taken phase each keeps has back =
     let o = keeps.out in
     let room = room_of c in

@@ -16,10 +16,12 @@ use Rattle.virtiofsd_fuse.specs.Serving.{May}
 use Rattle.fs_live.specs.Several.{LiveQueue, InFlightId, QueueEvent, RunsOver, may_take, took, untook, gave, returning}
 use Rattle.fs_live.specs.Several as several
 use Rattle.fs_live.proofs.SeveralRuns.{once, used_in_order}
-use Rattle.fs_live.specs.Live.{OutChain, LiveState, LiveEvent, Walks, Declines, DecodesRequest, EndsCall, PushesChain, Sleeps, Begins}
+use Rattle.fs_live.specs.Live.{OutChain, LiveState, LiveEvent, Walks, Declines, DecodesRequest, ReceivesAnswer, PushesChain}
+use Rattle.fs_live.specs.Live.{StoresNotification, ResetsQueue}
 use Rattle.fs_live.specs.Live.{FillsBuffer, Drops}
 use Rattle.fs_live.specs.Live.{Abandons, RepliesOwnBytes, Remaps, MovesDevice, Happens, LiveRun, WalksIn}
-use Rattle.fs_live.specs.Live.{Own, after_answer, after_asking, after_beginning, after_drop, after_loss, after_own, asked_chain, lost_chain}
+use Rattle.fs_live.specs.Live.{Own, abandoned_chain, after_abandoning, after_answer, after_asking, after_beginning, after_drop, after_own}
+use Rattle.fs_live.specs.Live.{asked_chain}
 use Rattle.fs_live.specs.Live.{new_chain}
 use Rattle.fs_live.specs.Runs.{RunsOnQueue, OncePerLiveChain, LiveUsedInOrder, NotAnew, event_on, events_on, tickets_on, going}
 
@@ -277,7 +279,7 @@ module _ (i : ℕ) where
       (stays s (after_asking s h.before h.behind c request) w w there refl
       (goes_on h.before h.behind c (asked_chain c request s.options []) (c.queue == i) refl refl refl
       ∙ sym (ap (λ (l : List OutChain). tickets_on i l) h.out)))
-  carries {F} may s mid w (EndsCall c call answer) there anew h =
+  carries {F} may s mid w (ReceivesAnswer c call answer) there anew h =
       let calls = h.calls ++ (call, answer) ∷ [] in
       subst (λ (k : LiveState F). Carries s k w []) (sym h.state)
       (stays s (after_answer s h.before h.behind c h.request h.options calls h.files) w w there refl
@@ -286,9 +288,9 @@ module _ (i : ℕ) where
   carries {F} may s mid w (PushesChain c x notice last used seen) there anew h =
       subst (λ (k : LiveState F). Carries s k w (event_on i (PushesChain c x notice last used seen))) (sym h.state)
       (returns s h.before h.behind c w h.w (c.queue == i) (length x.reply) used refl there h.there h.out h.used_is)
-  carries {F} may s mid w (Sleeps j store) there anew h =
+  carries {F} may s mid w (StoresNotification j store) there anew h =
       subst (λ (k : LiveState F). Carries s k w []) (sym h.state) (stays s s w w there refl refl)
-  carries {F} may s mid w (Begins j v) there anew h =
+  carries {F} may s mid w (ResetsQueue j v) there anew h =
       let apart = apart_of j i (not_true (j == i) anew) in
       subst (λ (k : LiveState F). Carries s k w []) (sym h.state) (stays s (after_beginning s j v) w w
       (there_other s.queues j i (λ _. v) apart ∙ there) refl (dropped j s.outs apart))
@@ -299,8 +301,9 @@ module _ (i : ℕ) where
       (drops s h.before h.behind c w h.w (c.queue == i) refl there h.there h.out h.is_last)
   carries {F} may s mid w (Abandons c) there anew h =
       subst (λ (k : LiveState F). Carries s k w []) (sym h.state)
-      (stays s (after_loss s h.before h.behind c) w w there refl
-      (goes_on h.before h.behind c (lost_chain c) (c.queue == i) refl refl refl ∙ sym (ap (λ (l : List OutChain). tickets_on i l) h.out)))
+      (stays s (after_abandoning s h.before h.behind c) w w there refl
+      (goes_on h.before h.behind c (abandoned_chain c) (c.queue == i) refl refl refl ∙ sym
+      (ap (λ (l : List OutChain). tickets_on i l) h.out)))
   carries {F} may s mid w (RepliesOwnBytes c request reply options) there anew h =
       subst (λ (k : LiveState F). Carries s k w []) (sym h.state)
       (stays s (after_own s h.before h.behind c request reply options) w w there refl

@@ -17,7 +17,7 @@ use Rattle.virtiofsd_fuse.specs.Examples.{le16}
 use Rattle.virtiofsd_fuse.specs.Grammar.{meaning, meant, row}
 use Rattle.virtiofsd_fuse.specs.Serving.{May}
 use Rattle.plain_machine.specs.Examples.{blank}
-use Rattle.fs_live.specs.Live.{AsksSo, AnswersSo, ReturnsSo, WalksSo}
+use Rattle.fs_live.specs.Live.{DecodesRequestSo, ReceivesAnswerSo, PushesChainSo, WalksSo}
 use Rattle.fs_live.specs.Overlap.{state}
 use Rattle.fs_live.specs.Rewritten.{Rewritten, at_positions, exchange, first, first_answered, first_asked, first_loads, forget, queue}
 use Rattle.fs_live.specs.Rewritten.{second_loads, stopped_at, table, told, used}
@@ -55,12 +55,12 @@ second_walks : {F : Type 0} (f : F) → WalksSo (state f (at_positions 1 0) 0 (f
 second_walks f = record { w = at_positions 1 0; there = refl; room = refl; goes = refl; walks = (second_offers, refl) }
 
 first_asks : {F : Type 0} (f : F) →
-    AsksSo (state f (stopped_at 1 0) 0 (first ∷ [])) first forget (told ∷ []) (state f (stopped_at 1 0) 0 (first_asked ∷ []))
+    DecodesRequestSo (state f (stopped_at 1 0) 0 (first ∷ [])) first forget (told ∷ []) (state f (stopped_at 1 0) 0 (first_asked ∷ []))
 unfolding addresses meaning reading_of meant row reply_bytes error_bytes fields.field_bytes
 first_asks f = record { before = []; behind = []; out = refl; fresh = refl; whole = refl; tells = refl; state = refl }
 
 first_answers : {F : Type 0} (may : May F) (before after : F) → may before told Done after →
-    AnswersSo may (state before (stopped_at 1 0) 0 (first_asked ∷ [])) first_asked told Done
+    ReceivesAnswerSo may (state before (stopped_at 1 0) 0 (first_asked ∷ [])) first_asked told Done
     (state after (stopped_at 1 0) 0 (first_answered ∷ []))
 unfolding addresses meaning reading_of meant row reply_bytes error_bytes fields.field_bytes
 first_answers may before after so = record {
@@ -78,7 +78,7 @@ first_answers may before after so = record {
   state = refl;
 }
 
-first_returns : {F : Type 0} (f : F) → ReturnsSo (state f (stopped_at 1 0) 0 (first_answered ∷ [])) first_answered exchange true 0 used
+first_returns : {F : Type 0} (f : F) → PushesChainSo (state f (stopped_at 1 0) 0 (first_answered ∷ [])) first_answered exchange true 0 used
     (le16 0) (state f (stopped_at 1 1) 0 [])
 unfolding addresses meaning reading_of meant row reply_bytes error_bytes fields.field_bytes
 first_returns f = record {

@@ -26,9 +26,10 @@ use Rattle.plain_machine.specs.Step.{State, Exchange, Exchanged, Step, Calls, an
 use Rattle.plain_machine.specs.StepBy.{Act, Effects, StepBy, StepOfBy, ExchangesBy, AreStepLoadsOf, IsOfMemory, FindFlags, MayStoreLast}
 use Rattle.plain_machine.specs.StepBy.{after_stores, stores_among, offered_by, reply_stores, return_acts}
 use Rattle.plain_machine.proofs.StepByLemmas.{step_by_is_step}
-use Rattle.fs_live.specs.Live.{Phase, PoppedFaulty, Fetched, Asked, OutChain, LiveState, LiveEvent, DecodesRequest, EndsCall}
+use Rattle.fs_live.specs.Live.{Phase, PoppedFaulty, Fetched, Asked, OutChain, LiveState, LiveEvent, DecodesRequest, ReceivesAnswer}
 use Rattle.fs_live.specs.Live.{Happens, LiveRun}
-use Rattle.fs_live.specs.Live.{WalksSo, AsksSo, AnswersSo, ReturnsSo, calls_in, fault_of, new_chain, after_take, room_of, serving, acts_of}
+use Rattle.fs_live.specs.Live.{WalksSo, DecodesRequestSo, ReceivesAnswerSo, PushesChainSo, calls_in, fault_of, new_chain, after_take}
+use Rattle.fs_live.specs.Live.{room_of, serving, event_acts}
 use Rattle.fs_live.specs.Live.{GoesBackWith}
 use Rattle.fs_live.specs.Runs.{IsAskedIn, IsServedPhase, options_left, after_alone, chain_loads, request_in}
 use Rattle.fs_live.specs.Several.{LiveQueue, took, gave, returning, wants}
@@ -94,7 +95,7 @@ pub record Alone {F : Type 0} (may : May F) (s : LiveState F) (queues : List Liv
 
 asks_alone : {F : Type 0} (may : May F) (s : LiveState F) (queues : List LiveQueue) (c₀ : OutChain) (k mid : LiveState F) (c : OutChain)
     (request : List ℕ) (told : List FileCall)
-    → Alone may s queues c₀ k → AsksSo k c request told mid → Alone may s queues c₀ mid
+    → Alone may s queues c₀ k → DecodesRequestSo k c request told mid → Alone may s queues c₀ mid
 asks_alone {F} may s queues c₀ k mid c request told a h =
     let one = alone (in_phase c₀ a.phase) h.before h.behind c (sym a.outs ∙ h.out) in
     let fresh : a.phase ≡ Fetched = sym (ap (λ (x : OutChain). x.phase) one.1) ∙ h.fresh in
@@ -123,7 +124,7 @@ asks_alone {F} may s queues c₀ k mid c request told a h =
 
 answers_alone_too : {F : Type 0} (may : May F) (s : LiveState F) (queues : List LiveQueue) (c₀ : OutChain) (k mid : LiveState F)
     (c : OutChain) (call : FileCall) (answer : FileAnswer)
-    → Alone may s queues c₀ k → AnswersSo may k c call answer mid → Alone may s queues c₀ mid
+    → Alone may s queues c₀ k → ReceivesAnswerSo may k c call answer mid → Alone may s queues c₀ mid
 answers_alone_too {F} may s queues c₀ k mid c call answer a h =
     let one = alone (in_phase c₀ a.phase) h.before h.behind c (sym a.outs ∙ h.out) in
     let is : a.phase ≡ Asked h.request h.options h.calls = sym (ap (λ (x : OutChain). x.phase) one.1) ∙ h.asked in
@@ -171,7 +172,7 @@ pub between_alone : {F : Type 0} (may : May F) (s : LiveState F) (queues : List 
 between_alone {F} may s queues c k after [] back of a run = (k, a, subst (λ (x : LiveState F). Happens may k back x) (sym run.2) run.1)
 between_alone may s queues c k after (DecodesRequest d request told ∷ es) back of a run =
     between_alone may s queues c run.0 after es back of.1 (asks_alone may s queues c k run.0 d request told a run.1) run.2
-between_alone may s queues c k after (EndsCall d call answer ∷ es) back of a run =
+between_alone may s queues c k after (ReceivesAnswer d call answer ∷ es) back of a run =
     between_alone may s queues c run.0 after es back of.1 (answers_alone_too may s queues c k run.0 d call answer a run.1) run.2
 between_alone may s queues c k after es back of a run = absurd of.0
 
@@ -353,7 +354,7 @@ single_is_step {F} may s after r m w none there rest of run found =
     (start_alone may s run.0 i v r.loaded r.descriptors r.head r.fault none walk.walks.0 walk.walks.1) run.2 in
     let k = back.0 in
     let a = back.1 in
-    let b : ReturnsSo k r.chain r.exchange r.notice r.last r.used r.seen after = back.2 in
+    let b : PushesChainSo k r.chain r.exchange r.notice r.last r.used r.seen after = back.2 in
     let d : OutChain = in_phase c₀ a.phase in
     let one = alone d b.before b.behind r.chain (sym a.outs ∙ b.out) in
     let took_one : LiveQueue = took v in
@@ -373,7 +374,7 @@ single_is_step {F} may s after r m w none there rest of run found =
     b.used_is ∙ ap (λ (u : LiveQueue). stores_after_reply (returning u) r.chain.head (length r.exchange.reply)) w_is
     ∙ ap (λ (c : OutChain). stores_after_reply (returning (took v)) c.head (length r.exchange.reply)) one.1
     ∙ ap (λ (p : ℕ). stores_after_reply (record (v.queue) { position = p }) r.head (length r.exchange.reply)) calm.1 in
-    let acts_are : acts_of (return_in r) ≡ (effects_of d r.exchange r.last r.seen).acts =
+    let acts_are : event_acts (return_in r) ≡ (effects_of d r.exchange r.last r.seen).acts =
     ap (λ (c : OutChain). return_acts (reply_stores (room_of c) r.exchange.reply r.last ++ r.used) r.seen) one.1
     ∙ ap (λ (u : List Store). return_acts (reply_stores (room_of d) r.exchange.reply r.last ++ u) r.seen) behind_is in
     let has : HasLoaded m v.queue r.loaded (request_in a.phase) =
@@ -383,7 +384,7 @@ single_is_step {F} may s after r m w none there rest of run found =
     let apart : MayStoreLast m (room_of d) r.last = subst (λ (c : OutChain). MayStoreLast m (room_of c) r.last) one.1 found.apart in
     let stepped = step_over may base k.files d r.exchange r.last r.seen m made found.places at has flags apart in
     let m' = after_stores m (stores_among (effects_of d r.exchange r.last r.seen).acts) in
-    let memory_is : after_stores m (stores_among (acts_of (return_in r))) ≡ m' =
+    let memory_is : after_stores m (stores_among (event_acts (return_in r))) ≡ m' =
     ap (λ (l : List Act). after_stores m (stores_among l)) acts_are in
     let gave_one : LiveQueue = gave took_one in
     let queues_after : after.queues ≡ changed_at qs i (λ _. gave_one) =
@@ -424,7 +425,7 @@ serial_is_kick {F} may s after (r ∷ rs) m m' i w none there rest run =
     let mid = run.0 in
     let at_r : slice_get s.queues r.queue ≡ Some w = ap (λ (j : ℕ). slice_get s.queues j) run.1 ∙ there in
     let one = single_is_step may s mid r m w none at_r rest run.2 run.3 run.4 in
-    let next : Memory = after_stores m (stores_among (acts_of (return_in r))) in (
+    let next : Memory = after_stores m (stores_among (event_acts (return_in r))) in (
       plain mid next,
       subst (λ (j : ℕ). Step may (plain s m) j (calls_in r.chain.phase) (Exchanged r.exchange r.notice) (plain mid next)) run.1 one.0,
       serial_is_kick may mid after rs next m' i one.2 one.1 (ap (λ (j : ℕ). slice_get mid.queues j) (sym run.1) ∙ one.3) one.4 run.5,

@@ -7,8 +7,8 @@ use Rattle.fs_queue.specs.Returning.{Store}
 use Rattle.virtiofsd_fuse.specs.Serving.{May}
 use Rattle.fs_chain.specs.Events as chain_events
 use Rattle.fs_chain.specs.declared.queue.QueueState.{QueueState}
-use Rattle.fs_live.specs.Live.{HasPlace, MayBeOut}
-use Rattle.fs_live.specs.Handles.{HandleBegins, HandleSleeps, live_of}
+use Rattle.fs_live.specs.Live.{HasPlace, HasValidMaximum}
+use Rattle.fs_live.specs.Handles.{HandleResetsQueue, HandleStoresNotification, live_of}
 use Rattle.fs_live.proofs.Declined.{has_events}
 use Rattle.fs_live.proofs.Queues.{none_some, same_some, there_same}
 
@@ -25,7 +25,7 @@ stored_event true true one other store is event = same_some store one is
 stored_event true false one other store is event = absurd (none_some store (sym is))
 stored_event false wanted one other store is event = absurd (true≢false (sym event))
 
-pub handle_sleeps : {F : Type 0} (may : May F) → HandleSleeps may
+pub handle_sleeps : {F : Type 0} (may : May F) → HandleStoresNotification may
 handle_sleeps may s i kept wanted (Some store) there is =
     let event : Store = record { address = chain_events.avail_event_at kept.layout; bytes = to_le_bytes w16 kept.next_avail } in
     let flags : Store = record { address = kept.layout.used; bytes = to_le_bytes w16 (if wanted then 0 else 1) } in (
@@ -39,7 +39,7 @@ handle_sleeps may s i kept wanted None there is =
     let flags : Store = record { address = kept.layout.used; bytes = to_le_bytes w16 (if wanted then 0 else 1) } in
     not_stored kept.event_index wanted event flags (sym is)
 
-pub handle_begins : {F : Type 0} (may : May F) → HandleBegins may
+pub handle_begins : {F : Type 0} (may : May F) → HandleResetsQueue may
 handle_begins {F} may s i kept after layout position max_in_flight event_index stopped there is some few small none = (
   record {
     old = live_of kept;
@@ -48,7 +48,7 @@ handle_begins {F} may s i kept after layout position max_in_flight event_index s
       ap (λ (q : QueueState). q.next_used) is ∙ sym (ap (λ (q : QueueState). q.next_avail) is),
       subst (λ (q : QueueState). q.next_avail < 2 ^ 16) (sym is) small,
     );
-    few = subst (λ (q : QueueState). MayBeOut (live_of q)) (sym is) (some, few);
+    few = subst (λ (q : QueueState). HasValidMaximum (live_of q)) (sym is) (some, few);
     none_waits = none;
     state = refl;
   },

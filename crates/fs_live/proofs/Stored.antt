@@ -14,8 +14,8 @@ use Rattle.virtiofsd_fuse.specs.Serving.{May}
 use Rattle.plain_machine.specs.StepBy.{StoresBytes, reply_stores, return_acts, stores_among}
 use Rattle.plain_machine.proofs.StepByLemmas.{reply_writes}
 use Rattle.fs_live.specs.Several.{LiveQueue, avail_event_at, returning, sleep_store}
-use Rattle.fs_live.specs.Live.{OutChain, LiveState, LiveEvent, PushesChain, Sleeps, FillsBuffer}
-use Rattle.fs_live.specs.Live.{FillsSo, Happens, IsStoredIn, ReturnsSo, SleepsSo, acts_of, room_of}
+use Rattle.fs_live.specs.Live.{OutChain, LiveState, LiveEvent, PushesChain, StoresNotification, FillsBuffer}
+use Rattle.fs_live.specs.Live.{FillsBufferSo, Happens, IsStoredIn, PushesChainSo, StoresNotificationSo, event_acts, room_of}
 use Rattle.fs_live.specs.Runs.{StoresStayThere, StoresThere, queue_addresses, sleep_addresses}
 
 abbrev AllThere : List ℕ → List (ℕ × ℕ) → Type 0
@@ -108,22 +108,22 @@ stores_within room (store ∷ stores) all =
 
 one_event : {F : Type 0} (may : May F) (s mid : LiveState F) (e : LiveEvent) → Happens may s e mid → StoresThere s e
 one_event may s mid (PushesChain c x notice last used seen) h =
-    let out : ReturnsSo s c x notice last used seen mid = h in (
+    let out : PushesChainSo s c x notice last used seen mid = h in (
       subst (λ (l : List OutChain). Contains l c) (sym out.out)
           (Contains-append_right out.before (c ∷ out.behind) c (0, omega arith, refl)),
       subst (λ (k : Option LiveQueue). AllThere (room_of c ++ queue_addresses k)
-          (flat_map writes_of (stores_among (acts_of (PushesChain c x notice last used seen))))) (sym out.there)
+          (flat_map writes_of (stores_among (event_acts (PushesChain c x notice last used seen))))) (sym out.there)
           (return_there (returning out.w) (room_of c) c.head x.reply last used seen out.used_is),
     )
-one_event may s mid (Sleeps i store) h =
-    let so : SleepsSo s i store mid = h in (
+one_event may s mid (StoresNotification i store) h =
+    let so : StoresNotificationSo s i store mid = h in (
       tt,
       subst (λ (k : Option LiveQueue). AllThere (sleep_addresses k) (flat_map writes_of (store ∷ []))) (sym so.there)
           (subst (λ (k : Option Store). LandsThere so.w k) so.stores
           (sleep_there so.w.queue so.w.next_used so.w.max_in_flight so.w.event_index so.wanted)),
     )
 one_event may s mid (FillsBuffer c stores) h =
-    let so : FillsSo s c stores mid = h in (
+    let so : FillsBufferSo s c stores mid = h in (
       subst (λ (l : List OutChain). Contains l c) (sym so.out) (Contains-append_right so.before (c ∷ so.behind) c (0, omega arith, refl)),
       subst (λ (l : List Store). AllThere (room_of c) (flat_map writes_of l)) (sym (among_stores stores))
           (stores_within (room_of c) stores so.within),

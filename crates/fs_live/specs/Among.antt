@@ -18,7 +18,7 @@ use Rattle.fs_chain.specs.declared.popping.PopOutcome as walked
 use Rattle.fs_chain.specs.declared.popping.PopOutcome.TheVariants as says
 use Rattle.fs_chain.specs.declared.chain_handle.ChainHandle.{ChainHandle}
 use Rattle.fs_live.specs.Live.{Declines, Happens, LiveState, Walks, after_walk}
-use Rattle.fs_live.specs.Handles.{IsPopDone, IsHeld, counted, live_of}
+use Rattle.fs_live.specs.Handles.{IsPopDone, IsHeld, loads_after, live_of}
 
 -- a pop by calls of the handle, the last one first, which finds the queue as `now`. Before each call
 -- but the first, other handles may have changed the queue. Calls of the pop itself may have been
@@ -85,7 +85,7 @@ abbrev pub load_count_among : (given : List (List ℕ)) → (old new : ChainHand
     after : QueueState) → (told : went.LoadOutcome) → WalksAmong given old new before now after told → ℕ
 load_count_among [] old new before now after told walks = 0
 load_count_among (bs ∷ given) old new before now after told walks =
-    counted told (load_count_among given old walks.0 before walks.2 walks.3 walks.4 walks.5)
+    loads_after told (load_count_among given old walks.0 before walks.2 walks.3 walks.4 walks.5)
 
 -- they are as few as those of a pop alone, also if the pop finds its queue stopped meanwhile
 abbrev pub HandleLoadsAmong : Type 0

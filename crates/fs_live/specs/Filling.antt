@@ -26,8 +26,8 @@ data_stores room from bytes = map byte_store (zip (drop from room) bytes)
 
 -- bytes that a caller stores at the start of a window of the reply buffer are the event `FillsBuffer`. The
 -- window has the places of their addresses
-abbrev pub HandleFills : {F : Type 0} → May F → Type 0
-HandleFills {F} may =
+abbrev pub HandleFillsBuffer : {F : Type 0} → May F → Type 0
+HandleFillsBuffer {F} may =
     (s : LiveState F) (c : OutChain) (before behind : List OutChain) (w : ChainHandle) (from : ℕ) (v : Window)
     (bytes : List ℕ) →
     s.outs ≡ before ++ c ∷ behind →

@@ -5,7 +5,7 @@ use Rattle.vm_memory.specs.Memory.{Memory, stored_all}
 use Rattle.virtiofsd_fuse.specs.Serving.{May}
 use Rattle.plain_machine.specs.MarkedPages.{Marks}
 use Rattle.plain_machine.specs.StepBy.{after_stores, stores_among}
-use Rattle.fs_live.specs.Live.{LiveEvent, LiveRun, LiveState, MovesDevice, Remaps, acts_of}
+use Rattle.fs_live.specs.Live.{LiveEvent, LiveRun, LiveState, MovesDevice, Remaps, event_acts}
 use Rattle.fs_live.specs.Runs.{told_by}
 
 -- the guest writes these bytes, each at its address; or the device's next event happens. The guest's reads
@@ -27,7 +27,7 @@ over_places (MovesDevice m queues) stored = record m { host = stored.host }
 over_places _ stored = stored
 
 abbrev pub after_event : Memory → LiveEvent → Memory
-after_event m e = over_places e (after_stores m (stores_among (acts_of e)))
+after_event m e = over_places e (after_stores m (stores_among (event_acts e)))
 
 -- the memory after all these moments; guest and device use the same addresses
 abbrev pub after_moments : Memory → List Moment → Memory

@@ -44,10 +44,11 @@ use Rattle.fs_chain.specs.declared.chain_handle.ChainHandle.{ChainHandle}
 use Rattle.plain_machine.specs.Step.{Calls, EachSuits, Exchange}
 use Rattle.plain_machine.specs.StepBy.{Act}
 use Rattle.fs_live.specs.Several.{LiveQueue, seen_at}
-use Rattle.fs_live.specs.Live.{Asked, Begins, Declines, DecodesRequest, EndsCall, Fetched, LiveEvent, LiveRun}
+use Rattle.fs_live.specs.Live.{Asked, Declines, DecodesRequest, Fetched, LiveEvent, LiveRun, ReceivesAnswer}
+use Rattle.fs_live.specs.Live.{ResetsQueue}
 use Rattle.fs_live.specs.Live.{PoppedFaulty}
-use Rattle.fs_live.specs.Live.{LiveState, OutChain, PushesChain, Sleeps, Walks}
-use Rattle.fs_live.specs.Live.{Happens, HasPlace, NoneWaits, acts_of, after_answer, after_asking}
+use Rattle.fs_live.specs.Live.{LiveState, OutChain, PushesChain, StoresNotification, Walks}
+use Rattle.fs_live.specs.Live.{Happens, HasPlace, NoneWaits, after_answer, after_asking, event_acts}
 use Rattle.fs_live.specs.Live.{after_beginning, after_giving, after_walk, asked_chain, new_chain, room_of}
 use Rattle.fs_live.specs.Live.{serving, why_declined}
 
@@ -116,16 +117,16 @@ HandleWalks {F} may =
     × IsHeld s i (live_of before) loaded came new
 
 -- one load more, unless the call was given only a part of it
-abbrev pub counted : went.LoadOutcome → ℕ → ℕ
-counted wents.Part n = n
-counted (wents.On told) n = suc n
+abbrev pub loads_after : went.LoadOutcome → ℕ → ℕ
+loads_after wents.Part n = n
+loads_after (wents.On told) n = suc n
 
 -- how many loads the calls of a pop were given
 abbrev pub load_count : (given : List (List ℕ)) (old new : ChainHandle) (before after : QueueState)
     (told : went.LoadOutcome) → WalksBy given old new before after told → ℕ
 load_count [] old new before after told walks = 0
 load_count (bs ∷ given) old new before after told walks =
-    counted told (load_count given old walks.0 before walks.1 walks.2 walks.3)
+    loads_after told (load_count given old walks.0 before walks.1 walks.2 walks.3)
 
 -- the loads of a pop are few, also of one that hasn't ended, and while the guest writes: the index, the
 -- ring's entry, and at most size + 2 of tables
@@ -189,8 +190,8 @@ pub record IsKept (page_size options : ℕ) (request : List ℕ) (c : OutChain) 
   pub session : (w.session.page_size ≡ page_size) × (w.session.options.0 ≡ options)
 
 -- a decoding by a handle is the event `DecodesRequest`; the handle keeps the decoded request
-abbrev pub HandleAsks : {F : Type 0} → May F → Type 0
-HandleAsks {F} may =
+abbrev pub HandleDecodesRequest : {F : Type 0} → May F → Type 0
+HandleDecodesRequest {F} may =
     (s : LiveState F) (c : OutChain) (before behind : List OutChain) (w w' : ChainHandle) (session : Session)
     (request front : List ℕ) (made : told.Decoded) →
     IsReached may s →
@@ -205,10 +206,10 @@ HandleAsks {F} may =
     (after_asking s before behind c request)
     × IsKept s.page_size s.options request (asked_chain c request s.options []) made w'
 
--- an answer by a handle is the event `EndsCall`; the handle's session then has the options that the chain
--- leaves by itself
-abbrev pub HandleAnswers : {F : Type 0} → May F → Type 0
-HandleAnswers {F} may =
+-- an answer by a handle is the event `ReceivesAnswer`; the handle's session then has the options that the
+-- chain leaves by itself
+abbrev pub HandleReceivesAnswer : {F : Type 0} → May F → Type 0
+HandleReceivesAnswer {F} may =
     (s : LiveState F) (c : OutChain) (before behind : List OutChain) (w w' : ChainHandle) (request : List ℕ)
     (options : ℕ) (made : made_call.FileCall) (a : made_answer.FileAnswer) (bytes : List ℕ)
     (told : Replied) (files : F) →
@@ -220,7 +221,7 @@ HandleAnswers {F} may =
     may s.files (call_of (drop 80 request) made) (answer_of bytes a) files →
     let call = call_of (drop 80 request) made in
     let answer = answer_of bytes a in
-    Happens may s (EndsCall c call answer)
+    Happens may s (ReceivesAnswer c call answer)
     (after_answer s before behind c request options ((call, answer) ∷ []) files)
     × (w'.session.options.0
     ≡ (serving s.page_size options options request (room_of c) ((call, answer) ∷ [])).options)
@@ -243,7 +244,7 @@ HandleCalls {F} may =
     IsTrue (suits call answer) →
     may s.files call answer files →
     let calls = earlier ++ (call, answer) ∷ [] in
-    Happens may s (EndsCall c call answer) (after_answer s before behind c request options calls files)
+    Happens may s (ReceivesAnswer c call answer) (after_answer s before behind c request options calls files)
     × (later ≡ [] →
     w'.session.options.0 ≡ (serving s.page_size options options request (room_of c) calls).options)
 
@@ -282,15 +283,15 @@ abbrev pub IsReturn : {F : Type 0} → May F → LiveState F → (before behind 
     QueueState → List Act → (last : ℕ) → (notice : Bool) → PushStores → Type 0
 IsReturn {F} may s before behind c kept acts last notice stores =
     (x : Exchange) × (used : List Store) × (seen : List ℕ)
-    × (acts ≡ acts_of (PushesChain c x notice last used seen))
+    × (acts ≡ event_acts (PushesChain c x notice last used seen))
     × Happens may s (PushesChain c x notice last used seen) (after_giving s before behind c (live_of kept))
     × (slice_get (after_giving s before behind c (live_of kept)).queues c.queue ≡ Some (live_of (gave kept)))
     × (stores.seen_at ≡ seen_at (live_of kept))
 
 -- the return by a handle of a chain whose calls were answered is the event `PushesChain`. Any chains of its
 -- queue may have been popped and returned meanwhile
-abbrev pub HandleReturns : {F : Type 0} → May F → Type 0
-HandleReturns {F} may =
+abbrev pub HandlePushesChain : {F : Type 0} → May F → Type 0
+HandlePushesChain {F} may =
     (s : LiveState F) (c : OutChain) (before behind : List OutChain) (w w' : ChainHandle) (kept : QueueState)
     (request : List ℕ) (options : ℕ) (made : told.Decoded) (given : ChainAnswer) (acts : List Act) (last : ℕ)
     (notice : Bool) →
@@ -322,27 +323,27 @@ HandleFaulty {F} may =
 -- the store that enables or disables notifications is the event before a sleep, if its address is mapped.
 -- With the event index it is mapped, unless the queue is declined. There is no store only with the event
 -- index, when notifications are to be disabled
-abbrev pub IsSleep : {F : Type 0} → May F → LiveState F → (i : ℕ) → QueueState → (wanted : Bool) →
+abbrev pub IsNotificationStore : {F : Type 0} → May F → LiveState F → (i : ℕ) → QueueState → (wanted : Bool) →
     Option NotificationStore → Type 0
-IsSleep may s i kept wanted (Some store) =
-    (HasPlace s.places store.address → Happens may s (Sleeps i (store_of store)) s)
+IsNotificationStore may s i kept wanted (Some store) =
+    (HasPlace s.places store.address → Happens may s (StoresNotification i (store_of store)) s)
     × (kept.event_index ≡ true →
     why_declined s.places (live_of kept) ≡ None →
     HasPlace s.places store.address)
-IsSleep may s i kept wanted None = (kept.event_index ≡ true) × (wanted ≡ false)
+IsNotificationStore may s i kept wanted None = (kept.event_index ≡ true) × (wanted ≡ false)
 
-abbrev pub HandleSleeps : {F : Type 0} → May F → Type 0
-HandleSleeps {F} may =
+abbrev pub HandleStoresNotification : {F : Type 0} → May F → Type 0
+HandleStoresNotification {F} may =
     (s : LiveState F) (i : ℕ) (kept : QueueState) (wanted : Bool) (store : Option NotificationStore) →
     slice_get s.queues i ≡ Some (live_of kept) →
     option_map store_of store ≡ notification_store kept wanted →
-    IsSleep may s i kept wanted store
+    IsNotificationStore may s i kept wanted store
 
--- the reset of a queue is the event `Begins`, once no call of its chains is pending. From then on three
+-- the reset of a queue is the event `ResetsQueue`, once no call of its chains is pending. From then on three
 -- things may differ: how many chains may be in flight, from one to as many as the queue has descriptors; the
 -- event index; and whether the queue is stopped
-abbrev pub HandleBegins : {F : Type 0} → May F → Type 0
-HandleBegins {F} may =
+abbrev pub HandleResetsQueue : {F : Type 0} → May F → Type 0
+HandleResetsQueue {F} may =
     (s : LiveState F) (i : ℕ) (kept after : QueueState) (layout : QueueLayout) (position max_in_flight : ℕ)
     (event_index : Bool) (stopped : Option QueueError) →
     slice_get s.queues i ≡ Some (live_of kept) →
@@ -355,5 +356,5 @@ HandleBegins {F} may =
     max_in_flight ≤ layout.size →
     position < 2 ^ 16 →
     AllByRecursion (λ c. NoneWaits s.page_size i c c.phase) s.outs →
-    Happens may s (Begins i (live_of after)) (after_beginning s i (live_of after))
+    Happens may s (ResetsQueue i (live_of after)) (after_beginning s i (live_of after))
     × (slice_get (after_beginning s i (live_of after)).queues i ≡ Some (live_of after))

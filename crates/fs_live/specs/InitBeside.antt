@@ -9,7 +9,7 @@ use Rattle.virtiofsd_fuse.specs.Examples.{le16, le32, le64, in_header_bytes, nob
 use Rattle.virtiofsd_fuse.specs.Serving.{May}
 use Rattle.plain_machine.specs.Examples.{blank, descriptor_bytes, queue}
 use Rattle.plain_machine.specs.Step.{Exchange}
-use Rattle.fs_live.specs.Live.{Fetched, Asked, OutChain, Walks, DecodesRequest, EndsCall, PushesChain}
+use Rattle.fs_live.specs.Live.{Fetched, Asked, OutChain, Walks, DecodesRequest, ReceivesAnswer, PushesChain}
 use Rattle.fs_live.specs.Live.{LiveRun}
 use Rattle.fs_live.specs.Overlap.{at_positions, entry, state}
 
@@ -146,9 +146,9 @@ InitBeside {F} may =
     ∷ DecodesRequest first lookup (looks ∷ [])
     ∷ Walks 0 second_loads second_table (step.Chain 2 None)
     ∷ DecodesRequest second init (starts ∷ [])
-    ∷ EndsCall second_asked starts (Wants 0)
+    ∷ ReceivesAnswer second_asked starts (Wants 0)
     ∷ PushesChain second_answered second_exchange true 0 second_used (le16 0)
-    ∷ EndsCall first_asked looks (Failed 2)
+    ∷ ReceivesAnswer first_asked looks (Failed 2)
     ∷ PushesChain first_answered first_exchange true 0 first_used (le16 0) ∷ []
     )
     (state after (at_positions 2 2) 1 [])

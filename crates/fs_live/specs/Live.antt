@@ -28,7 +28,7 @@ use Rattle.fs_live.specs.Several.{untook, used_event_at, wants}
 -- ---- states
 
 -- the phase of a chain in flight:
--- - `PoppedFaulty`: it is to be returned with an empty reply
+-- - `PoppedFaulty`: it was popped with this fault, and is pushed with an empty reply
 -- - `Fetched`: its request isn't decoded yet
 -- - `Asked`: its request was decoded as it was loaded, with the options of that moment; these calls were
 --   answered
@@ -58,7 +58,7 @@ fault_of (PoppedFaulty why) = Some why
 fault_of (Abandoned fault) = fault
 fault_of _ = None
 
--- the addresses of the reply buffer: a faulty chain has none, and a lost one needs none
+-- the addresses of the reply buffer: a faulty chain has none, and an abandoned one needs none
 abbrev pub room_in : Phase → List Descriptor → List ℕ
 room_in (PoppedFaulty why) ds = []
 room_in (Abandoned fault) ds = []
@@ -100,15 +100,15 @@ pub data LiveEvent : Type 0 where
   -- the request of a chain in flight was decoded: its first call, or none
   DecodesRequest : OutChain → (request : List ℕ) → (told : List FileCall) → LiveEvent
   -- the pending call of the chain was answered
-  EndsCall : OutChain → FileCall → FileAnswer → LiveEvent
-  -- it was returned. `last` bytes of the reply were stored last, and the stores `used` after the reply.
+  ReceivesAnswer : OutChain → FileCall → FileAnswer → LiveEvent
+  -- a chain was pushed. `last` bytes of the reply were stored last, and the stores `used` after the reply.
   -- By the two bytes at `seen_at` the driver enables or disables the notification
   PushesChain :
       OutChain → Exchange → (notice : Bool) → (last : ℕ) → (used : List Store) → (seen : List ℕ) → LiveEvent
   -- before the device sleeps, and when it wakes, it enables or disables the notifications of queue i
-  Sleeps : (i : ℕ) → Store → LiveEvent
+  StoresNotification : (i : ℕ) → Store → LiveEvent
   -- queue i is reset
-  Begins : (i : ℕ) → LiveQueue → LiveEvent
+  ResetsQueue : (i : ℕ) → LiveQueue → LiveEvent
   -- before a chain in flight is returned, some bytes are stored in its reply buffer, which its reply may
   -- count or not
   FillsBuffer : OutChain → List Store → LiveEvent
@@ -214,8 +214,8 @@ after_asking s before behind c request =
     record s { outs = before ++ asked_chain c request s.options [] ∷ behind }
 
 -- a chain in flight is decoded, with the options of this moment
-pub record AsksSo {F : Type 0} (s : LiveState F) (c : OutChain) (request : List ℕ) (told : List FileCall)
-    (after : LiveState F) : Type 0 where
+pub record DecodesRequestSo {F : Type 0} (s : LiveState F) (c : OutChain) (request : List ℕ)
+    (told : List FileCall) (after : LiveState F) : Type 0 where
   pub before : List OutChain
   pub behind : List OutChain
   pub out : s.outs ≡ before ++ c ∷ behind
@@ -235,7 +235,7 @@ after_answer s before behind c request options calls files = record s {
 
 -- the pending call of a chain is answered, as the file system may answer by now. It is the call after those
 -- that were answered. An answer to INIT or DESTROY changes the session's options
-pub record AnswersSo {F : Type 0} (may : May F) (s : LiveState F) (c : OutChain) (call : FileCall)
+pub record ReceivesAnswerSo {F : Type 0} (may : May F) (s : LiveState F) (c : OutChain) (call : FileCall)
     (answer : FileAnswer) (after : LiveState F) : Type 0 where
   pub before : List OutChain
   pub behind : List OutChain
@@ -272,8 +272,8 @@ after_giving s before behind c w =
     record s { queues = changed_at s.queues c.queue (λ _. gave w); outs = before ++ behind }
 
 -- a chain is returned at its queue's next used position, in any order of the pops
-pub record ReturnsSo {F : Type 0} (s : LiveState F) (c : OutChain) (x : Exchange) (notice : Bool) (last : ℕ)
-    (used : List Store) (seen : List ℕ) (after : LiveState F) : Type 0 where
+pub record PushesChainSo {F : Type 0} (s : LiveState F) (c : OutChain) (x : Exchange) (notice : Bool)
+    (last : ℕ) (used : List Store) (seen : List ℕ) (after : LiveState F) : Type 0 where
   pub before : List OutChain
   pub behind : List OutChain
   pub out : s.outs ≡ before ++ c ∷ behind
@@ -290,7 +290,7 @@ abbrev pub HasPlace : Memory → (address : ℕ) → Type 0
 HasPlace m address = reach m Write address 2 ≡ true
 
 -- the device enables or disables notifications by a store to a mapped address
-pub record SleepsSo {F : Type 0} (s : LiveState F) (i : ℕ) (store : Store) (after : LiveState F) :
+pub record StoresNotificationSo {F : Type 0} (s : LiveState F) (i : ℕ) (store : Store) (after : LiveState F) :
     Type 0 where
   pub w : LiveQueue
   pub there : slice_get s.queues i ≡ Some w
@@ -311,21 +311,21 @@ after_beginning s i w =
     record s { queues = changed_at s.queues i (λ _. w); outs = filter (λ c. not (c.queue == i)) s.outs }
 
 -- the next chain is popped and returned at the same position, of 16 bits
-abbrev pub IsEven : LiveQueue → Type 0
-IsEven w = (w.next_used ≡ w.queue.position) × (w.queue.position < 2 ^ 16)
+abbrev pub HasNoneInFlight : LiveQueue → Type 0
+HasNoneInFlight w = (w.next_used ≡ w.queue.position) × (w.queue.position < 2 ^ 16)
 
 -- from one chain to as many as a queue has descriptors may be in flight
-abbrev pub MayBeOut : LiveQueue → Type 0
-MayBeOut w = (1 ≤ w.max_in_flight) × (w.max_in_flight ≤ w.queue.size)
+abbrev pub HasValidMaximum : LiveQueue → Type 0
+HasValidMaximum w = (1 ≤ w.max_in_flight) × (w.max_in_flight ≤ w.queue.size)
 
 -- a queue is reset once each call of its chains was answered: they are no longer in flight. It may be stopped
 -- from then on, as a queue that is restored stopped
-pub record BeginsSo {F : Type 0} (s : LiveState F) (i : ℕ) (w : LiveQueue) (after : LiveState F) :
+pub record ResetsQueueSo {F : Type 0} (s : LiveState F) (i : ℕ) (w : LiveQueue) (after : LiveState F) :
     Type 0 where
   pub old : LiveQueue
   pub there : slice_get s.queues i ≡ Some old
-  pub both : IsEven w
-  pub few : MayBeOut w
+  pub both : HasNoneInFlight w
+  pub few : HasValidMaximum w
   pub none_waits : AllByRecursion (λ c. NoneWaits s.page_size i c c.phase) s.outs
   pub state : after ≡ after_beginning s i w
 
@@ -334,7 +334,8 @@ abbrev pub IsStoredIn : List ℕ → Store → Type 0
 IsStoredIn room store = AllByRecursion (λ a. Contains room a) (addresses store.address (length store.bytes))
 
 -- stores in a chain's reply buffer change nothing of the state
-pub record FillsSo {F : Type 0} (s : LiveState F) (c : OutChain) (stores : List Store) (after : LiveState F) :
+pub record FillsBufferSo {F : Type 0} (s : LiveState F) (c : OutChain) (stores : List Store)
+    (after : LiveState F) :
     Type 0 where
   pub before : List OutChain
   pub behind : List OutChain
@@ -360,21 +361,22 @@ pub record DropsSo {F : Type 0} (s : LiveState F) (c : OutChain) (after : LiveSt
   pub is_last : w.queue.position ≡ (c.taken.position + 1) % 2 ^ 16
   pub state : after ≡ after_drop s before behind c w
 
--- a lost chain keeps its fault
-abbrev pub lost_chain : OutChain → OutChain
-lost_chain c = record c { phase = Abandoned (fault_of c.phase) }
+-- an abandoned chain keeps its fault
+abbrev pub abandoned_chain : OutChain → OutChain
+abandoned_chain c = record c { phase = Abandoned (fault_of c.phase) }
 
 -- the state after a handle is freed
-abbrev pub after_loss : {F : Type 0} → LiveState F → (before behind : List OutChain) → OutChain → LiveState F
-after_loss s before behind c = record s { outs = before ++ lost_chain c ∷ behind }
+abbrev pub after_abandoning : {F : Type 0} → LiveState F → (before behind : List OutChain) → OutChain
+    → LiveState F
+after_abandoning s before behind c = record s { outs = before ++ abandoned_chain c ∷ behind }
 
--- a chain is lost to its queue, in any phase. If the file system did its pending call by then, the answer
--- (`EndsCall`) is an event before this one
+-- a chain's handle is freed, in any phase: the chain is never pushed. If the file system did its pending call
+-- by then, the answer (`ReceivesAnswer`) is an event before this one
 pub record AbandonsSo {F : Type 0} (s : LiveState F) (c : OutChain) (after : LiveState F) : Type 0 where
   pub before : List OutChain
   pub behind : List OutChain
   pub out : s.outs ≡ before ++ c ∷ behind
-  pub state : after ≡ after_loss s before behind c
+  pub state : after ≡ after_abandoning s before behind c
 
 -- the request of a chain that its caller may reply to. The chain wasn't decoded, or it was from this request;
 -- the file system may have answered some of its calls by then
@@ -390,8 +392,8 @@ after_own s before behind c request reply options =
     record s { outs = before ++ (record c { phase = Own request reply }) ∷ behind; options = options }
 
 -- the caller's bytes fit in the reply buffer, and their number fits in the used element
-pub record RepliesSo {F : Type 0} (s : LiveState F) (c : OutChain) (request reply : List ℕ) (options : ℕ)
-    (after : LiveState F) : Type 0 where
+pub record RepliesOwnBytesSo {F : Type 0} (s : LiveState F) (c : OutChain) (request reply : List ℕ)
+    (options : ℕ) (after : LiveState F) : Type 0 where
   pub before : List OutChain
   pub behind : List OutChain
   pub out : s.outs ≡ before ++ c ∷ behind
@@ -420,35 +422,36 @@ KeepsQueue s m c = IfKeepsReturns s.places m (slice_get s.queues c.queue)
 -- addresses have other mappings from now on, or none. Those that the returns of chains in flight need stay
 -- mapped or not, as they were. A chain itself keeps the mappings of its pop. While none is in flight, any
 -- mapping may change
-pub record MapsSo {F : Type 0} (s : LiveState F) (m : Memory) (after : LiveState F) : Type 0 where
+pub record RemapsSo {F : Type 0} (s : LiveState F) (m : Memory) (after : LiveState F) : Type 0 where
   pub keeps : AllByRecursion (KeepsQueue s m) s.outs
   pub state : after ≡ record s { places = m }
 
 -- a device without chains in flight moves: each queue keeps its position, and whether it is stopped, in a
 -- memory with other mappings. The record has neither the event index nor how many chains may be in flight
-pub record MovesSo {F : Type 0} (s : LiveState F) (m : Memory) (queues : List LiveQueue)
+pub record MovesDeviceSo {F : Type 0} (s : LiveState F) (m : Memory) (queues : List LiveQueue)
     (after : LiveState F) : Type 0 where
   pub none_out : s.outs ≡ []
   pub same : map (λ w. w.queue) queues ≡ map (λ w. w.queue) s.queues
-  pub even : AllByRecursion IsEven queues
-  pub few : AllByRecursion MayBeOut queues
+  pub even : AllByRecursion HasNoneInFlight queues
+  pub few : AllByRecursion HasValidMaximum queues
   pub state : after ≡ record s { places = m; queues = queues }
 
 -- an event leads from a state to a state
 abbrev pub Happens : {F : Type 0} → May F → LiveState F → LiveEvent → LiveState F → Type 0
 Happens may s (Walks i loaded ds came) after = WalksSo s i loaded ds came after
 Happens may s (Declines i e) after = DeclinesSo s i e after
-Happens may s (DecodesRequest c request told) after = AsksSo s c request told after
-Happens may s (EndsCall c call answer) after = AnswersSo may s c call answer after
-Happens may s (PushesChain c x notice last used seen) after = ReturnsSo s c x notice last used seen after
-Happens may s (Sleeps i store) after = SleepsSo s i store after
-Happens may s (Begins i w) after = BeginsSo s i w after
-Happens may s (FillsBuffer c stores) after = FillsSo s c stores after
+Happens may s (DecodesRequest c request told) after = DecodesRequestSo s c request told after
+Happens may s (ReceivesAnswer c call answer) after = ReceivesAnswerSo may s c call answer after
+Happens may s (PushesChain c x notice last used seen) after = PushesChainSo s c x notice last used seen after
+Happens may s (StoresNotification i store) after = StoresNotificationSo s i store after
+Happens may s (ResetsQueue i w) after = ResetsQueueSo s i w after
+Happens may s (FillsBuffer c stores) after = FillsBufferSo s c stores after
 Happens may s (Drops c) after = DropsSo s c after
 Happens may s (Abandons c) after = AbandonsSo s c after
-Happens may s (RepliesOwnBytes c request reply options) after = RepliesSo s c request reply options after
-Happens may s (Remaps m) after = MapsSo s m after
-Happens may s (MovesDevice m queues) after = MovesSo s m queues after
+Happens may s (RepliesOwnBytes c request reply options) after =
+    RepliesOwnBytesSo s c request reply options after
+Happens may s (Remaps m) after = RemapsSo s m after
+Happens may s (MovesDevice m queues) after = MovesDeviceSo s m queues after
 
 -- a run: events from a state to a state
 abbrev pub LiveRun : {F : Type 0} → May F → LiveState F → List LiveEvent → LiveState F → Type 0
@@ -459,15 +462,15 @@ LiveRun {F} may s (e ∷ es) after = (mid : LiveState F) × Happens may s e mid 
 
 -- the acts of an event. The calls' data is stored with the reply, at the return. `LoadsFlags` is the load of
 -- the two bytes that are seen: the available flags, or with the event index used_event
-abbrev pub acts_of : LiveEvent → List Act
-acts_of (PushesChain c x notice last used seen) =
+abbrev pub event_acts : LiveEvent → List Act
+event_acts (PushesChain c x notice last used seen) =
     return_acts (reply_stores (room_of c) x.reply last ++ used) seen
-acts_of (Sleeps i store) = StoresBytes store ∷ []
-acts_of (FillsBuffer c stores) = map StoresBytes stores
-acts_of _ = []
+event_acts (StoresNotification i store) = StoresBytes store ∷ []
+event_acts (FillsBuffer c stores) = map StoresBytes stores
+event_acts _ = []
 
 -- the calls of a run, in the order of their answers
 abbrev pub calls_among : List LiveEvent → Calls
 calls_among [] = []
-calls_among (EndsCall c call answer ∷ es) = (call, answer) ∷ calls_among es
+calls_among (ReceivesAnswer c call answer ∷ es) = (call, answer) ∷ calls_among es
 calls_among (_ ∷ es) = calls_among es

@@ -26,11 +26,13 @@ use Rattle.fs_chain.specs.declared.state.ChainState.TheVariants as at
 use Rattle.fs_chain.specs.declared.chain_handle.ChainHandle.{ChainHandle}
 use Rattle.plain_machine.specs.Step.{Calls}
 use Rattle.plain_machine.specs.StepBy.{Act, reply_stores, return_acts}
-use Rattle.fs_live.specs.Live.{Abandons, Asked, Drops, Fetched, KeepsQueue, LiveState, MayBeOut, MovesDevice}
+use Rattle.fs_live.specs.Live.{Abandons, Asked, Drops, Fetched, HasValidMaximum, KeepsQueue, LiveState}
+use Rattle.fs_live.specs.Live.{MovesDevice}
 use Rattle.fs_live.specs.Live.{Remaps}
-use Rattle.fs_live.specs.Live.{OutChain, Own, RepliesOwnBytes, Happens, after_drop, after_loss, after_own}
+use Rattle.fs_live.specs.Live.{OutChain, Own, RepliesOwnBytes, Happens, after_drop, after_abandoning}
+use Rattle.fs_live.specs.Live.{after_own}
 use Rattle.fs_live.specs.Live.{room_of}
-use Rattle.fs_live.specs.Runs.{IsEven}
+use Rattle.fs_live.specs.Runs.{HasNoneInFlight}
 use Rattle.fs_live.specs.Handles.{IsKept, IsOut, IsReached, IsReturn, live_of}
 
 -- ---- chains that are given up, and handles that are freed
@@ -54,8 +56,8 @@ abbrev pub HandleAbandons : {F : Type 0} → May F → Type 0
 HandleAbandons {F} may =
     (s : LiveState F) (c : OutChain) (before behind : List OutChain) →
     s.outs ≡ before ++ c ∷ behind →
-    Happens may s (Abandons c) (after_loss s before behind c)
-    × ((after_loss s before behind c).queues ≡ s.queues)
+    Happens may s (Abandons c) (after_abandoning s before behind c)
+    × ((after_abandoning s before behind c).queues ≡ s.queues)
 
 -- ---- replies of the caller's own bytes
 
@@ -77,8 +79,8 @@ IfOut _ P = ⊥
 
 -- a reply of the caller's own to a chain that wasn't decoded is the event `RepliesOwnBytes`. The request may
 -- be any, as its caller loaded it
-abbrev pub HandleReplies : {F : Type 0} → May F → Type 0
-HandleReplies {F} may =
+abbrev pub HandleRepliesOwnBytes : {F : Type 0} → May F → Type 0
+HandleRepliesOwnBytes {F} may =
     (s : LiveState F) (c : OutChain) (before behind : List OutChain) (w : ChainHandle) (serial options : ℕ)
     (request reply : List ℕ) →
     IsReached may s →
@@ -137,8 +139,8 @@ pub record GoesBackOwn (back : QueueState) (room reply : List ℕ) (from : state
 
 -- such a return is the event of the chain's return. Any chains of its queue may have been popped and
 -- returned meanwhile
-abbrev pub HandleReturnsOwn : {F : Type 0} → May F → Type 0
-HandleReturnsOwn {F} may =
+abbrev pub HandlePushesOwn : {F : Type 0} → May F → Type 0
+HandlePushesOwn {F} may =
     (s : LiveState F) (c : OutChain) (before behind : List OutChain) (st : state.ChainState)
     (kept : QueueState) (request reply : List ℕ) (acts : List Act) (last : ℕ) (notice : Bool) →
     s.outs ≡ before ++ c ∷ behind →
@@ -154,8 +156,8 @@ HandleReturnsOwn {F} may =
 -- setting other regions of a handle is the event `Remaps`, and its next pops are events with them. For
 -- the queues of chains in flight, the new regions must map the addresses of returns just where the old
 -- ones do
-abbrev pub HandleMaps : {F : Type 0} → May F → Type 0
-HandleMaps {F} may =
+abbrev pub HandleRemaps : {F : Type 0} → May F → Type 0
+HandleRemaps {F} may =
     (s : LiveState F) (w : ChainHandle) →
     (s.outs ≡ []) ⊎ AllByRecursion (KeepsQueue s (places_in w.regions)) s.outs →
     Happens may s (Remaps (places_in w.regions)) (record s { places = places_in w.regions })
@@ -169,14 +171,14 @@ recorded q = (live_of q).queue
 -- queues are reset from those of a record: each at its position, stopped or not
 pub record AreBegunBy (queues : List Queue) (kept : List QueueState) : Type 0 where
   pub same : map recorded kept ≡ queues
-  pub even : AllByRecursion IsEven (map live_of kept)
-  pub few : AllByRecursion MayBeOut (map live_of kept)
+  pub even : AllByRecursion HasNoneInFlight (map live_of kept)
+  pub few : AllByRecursion HasValidMaximum (map live_of kept)
 
 -- making a record of a run's options and queues while no chain is in flight, and reading it elsewhere,
 -- is the event `MovesDevice`. The options that are read are the run's. The queues that are reset from the
 -- record are the run's from then on
-abbrev pub HandleMoves : {F : Type 0} → May F → Type 0
-HandleMoves {F} may =
+abbrev pub HandleMovesDevice : {F : Type 0} → May F → Type 0
+HandleMovesDevice {F} may =
     (s : LiveState F) (here there : List QueueState) (m : Memory) (bytes : List ℕ) (v v' : Version)
     (options : ℕ) (queues : List Queue) →
     s.outs ≡ [] →

@@ -11,7 +11,7 @@ use Rattle.virtiofsd_fuse.specs.Serving.{May}
 use Rattle.plain_machine.specs.Examples.{blank, descriptor_bytes, queue}
 use Rattle.plain_machine.specs.Step.{Exchange}
 use Rattle.fs_live.specs.Several.{LiveQueue}
-use Rattle.fs_live.specs.Live.{Fetched, Asked, OutChain, LiveState, Walks, DecodesRequest, EndsCall}
+use Rattle.fs_live.specs.Live.{Fetched, Asked, OutChain, LiveState, Walks, DecodesRequest, ReceivesAnswer}
 use Rattle.fs_live.specs.Live.{PushesChain, LiveRun}
 
 -- DESTROY, which makes a call
@@ -154,7 +154,7 @@ Overlap {F} may =
     ∷ Walks 0 second_loads second_table (step.Chain 2 None)
     ∷ DecodesRequest second unknown []
     ∷ PushesChain second_asked second_exchange true 0 second_used (le16 0)
-    ∷ EndsCall first_asked Destroy Done
+    ∷ ReceivesAnswer first_asked Destroy Done
     ∷ PushesChain first_answered first_exchange true 0 first_used (le16 0) ∷ []
     )
     (state after (at_positions 2 2) 0 [])

@@ -12,7 +12,7 @@ use Rattle.virtiofsd_fuse.specs.Serving.{May}
 use Rattle.plain_machine.specs.Examples.{blank, descriptor_bytes}
 use Rattle.plain_machine.specs.Step.{Exchange}
 use Rattle.fs_live.specs.Several.{LiveQueue}
-use Rattle.fs_live.specs.Live.{Fetched, Asked, OutChain, Walks, DecodesRequest, EndsCall, PushesChain}
+use Rattle.fs_live.specs.Live.{Fetched, Asked, OutChain, Walks, DecodesRequest, ReceivesAnswer, PushesChain}
 use Rattle.fs_live.specs.Live.{LiveRun}
 use Rattle.fs_live.specs.Overlap.{entry, state}
 
@@ -104,7 +104,7 @@ Rewritten {F} may =
     Walks 0 first_loads table (step.Chain 0 None)
     ∷ Walks 0 second_loads [] (step.Refused HeadOutOfTable)
     ∷ DecodesRequest first forget (told ∷ [])
-    ∷ EndsCall first_asked told Done
+    ∷ ReceivesAnswer first_asked told Done
     ∷ PushesChain first_answered exchange true 0 used (le16 0) ∷ []
     )
     (state after (stopped_at 1 1) 0 [])

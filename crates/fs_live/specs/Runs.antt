@@ -22,9 +22,11 @@ use Rattle.fs_live.specs.Several.{LiveQueue, InFlightId, QueueEvent, RunsOver, U
 use Rattle.fs_live.specs.Several.{heads_ended, returns_among, returning, avail_event_at, seen_at}
 use Rattle.fs_live.specs.Several.{used_event_at}
 use Rattle.fs_live.specs.Several as several
-pub use Rattle.fs_live.specs.Live.{IsEven}
-use Rattle.fs_live.specs.Live.{Phase, Asked, Own, OutChain, LiveState, LiveEvent, Walks, PushesChain, Sleeps}
-use Rattle.fs_live.specs.Live.{Begins, FillsBuffer, Drops, Remaps, MovesDevice, Happens, LiveRun, acts_of}
+pub use Rattle.fs_live.specs.Live.{HasNoneInFlight}
+use Rattle.fs_live.specs.Live.{Phase, Asked, Own, OutChain, LiveState, LiveEvent, Walks, PushesChain}
+use Rattle.fs_live.specs.Live.{StoresNotification}
+use Rattle.fs_live.specs.Live.{ResetsQueue, FillsBuffer, Drops, Remaps, MovesDevice, Happens, LiveRun}
+use Rattle.fs_live.specs.Live.{event_acts}
 use Rattle.fs_live.specs.Live.{calls_among}
 use Rattle.fs_live.specs.Live.{calls_in, room_of, serving}
 use Rattle.fs_live.specs.Live.{own_exchange}
@@ -102,7 +104,7 @@ pub record IsAStep {G : Type 0} (other : May G) (m : State G) (files : G) (w : L
         acts = return_acts (return_stores c.taken c.head (room_of c) x.reply last) seen;
         last = last;
       }) (after_alone m c files)
-  pub acts : acts_of (PushesChain c x notice last used seen)
+  pub acts : event_acts (PushesChain c x notice last used seen)
       ≡ return_acts (return_stores (returning w) c.head (room_of c) x.reply last) seen
 
 -- so it is for any acts of other chains between its pop and its return, and for any writes of the guest. The
@@ -135,7 +137,7 @@ pub record IsAReturn {G : Type 0} (m : State G) (limit : ℕ) (w : LiveQueue) (c
         last = last;
       }) (after_alone m c m.files)
   pub acts : (notice : Bool) →
-      acts_of (PushesChain c x notice last used seen)
+      event_acts (PushesChain c x notice last used seen)
       ≡ return_acts (return_stores (returning w) c.head (room_of c) x.reply last) seen
 
 -- so it is for each such chain of a run: no call is made, and the options stay
@@ -171,7 +173,7 @@ abbrev pub may_store : {F : Type 0} → LiveState F → LiveEvent → List ℕ
 may_store s (PushesChain c x notice last used seen) =
     room_of c ++ queue_addresses (slice_get s.queues c.queue)
 may_store s (FillsBuffer c stores) = room_of c
-may_store s (Sleeps i store) = sleep_addresses (slice_get s.queues i)
+may_store s (StoresNotification i store) = sleep_addresses (slice_get s.queues i)
 may_store s _ = []
 
 -- the chain that is returned, or in whose reply buffer bytes are stored, is in flight at that moment
@@ -184,7 +186,7 @@ IsOutThen s _ = Unit {0}
 abbrev pub StoresThere : {F : Type 0} → LiveState F → LiveEvent → Type 0
 StoresThere s e =
     IsOutThen s e × AllByRecursion (λ (w : ℕ
-    × ℕ). Contains (may_store s e) w.0) (flat_map writes_of (stores_among (acts_of e)))
+    × ℕ). Contains (may_store s e) w.0) (flat_map writes_of (stores_among (event_acts e)))
 
 -- no event of a run stores anything elsewhere
 abbrev pub EachStoresThere : {F : Type 0} → (may : May F) → (s : LiveState F) → (es : List LiveEvent) →
@@ -226,7 +228,7 @@ ReturnsHavePlaces {F} may =
     (s now after : LiveState F) (es : List LiveEvent) (c : OutChain) (x : Exchange) (notice : Bool) (last : ℕ)
     (used : List Store) (seen : List ℕ) →
     s.outs ≡ [] →
-    AllByRecursion IsEven s.queues →
+    AllByRecursion HasNoneInFlight s.queues →
     LiveRun may s es now →
     Happens may now (PushesChain c x notice last used seen) after →
     (w : LiveQueue)
@@ -259,7 +261,7 @@ going w = record w { queue = record (w.queue) { stopped = false } }
 
 -- the event doesn't reset the queue, not from a record either
 abbrev pub NotAnew : ℕ → LiveEvent → Type 0
-NotAnew i (Begins j w) = (j == i) ≡ true → ⊥
+NotAnew i (ResetsQueue j w) = (j == i) ≡ true → ⊥
 NotAnew i (MovesDevice m queues) = ⊥
 NotAnew i _ = Unit {0}
 
@@ -317,20 +319,20 @@ told_of_queue (Some w) = addresses (element_at (returning w)) 8 ++ addresses (in
 abbrev pub told_by : {F : Type 0} → LiveState F → LiveEvent → List ℕ
 told_by s (PushesChain c x notice last used seen) =
     take (length x.reply) (room_of c) ++ told_of_queue (slice_get s.queues c.queue)
-told_by s (Sleeps i store) = addresses store.address 2
+told_by s (StoresNotification i store) = addresses store.address 2
 told_by s (FillsBuffer c stores) = flat_map (λ store. addresses store.address (length store.bytes)) stores
 told_by s _ = []
 
 -- over each memory, an event's stores mark the pages of the addresses that it reports, of blocks or of I/O
 -- pages, and no others. So do those of the plain machine's step, which stores the same
 abbrev pub MarksAsTold : {F : Type 0} → LiveState F → LiveEvent → Type 0
-MarksAsTold s e = (m : Memory) → Marks m (told_by s e) (after_stores m (stores_among (acts_of e))).host
+MarksAsTold s e = (m : Memory) → Marks m (told_by s e) (after_stores m (stores_among (event_acts e))).host
 
 -- and if the reported addresses are marked, a log by the guest's pages has just those that the stores write
 -- to
 abbrev pub LogsAsTold : {F : Type 0} → LiveState F → LiveEvent → Type 0
 LogsAsTold s e =
-    (page : ℕ) → list_any (λ a. page_of a == page) (written_by (acts_of e))
+    (page : ℕ) → list_any (λ a. page_of a == page) (written_by (event_acts e))
     ≡ list_any (λ a. page_of a == page) (told_by s e)
 
 -- so it is for each event of a run
@@ -363,11 +365,11 @@ abbrev pub StandsEven : {F : Type 0} → May F → Type 0
 StandsEven {F} may =
     (s now : LiveState F) (es : List LiveEvent) (i : ℕ) (w : LiveQueue) →
     s.outs ≡ [] →
-    AllByRecursion IsEven s.queues →
+    AllByRecursion HasNoneInFlight s.queues →
     LiveRun may s es now →
     slice_get now.queues i ≡ Some w →
     tickets_on i now.outs ≡ [] →
-    IsEven w × ((after : LiveState F) → Happens may now (Begins i w) after → after ≡ now)
+    HasNoneInFlight w × ((after : LiveState F) → Happens may now (ResetsQueue i w) after → after ≡ now)
 
 -- the parts of a queue that no record has
 abbrev pub untold : LiveQueue → ℕ × Bool
@@ -380,7 +382,7 @@ abbrev pub MovedGoesOn : {F : Type 0} → May F → Type 0
 MovedGoesOn {F} may =
     (s now moved : LiveState F) (es : List LiveEvent) (m : Memory) (queues : List LiveQueue) →
     s.outs ≡ [] →
-    AllByRecursion IsEven s.queues →
+    AllByRecursion HasNoneInFlight s.queues →
     LiveRun may s es now →
     Happens may now (MovesDevice m queues) moved →
     map untold queues ≡ map untold now.queues →

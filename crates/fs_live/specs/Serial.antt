@@ -14,9 +14,10 @@ use Rattle.plain_machine.specs.Run.{KickRun, Turn}
 use Rattle.plain_machine.specs.Step.{State, Exchange, Exchanged, Step}
 use Rattle.plain_machine.specs.StepBy.{FindFlags, MayStoreLast, after_stores, stores_among}
 use Rattle.fs_live.specs.Several.{LiveQueue}
-use Rattle.fs_live.specs.Live.{OutChain, LiveState, LiveEvent, Walks, DecodesRequest, EndsCall, PushesChain}
+use Rattle.fs_live.specs.Live.{OutChain, LiveState, LiveEvent, Walks, DecodesRequest, ReceivesAnswer}
+use Rattle.fs_live.specs.Live.{PushesChain}
 use Rattle.fs_live.specs.Live.{LiveRun}
-use Rattle.fs_live.specs.Live.{acts_of, calls_in, room_of}
+use Rattle.fs_live.specs.Live.{calls_in, event_acts, room_of}
 use Rattle.fs_live.specs.Runs.{request_in}
 
 -- a chain from its pop to its return, with the events between
@@ -45,7 +46,7 @@ events_in r =
 -- between them the chain is decoded and answered, and nothing else happens
 abbrev pub IsOfChain : LiveEvent → Type 0
 IsOfChain (DecodesRequest c request told) = Unit {0}
-IsOfChain (EndsCall c call answer) = Unit {0}
+IsOfChain (ReceivesAnswer c call answer) = Unit {0}
 IsOfChain _ = ⊥
 
 -- the plain machine over a memory
@@ -74,7 +75,7 @@ pub record FoundIn {F : Type 0} (m : Memory) (s : LiveState F) (r : Single) : Ty
   pub flags :
       (w : LiveQueue) →
       slice_get s.queues r.queue ≡ Some w →
-      FindFlags m w.queue (acts_of (return_in r))
+      FindFlags m w.queue (event_acts (return_in r))
   pub apart : MayStoreLast m (room_of r.chain) r.last
 
 -- such a chain is a step of the plain machine, which leaves the memory with the chain's stores in it
@@ -88,7 +89,7 @@ SingleIsStep {F} may =
     LiveRun may s (events_in r) after →
     FoundIn m s r →
     Step may (plain s m) r.queue (calls_in r.chain.phase) (Exchanged r.exchange r.notice)
-    (plain after (after_stores m (stores_among (acts_of (return_in r)))))
+    (plain after (after_stores m (stores_among (event_acts (return_in r)))))
     × (after.outs ≡ [])
     × (w' : LiveQueue)
     × (slice_get after.queues r.queue ≡ Some w')
@@ -104,7 +105,7 @@ SerialRun {F} may i m s (r ∷ rs) m' after =
     × AllByRecursion IsOfChain r.between
     × LiveRun may s (events_in r) mid
     × FoundIn m s r
-    × SerialRun may i (after_stores m (stores_among (acts_of (return_in r)))) mid rs m' after
+    × SerialRun may i (after_stores m (stores_among (event_acts (return_in r)))) mid rs m' after
 
 -- a chain as a turn of the plain machine
 abbrev pub turn_of : Single → Turn

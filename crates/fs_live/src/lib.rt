@@ -4,14 +4,17 @@
 
 ghost use Rattle.fs_live.specs.Among.{HandleFindsStopped, HandleLoadsAmong, HandleWalksAmong};
 ghost use Rattle.fs_live.specs.Among.{WantedAmongHasAPlace};
-ghost use Rattle.fs_live.specs.Filling.{HandleFills, HandleFillsRange};
+ghost use Rattle.fs_live.specs.Filling.{HandleFillsBuffer, HandleFillsRange};
 ghost use Rattle.fs_live.specs.Guest.{PagesOfRun};
-ghost use Rattle.fs_live.specs.Handles.{HandleAnswers, HandleAsks, HandleBegins, HandleCalls, HandleDeclines};
-ghost use Rattle.fs_live.specs.Handles.{HandleFaulty, HandleLoads, HandleReturns, HandleSleeps, HandleWalks};
+ghost use Rattle.fs_live.specs.Handles.{HandleCalls, HandleDeclines, HandleDecodesRequest};
+ghost use Rattle.fs_live.specs.Handles.{HandleReceivesAnswer, HandleResetsQueue};
+ghost use Rattle.fs_live.specs.Handles.{HandleFaulty, HandleLoads, HandlePushesChain};
+ghost use Rattle.fs_live.specs.Handles.{HandleStoresNotification, HandleWalks};
 ghost use Rattle.fs_live.specs.Handles.{OptionsStay};
 ghost use Rattle.fs_live.specs.InitBeside.{InitBeside};
-ghost use Rattle.fs_live.specs.Others.{AskedIsHeld, HandleAbandons, HandleDrops, HandleMaps, HandleMoves};
-ghost use Rattle.fs_live.specs.Others.{HandleReplies, HandleRepliesInstead, HandleReturnsOwn};
+ghost use Rattle.fs_live.specs.Others.{AskedIsHeld, HandleAbandons, HandleDrops, HandleMovesDevice};
+ghost use Rattle.fs_live.specs.Others.{HandleRemaps};
+ghost use Rattle.fs_live.specs.Others.{HandlePushesOwn, HandleRepliesInstead, HandleRepliesOwnBytes};
 ghost use Rattle.fs_live.specs.Overlap.{Overlap};
 ghost use Rattle.fs_live.specs.Rewritten.{Rewritten};
 ghost use Rattle.fs_live.specs.Runs.{CallsAreARun, LiveUsedInOrder, MovedGoesOn, OncePerLiveChain};
@@ -34,8 +37,8 @@ pub fn law_queues()
     ensures event { ByEvent }
 {}
 
-/// The theorems on a run of several chains. The guest may write meanwhile, any chain may be given up or lost,
-/// and the memory may get other mappings.
+/// The theorems on a run of several chains. The guest may write meanwhile, any chain may be given up or
+/// abandoned, and the memory may get other mappings.
 /// - The calls are a run of the file system.
 /// - Each returned chain is by itself the plain machine's step by its loads. A chain with its caller's own
 ///   bytes is stored as a step's reply is.
@@ -99,22 +102,22 @@ pub fn law_handles<F: FileSystem>()
     ensures loads { HandleLoads }
     ensures loads_among { HandleLoadsAmong }
     ensures declines { HandleDeclines F.may }
-    ensures asks { HandleAsks F.may }
-    ensures answers { HandleAnswers F.may }
+    ensures asks { HandleDecodesRequest F.may }
+    ensures answers { HandleReceivesAnswer F.may }
     ensures calls { HandleCalls F.may }
-    ensures returns { HandleReturns F.may }
+    ensures returns { HandlePushesChain F.may }
     ensures faulty { HandleFaulty F.may }
-    ensures sleeps { HandleSleeps F.may }
-    ensures begins { HandleBegins F.may }
+    ensures sleeps { HandleStoresNotification F.may }
+    ensures begins { HandleResetsQueue F.may }
     ensures drops { HandleDrops F.may }
     ensures abandons { HandleAbandons F.may }
-    ensures replies { HandleReplies F.may }
+    ensures replies { HandleRepliesOwnBytes F.may }
     ensures instead { HandleRepliesInstead F.may }
     ensures held { AskedIsHeld }
-    ensures returns_own { HandleReturnsOwn F.may }
-    ensures fills { HandleFills F.may }
+    ensures returns_own { HandlePushesOwn F.may }
+    ensures fills { HandleFillsBuffer F.may }
     ensures fills_range { HandleFillsRange F.may }
-    ensures maps { HandleMaps F.may }
-    ensures moves { HandleMoves F.may }
+    ensures maps { HandleRemaps F.may }
+    ensures moves { HandleMovesDevice F.may }
     ensures options { OptionsStay }
 {}

@@ -24,7 +24,7 @@ use Rattle.fs_chain.specs.Queues.{gave, in_flight, untook}
 use Rattle.fs_chain.specs.Whole.{LoadsOf, WalksBy}
 use Rattle.notify.specs.Threads.{Ways, right_ways, ThreadedQueue, Walker, Asker, Nobody, may_act, after_act}
 use Rattle.notify.specs.Threads.{ActsOver}
-use Rattle.notify.specs.Threads.{Wishes, WishIsThere, Silences, TakesOne, DropsOne, SleepsNow, ReturnsSome}
+use Rattle.notify.specs.Threads.{Wishes, WishIsThere, Silences, TakesOne, DropsOne, SleepsNow, ReturnsChains}
 
 -- the rules that a queue's threads keep
 abbrev pub ways_of : QueueState → Ways
@@ -175,4 +175,5 @@ ReturnIsAnAct =
     → end_error from q ≡ None
     → IsOf q s
     → s.holder ≡ Walker
-    → IsTrue (may_act (ways_of q) s (ReturnsSome 1)) × IsOf (gave q) (after_act (ways_of q) s (ReturnsSome 1))
+    → IsTrue (may_act (ways_of q) s (ReturnsChains 1))
+    × IsOf (gave q) (after_act (ways_of q) s (ReturnsChains 1))

@@ -12,8 +12,8 @@
 //! | `pop`: the load of the available index; a chain | `Loads`, `TakesOne` |
 //! | `pop` behind the barrier: no chain, or as many in flight as may be | `SleepsNow` |
 //! | `give_up` | `DropsOne` |
-//! | `push`: its last store, that of the used index | `Publishes`, `Returns` |
-//! | `pushed`, with a load behind the barrier | `Checks` |
+//! | `push`: its last store, that of the used index | `Publishes`, `ReturnsChains` |
+//! | `pushed`, with a load behind the barrier | `ChecksWish` |
 //!
 //! The lock is held from `push` to `pushed`, so no step of another thread comes between.
 #![tactic(auto)]

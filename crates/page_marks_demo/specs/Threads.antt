@@ -45,8 +45,8 @@ abbrev pub IsTakenTo : List Tally → (end : ℕ) → Type 0
 IsTakenTo pages end = (p : ℕ) → p < end → (tally_of pages p).held ≤ (tally_of pages p).seen
 
 -- two passes have the same part
-abbrev pub HaveEqualParts : PageCounts → PageCounts → Type 0
-HaveEqualParts v w = w.parts * 2 ^ v.depth ≡ v.parts * 2 ^ w.depth
+abbrev pub HaveSamePart : PageCounts → PageCounts → Type 0
+HaveSamePart v w = w.parts * 2 ^ v.depth ≡ v.parts * 2 ^ w.depth
 
 -- the pass has half of all parts
 abbrev pub HasHalf : PageCounts → Type 0

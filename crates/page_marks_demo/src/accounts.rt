@@ -7,7 +7,7 @@ ghost use Rattle.std.specs.Thread.{IsSync};
 ghost use Rattle.vm_bitmaps.specs.Pages.{pages_of};
 ghost use Rattle.vm_bitmaps.specs.Words.{page_bit};
 ghost use Rattle.vm_atomic_bitmaps.specs.Passes.{IsPassOf, counting};
-ghost use Rattle.page_marks_demo.specs.Threads.{AreWordsOf, Gathering, HasHalf, HaveEqualParts, HaveTaken};
+ghost use Rattle.page_marks_demo.specs.Threads.{AreWordsOf, Gathering, HasHalf, HaveSamePart, HaveTaken};
 ghost use Rattle.page_marks_demo.specs.Threads.{IsFresh, IsTakenTo, MarksJust};
 ghost use Rattle.page_marks_demo.specs.Threads.{NeitherLostNorInvented, SettleTogether, is_in_lists};
 
@@ -60,7 +60,7 @@ fn mark_beside<R: Threads + Sync>(
     ensures marker { IsPassOf bitmap.now result.0 }
     ensures marked { MarksJust (is_in_lists bitmap.now.page_size bitmap.now.len lists.now) marker.counts.pages
         result.0.counts.pages }
-    ensures part { HaveEqualParts marker.counts result.0.counts }
+    ensures part { HaveSamePart marker.counts result.0.counts }
     ensures gatherer { IsPassOf bitmap.now result.1.0 }
     ensures pass { result.1.0 ≡ counting gatherer result.1.0.counts.pages }
     ensures gathered { Gathering gatherer.counts.pages result.1.0.counts.pages }

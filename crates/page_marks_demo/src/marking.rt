@@ -3,7 +3,7 @@
 ghost use Rattle.std.specs.Prelude.{◌≡◌, ◌<◌};
 ghost use Rattle.std.specs.Thread.{IsSync};
 ghost use Rattle.vm_atomic_bitmaps.specs.Passes.{IsPassOf, counting};
-ghost use Rattle.page_marks_demo.specs.Threads.{MarksJust, HaveEqualParts, is_in_ranges, is_in_lists};
+ghost use Rattle.page_marks_demo.specs.Threads.{MarksJust, HaveSamePart, is_in_ranges, is_in_lists};
 
 use std::thread::{Threads, join};
 use vm_atomic_bitmaps::{AtomicBitmap, BitmapPass};
@@ -53,7 +53,7 @@ pub(crate) fn mark_lists<R: Threads + Sync>(
     ensures own { IsPassOf bitmap.now result }
     ensures pages { MarksJust (is_in_lists bitmap.now.page_size bitmap.now.len lists.now) pass.counts.pages
         result.counts.pages }
-    ensures part { HaveEqualParts pass.counts result.counts }
+    ensures part { HaveSamePart pass.counts result.counts }
 {
     if lists.len() <= 1 {
         return mark_in_turn(bitmap, pass, lists);
@@ -68,14 +68,14 @@ pub(crate) fn mark_lists<R: Threads + Sync>(
             ensures own { IsPassOf bitmap.entry.now result }
             ensures pages { MarksJust (is_in_lists bitmap.entry.now.page_size bitmap.entry.now.len
                 left.entry.now) pass.counts.pages result.counts.pages }
-            ensures part { HaveEqualParts pass.counts result.counts }
+            ensures part { HaveSamePart pass.counts result.counts }
         { mark_lists(rt, bitmap, pass, left) },
         move || -> BitmapPass
             requires { IsSync R.row × IsPassOf bitmap.now second }
             ensures own { IsPassOf bitmap.entry.now result }
             ensures pages { MarksJust (is_in_lists bitmap.entry.now.page_size bitmap.entry.now.len
                 right.entry.now) second.counts.pages result.counts.pages }
-            ensures part { HaveEqualParts second.counts result.counts }
+            ensures part { HaveSamePart second.counts result.counts }
         { mark_lists(rt, bitmap, second, right) },
     );
     bitmap.join_pass(&mut first, second);

@@ -12,7 +12,7 @@ use Rattle.fs_chain.specs.declared.loads.LoadOutcome.TheVariants as wents
 use Rattle.fs_chain.specs.declared.popping.PopOutcome.TheVariants as says
 use Rattle.fs_chain.specs.declared.queue.QueueState.{QueueState}
 use Rattle.fs_chain.specs.declared.chain_handle.ChainHandle.{ChainHandle}
-use Rattle.fs_live.specs.Filling.{HandleFills, HandleFillsRange, data_stores}
+use Rattle.fs_live.specs.Filling.{HandleFillsBuffer, HandleFillsRange, data_stores}
 use Rattle.fs_live.specs.Handles.{HandleWalks, live_of}
 use Rattle.fs_live.specs.Live.{FillsBuffer, LiveEvent, LiveRun, LiveState, OutChain, Walks, after_walk, new_chain, room_of}
 use Rattle.fs_live.specs.Runs.{told_by}
@@ -22,7 +22,8 @@ use Rattle.worked_callers.proofs.OwnRuns.{popped}
 module _ {F : Type 0} (may : May F) (walks_law : HandleWalks may) (old one : ChainHandle) (before after : QueueState) (head n r : ℕ)
     (goes : before.stopped ≡ None) (walks : IsWalked old one before after (wents.On (says.Chain head n r))) (from : ℕ)
     (bytes : List ℕ) (s : LiveState F) (i : ℕ) (here : IsAt may s i old before) where
-  pub filled_window : HandleFills may → (v : Window) → IsWindowFrom one.regions true one.descriptors.items from v → length bytes ≤ v.len
+  pub filled_window : HandleFillsBuffer may → (v : Window) → IsWindowFrom one.regions true one.descriptors.items from v
+      → length bytes ≤ v.len
       → (popped : LiveEvent) × (c : OutChain) × (end : LiveState F)
       × LiveRun may s (popped ∷ FillsBuffer c (data_stores (room_of c) from bytes) ∷ []) end
       × (located (location (places_in one.regions) Write) (take (length bytes) (drop from (room_of c)))

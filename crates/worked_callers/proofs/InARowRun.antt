@@ -17,7 +17,7 @@ use Rattle.virtiofsd_fuse.specs.Grammar.{meaning, meant, row}
 use Rattle.virtiofsd_fuse.specs.Serving.{May}
 use Rattle.plain_machine.specs.Examples.{queue}
 use Rattle.plain_machine.specs.StepBy.{FindFlags}
-use Rattle.fs_live.specs.Live.{AsksSo, AnswersSo, ReturnsSo, WalksSo, acts_of}
+use Rattle.fs_live.specs.Live.{DecodesRequestSo, ReceivesAnswerSo, PushesChainSo, WalksSo, event_acts}
 use Rattle.fs_live.specs.Overlap.{at_positions, destroy, first, first_loads, first_table, second, second_loads, second_table, state}
 use Rattle.fs_live.specs.Overlap.{unknown}
 use Rattle.fs_live.specs.Serial.{FoundIn, SerialRun, return_in}
@@ -34,11 +34,11 @@ first_walks : {F : Type 0} (f : F) →
 first_walks f = record { w = at_positions 0 0; there = refl; room = refl; goes = refl; walks = (first_fetches, refl) }
 
 first_asks : {F : Type 0} (f : F) →
-    AsksSo (state f (at_positions 1 0) 1 (first ∷ [])) first unknown [] (state f (at_positions 1 0) 1 (first_asked ∷ []))
+    DecodesRequestSo (state f (at_positions 1 0) 1 (first ∷ [])) first unknown [] (state f (at_positions 1 0) 1 (first_asked ∷ []))
 unfolding addresses meaning reading_of meant row reply_bytes error_bytes fields.field_bytes
 first_asks f = record { before = []; behind = []; out = refl; fresh = refl; whole = refl; tells = refl; state = refl }
 
-first_returns : {F : Type 0} (f : F) → ReturnsSo (state f (at_positions 1 0) 1 (first_asked ∷ [])) first_asked first_exchange true 0
+first_returns : {F : Type 0} (f : F) → PushesChainSo (state f (at_positions 1 0) 1 (first_asked ∷ [])) first_asked first_exchange true 0
     first_used (le16 0) (state f (at_positions 1 1) 1 [])
 unfolding addresses meaning reading_of meant row reply_bytes error_bytes fields.field_bytes
 first_returns f = record {
@@ -59,12 +59,13 @@ second_walks : {F : Type 0} (f : F) →
 second_walks f = record { w = at_positions 1 1; there = refl; room = refl; goes = refl; walks = (second_fetches, refl) }
 
 second_asks : {F : Type 0} (f : F) →
-    AsksSo (state f (at_positions 2 1) 1 (second ∷ [])) second destroy (Destroy ∷ []) (state f (at_positions 2 1) 1 (second_asked ∷ []))
+    DecodesRequestSo (state f (at_positions 2 1) 1 (second ∷ [])) second destroy (Destroy ∷ [])
+    (state f (at_positions 2 1) 1 (second_asked ∷ []))
 unfolding addresses meaning reading_of meant row reply_bytes error_bytes fields.field_bytes
 second_asks f = record { before = []; behind = []; out = refl; fresh = refl; whole = refl; tells = refl; state = refl }
 
 second_answers : {F : Type 0} (may : May F) (before after : F) → may before Destroy Done after →
-    AnswersSo may (state before (at_positions 2 1) 1 (second_asked ∷ [])) second_asked Destroy Done
+    ReceivesAnswerSo may (state before (at_positions 2 1) 1 (second_asked ∷ [])) second_asked Destroy Done
     (state after (at_positions 2 1) 0 (second_answered ∷ []))
 unfolding addresses meaning reading_of meant row reply_bytes error_bytes fields.field_bytes
 second_answers may before after so = record {
@@ -82,7 +83,8 @@ second_answers may before after so = record {
   state = refl;
 }
 
-second_returns : {F : Type 0} (f : F) → ReturnsSo (state f (at_positions 2 1) 0 (second_answered ∷ [])) second_answered second_exchange true
+second_returns : {F : Type 0} (f : F)
+    → PushesChainSo (state f (at_positions 2 1) 0 (second_answered ∷ [])) second_answered second_exchange true
     0 second_used (le16 0) (state f (at_positions 2 2) 0 [])
 unfolding addresses meaning reading_of meant row reply_bytes error_bytes fields.field_bytes
 second_returns f = record {
@@ -133,7 +135,7 @@ unfolding place addresses stored_all
 first_found f = record {
   places = refl;
   loads = λ w at. subst (λ (v : LiveQueue). HasLoaded with_both v.queue first_loads unknown) (same_some (at_positions 0 0) w at) first_has;
-  flags = λ w at. subst (λ (v : LiveQueue). FindFlags with_both v.queue (acts_of (return_in one)))
+  flags = λ w at. subst (λ (v : LiveQueue). FindFlags with_both v.queue (event_acts (return_in one)))
       (same_some (at_positions 0 0) w at) (refl, tt);
   apart = inl refl;
 }
@@ -144,7 +146,7 @@ second_found f = record {
   places = refl;
   loads = λ w at. subst (λ (v : LiveQueue). HasLoaded after_one v.queue second_loads destroy)
       (same_some (at_positions 1 1) w at) second_has;
-  flags = λ w at. subst (λ (v : LiveQueue). FindFlags after_one v.queue (acts_of (return_in two)))
+  flags = λ w at. subst (λ (v : LiveQueue). FindFlags after_one v.queue (event_acts (return_in two)))
       (same_some (at_positions 1 1) w at) (refl, tt);
   apart = inl refl;
 }

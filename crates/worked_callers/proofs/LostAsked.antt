@@ -15,14 +15,15 @@ use Rattle.fs_chain.specs.declared.loads.LoadOutcome.TheVariants as wents
 use Rattle.fs_chain.specs.declared.queue.QueueState.{QueueState}
 use Rattle.fs_chain.specs.declared.popping.PopOutcome.TheVariants as says
 use Rattle.fs_chain.specs.declared.chain_handle.ChainHandle.{ChainHandle}
-use Rattle.fs_live.specs.Handles.{HandleAsks, HandleWalks, IsHeld, IsOut, IsReached, IsSessionOf, live_of}
-use Rattle.fs_live.specs.Live.{Abandons, DecodesRequest, EndsCall, Happens, LiveEvent, LiveRun, LiveState, OutChain, Walks, after_answer}
+use Rattle.fs_live.specs.Handles.{HandleDecodesRequest, HandleWalks, IsHeld, IsOut, IsReached, IsSessionOf, live_of}
+use Rattle.fs_live.specs.Live.{Abandons, DecodesRequest, Happens, LiveEvent, LiveRun, LiveState, OutChain, ReceivesAnswer, Walks}
+use Rattle.fs_live.specs.Live.{after_answer}
 use Rattle.fs_live.specs.Live.{after_asking}
-use Rattle.fs_live.specs.Live.{after_loss, after_walk, asked_chain, calls_among, new_chain}
+use Rattle.fs_live.specs.Live.{after_abandoning, after_walk, asked_chain, calls_among, new_chain}
 use Rattle.fs_live.specs.Others.{HandleAbandons}
 use Rattle.worked_callers.proofs.ServedBeside.{chain_is, reached_by}
 
-module _ {F : Type 0} (may : May F) (walks_law : HandleWalks may) (asks_law : HandleAsks may) (abandons_law : HandleAbandons may)
+module _ {F : Type 0} (may : May F) (walks_law : HandleWalks may) (asks_law : HandleDecodesRequest may) (abandons_law : HandleAbandons may)
     (old one two : ChainHandle) (before after : QueueState) (head n r : ℕ)
     (session : Session) (request : List ℕ) (made : made_call.FileCall) (goes : before.stopped ≡ None)
     (walks : IsWalked old one before after (wents.On (says.Chain head n r)))
@@ -56,7 +57,7 @@ module _ {F : Type 0} (may : May F) (walks_law : HandleWalks may) (asks_law : Ha
       (reached_by may s s₁ (Walks i loaded ds came) reached first) small refl refl held in_session asked tt in
       let s₂ : LiveState F = after_asking s₁ s.outs [] c request in
       let d : OutChain = asked_chain c request s.options [] in
-      let end : LiveState F = after_loss s₂ s.outs [] d in
+      let end : LiveState F = after_abandoning s₂ s.outs [] d in
       let walked : LiveEvent = Walks i loaded ds came in
       let told : LiveEvent = DecodesRequest c request (call ∷ []) in (
         (
@@ -69,8 +70,8 @@ module _ {F : Type 0} (may : May F) (walks_law : HandleWalks may) (asks_law : Ha
         λ answer files fits so.
             let s₃ : LiveState F = after_answer s₂ s.outs [] d request s.options ((call, answer) ∷ []) files in
             let e : OutChain = asked_chain c request s.options ((call, answer) ∷ []) in
-            let last : LiveState F = after_loss s₃ s.outs [] e in
-            let answered : Happens may s₂ (EndsCall d call answer) s₃ = record {
+            let last : LiveState F = after_abandoning s₃ s.outs [] e in
+            let answered : Happens may s₂ (ReceivesAnswer d call answer) s₃ = record {
               before = s.outs;
               behind = [];
               out = refl;
@@ -84,7 +85,7 @@ module _ {F : Type 0} (may : May F) (walks_law : HandleWalks may) (asks_law : Ha
               may_so = so;
               state = refl;
             } in (
-              walked ∷ told ∷ EndsCall d call answer ∷ Abandons e ∷ [],
+              walked ∷ told ∷ ReceivesAnswer d call answer ∷ Abandons e ∷ [],
               last,
               (s₁, first, (s₂, asking.0, (s₃, answered, (last, (abandons_law s₃ e s.outs [] refl).0, refl)))),
               refl,

@@ -18,14 +18,15 @@ use Rattle.plain_machine.specs.StepBy.{Act}
 use Rattle.fs_live.specs.Handles.{HandleWalks, IsHeld, IsOut, IsReached, live_of}
 use Rattle.fs_live.specs.Live.{Happens, IfKeepsReturns, KeepsQueue, KeepsReturns, LiveEvent, LiveRun, LiveState, OutChain, Own, Remaps}
 use Rattle.fs_live.specs.Live.{PushesChain, RepliesOwnBytes, Walks, after_giving, after_own, after_walk, calls_among, new_chain, room_of}
-use Rattle.fs_live.specs.Others.{GoesBackOwn, HandleMaps, HandleReplies, HandleReturnsOwn, IsOwn}
+use Rattle.fs_live.specs.Others.{GoesBackOwn, HandlePushesOwn, HandleRemaps, HandleRepliesOwnBytes, IsOwn}
 use Rattle.fs_live.specs.Several.{LiveQueue, took}
 use Rattle.fs_live.proofs.Queues.{same_some, there_same}
 use Rattle.worked_callers.proofs.OthersBeside.{own_kept}
 use Rattle.worked_callers.proofs.ServedBeside.{chain_is, reached_by, taken_of}
 
-pub mapped_amid : {F : Type 0} (may : May F) (walks_law : HandleWalks may) (maps_law : HandleMaps may) (replies_law : HandleReplies may)
-    (returns_law : HandleReturnsOwn may) (old one two other : ChainHandle)
+pub mapped_amid :
+    {F : Type 0} (may : May F) (walks_law : HandleWalks may) (maps_law : HandleRemaps may) (replies_law : HandleRepliesOwnBytes may)
+    (returns_law : HandlePushesOwn may) (old one two other : ChainHandle)
     (before after : QueueState) (head n r serial : ℕ) (request reply : List ℕ) (notice : Bool) → before.stopped ≡ None
     → IsWalked old one before after (wents.On (says.Chain head n r))
     → FromTaken one.state (λ out. out.request_len ≡ length request) → own_error one.state one.serial serial (length reply) ≡ None

@@ -30,11 +30,14 @@ use Rattle.fs_chain.specs.declared.popping.PopOutcome.TheVariants as says
 use Rattle.fs_chain.specs.declared.chain_handle.ChainHandle.{ChainHandle}
 use Rattle.plain_machine.specs.StepBy.{Act, reply_stores, return_acts}
 use Rattle.fs_live.specs.Handles.{HandleWalks, IsHeld, IsOut, IsReached, live_of}
-use Rattle.fs_live.specs.Live.{Abandons, Drops, Happens, IsEven, LiveEvent, LiveRun, LiveState, MayBeOut, MovesDevice, OutChain, Own}
+use Rattle.fs_live.specs.Live.{Abandons, Drops, Happens, HasNoneInFlight, HasValidMaximum, LiveEvent, LiveRun, LiveState, MovesDevice}
+use Rattle.fs_live.specs.Live.{OutChain, Own}
 use Rattle.fs_live.specs.Live.{RepliesOwnBytes}
-use Rattle.fs_live.specs.Live.{PushesChain, Walks, after_drop, after_giving, after_loss, after_own, after_walk, calls_among, new_chain}
+use Rattle.fs_live.specs.Live.{PushesChain, Walks, after_abandoning, after_drop, after_giving, after_own, after_walk, calls_among}
+use Rattle.fs_live.specs.Live.{new_chain}
 use Rattle.fs_live.specs.Live.{room_of}
-use Rattle.fs_live.specs.Others.{AreBegunBy, GoesBackOwn, HandleAbandons, HandleDrops, HandleMoves, HandleReplies, HandleReturnsOwn, IfOut}
+use Rattle.fs_live.specs.Others.{AreBegunBy, GoesBackOwn, HandleAbandons, HandleDrops, HandleMovesDevice, HandlePushesOwn}
+use Rattle.fs_live.specs.Others.{HandleRepliesOwnBytes, IfOut}
 use Rattle.fs_live.specs.Others.{IsOwn, recorded}
 use Rattle.fs_live.specs.Several.{took}
 use Rattle.fs_live.proofs.Queues.{same_some, there_same}
@@ -90,8 +93,13 @@ lost_beside {F} may walks_law abandons_law old one before after head n r goes wa
     subst (λ (k : comes.CourseStep). Happens may s (Walks i loaded ds k) (after_walk s i q loaded ds k)) is walk.4 in
     let there₁ : slice_get s₁.queues i ≡ Some (live_of after) =
     subst (λ (k : comes.CourseStep). slice_get (after_walk s i q loaded ds k).queues i ≡ Some (live_of after)) is walk.5 in
-    let lost = abandons_law s₁ c s.outs [] refl in
-    (Walks i loaded ds came ∷ Abandons c ∷ [], after_loss s₁ s.outs [] c, (s₁, first, (after_loss s₁ s.outs [] c, lost.0, refl)), there₁)
+    let lost = abandons_law s₁ c s.outs [] refl in (
+      Walks i loaded ds came ∷ Abandons c
+          ∷ [],
+      after_abandoning s₁ s.outs [] c,
+      (s₁, first, (after_abandoning s₁ s.outs [] c, lost.0, refl)),
+      there₁,
+    )
 
 -- a chain that its caller replied to goes back by what push told, with his bytes
 pub own_goes_back : (st : state.ChainState) (q : QueueState) (len : ℕ) (s : PushStores) (flags room reply : List ℕ) (last : ℕ) →
@@ -127,8 +135,8 @@ changed_twice [] i x y = refl
 changed_twice (z ∷ zs) zero x y = refl
 changed_twice {A} (z ∷ zs) (suc i) x y = ap (λ (l : List A). z ∷ l) (changed_twice zs i x y)
 
-pub replied_beside : {F : Type 0} (may : May F) (walks_law : HandleWalks may) (replies_law : HandleReplies may)
-    (returns_law : HandleReturnsOwn may) (old one two : ChainHandle)
+pub replied_beside : {F : Type 0} (may : May F) (walks_law : HandleWalks may) (replies_law : HandleRepliesOwnBytes may)
+    (returns_law : HandlePushesOwn may) (old one two : ChainHandle)
     (before after final : QueueState) (head n r serial : ℕ) (request reply : List ℕ) (notice : Bool) → before.stopped ≡ None
     → IsWalked old one before after (wents.On (says.Chain head n r))
     → FromTaken one.state (λ out. out.request_len ≡ length request) → own_error one.state one.serial serial (length reply) ≡ None
@@ -218,7 +226,7 @@ begun_by q layout read stopped size desc avail used is =
     ∙ ap (λ (n : ℕ). made read.size read.desc read.avail n (is_some stopped)) used
     ∙ ap (λ (b : Bool). made read.size read.desc read.avail read.used b) is
 
-pub moved_by : {F : Type 0} (may : May F) (law : HandleMoves may) (q after : QueueState) (layout : QueueLayout) (read : Queue)
+pub moved_by : {F : Type 0} (may : May F) (law : HandleMovesDevice may) (q after : QueueState) (layout : QueueLayout) (read : Queue)
     (stopped : Option QueueError) → layout.size ≡ read.size →
     layout.desc ≡ read.desc → layout.avail ≡ read.avail → layout.used ≡ read.used → is_some stopped ≡ read.stopped →
     after ≡ record (reset_to q layout read.position) { stopped = stopped } →
@@ -235,9 +243,10 @@ moved_by {F} may law q after layout read stopped size desc avail used is after_i
     let there : QueueState = record (reset_to q layout read.position) { stopped = stopped } in
     let begun : AreBegunBy (read ∷ []) (after ∷ []) = record {
       same = ap (λ (x : Queue). x ∷ []) (ap recorded after_is ∙ begun_by q layout read stopped size desc avail used is);
-      even = (subst (λ (k : QueueState). IsEven (live_of k)) (sym after_is) (refl, small), tt);
+      even = (subst (λ (k : QueueState). HasNoneInFlight (live_of k)) (sym after_is) (refl, small), tt);
       few = (
-        subst (λ (k : QueueState). MayBeOut (live_of k)) (sym after_is) (some, subst (λ (n : ℕ). q.max_in_flight ≤ n) (sym size) few),
+        subst (λ (k : QueueState). HasValidMaximum (live_of k)) (sym after_is)
+            (some, subst (λ (n : ℕ). q.max_in_flight ≤ n) (sym size) few),
         tt,
       );
     } in

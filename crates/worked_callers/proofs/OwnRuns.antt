@@ -42,12 +42,13 @@ use Rattle.plain_machine.specs.MarkedPages.{returned_addresses}
 use Rattle.plain_machine.specs.Step.{Calls, Exchange}
 use Rattle.plain_machine.specs.StepBy.{Act}
 use Rattle.fs_live.specs.Guest.{DeviceEvent, PagesOfRun, Writes}
-use Rattle.fs_live.specs.Handles.{HandleAsks, HandleWalks, IsHeld, IsOut, IsReached, IsSessionOf, live_of}
-use Rattle.fs_live.specs.Live.{DecodesRequest, EndsCall, GoesBackWith, Happens, LiveEvent, LiveRun, LiveState, OutChain, Own, Phase}
+use Rattle.fs_live.specs.Handles.{HandleDecodesRequest, HandleWalks, IsHeld, IsOut, IsReached, IsSessionOf, live_of}
+use Rattle.fs_live.specs.Live.{DecodesRequest, GoesBackWith, Happens, LiveEvent, LiveRun, LiveState, OutChain, Own, Phase, ReceivesAnswer}
 use Rattle.fs_live.specs.Live.{PushesChain, RepliesOwnBytes}
 use Rattle.fs_live.specs.Live.{Walks, after_answer, after_asking, after_giving, after_own, after_walk, asked_chain, calls_among, new_chain}
 use Rattle.fs_live.specs.Live.{room_of}
-use Rattle.fs_live.specs.Others.{AskedIsHeld, GoesBackOwn, HandleReplies, HandleRepliesInstead, HandleReturnsOwn, IfOut, IsHeldAsked, IsOwn}
+use Rattle.fs_live.specs.Others.{AskedIsHeld, GoesBackOwn, HandlePushesOwn, HandleRepliesInstead, HandleRepliesOwnBytes, IfOut, IsHeldAsked}
+use Rattle.fs_live.specs.Others.{IsOwn}
 use Rattle.fs_live.specs.Runs.{IsAskedIn, IsBefore, OwnIsReturned, ReturnsTell, RunsOnQueue, events_on, going, tickets_on, told_by}
 use Rattle.fs_live.specs.Several.{InFlightId, IsSerial, LiveQueue, OncePerChain, OneAtATime, QueueEvent, RunsOver, UsedInOrder}
 use Rattle.fs_live.specs.Several.{heads_taken, returning, took}
@@ -87,7 +88,7 @@ popped {F} may law old one before after head n r goes walks s i here =
 
 -- ---- from the reply on
 
-module _ {F : Type 0} (may : May F) (returns_law : HandleReturnsOwn may) (before after : QueueState) (request reply : List ℕ)
+module _ {F : Type 0} (may : May F) (returns_law : HandlePushesOwn may) (before after : QueueState) (request reply : List ℕ)
     (notice : Bool) (goes : before.stopped ≡ None) where
   abbrev pub replied_from : (s s₁ : LiveState F) (c : OutChain) (st : state.ChainState) (earlier : List LiveEvent) (calls : Calls)
       (options : ℕ) → LiveRun may s earlier s₁ → calls_among earlier ≡ calls → s₁.outs ≡ s.outs ++ c ∷ []
@@ -176,7 +177,8 @@ both_events : (i head : ℕ) (loaded : Loaded) (ds : List Descriptor) (c d : Out
     ≡ several.PopsOne head ∷ several.PushesOne (d.taken.position, d.head) (length x.reply) used ∷ []
 both_events i head loaded ds c d request reply options x notice used seen same so = rw (same, so) refl
 
-module _ {F : Type 0} (may : May F) (walks_law : HandleWalks may) (replies_law : HandleReplies may) (returns_law : HandleReturnsOwn may)
+module _ {F : Type 0} (may : May F) (walks_law : HandleWalks may) (replies_law : HandleRepliesOwnBytes may)
+    (returns_law : HandlePushesOwn may)
     (old one two : ChainHandle) (before after : QueueState) (head n r serial : ℕ) (request reply : List ℕ) (notice : Bool)
     (goes : before.stopped ≡ None) (walks : IsWalked old one before after (wents.On (says.Chain head n r)))
     (len : FromTaken one.state (λ out. out.request_len ≡ length request))
@@ -287,8 +289,8 @@ entry_keeps w w' list list' e out brings is = elim brings.0 [
   | inr adds ↦ added_keeps w.state w'.state list list' e (λ l. added_found l (length list) (length e.0.name)) out adds is
 ]
 
-module _ {F : Type 0} (may : May F) (walks_law : HandleWalks may) (asks_law : HandleAsks may) (held_law : AskedIsHeld)
-    (instead_law : HandleRepliesInstead may) (returns_law : HandleReturnsOwn may)
+module _ {F : Type 0} (may : May F) (walks_law : HandleWalks may) (asks_law : HandleDecodesRequest may) (held_law : AskedIsHeld)
+    (instead_law : HandleRepliesInstead may) (returns_law : HandlePushesOwn may)
     (old one two three four : ChainHandle) (before after : QueueState) (head n r serial : ℕ) (session : Session) (request reply : List ℕ)
     (made : made_call.FileCall) (notice : Bool) (goes : before.stopped ≡ None)
     (walks : IsWalked old one before after (wents.On (says.Chain head n r)))
@@ -346,7 +348,7 @@ module _ {F : Type 0} (may : May F) (walks_law : HandleWalks may) (asks_law : Ha
       let calls : Calls = (call, answer) ∷ [] in
       let s₃ : LiveState F = after_answer s₂ s.outs [] d request s.options calls files in
       let e : OutChain = asked_chain c request s.options calls in
-      let answered : Happens may s₂ (EndsCall d call answer) s₃ = record {
+      let answered : Happens may s₂ (ReceivesAnswer d call answer) s₃ = record {
         before = s.outs;
         behind = [];
         out = refl;
@@ -370,5 +372,5 @@ module _ {F : Type 0} (may : May F) (walks_law : HandleWalks may) (asks_law : Ha
       let replied = instead_law s₃ e s.outs [] three serial s.options s₃.options request reply calls refl refl held' clear in
       let own = own_kept three.state three four (record e { phase = Own request reply }) reply replied.1 kept in
       replied_from may returns_law before after request reply notice goes s s₃ e four.state
-      (walked ∷ told ∷ EndsCall d call answer ∷ []) calls s₃.options
+      (walked ∷ told ∷ ReceivesAnswer d call answer ∷ []) calls s₃.options
       (s₁, pop.happens, (s₂, asking.0, (s₃, answered, refl))) refl refl here.there pop.there refl refl refl refl refl replied.0 own back

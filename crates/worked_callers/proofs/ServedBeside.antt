@@ -28,13 +28,14 @@ use Rattle.fs_chain.specs.declared.chain_handle.ChainHandle.{ChainHandle}
 use Rattle.fs_chain.proofs.WholeChains.{came_is, faulty_is}
 use Rattle.plain_machine.specs.Step.{Calls, EachSuits}
 use Rattle.plain_machine.specs.StepBy.{Act}
-use Rattle.fs_live.specs.Handles.{HandleAsks, HandleCalls, HandleFaulty, HandleReturns, HandleSleeps, HandleWalks, IsFaultyOut, IsHeld}
+use Rattle.fs_live.specs.Handles.{HandleCalls, HandleDecodesRequest, HandleFaulty, HandlePushesChain, HandleStoresNotification, HandleWalks}
+use Rattle.fs_live.specs.Handles.{IsFaultyOut, IsHeld}
 use Rattle.fs_live.specs.Handles.{IsKept, IsOut, IsReached, IsSessionOf, IsDecodedWhole, calls_told, live_of}
 use Rattle.fs_live.specs.Live.{
-  EndsCall,
+  ReceivesAnswer,
   DecodesRequest,
   Abandons,
-  Begins,
+  ResetsQueue,
   Declines,
   Drops,
   FillsBuffer,
@@ -48,7 +49,7 @@ use Rattle.fs_live.specs.Live.{
   OutChain,
   RepliesOwnBytes,
   PushesChain,
-  Sleeps,
+  StoresNotification,
   Walks,
   after_answer,
   after_asking,
@@ -82,10 +83,10 @@ calls_behind : (e : LiveEvent) (es fs : List LiveEvent) → calls_among (es ++ f
 calls_behind (Walks i loaded ds came) es fs is = is
 calls_behind (Declines i e) es fs is = is
 calls_behind (DecodesRequest c request told) es fs is = is
-calls_behind (EndsCall c call answer) es fs is = ap (λ (calls : Calls). (call, answer) ∷ calls) is
+calls_behind (ReceivesAnswer c call answer) es fs is = ap (λ (calls : Calls). (call, answer) ∷ calls) is
 calls_behind (PushesChain c x notice last used seen) es fs is = is
-calls_behind (Sleeps i store) es fs is = is
-calls_behind (Begins i w) es fs is = is
+calls_behind (StoresNotification i store) es fs is = is
+calls_behind (ResetsQueue i w) es fs is = is
 calls_behind (FillsBuffer c stores) es fs is = is
 calls_behind (Drops c) es fs is = is
 calls_behind (Abandons c) es fs is = is
@@ -178,12 +179,12 @@ module _ {F : Type 0} (may : May F) (law : HandleCalls may) (w w' : ChainHandle)
       let d = asked_chain c request options earlier in
       let more : Calls = earlier ++ (call, answer) ∷ [] in
       let next : LiveState F = after_answer s before behind d request options more run.0 in
-      let happens : Happens may s (EndsCall d call answer) next =
+      let happens : Happens may s (ReceivesAnswer d call answer) next =
       (law s d before behind w w' request options made given earlier later call answer run.0 out refl kept has calls_are run.1 run.2).0 in
       let rest = answered_all next c before behind more later files refl (kept_on s.page_size options request c earlier more made w kept)
       (calls_are ∙ sym (append_assoc earlier ((call, answer) ∷ []) later)) run.3 in
       record {
-        es = EndsCall d call answer ∷ rest.es;
+        es = ReceivesAnswer d call answer ∷ rest.es;
         end = rest.end;
         run = (next, happens, rest.run);
         outs = rest.outs;
@@ -224,8 +225,8 @@ pub record IsServed {F : Type 0} (may : May F) (s : LiveState F) (i : ℕ) (afte
   pub calls_of : calls_in single.chain.phase ≡ calls
   pub single_run : LiveRun may s (events_in single) end
 
-module _ {F : Type 0} (may : May F) (walks_law : HandleWalks may) (asks_law : HandleAsks may) (calls_law : HandleCalls may)
-    (returns_law : HandleReturns may) (old one later two three : ChainHandle)
+module _ {F : Type 0} (may : May F) (walks_law : HandleWalks may) (asks_law : HandleDecodesRequest may) (calls_law : HandleCalls may)
+    (returns_law : HandlePushesChain may) (old one later two three : ChainHandle)
     (before after : QueueState) (head n r : ℕ) (session : Session) (request : List ℕ) (made : told.Decoded) (given : ChainAnswer)
     (notice : Bool) (goes : before.stopped ≡ None)
     (walks : IsWalked old one before after (wents.On (says.Chain head n r))) (same : later.state ≡ one.state)
@@ -308,14 +309,15 @@ pub options_after : (changes : Bool) (now now' asked asked' left : ℕ) → left
 options_after changes now now' asked asked' left is stays = (λ no. ((stays.0 no).0, is ∙ (stays.0 no).1), λ yes. stays.1 yes ∙ sym is)
 
 -- what is stored before a sleep
-pub sleep_is : {F : Type 0} (may : May F) (q : QueueState) (wanted : Bool) (told : Option NotificationStore) → HandleSleeps may
+pub sleep_is : {F : Type 0} (may : May F) (q : QueueState) (wanted : Bool) (told : Option NotificationStore) → HandleStoresNotification may
     → StoresStayThere may → option_map store_of told ≡ notification_store q wanted
     → IfSome told (λ store. (s : LiveState F) (i : ℕ) → slice_get s.queues i ≡ Some (live_of q) → HasPlace s.places store.address
-    → (run : LiveRun may s (Sleeps i (store_of store) ∷ []) s) × EachStoresThere may s (Sleeps i (store_of store) ∷ []) s run)
+    → (run : LiveRun may s (StoresNotification i (store_of store) ∷ []) s)
+    × EachStoresThere may s (StoresNotification i (store_of store) ∷ []) s run)
 sleep_is may q wanted None law stores is = tt
 sleep_is {F} may q wanted (Some store) law stores is = λ s i there place.
-    let run : LiveRun may s (Sleeps i (store_of store) ∷ []) s = (s, (law s i q wanted (Some store) there is).0 place, refl) in
-    (run, stores s s (Sleeps i (store_of store) ∷ []) run)
+    let run : LiveRun may s (StoresNotification i (store_of store) ∷ []) s = (s, (law s i q wanted (Some store) there is).0 place, refl) in
+    (run, stores s s (StoresNotification i (store_of store) ∷ []) run)
 
 -- a faulty chain that is walked and goes back
 pub faulty_beside : {F : Type 0} (may : May F) (walks_law : HandleWalks may) (faulty_law : HandleFaulty may) (old one later : ChainHandle)

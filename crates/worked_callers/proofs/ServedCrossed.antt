@@ -19,7 +19,8 @@ use Rattle.fs_chain.specs.declared.popping.PopOutcome.TheVariants as says
 use Rattle.fs_chain.specs.declared.chain_handle.ChainHandle.{ChainHandle}
 use Rattle.plain_machine.specs.Step.{Calls}
 use Rattle.plain_machine.specs.StepBy.{Act}
-use Rattle.fs_live.specs.Handles.{HandleAsks, HandleCalls, HandleReturns, HandleWalks, IsHeld, IsKept, IsOut, IsReached, IsSessionOf}
+use Rattle.fs_live.specs.Handles.{HandleCalls, HandleDecodesRequest, HandlePushesChain, HandleWalks, IsHeld, IsKept, IsOut, IsReached}
+use Rattle.fs_live.specs.Handles.{IsSessionOf}
 use Rattle.fs_live.specs.Handles.{calls_told, live_of}
 use Rattle.fs_live.specs.Live.{DecodesRequest, Happens, LiveEvent, LiveRun, LiveState, OutChain, PushesChain, Walks, after_asking}
 use Rattle.fs_live.specs.Live.{after_giving}
@@ -41,8 +42,8 @@ late_of : (before mid after : QueueState) → before.stopped ≡ None → took (
 late_of before mid after goes one two =
     taken_of before mid goes one ∙ ap (λ (k : LiveQueue). record (k.queue) { position = before.next_avail; stopped = false }) two
 
-module _ {F : Type 0} (may : May F) (walks_law : HandleWalks may) (asks_law : HandleAsks may) (calls_law : HandleCalls may)
-    (returns_law : HandleReturns may) (old one one₂ one₃ old' two two₂ two₃ : ChainHandle)
+module _ {F : Type 0} (may : May F) (walks_law : HandleWalks may) (asks_law : HandleDecodesRequest may) (calls_law : HandleCalls may)
+    (returns_law : HandlePushesChain may) (old one one₂ one₃ old' two two₂ two₃ : ChainHandle)
     (before mid after : QueueState) (head n r head' n' r' : ℕ) (session session' : Session) (request request' : List ℕ)
     (made made' : told.Decoded) (given given' : ChainAnswer) (notice notice' : Bool)
     (goes : before.stopped ≡ None) (walks : IsWalked old one before mid (wents.On (says.Chain head n r)))

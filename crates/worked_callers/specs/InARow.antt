@@ -7,7 +7,7 @@ use Rattle.virtiofsd_fuse.specs.Examples.{le16, le32, zeros}
 use Rattle.plain_machine.specs.Examples.{blank, descriptor_bytes, put}
 use Rattle.plain_machine.specs.Step.{Exchange}
 use Rattle.plain_machine.specs.StepBy.{after_stores, stores_among}
-use Rattle.fs_live.specs.Live.{Asked, DecodesRequest, EndsCall, OutChain, acts_of}
+use Rattle.fs_live.specs.Live.{Asked, DecodesRequest, OutChain, ReceivesAnswer, event_acts}
 use Rattle.fs_live.specs.Overlap.{destroy, first, first_loads, first_table, second, second_loads}
 use Rattle.fs_live.specs.Overlap.{second_table, unknown}
 use Rattle.fs_live.specs.Serial.{Single, return_in}
@@ -86,7 +86,7 @@ two = record {
   descriptors = second_table;
   head = 2;
   fault = None;
-  between = DecodesRequest second destroy (Destroy ∷ []) ∷ EndsCall second_asked Destroy Done ∷ [];
+  between = DecodesRequest second destroy (Destroy ∷ []) ∷ ReceivesAnswer second_asked Destroy Done ∷ [];
   chain = second_answered;
   exchange = second_exchange;
   notice = true;
@@ -97,7 +97,7 @@ two = record {
 
 -- the memory between both chains, and the memory after them
 abbrev pub after_one : Memory
-after_one = after_stores with_both (stores_among (acts_of (return_in one)))
+after_one = after_stores with_both (stores_among (event_acts (return_in one)))
 
 abbrev pub after_both : Memory
-after_both = after_stores after_one (stores_among (acts_of (return_in two)))
+after_both = after_stores after_one (stores_among (event_acts (return_in two)))

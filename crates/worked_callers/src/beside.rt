@@ -18,9 +18,11 @@ ghost use Rattle.fs_chain.specs.declared.decoding.Decoded.TheVariants as asks;
 ghost use Rattle.fs_chain.specs.declared.state.ChainState.TheVariants as at;
 ghost use Rattle.plain_machine.specs.Step.{Calls};
 ghost use Rattle.fs_live.specs.Handles.{IsKept, IsReached, IsSessionOf, changes_options, live_of, load_count};
-ghost use Rattle.fs_live.specs.Live.{Asked, Begins, Declines, EndsCall, Happens, HasPlace, LiveEvent};
+ghost use Rattle.fs_live.specs.Live.{Asked, Declines, Happens, HasPlace, LiveEvent, ReceivesAnswer};
+ghost use Rattle.fs_live.specs.Live.{ResetsQueue};
 ghost use Rattle.fs_live.specs.Live.{LiveRun};
-ghost use Rattle.fs_live.specs.Live.{LiveState, NoneWaits, OutChain, Sleeps, calls_among, room_of};
+ghost use Rattle.fs_live.specs.Live.{LiveState, NoneWaits, OutChain, StoresNotification, calls_among};
+ghost use Rattle.fs_live.specs.Live.{room_of};
 ghost use Rattle.fs_live.specs.Live.{why_declined};
 ghost use Rattle.fs_live.specs.Runs.{EachStoresThere, events_on, going, tickets_on};
 ghost use Rattle.fs_live.specs.Several.{LiveQueue, RunsOver, UsedFrom, returns_among};
@@ -92,7 +94,7 @@ pub fn answer_beside<F: FileSystem>(
         → IsKept s.page_size options request c (asks.Call made) handle.old
         → F.may s.files (call_of (drop 80 request) made) (answer_of [] answer) files
         → (next : LiveState F)
-        × Happens F.may s (EndsCall c (call_of (drop 80 request) made) (answer_of [] answer)) next
+        × Happens F.may s (ReceivesAnswer c (call_of (drop 80 request) made) (answer_of [] answer)) next
         × (changes_options (meaning options request (length (room_of c))) (answer_of [] answer ∷ []) ≡ false
         → (next.options ≡ s.options) × (handle.new.session.options.0 ≡ options))
         × (changes_options (meaning options request (length (room_of c))) (answer_of [] answer ∷ []) ≡ true
@@ -216,8 +218,8 @@ pub fn sleep_beside<F: FileSystem>(queue: &QueueState, wanted: bool) -> Option<N
     ensures sleeps { IfSome result (λ store. (s : LiveState F) (i : ℕ)
         → slice_get s.queues i ≡ Some (live_of queue.now)
         → HasPlace s.places store.address
-        → (run : LiveRun F.may s (Sleeps i (store_of store) ∷ []) s)
-        × EachStoresThere F.may s (Sleeps i (store_of store) ∷ []) s run) }
+        → (run : LiveRun F.may s (StoresNotification i (store_of store) ∷ []) s)
+        × EachStoresThere F.may s (StoresNotification i (store_of store) ∷ []) s run) }
 {
     law_handles::<F>();
     law_runs::<F, F>();
@@ -232,7 +234,7 @@ pub fn begin_beside<F: FileSystem>(queue: &mut QueueState, layout: QueueLayout, 
         → queue.old.max_in_flight ≤ layout.size
         → AllByRecursion (λ c. NoneWaits s.page_size i c c.phase) s.outs
         → (next : LiveState F)
-        × Happens F.may s (Begins i (live_of queue.new)) next
+        × Happens F.may s (ResetsQueue i (live_of queue.new)) next
         × (slice_get next.queues i ≡ Some (live_of queue.new)) }
 {
     law_handles::<F>();

@@ -21,7 +21,7 @@ use server_phases::Session;
 
 /// The loads of a chain's pop, its request, and the data of its answer.
 #[derive(Drop)]
-pub struct Asked<'a> {
+pub struct ChainBytes<'a> {
     /// The bytes of each load.
     pub given: &'a [&'a [u8]],
     /// The whole request.
@@ -37,8 +37,8 @@ pub fn serve_crossed<F: FileSystem>(
     second: &mut ChainHandle,
     queue: &mut QueueState,
     sessions: (Session, Session),
-    one: &Asked<'_>,
-    two: &Asked<'_>,
+    one: &ChainBytes<'_>,
+    two: &ChainBytes<'_>,
 ) -> Result<(bool, bool), ChainError>
     requires first_free { first.old.state ≡ at.Free }
     requires second_free { second.old.state ≡ at.Free }

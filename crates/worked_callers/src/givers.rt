@@ -6,7 +6,7 @@ ghost use Rattle.fs_queue.specs.Returning.{Store};
 ghost use Rattle.fs_queue.specs.ReturningView.{stores_of};
 ghost use Rattle.notify.specs.Kicks as kicks;
 ghost use Rattle.notify.specs.Kicks.{NotifyState, Runs, ahead};
-ghost use Rattle.notify.specs.Threads.{ReturnsSome, ThreadedQueue, Walker, after_act, may_act};
+ghost use Rattle.notify.specs.Threads.{ReturnsChains, ThreadedQueue, Walker, after_act, may_act};
 ghost use Rattle.fs_notify.specs.Givers.{rules_of};
 ghost use Rattle.fs_notify.specs.Takers.{IsOf, SaysWish, ways_of};
 
@@ -24,8 +24,8 @@ pub fn push_one(
     ensures returns { OnOk result ((s : ThreadedQueue)
         → IsOf queue.old s
         → s.holder ≡ Walker
-        → IsTrue (may_act (ways_of queue.old) s (ReturnsSome 1))
-        × IsOf queue.new (after_act (ways_of queue.old) s (ReturnsSome 1))) }
+        → IsTrue (may_act (ways_of queue.old) s (ReturnsChains 1))
+        × IsOf queue.new (after_act (ways_of queue.old) s (ReturnsChains 1))) }
     ensures publishes { IfOk result (λ told. (u : NotifyState)
         → u.published ≡ queue.old.next_used
         → (let published = (kicks.after (rules_of queue.old) u (kicks.Publishes 1)).published in

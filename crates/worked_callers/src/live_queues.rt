@@ -9,7 +9,7 @@ ghost use Rattle.plain_machine.specs.StepBy.{after_stores, stores_among};
 ghost use Rattle.server_phases.specs.Answering.{TellsBytes};
 ghost use Rattle.fs_chain.specs.declared.state.ChainState.TheVariants as at;
 ghost use Rattle.fs_live.specs.Handles.{IsSessionOf};
-ghost use Rattle.fs_live.specs.Live.{LiveRun, LiveState, acts_of};
+ghost use Rattle.fs_live.specs.Live.{LiveRun, LiveState, event_acts};
 ghost use Rattle.fs_live.specs.Overlap.{at_positions, state};
 ghost use Rattle.fs_live.specs.Serial.{FoundIn, IsAtRest, SerialRun, Single, events_in, plain, return_in};
 ghost use Rattle.fs_live.specs.Serial.{turn_of};
@@ -86,7 +86,7 @@ pub fn serve_single<F: FileSystem>(
         × ((m : Memory)
         → FoundIn m s r
         → Step F.may (plain s m) i calls (Exchanged r.exchange r.notice)
-        (plain end (after_stores m (stores_among (acts_of (return_in r)))))))) }
+        (plain end (after_stores m (stores_among (event_acts (return_in r)))))))) }
 {
     law_handles::<F>();
     law_serial::<F>();

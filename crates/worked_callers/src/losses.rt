@@ -19,7 +19,7 @@ use fuse_values::FileAnswer;
 use server_phases::Session;
 
 /// Decodes a chain's request and frees its handle. The error that is returned is the refusal of the late
-/// answer. In the run the chain is lost: once after the file system's answer, and once without it.
+/// answer. In the run the chain is abandoned: once after the file system's answer, and once without it.
 pub fn lose_asked<F: FileSystem>(
     handle: &mut ChainHandle,
     queue: &mut QueueState,

@@ -9,7 +9,7 @@ ghost use Rattle.fs_live.specs.Handles.{IsReached, live_of};
 ghost use Rattle.fs_live.specs.Live.{LiveEvent, LiveRun, LiveState};
 ghost use Rattle.fs_live.specs.Others.{recorded};
 
-use crate::crossed::Asked;
+use crate::crossed::ChainBytes;
 use crate::others::{begin_by_record, reply_beside};
 use fs_chain::{ChainError, ChainHandle, QueueState};
 use fs_queue::Queue;
@@ -74,8 +74,8 @@ pub fn move_amid<F: FileSystem, S: RecordSink, T: RecordSource>(
     options: FsOptions,
     sink: &mut S,
     source: &mut T,
-    one: &Asked<'_>,
-    two: &Asked<'_>,
+    one: &ChainBytes<'_>,
+    two: &ChainBytes<'_>,
 ) -> Result<bool, ChainError>
     requires here_free { here.old.state ≡ at.Free }
     requires there_free { there.old.state ≡ at.Free }

@@ -12,11 +12,12 @@ ghost use Rattle.fs_chain.specs.Queues.{gave};
 ghost use Rattle.fs_chain.specs.declared.state.ChainState.TheVariants as at;
 ghost use Rattle.plain_machine.specs.StepBy.{Act};
 ghost use Rattle.fs_live.specs.Handles.{IsReached, live_of};
-ghost use Rattle.fs_live.specs.Live.{Begins, Happens, LiveEvent, LiveRun, LiveState, MovesDevice, NoneWaits};
+ghost use Rattle.fs_live.specs.Live.{Happens, LiveEvent, LiveRun, LiveState, MovesDevice, NoneWaits};
+ghost use Rattle.fs_live.specs.Live.{ResetsQueue};
 ghost use Rattle.fs_live.specs.Live.{Remaps};
 ghost use Rattle.fs_live.specs.Live.{calls_among};
 ghost use Rattle.fs_live.specs.Others.{GoesBackOwn, recorded};
-ghost use Rattle.fs_live.specs.Runs.{IsEven, tickets_on};
+ghost use Rattle.fs_live.specs.Runs.{HasNoneInFlight, tickets_on};
 
 use crate::wholes::walk_chain;
 use fs_chain::{ChainError, ChainHandle, QueueState};
@@ -48,7 +49,7 @@ pub fn drop_beside<F: FileSystem>(
     handle.give_up(queue)
 }
 
-/// Pops a chain and frees its handle: the chain is lost to its queue, and the handle may pop again.
+/// Pops a chain and frees its handle: the chain is abandoned, stays in flight, and the handle may pop again.
 pub fn lose_beside<F: FileSystem>(
     handle: &mut ChainHandle,
     queue: &mut QueueState,
@@ -119,7 +120,7 @@ pub fn reply_beside<F: FileSystem>(
     give_own_back(handle, queue)
 }
 
-/// Other regions, while no chain is in flight, are the event `Remaps`.
+/// Setting other regions while no chain is in flight is the event `Remaps`.
 pub fn map_beside<F: FileSystem>(
     handle: &mut ChainHandle,
     regions: GuestMap,
@@ -149,7 +150,7 @@ pub fn stopped_by(read: &Queue) -> Option<QueueError>
 }
 
 /// Resets the one queue of a device from that of a record: to its position, and stopped if it was. That is
-/// the event `MovesDevice`, and the options are those of before.
+/// the event `MovesDevice`, and the options stay.
 pub fn begin_by_record<F: FileSystem>(queue: &mut QueueState, read: &Queue)
     requires some { 1 ≤ queue.old.max_in_flight }
     requires few { queue.old.max_in_flight ≤ read.now.size }
@@ -182,14 +183,14 @@ pub fn begin_again<F: FileSystem>(queue: &mut QueueState)
     requires goes { queue.old.stopped ≡ None }
     ensures stands { (start now : LiveState F) (es : List LiveEvent) (i : ℕ)
         → start.outs ≡ []
-        → AllByRecursion IsEven start.queues
+        → AllByRecursion HasNoneInFlight start.queues
         → LiveRun F.may start es now
         → slice_get now.queues i ≡ Some (live_of queue.old)
         → tickets_on i now.outs ≡ []
         → 1 ≤ queue.old.max_in_flight
         → queue.old.max_in_flight ≤ queue.old.layout.size
         → AllByRecursion (λ c. NoneWaits now.page_size i c c.phase) now.outs
-        → Happens F.may now (Begins i (live_of queue.new)) now }
+        → Happens F.may now (ResetsQueue i (live_of queue.new)) now }
 {
     law_handles::<F>();
     law_runs::<F, F>();

@@ -109,7 +109,7 @@ impl Ring {
     /// Returns the event that interrupts the driver, if it is to be interrupted.
     fn give_back(&self, state: &mut State, server: &mut impl Server) -> Option<Arc<File>> {
         let mut owed = None;
-        // [ReturnsSome]; of the used ring [Publishes], a full barrier, [ChecksWish]
+        // [ReturnsChains]; of the used ring [Publishes], a full barrier, [ChecksWish]
         match server.give_back(&mut state.queue) {
             Ok(true) => owed = state.interrupt(),
             Ok(false) => {}

@@ -1,10 +1,10 @@
 use Rattle.std.proofs.Common.{rules, refl}
-use Rattle.fs_chain_c.specs.Records.{ReadBack, NoPlace, NoRecord}
+use Rattle.fs_chain_c.specs.Records.{Restored, TooFewQueues, NoRecord}
 use Rattle.fs_chain_c.proofs.record.pk_restore.Goals as goal
 
 pub returns-then-len-queues : goal.returns-then-len-queues
 returns-then-len-queues c = (
-  NoPlace c.in-Ok.options.0 c.in-Ok.restored.items,
+  TooFewQueues c.in-Ok.options.0 c.in-Ok.restored.items,
   search rules,
   (
     search rules,
@@ -18,7 +18,7 @@ returns-then-len-queues c = (
 
 pub returns-else-len-queues : goal.returns-else-len-queues
 returns-else-len-queues c = (
-  ReadBack c.in-Ok.options.0 c.in-Ok.restored.items,
+  Restored c.in-Ok.options.0 c.in-Ok.restored.items,
   refl,
   (
     search rules,

@@ -2,7 +2,7 @@ use Rattle.std.proofs.Common.{◌≡◌, ℕ, ap, sym, subst, ◌∙◌, rules}
 use Rattle.vm_atomic_bitmaps.specs.declared.counts.PageCounts.{PageCounts}
 use Rattle.vm_atomic_bitmaps.specs.Counts.{kept_half, new_half, both_passes, met_with, with_pages}
 use Rattle.vm_atomic_bitmaps.specs.Passes.{Pass}
-use Rattle.page_marks_demo.specs.Threads.{MarksJust, HaveEqualParts, is_in_lists}
+use Rattle.page_marks_demo.specs.Threads.{MarksJust, HaveSamePart, is_in_lists}
 use Rattle.page_marks_demo.proofs.Marks.{both_halves, in_lists-append}
 use Rattle.page_marks_demo.proofs.Halves.{joined_part}
 use Rattle.page_marks_demo.proofs.marking.+fn-mark_lists-join+arg2+fn-mark_lists-join+arg3+mark_lists.Goals as goal
@@ -43,6 +43,6 @@ returns-clause-part g t c =
     ap (λ (p : Pass). p.counts) c.meet_pass.ensures.pass
     ∙ (λ i. with_pages (new i).counts (met_with (kept i).pages (new i).counts.pages)) in
     let joint : c.join_pass.new.pass.counts ≡ both_passes a b = ap (λ (p : Pass). p.counts) c.join_pass.ensures.pass in
-    let first_part : HaveEqualParts (kept_half v) a = subst (λ (w : PageCounts). HaveEqualParts w a) told c.join-first.ensures.first.1.1 in
-    let second_part : HaveEqualParts (new_half v) b = subst (λ (w : PageCounts). HaveEqualParts w b) met c.join-first.ensures.second.1.1 in
-    subst (HaveEqualParts v) (sym joint) (joined_part v a b first_part second_part)
+    let first_part : HaveSamePart (kept_half v) a = subst (λ (w : PageCounts). HaveSamePart w a) told c.join-first.ensures.first.1.1 in
+    let second_part : HaveSamePart (new_half v) b = subst (λ (w : PageCounts). HaveSamePart w b) met c.join-first.ensures.second.1.1 in
+    subst (HaveSamePart v) (sym joint) (joined_part v a b first_part second_part)

@@ -5,7 +5,7 @@ use Rattle.fs_chain.specs.Events.{tells_of}
 use Rattle.fs_chain.specs.Orders.{end_error}
 use Rattle.fs_chain.specs.Queues.{gave}
 use Rattle.fs_chain.specs.declared.queue.QueueState.{QueueState}
-use Rattle.notify.specs.Threads.{ReturnsSome, after_act}
+use Rattle.notify.specs.Threads.{ReturnsChains, after_act}
 use Rattle.fs_notify.specs.Takers.{IsOf, ways_of}
 use Rattle.worked_callers.proofs.ModelActs.{published_so}
 use Rattle.worked_callers.proofs.givers.push_one.Goals as goal
@@ -29,7 +29,7 @@ returns-in-Ok c =
     record {
       returns = λ s of walker.
           let law = c.law_takers.ensures.returns pushing st s counted ok of walker in
-          (law.0, subst (λ (k : QueueState). IsOf k (after_act (ways_of q) s (ReturnsSome 1))) (sym last_is) law.1);
+          (law.0, subst (λ (k : QueueState). IsOf k (after_act (ways_of q) s (ReturnsChains 1))) (sym last_is) law.1);
       publishes = published_so c.law_givers.ensures.publishes c.args.handle.now.state q _ c.in_ok-stores.stores c.pushed.new.queue
           c.in_ok-stores.ensures.ok c.in_ok-stores.ensures.stores (ap (λ (k : QueueState). k.next_used) last_is);
       checks = λ u at one says.

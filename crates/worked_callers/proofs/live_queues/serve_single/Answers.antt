@@ -5,7 +5,7 @@ use Rattle.fs_chain.specs.Whole.{file_calls}
 use Rattle.plain_machine.specs.Step.{Calls, Exchanged, Step}
 use Rattle.plain_machine.specs.StepBy.{after_stores, stores_among}
 use Rattle.fs_live.specs.Handles.{live_of}
-use Rattle.fs_live.specs.Live.{acts_of, calls_in}
+use Rattle.fs_live.specs.Live.{calls_in, event_acts}
 use Rattle.fs_live.specs.Serial.{IsAtRest, plain, return_in}
 use Rattle.worked_callers.proofs.Served.{if_ok, more_taken, taken_so}
 use Rattle.worked_callers.proofs.ServedBeside.{served_beside}
@@ -52,9 +52,9 @@ returns g c =
                       (subst (λ (j : ℕ). slice_get s.queues j ≡ Some (live_of before)) (sym so.queue_is) here.there) rest so.of_chain
                       so.single_run found in
                       subst (λ (made : Calls). Step may (plain s m) i made (Exchanged r.exchange r.notice)
-                      (plain so.end (after_stores m (stores_among (acts_of (return_in r)))))) so.calls_of
+                      (plain so.end (after_stores m (stores_among (event_acts (return_in r)))))) so.calls_of
                       (subst (λ (j : ℕ). Step may (plain s m) j (calls_in r.chain.phase) (Exchanged r.exchange r.notice)
-                      (plain so.end (after_stores m (stores_among (acts_of (return_in r)))))) so.queue_is law.0),
+                      (plain so.end (after_stores m (stores_among (event_acts (return_in r)))))) so.queue_is law.0),
                 ),
           ))
           c.give_back.ensures.back;

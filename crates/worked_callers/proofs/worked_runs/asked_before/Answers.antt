@@ -22,7 +22,7 @@ use Rattle.fs_live.specs.InitBeside.{
   second_used,
   starts,
 }
-use Rattle.fs_live.specs.Live.{DecodesRequest, EndsCall, LiveEvent, LiveRun, PushesChain, Walks}
+use Rattle.fs_live.specs.Live.{DecodesRequest, LiveEvent, LiveRun, PushesChain, ReceivesAnswer, Walks}
 use Rattle.fs_live.specs.Overlap.{at_positions, state}
 use Rattle.worked_callers.proofs.worked_runs.asked_before.Goals as goal
 
@@ -41,8 +41,8 @@ returns g c before between after starting looking =
     let es : List LiveEvent =
     Walks 0 first_loads first_table (step.Chain 0 None) ∷ DecodesRequest first lookup (looks ∷ [])
     ∷ Walks 0 second_loads second_table (step.Chain 2 None) ∷ DecodesRequest second init (starts ∷ [])
-    ∷ EndsCall second_asked starts (Wants 0) ∷ PushesChain second_answered second_exchange true 0 second_used (le16 0)
-    ∷ EndsCall first_asked looks (Failed 2) ∷ [] in
+    ∷ ReceivesAnswer second_asked starts (Wants 0) ∷ PushesChain second_answered second_exchange true 0 second_used (le16 0)
+    ∷ ReceivesAnswer first_asked looks (Failed 2) ∷ [] in
     let run : LiveRun may start es seven.0 =
     (one.0, one.1, (two.0, two.1, (three.0, three.1, (four.0, four.1, (five.0, five.1, (six.0, six.1, (seven.0, seven.1, refl))))))) in (
       seven.0,
