@@ -1,3 +1,4 @@
+pub mod CallsSuit
 pub mod Ended
 pub mod FilledRuns
 pub mod GivenBytes

@@ -1,3 +1,4 @@
+pub mod ChainCalls
 pub mod InARow
 pub mod Notified
 pub mod OverMemory

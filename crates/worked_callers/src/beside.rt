@@ -27,6 +27,7 @@ ghost use Rattle.fs_live.specs.Live.{why_declined};
 ghost use Rattle.fs_live.specs.Runs.{EachStoresThere, events_on, going, tickets_on};
 ghost use Rattle.fs_live.specs.Several.{LiveQueue, RunsOver, UsedFrom, returns_among};
 ghost use Rattle.worked_callers.specs.Notified.{IsWalkedBy};
+ghost use Rattle.worked_callers.specs.ChainCalls.{AreCallsOf};
 
 use crate::wholes::{give_back, reply, walk_by, walk_chain};
 use fs_chain::{ChainError, ChainHandle, LoadOutcome, NotificationStore, PopOutcome, QueueState};
@@ -57,6 +58,7 @@ pub fn serve_beside<F: FileSystem>(
         → s.limit ≤ 2 ^ 31
         → IsSessionOf s session
         → (calls : Calls)
+        × AreCallsOf request.now answer calls
         × (FileRun F.may s.files calls files
         → (es : List LiveEvent) × (end : LiveState F) × (run : LiveRun F.may s es end)
         × (calls_among es ≡ calls)

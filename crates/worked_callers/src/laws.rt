@@ -1,21 +1,22 @@
 //! The outcome of a pop's call is the offer of each memory over the handle's regions that has the loads.
 
-ghost use Rattle.std.specs.Prelude.{◌≡◌, [], List, None, Some, IfOk, IfSome, length};
+ghost use Rattle.std.specs.Prelude.{◌≡◌, [], None, Some, IfOk, IfSome, length};
 ghost use Rattle.vm_memory.specs.Memory.{Memory};
 ghost use Rattle.vm_memory_core.specs.Host.{Host};
 ghost use Rattle.fs_queue.specs.Chain.{entry_address};
-ghost use Rattle.fs_queue.specs.Loads.{AreEntriesOf, IsLoadOf, Load};
+ghost use Rattle.fs_queue.specs.Loads.{AreEntriesOf, IsLoadOf};
 ghost use Rattle.fs_queue.specs.SteppingView.{visit_of};
 ghost use Rattle.fs_regions.specs.Laws.{HasLoaded};
 ghost use Rattle.fs_regions.specs.Places.{memory_over, places_in};
-ghost use Rattle.fs_regions.specs.Walks.{IsWalkAt, Loaded, ReadOutOf, nothing, queue_of};
+ghost use Rattle.fs_regions.specs.Walks.{AddsEntries, IsWalkAt, Loaded, nothing, queue_of};
 ghost use Rattle.fs_regions.specs.declared.course.Course.{Course};
+ghost use Rattle.fs_regions.specs.declared.step.CourseStep.{CourseStep};
 ghost use Rattle.fs_regions.specs.declared.entries.EntriesWalk.{EntriesWalk};
 ghost use Rattle.fs_regions.specs.declared.walk.QueueWalk.{QueueWalk};
 ghost use Rattle.fs_regions.specs.declared.walk.QueueWalk.TheVariants as asks;
 ghost use Rattle.fs_chain.specs.Laws.{GoesOnByLoads, TellsOffer};
 ghost use Rattle.fs_chain.specs.Loads.{whole};
-ghost use Rattle.fs_chain.specs.Walks.{RefusalHasEvents, course_of};
+ghost use Rattle.fs_chain.specs.Walks.{RefusalHasEvents, course_of, told_of};
 ghost use Rattle.fs_chain.specs.declared.state.ChainState.TheVariants as at;
 ghost use Rattle.fs_chain.specs.declared.state.PopId.{PopId};
 
@@ -69,9 +70,11 @@ pub fn go_on(
           address = entry_address (visit_of walk.walk);
           came = Some (whole handle.old bytes.now);
         })
-        → (reads : List Load)
-        × ReadOutOf (entry_address (visit_of walk.walk)) (whole handle.old bytes.now) reads
-        × AreEntriesOf m reads)) }
+        → (came : CourseStep) × (after : Loaded)
+        × (told ≡ told_of handle.new.descriptors.items came)
+        × (adds : AddsEntries (entry_address (visit_of walk.walk)) (whole handle.old bytes.now) came loaded
+        after)
+        × AreEntriesOf m adds.reads)) }
 {
     law_read_out();
     law_walks();

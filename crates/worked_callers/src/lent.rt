@@ -10,6 +10,7 @@ ghost use Rattle.fs_chain.specs.declared.state.ChainState.TheVariants as at;
 ghost use Rattle.plain_machine.specs.Step.{Calls};
 ghost use Rattle.fs_live.specs.Handles.{IsReached, IsSessionOf, live_of};
 ghost use Rattle.fs_live.specs.Live.{LiveEvent, LiveRun, LiveState, calls_among};
+ghost use Rattle.worked_callers.specs.ChainCalls.{AreCallsOf};
 
 use crate::beside::take_faulty;
 use crate::wholes::{give_back, reply, walk_chain};
@@ -62,6 +63,7 @@ pub fn serve_lent<F: FileSystem>(
         → s.limit ≤ 2 ^ 31
         → IsSessionOf s session
         → (calls : Calls)
+        × AreCallsOf request.now answer calls
         × (FileRun F.may s.files calls files
         → (es : List LiveEvent) × (end : LiveState F)
         × LiveRun F.may s es end

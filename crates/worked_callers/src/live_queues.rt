@@ -17,6 +17,7 @@ ghost use Rattle.fs_live.specs.Several.{AtTheirPlaces, LiveQueue};
 ghost use Rattle.fuse_fs.specs.Calls.{Destroy, Done, FileRun};
 ghost use Rattle.worked_callers.specs.InARow.{after_both, one, two, with_both};
 ghost use Rattle.worked_callers.specs.OwnReplies.{IsAt};
+ghost use Rattle.worked_callers.specs.ChainCalls.{AreCallsOf};
 
 use crate::wholes::{give_back, reply, walk_chain};
 use fs_chain::{ChainError, ChainHandle, QueueState};
@@ -80,6 +81,7 @@ pub fn serve_single<F: FileSystem>(
         → s.outs ≡ []
         → IsSessionOf s session
         → (calls : Calls)
+        × AreCallsOf request.now answer calls
         × (FileRun F.may s.files calls files
         → (r : Single) × (end : LiveState F)
         × LiveRun F.may s (events_in r) end

@@ -1,16 +1,19 @@
 //! A pop that misses addresses of an IOMMU's table is no step. The bytes for which a pop asks are mapped.
 
-ghost use Rattle.std.specs.Prelude.{◌≡◌, ◌<◌, ◌≤◌, ◌+◌, false, IfOk, None, Some};
+ghost use Rattle.std.specs.Prelude.{◌≡◌, ◌<◌, ◌≤◌, ◌+◌, [], false, true, IfOk, List, None, Some};
 ghost use Rattle.vm_iotlb.specs.declared.iova.IovaRange.{IovaRange};
 ghost use Rattle.vm_iotlb.specs.declared.permissions.Permissions.{Permissions};
+ghost use Rattle.vm_memory_core.specs.Window.{Window};
 ghost use Rattle.fs_queue.specs.declared.fault.QueueError.{QueueError};
 ghost use Rattle.fs_regions.specs.Misses.{last_page};
 ghost use Rattle.fs_regions.specs.Places.{places_in};
 ghost use Rattle.fs_regions.specs.Walks.{Loaded, Misses, queue_of};
 ghost use Rattle.fs_chain.specs.Events.{event_fault, event_miss};
-ghost use Rattle.fs_chain.specs.Walks.{HasEvents, IsAllBut, course_of};
+ghost use Rattle.fs_chain.specs.Loads.{IsLoadWindow, came};
+ghost use Rattle.fs_chain.specs.Walks.{DropsDescriptors, HasEvents, IsAllBut, course_of};
 ghost use Rattle.fs_chain.specs.Whole.{WantsBytes};
 ghost use Rattle.fs_chain.specs.declared.state.ChainState.TheVariants as at;
+ghost use Rattle.worked_callers.specs.ChainCalls.{ArePopLoads};
 
 use crate::wholes::walk_by;
 use fs_chain::laws::{law_chains, law_misses};
@@ -33,7 +36,10 @@ pub fn miss(
         → (queue.new ≡ queue.old)
         × (handle.new.state ≡ at.Free)
         × IsAllBut handle.old handle.new
+        × (handle.new.session ≡ handle.old.session)
+        × (handle.new.part.items ≡ [])
         × (loaded : Loaded)
+        × ArePopLoads given.now handle.old queue.old told loaded
         × Misses (places_in handle.old.regions) handle.old.limit
         (queue_of (course_of queue.old handle.old.limit)) loaded handle.new.descriptors.items range access) }
     ensures mapped { IfOk result (λ told. (range : IovaRange) (access : Permissions)
@@ -44,7 +50,9 @@ pub fn miss(
         (λ told. (e : QueueError) (range : IovaRange) (access : Permissions)
         → event_fault (places_in handle.old.regions) queue.old ≡ Some e
         → event_miss (places_in handle.old.regions) queue.old ≡ Some (range, access)
-        → (told ≡ LoadOutcome.On (PopOutcome.Missing range access)) × (queue.new ≡ queue.old)) }
+        → (told ≡ LoadOutcome.On (PopOutcome.Missing range access)) × DropsDescriptors handle.old handle.new
+        × (handle.new.part.items ≡ [])
+        × (queue.new ≡ queue.old)) }
 {
     law_misses();
     walk_by(handle, queue, given)
@@ -59,7 +67,9 @@ pub fn find_window<F: FileSystem>(
 ) -> Result<(LoadOutcome, bool), ChainError>
     requires free { handle.old.state ≡ at.Free }
     requires goes { queue.old.stopped ≡ None }
-    ensures found { IfOk result (λ r. r.1 ≡ false → WantsBytes r.0 → ⊥) }
+    ensures found { IfOk result (λ r. r.1 ≡ true
+        → (w : Window) × IsLoadWindow handle.new (came handle.new) w) }
+    ensures none { IfOk result (λ r. r.1 ≡ false → WantsBytes r.0 → ⊥) }
 {
     law_chains::<F>();
     let told = walk_by(handle, queue, given)?;

@@ -2,14 +2,15 @@
 //! its flags. The driver is notified by used_event (VIRTIO 1.2, 2.7.7.2). A chain that is pushed at another
 //! position than that of its pop is answered as by a machine whose queue is there.
 
-ghost use Rattle.std.specs.Prelude.{◌≡◌, ◌≤◌, ◌^◌, ℕ, List, [], Bool, None, IfOk, OnOk};
+ghost use Rattle.std.specs.Prelude.{◌≡◌, ◌≤◌, ◌^◌, ℕ, List, [], None, IfOk, OnOk};
 ghost use Rattle.vm_memory_core.specs.Host.{Host};
 ghost use Rattle.fuse_fs.specs.Calls.{FileRun};
 ghost use Rattle.server_phases.specs.Answering.{TellsBytes};
 ghost use Rattle.plain_machine.specs.Step.{Calls, Exchange, Exchanged, State, Step};
-ghost use Rattle.plain_machine.specs.StepBy.{Act, AnswersBy, Effects, ReturnsFaultyBy, StepBy, StepLoads};
+ghost use Rattle.plain_machine.specs.StepBy.{Act, AnswersBy, Effects, ReturnsFaultyBy, StepBy};
 ghost use Rattle.plain_machine.specs.StepBy.{after_stores, stores_among};
-ghost use Rattle.fs_queue.specs.Returning.{tells};
+ghost use Rattle.fs_queue.specs.Loads.{Load};
+ghost use Rattle.fs_queue.specs.Returning.{tells, wants_notice};
 ghost use Rattle.fs_queue.specs.Taking.{CannotFetch, IsRequest, Offers};
 ghost use Rattle.fs_queue.specs.WalkingView.{at_position};
 ghost use Rattle.fs_queue.specs.declared.fault.ChainFault.{ChainFault};
@@ -17,8 +18,11 @@ ghost use Rattle.fs_regions.specs.Places.{memory_over, places_in};
 ghost use Rattle.fs_regions.specs.Walks.{Loaded, OffersBy, queue_of};
 ghost use Rattle.fs_chain.specs.Events.{seen_at, tells_of};
 ghost use Rattle.fs_chain.specs.Walks.{course_of};
-ghost use Rattle.fs_chain.specs.Whole.{GoesBackBy, IsMachineBefore, IsSession, IsWalked, after_chain};
+ghost use Rattle.fs_chain.specs.Whole.{GoesBackBy, IsMachineBefore, IsSession, IsToldByMemory, IsWalked};
+ghost use Rattle.fs_chain.specs.Whole.{LackPlaces, after_chain, step_loads};
 ghost use Rattle.fs_chain.specs.declared.state.ChainState.TheVariants as at;
+ghost use Rattle.worked_callers.specs.ChainCalls.{ArePopLoads, AreCallsOf};
+ghost use Rattle.worked_callers.specs.Notified.{IsWalkedBy};
 ghost use Rattle.worked_callers.specs.OverMemory.{HasEachLoad, KeepsBuffersApart};
 
 use crate::wholes::{reply, walk_by, walk_chain};
@@ -73,8 +77,11 @@ pub fn serve_by<F: FileSystem>(
         → handle.old.limit ≤ 2 ^ 31
         → IsSession session m
         → (calls : Calls)
+        × AreCallsOf request.now answer calls
         × (FileRun F.may m.files calls files
-        → (head : ℕ) × (room : List ℕ) × (loaded : Loaded) × (x : Exchange) × (e : Effects)
+        → (popped : LoadOutcome) × (loaded : Loaded)
+        × ArePopLoads given.now handle.old queue.old popped loaded
+        × (head : ℕ) × (room : List ℕ) × (x : Exchange) × (e : Effects)
         × OffersBy (places_in handle.old.regions) handle.old.limit
         (queue_of (course_of queue.old handle.old.limit)) loaded request.now
         (Offers head (IsRequest request.now room))
@@ -86,10 +93,16 @@ pub fn serve_by<F: FileSystem>(
         → IsMachineBefore handle.old queue.old i m
         → IsSession session m
         → (calls : Calls)
-        × (FileRun F.may m.files calls files → (l : StepLoads) × (x : Exchange) × (e : Effects)
+        × AreCallsOf request.now answer calls
+        × (FileRun F.may m.files calls files
+        → (popped : LoadOutcome) × (loaded : Loaded) × (lost : List Load)
+        × ArePopLoads given.now handle.old queue.old popped loaded
+        × LackPlaces handle.old queue.old loaded lost
+        × (x : Exchange) × (e : Effects)
         × (x.request ≡ request.now)
-        × StepBy F.may m i l calls (Exchanged x (tells seen)) e (after_chain m i
-        (queue_of (course_of queue.old handle.old.limit)) handle.new.session.options.0 files))) }
+        × StepBy F.may m i (step_loads loaded lost request.now) calls (Exchanged x (tells seen)) e
+        (after_chain m i (queue_of (course_of queue.old handle.old.limit)) handle.new.session.options.0
+        files))) }
     ensures memory { IfOk result (λ told. (i : ℕ) (m : State F) (files : F) (h : Host)
         → queue.old.next_used ≡ queue.old.next_avail
         → IsMachineBefore handle.old queue.old i m
@@ -97,13 +110,20 @@ pub fn serve_by<F: FileSystem>(
         → HasEachLoad (memory_over h handle.old.regions) handle.old queue.old given.now request.now
         → KeepsBuffersApart (memory_over h handle.old.regions) handle.old queue.old given.now
         → (calls : Calls)
+        × AreCallsOf request.now answer calls
         × (FileRun F.may m.files calls files
-        → (x : Exchange) × (acts : List Act) × (wants : Bool)
+        → (x : Exchange) × (acts : List Act) × (back : QueueState)
         × (x.request ≡ request.now)
-        × Step F.may (record m { memory = memory_over h handle.old.regions }) i calls (Exchanged x wants)
+        × Step F.may (record m { memory = memory_over h handle.old.regions }) i calls
+        (Exchanged x (wants_notice (after_stores (memory_over h handle.old.regions) (stores_among acts))
+        (queue_of (course_of queue.old handle.old.limit))))
         (record (after_chain m i (queue_of (course_of queue.old handle.old.limit))
         handle.new.session.options.0 files)
-        { memory = after_stores (memory_over h handle.old.regions) (stores_among acts) }))) }
+        { memory = after_stores (memory_over h handle.old.regions) (stores_among acts) })
+        × IsToldByMemory (memory_over h handle.old.regions)
+        (after_stores (memory_over h handle.old.regions) (stores_among acts))
+        (queue_of (course_of queue.old handle.old.limit)) back
+        (seen_at back.event_index queue.old.layout) acts told.0)) }
 {
     law_chains::<F>();
     let (_, request_len, _) = walk_chain(handle, queue, given)?;
@@ -122,6 +142,8 @@ pub fn walk_faulty(
 ) -> Result<(u16, ChainFault), ChainError>
     requires free { handle.old.state ≡ at.Free }
     ensures walked { IfOk result (λ c. IsWalked handle.old handle.new queue.old queue.new
+        (LoadOutcome.On (PopOutcome.Faulty c.0 c.1))) }
+    ensures given { IfOk result (λ c. IsWalkedBy given.now handle.old handle.new queue.old queue.new
         (LoadOutcome.On (PopOutcome.Faulty c.0 c.1))) }
 {
     match walk_by(handle, queue, given)? {
@@ -144,6 +166,7 @@ pub fn serve_faulty<F: FileSystem>(
         × (told.1 ≡ seen_at queue.old.event_index queue.old.layout)) }
     ensures answered { IfOk result (λ told. (i : ℕ) (m : State F)
         → (head : ℕ) × (fault : ChainFault) × (loaded : Loaded) × (x : Exchange) × (e : Effects)
+        × ArePopLoads given.now handle.old queue.old (LoadOutcome.On (PopOutcome.Faulty head fault)) loaded
         × OffersBy (places_in handle.old.regions) handle.old.limit
         (queue_of (course_of queue.old handle.old.limit)) loaded [] (Offers head (CannotFetch fault))
         × ReturnsFaultyBy m i (at_position queue.old.layout queue.old.next_used) head fault [] x (tells seen)
@@ -151,8 +174,11 @@ pub fn serve_faulty<F: FileSystem>(
     ensures step { IfOk result (λ told. (i : ℕ) (m : State F)
         → queue.old.next_used ≡ queue.old.next_avail
         → IsMachineBefore handle.old queue.old i m
-        → (l : StepLoads) × (x : Exchange) × (e : Effects)
-        × StepBy F.may m i l [] (Exchanged x (tells seen)) e
+        → (popped : LoadOutcome) × (loaded : Loaded) × (lost : List Load)
+        × ArePopLoads given.now handle.old queue.old popped loaded
+        × LackPlaces handle.old queue.old loaded lost
+        × (x : Exchange) × (e : Effects)
+        × StepBy F.may m i (step_loads loaded lost []) [] (Exchanged x (tells seen)) e
         (after_chain m i (queue_of (course_of queue.old handle.old.limit)) m.options m.files)) }
 {
     law_chains::<F>();

@@ -1,7 +1,8 @@
 //! Mappings of an IOMMU that change while a chain is in flight that doesn't use them.
 
-ghost use Rattle.std.specs.Prelude.{◌≡◌, true, All, Ok};
+ghost use Rattle.std.specs.Prelude.{◌≡◌, false, true, All, Ok};
 ghost use Rattle.vm_iotlb.specs.Ranges.{table_kept};
+ghost use Rattle.vm_iotlb.specs.Table.{AreSame, mapped, unmapped};
 ghost use Rattle.fs_regions.specs.Using.{StaysFor};
 ghost use Rattle.fs_chain.specs.Orders.{is_out};
 
@@ -19,8 +20,11 @@ pub fn unmap_unused(
     len: usize,
 ) -> Result<bool, IommuError>
     requires out { is_out handle.now.state ≡ true }
+    ensures removed { result ≡ Ok true
+        → AreSame (table_kept table.new) (unmapped iova.0 len (table_kept table.old)) }
     ensures stays { result ≡ Ok true
         → All (StaysFor (table_kept table.old) (table_kept table.new)) handle.now.descriptors.items }
+    ensures used { result ≡ Ok false → table.new ≡ table.old }
 {
     law_others_stay();
     if handle.uses(iova.0, len as u64) {
@@ -41,8 +45,11 @@ pub fn map_unused(
     access: Permissions,
 ) -> Result<bool, IommuError>
     requires out { is_out handle.now.state ≡ true }
+    ensures mapped { result ≡ Ok true
+        → AreSame (table_kept table.new) (mapped iova.0 target.0 len access (table_kept table.old)) }
     ensures stays { result ≡ Ok true
         → All (StaysFor (table_kept table.old) (table_kept table.new)) handle.now.descriptors.items }
+    ensures used { result ≡ Ok false → table.new ≡ table.old }
 {
     law_others_stay();
     if handle.uses(iova.0, len as u64) {

@@ -1,10 +1,9 @@
 //! The calls of a handle from the begin of a pop on are a step of the plain machine.
 
-ghost use Rattle.std.specs.Prelude.{◌≡◌, ℕ, List, [], length, None, Some, Ok, IfOk, OnOk, false, true};
-ghost use Rattle.fuse_fs.specs.Calls.{FileRun};
+ghost use Rattle.std.specs.Prelude.{◌≡◌, ℕ, List, [], drop, length, None, Some, Ok, IfOk, OnOk, true};
 ghost use Rattle.server_phases.specs.Answering.{TellsBytes};
-ghost use Rattle.plain_machine.specs.Step.{Calls, Exchange, Exchanged, State, Idle, Refused, with_queue};
-ghost use Rattle.plain_machine.specs.StepBy.{Act, Effects, StepBy, StepLoads};
+ghost use Rattle.plain_machine.specs.Step.{EachSuits, Idle, Refused, State, with_queue};
+ghost use Rattle.plain_machine.specs.StepBy.{Act, StepBy, StepLoads};
 ghost use Rattle.plain_machine.specs.declared.error.DeviceError.TheVariants as device;
 ghost use Rattle.fs_queue.specs.Taking.{after_refusal};
 ghost use Rattle.fs_queue.specs.declared.fault.QueueError.{QueueError};
@@ -14,10 +13,11 @@ ghost use Rattle.fs_chain.specs.Events.{event_fault, event_miss};
 ghost use Rattle.fs_chain.specs.Queues.{gave};
 ghost use Rattle.fs_chain.specs.Walks.{HasEvents, course_of};
 ghost use Rattle.fs_chain.specs.Whole.{FromTaken, ChainAnswer, GoesBackBy, HasReply, IsDecodedBy};
-ghost use Rattle.fs_chain.specs.Whole.{IsMachineBefore, IsSession, IsWalked, WantsBytes, after_chain};
-ghost use Rattle.fs_chain.specs.Whole.{data_behind, no_effects};
+ghost use Rattle.fs_chain.specs.Whole.{IsMachineBefore, IsWalked, WantsBytes, data_behind, file_calls};
+ghost use Rattle.fs_chain.specs.Whole.{no_effects};
 ghost use Rattle.fs_chain.specs.declared.decoding.Decoded as told;
 ghost use Rattle.fs_chain.specs.declared.state.ChainState.TheVariants as at;
+ghost use Rattle.worked_callers.specs.ChainCalls.{HasThisAnswer};
 ghost use Rattle.worked_callers.specs.Notified.{IsWalkedBy};
 
 use fs_chain::laws::law_chains;
@@ -126,7 +126,9 @@ pub fn reply(
     ensures replied { OnOk result ((made : told.Decoded) × (asked : ChainHandle) × (given : ChainAnswer)
         × IsDecodedBy handle.old session request.now request.now made asked
         × HasReply made asked given handle.new
-        × (data_behind given ≡ [])) }
+        × (data_behind given ≡ [])
+        × HasThisAnswer answer given
+        × EachSuits (file_calls (drop 80 request.now) made given)) }
 {
     match handle.decode(session, request)? {
         Decoded::Call(_) => {
@@ -152,37 +154,4 @@ pub fn give_back(handle: &mut ChainHandle, queue: &mut QueueState) -> Result<boo
     let mut front = [0u8; 160];
     let _stores = handle.push(queue, &mut front)?;
     handle.pushed(queue, [0, 0])
-}
-
-/// A chain without data in its answer, not a listing, is a step from its pop to its return, if it is in
-/// flight alone.
-pub fn serve<F: FileSystem>(
-    handle: &mut ChainHandle,
-    queue: &mut QueueState,
-    given: &[&[u8]],
-    session: Session,
-    request: &[u8],
-    answer: FileAnswer,
-) -> Result<bool, ChainError>
-    requires free { handle.old.state ≡ at.Free }
-    requires goes { queue.old.stopped ≡ None }
-    requires none_out { queue.old.next_used ≡ queue.old.next_avail }
-    requires by_flags { queue.old.event_index ≡ false }
-    requires data { TellsBytes [] answer }
-    ensures step { IfOk result (λ notice. (i : ℕ) (m : State F) (files : F)
-        → IsMachineBefore handle.old queue.old i m
-        → IsSession session m
-        → (calls : Calls)
-        × (FileRun F.may m.files calls files → (l : StepLoads) × (x : Exchange) × (e : Effects)
-        × (x.request ≡ request.now)
-        × StepBy F.may m i l calls (Exchanged x notice) e (after_chain m i
-        (queue_of (course_of queue.old handle.old.limit)) handle.new.session.options.0 files))) }
-{
-    law_chains::<F>();
-    let (_, request_len, _) = walk_chain(handle, queue, given)?;
-    if request_len != request.len() {
-        return Err(ChainError::BadArgument);
-    }
-    reply(handle, session, request, answer)?;
-    give_back(handle, queue)
 }

@@ -26,5 +26,5 @@ returns-in-Ok-On c =
           let by = c.law_walks.ensures.goes_on loaded course pop_id (asks.Entries walk) bs w c.pop.new.self q c.pop.new.queue told goes
           here on.4 stands in
           let adds : AddsEntries from bs by.came loaded by.after = by.adds in
-          (adds.reads, adds.read_out, c.law_read_out.ensures m from bs adds.reads loads adds.read_out);
+          (by.came, by.after, by.told_so, adds, c.law_read_out.ensures m from bs adds.reads loads adds.read_out);
     }

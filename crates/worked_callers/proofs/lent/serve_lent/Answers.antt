@@ -1,4 +1,4 @@
-use Rattle.std.proofs.Common.{[], ◌≡◌, ℕ, List, length, ap, subst, sym, ◌∙◌, arith}
+use Rattle.std.proofs.Common.{[], ◌≡◌, ℕ, List, length, ap, subst, sym, ◌∙◌, arith, refl}
 use Rattle.std.specs.Prelude.{drop}
 use Rattle.std.proofs.lemmas.Bool.Decides.{nat_tests}
 use Rattle.plain_machine.specs.StepBy.{Act}
@@ -34,6 +34,7 @@ returns g c =
       run = if_ok c.give_back.result _ _
           (λ notice back s i files reached there places limit small session. (
             file_calls (drop 80 request) replied.0 replied.2,
+            (replied.0, replied.2, replied.6, refl, replied.7),
             λ files_run.
                 let so = served_beside may handles.walks handles.asks handles.calls handles.returns old one c.take_table.new.handle
                 replied.1 c.reply.new.handle before after

@@ -36,6 +36,7 @@ returns g c =
       step = if_ok c.give_back.result _ _
           (λ notice back s i files here none session. (
             calls,
+            (replied.0, replied.2, replied.6, refl, replied.7),
             λ files_run.
                 let so = served_beside may handles.walks handles.asks handles.calls handles.returns old one one replied.1
                 c.reply.new.handle before after

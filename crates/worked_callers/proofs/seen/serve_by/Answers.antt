@@ -14,6 +14,7 @@ use Rattle.fs_chain.specs.Walks.{course_of}
 use Rattle.fs_chain.specs.Whole.{ChainBy, GoesBackBy, WalksBy, after_chain, data_behind, file_calls, step_loads}
 use Rattle.fs_chain.specs.declared.loads.LoadOutcome.TheVariants as wents
 use Rattle.fs_chain.specs.declared.popping.PopOutcome.TheVariants as says
+use Rattle.worked_callers.specs.ChainCalls.{AreCallsOf}
 use Rattle.worked_callers.specs.Notified.{calls_of}
 use Rattle.worked_callers.proofs.Served.{if_ok, if_ok_so, more_taken, queue_keeps, taken_so, told_before}
 use Rattle.worked_callers.proofs.seen.serve_by.Goals as goal
@@ -46,6 +47,7 @@ returns g c =
     let popped = says.Chain head lens.0 lens.1 in
     let room = addresses_of (writable popped_handle.descriptors.items) in
     let calls = file_calls (drop 80 request) replied.0 replied.2 in
+    let are_calls : AreCallsOf request c.args.answer calls = (replied.0, replied.2, replied.6, refl, replied.7) in
     let q = queue_of (course_of before old.limit) in
     let back_queue = c.walk_chain.new.queue in
     let there = at_position before.layout before.next_used in
@@ -78,14 +80,17 @@ returns g c =
       answered = if_ok_so c.give_back_by.result _ _ _
           (λ told back session_is i m files limit is. (
             calls,
+            are_calls,
             λ files_run.
                 let goes = back room (data_behind replied.2) in
                 let e : Effects = record { acts = goes.0; last = goes.1 } in
                 let law = c.law_chains.ensures.answered given request calls goes.0 goes.1 head i told.0 old new before session m files
                 (by goes.0 goes.1 told.0 goes.2) c.requires.goes limit is files_run in (
+                  wents.On popped,
+                  law.0,
+                  (walked.0, popped_handle, back_queue, walked.1, law.1),
                   head,
                   room,
-                  law.0,
                   law.3,
                   e,
                   law.2,
@@ -102,12 +107,17 @@ returns g c =
       step = if_ok_so c.give_back_by.result _ _ _
           (λ told back session_is i m files alone first is. (
             calls,
+            are_calls,
             λ files_run.
                 let goes = back room (data_behind replied.2) in
                 let e : Effects = record { acts = goes.0; last = goes.1 } in
                 let law = c.law_chains.ensures.served given request calls goes.0 goes.1 head i told.0 old new before session m files
                 (by goes.0 goes.1 told.0 goes.2) first (keeps.0 ∙ alone) is files_run in (
-                  step_loads law.0 law.2 request,
+                  wents.On popped,
+                  law.0,
+                  law.2,
+                  (walked.0, popped_handle, back_queue, walked.1, law.1),
+                  law.3,
                   law.4,
                   e,
                   law.6,
@@ -121,6 +131,7 @@ returns g c =
       memory = if_ok_so c.give_back_by.result _ _ _
           (λ told back session_is i m files h alone first is loaded apart. (
             calls,
+            are_calls,
             λ files_run.
                 let goes = back room (data_behind replied.2) in
                 let memory = memory_over h old.regions in
@@ -131,10 +142,11 @@ returns g c =
                 refl (apart walked.0 popped_handle back_queue (wents.On popped) goes.1 walked.1) in (
                   law.0,
                   goes.0,
-                  wants_notice left q,
+                  back_queue,
                   law.2,
                   subst (λ (s : Session). Step may (record m { memory = memory }) i calls (Exchanged law.0 (wants_notice left q))
                       (record (after_chain m i q s.options.0 files) { memory = left })) (sym session_is) law.3,
+                  law.4,
                 ),
           ))
           c.give_back_by.ensures.back c.give_back_by.ensures.session;

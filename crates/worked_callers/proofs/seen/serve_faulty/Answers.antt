@@ -8,6 +8,8 @@ use Rattle.fs_chain.specs.Events.{tells_of}
 use Rattle.fs_chain.specs.Walks.{course_of}
 use Rattle.fs_chain.specs.Whole.{FaultyChainBy, after_chain, step_loads}
 use Rattle.fs_chain.specs.declared.popping.PopOutcome.TheVariants as says
+use Rattle.fs_chain.specs.declared.loads.LoadOutcome.TheVariants as wents
+use Rattle.worked_callers.specs.Notified.{calls_of}
 use Rattle.worked_callers.proofs.Served.{if_ok, queue_keeps, told_before}
 use Rattle.worked_callers.proofs.seen.serve_faulty.Goals as goal
 
@@ -17,19 +19,21 @@ returns g c =
     let popped_handle = c.walk_faulty.new.handle in
     let before = c.args.queue.now in
     let back_queue = c.walk_faulty.new.queue in
-    let walked = c.in_ok-walk_faulty.ensures.walked in
+    let walked = c.in_ok-walk_faulty.ensures.given in
+    let given = calls_of walked.0 c.args.given.now in
     let head = c.in_ok-walk_faulty.field-0-0 in
     let fault = c.in_ok-walk_faulty.field-0-1 in
     let q = queue_of (course_of before old.limit) in
-    let keeps = queue_keeps old popped_handle before back_queue (says.Faulty head fault) c.requires.goes tt walked in
+    let keeps = queue_keeps old popped_handle before back_queue (says.Faulty head fault) c.requires.goes tt
+    c.in_ok-walk_faulty.ensures.walked in
     let there = at_position before.layout before.next_used in
     record {
       told = if_ok c.give_back_by.result _ _
           (λ told back.
           let goes = back [] [] in
-          let run : FaultyChainBy walked.0 fault goes.0 goes.1 head told.0 old before =
+          let run : FaultyChainBy given fault goes.0 goes.1 head told.0 old before =
           record { popped_handle = popped_handle; taken = back_queue; walks = walked.1; back = back_queue; returns = goes.2 } in
-          let law = c.law_chains.ensures.told.of_faulty walked.0 fault goes.0 goes.1 head told.0 old before c.requires.goes run in
+          let law = c.law_chains.ensures.told.of_faulty given fault goes.0 goes.1 head told.0 old before c.requires.goes run in
           let so = told_before before.layout before back_queue goes.2.stores goes.2.flags told.0 keeps.0 keeps.1 law in
           (subst (λ (bs : List ℕ). told.0 ≡ tells_of before bs) goes.3 so.0, sym goes.4 ∙ so.1))
           c.give_back_by.ensures.back;
@@ -37,14 +41,15 @@ returns g c =
           (λ told back i m.
           let goes = back [] [] in
           let e : Effects = record { acts = goes.0; last = goes.1 } in
-          let run : FaultyChainBy walked.0 fault goes.0 goes.1 head told.0 old before =
+          let run : FaultyChainBy given fault goes.0 goes.1 head told.0 old before =
           record { popped_handle = popped_handle; taken = back_queue; walks = walked.1; back = back_queue; returns = goes.2 } in
-          let law = c.law_chains.ensures.faulty_answered walked.0 fault goes.0 goes.1 head i told.0 old before m run c.requires.goes in (
+          let law = c.law_chains.ensures.faulty_answered given fault goes.0 goes.1 head i told.0 old before m run c.requires.goes in (
             head,
             fault,
             law.0,
             law.3,
             e,
+            (walked.0, popped_handle, back_queue, walked.1, law.1),
             law.2,
             subst (λ (bs : List ℕ). ReturnsFaultyBy m i there head fault [] law.3 (tells bs) e (after_chain m i there m.options m.files))
                 goes.3
@@ -55,10 +60,14 @@ returns g c =
       step = if_ok c.give_back_by.result _ _
           (λ told back i m alone first.
           let goes = back [] [] in
-          let run : FaultyChainBy walked.0 fault goes.0 goes.1 head told.0 old before =
+          let run : FaultyChainBy given fault goes.0 goes.1 head told.0 old before =
           record { popped_handle = popped_handle; taken = back_queue; walks = walked.1; back = back_queue; returns = goes.2 } in
-          let law = c.law_chains.ensures.faulty walked.0 fault goes.0 goes.1 head i told.0 old before m first run (keeps.0 ∙ alone) in (
-            step_loads law.0 law.2 [],
+          let law = c.law_chains.ensures.faulty given fault goes.0 goes.1 head i told.0 old before m first run (keeps.0 ∙ alone) in (
+            wents.On (says.Faulty head fault),
+            law.0,
+            law.2,
+            (walked.0, popped_handle, back_queue, walked.1, law.1),
+            law.3,
             law.4,
             record { acts = goes.0; last = goes.1 },
             subst (λ (bs : List ℕ). StepBy g.F.FileSystemBase.may m i (step_loads law.0 law.2 []) [] (Exchanged law.4 (tells bs))

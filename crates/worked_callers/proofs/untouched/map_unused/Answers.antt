@@ -15,6 +15,8 @@ returns c =
     let unused = c.uses.ensures.unused c.if-uses.false c.requires.out in
     let done = c.in_ok-set_mapping.ensures in
     record {
+      mapped = λ is. done.2;
+      used = λ is. absurd (cc);
       stays = λ is.
           stays_alike old (mapped iova target n access old) new ds done.2
           (c.law_others_stay.ensures iova n target access old ds unused).1;

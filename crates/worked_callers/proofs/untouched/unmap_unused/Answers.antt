@@ -14,5 +14,7 @@ returns c =
     let unused = c.uses.ensures.unused c.if-uses.false c.requires.out in
     let done = c.in_ok-invalidate_mapping.ensures in
     record {
+      removed = λ is. done.1;
+      used = λ is. absurd (cc);
       stays = λ is. stays_alike old (unmapped iova n old) new ds done.1 (c.law_others_stay.ensures iova n 0 Read old ds unused).0;
     }
