@@ -30,7 +30,7 @@ use Rattle.fs_chain.specs.Queues.{at_return}
 use Rattle.fs_chain.specs.Pushes.{PushesBy}
 use Rattle.plain_machine.specs.Step.{State, Exchange, Calls, ServesRequest, answers_alone, calls_alone, served_exchange}
 use Rattle.plain_machine.specs.StepBy.{AnswersBy, Act}
-use Rattle.fs_chain.specs.Whole.{FromReplied, OneAnswer, acts_of, after_chain, file_calls, front_if}
+use Rattle.fs_chain.specs.Whole.{FromReplied, OneAnswer, push_acts, after_chain, file_calls, front_if}
 use Rattle.fs_chain.proofs.WholeSteps.{answers, serves_call, by_calls, by_options, by_reply, data_is, whole_len, isnt_cut}
 
 -- the plain machine's answer to it
@@ -47,7 +47,7 @@ pub by_call : {F : Type 0} (may : May F) (m : State F) (i : ℕ) (kq : QueueStat
     → length room ≡ out.room_len → out.room_len ≤ 2 ^ 31
     → KeepsCall (setting m.page_size m.options out.room_len) (meaning m.options request out.room_len) behind made out st
     → IsWaiting st → TellsBytes bytes a → IfWaits st (λ kept w. IsGiven (setting m.page_size m.options w.room) w a kept options told after)
-    → FromReplied kq after (λ reply s₁. (last ≡ front_len reply) × (acts ≡ acts_of room reply bytes s₁ flags)) used → length flags ≡ 2
+    → FromReplied kq after (λ reply s₁. (last ≡ front_len reply) × (acts ≡ push_acts room reply bytes s₁ flags)) used → length flags ≡ 2
     → notice ≡ tells flags
     → FileRun may m.files (file_calls behind (asks.Call made) (OneAnswer a bytes told)) files
     → AnsweredSo may m i (at_return kq out) out.head request room (file_calls behind (asks.Call made) (OneAnswer a bytes told)) notice acts
@@ -74,8 +74,9 @@ by_call {F} may m i kq request room behind files made a bytes told out (at.Waits
     whole_len given.0.sent n bytes (data_is bytes a data_told) ∙ sym (ap length is_reply) in
     let fits : length g.reply ≤ r = subst (λ (x : ServedMessage). length x.reply ≤ r) serving
     (served_fits s (meaning m.options request r) (answers_alone (mine (replied_of given.0)))) in
-    let back : PushesBy kq kept reply used × ((last ≡ front_len reply) × (acts ≡ acts_of room reply bytes used flags)) =
-    subst (λ (st : state.ChainState). FromReplied kq st (λ reply s₁. (last ≡ front_len reply) × (acts ≡ acts_of room reply bytes s₁ flags))
+    let back : PushesBy kq kept reply used × ((last ≡ front_len reply) × (acts ≡ push_acts room reply bytes used flags)) =
+    subst (λ (st : state.ChainState). FromReplied kq st (λ reply s₁. (last ≡ front_len reply)
+    × (acts ≡ push_acts room reply bytes s₁ flags))
     used) given.2 goes_back in
     let by_kept : stores_of used.used ≡ stores_after_reply (at_return kq out) out.head (reply_len out reply) =
     subst (λ (o : InFlight). stores_of used.used ≡ stores_after_reply (at_return kq o) o.head (reply_len o reply)) keeps.0 back.0.1 in
@@ -132,7 +133,7 @@ by_none : {F : Type 0} (may : May F) (m : State F) (i : ℕ) (kq : QueueState) (
     → length room ≡ out.room_len → out.room_len ≤ 2 ^ 31 → kept ≡ out → reply.behind ≡ 0
     → served (setting m.page_size m.options out.room_len) (meaning m.options request out.room_len) [] ≡ g → g.calls ≡ []
     → g.options ≡ m.options → g.reply ≡ front_of reply
-    → PushesBy kq kept reply used → last ≡ front_len reply → acts ≡ acts_of room reply [] used flags → length flags ≡ 2
+    → PushesBy kq kept reply used → last ≡ front_len reply → acts ≡ push_acts room reply [] used flags → length flags ≡ 2
     → notice ≡ tells flags → files ≡ m.files
     → AnsweredSo may m i (at_return kq out) out.head request room [] notice acts last m.options files
 by_none {F} may m i kq request room files out kept reply g used flags notice acts last room_is small same no_data serving no_calls
@@ -173,7 +174,7 @@ none_by : {F : Type 0} (may : May F) (m : State F) (i : ℕ) (kq : QueueState) (
     (flags : List ℕ) (notice : Bool) (acts : List Act) (last : ℕ)
     → length room ≡ out.room_len → out.room_len ≤ 2 ^ 31 → kept ≡ out → reply.behind ≡ 0 → reply.front ≡ f
     → IsDecoded (setting m.page_size m.options out.room_len) (meaning m.options request out.room_len) behind (asked_of f)
-    → PushesBy kq kept reply used → last ≡ front_len reply → acts ≡ acts_of room reply [] used flags → length flags ≡ 2
+    → PushesBy kq kept reply used → last ≡ front_len reply → acts ≡ push_acts room reply [] used flags → length flags ≡ 2
     → notice ≡ tells flags → files ≡ m.files
     → AnsweredSo may m i (at_return kq out) out.head request room [] notice acts last m.options files
 none_by may m i kq request room behind files out kept reply None used flags notice acts last room_is small same no_data is_front told back
@@ -193,7 +194,7 @@ pub by_reply_kept : {F : Type 0} (may : May F) (m : State F) (i : ℕ) (kq : Que
     (acts : List Act) (last : ℕ)
     → length room ≡ out.room_len → out.room_len ≤ 2 ^ 31
     → KeepsReply (setting m.page_size m.options out.room_len) (meaning m.options request out.room_len) behind out st
-    → FromReplied kq st (λ reply s₁. (last ≡ front_len reply) × (acts ≡ acts_of room reply [] s₁ flags)) used → length flags ≡ 2
+    → FromReplied kq st (λ reply s₁. (last ≡ front_len reply) × (acts ≡ push_acts room reply [] s₁ flags)) used → length flags ≡ 2
     → notice ≡ tells flags → files ≡ m.files
     → AnsweredSo may m i (at_return kq out) out.head request room [] notice acts last m.options files
 by_reply_kept may m i kq request room behind files out (at.HasReply kept reply) used flags notice acts last room_is small keeps back two
@@ -220,12 +221,12 @@ pub by_fault : {F : Type 0} (may : May F) (m : State F) (i : ℕ) (kq : QueueSta
     → length room ≡ out.room_len → out.room_len ≤ 2 ^ 31 → st ≡ at.HasReply out no_reply
     → served (setting m.page_size m.options out.room_len) (meaning m.options request out.room_len) []
     ≡ serving_words.no_reply [] m.options (Some e)
-    → FromReplied kq st (λ reply s₁. (last ≡ front_len reply) × (acts ≡ acts_of room reply [] s₁ flags)) used → length flags ≡ 2
+    → FromReplied kq st (λ reply s₁. (last ≡ front_len reply) × (acts ≡ push_acts room reply [] s₁ flags)) used → length flags ≡ 2
     → notice ≡ tells flags → files ≡ m.files
     → AnsweredSo may m i (at_return kq out) out.head request room [] notice acts last m.options files
 by_fault may m i kq request room files out st e used flags notice acts last room_is small is serving goes_back two notified files_are =
-    let back : PushesBy kq out no_reply used × ((last ≡ front_len no_reply) × (acts ≡ acts_of room no_reply [] used flags)) =
-    subst (λ (st : state.ChainState). FromReplied kq st (λ reply s₁. (last ≡ front_len reply) × (acts ≡ acts_of room reply [] s₁ flags))
+    let back : PushesBy kq out no_reply used × ((last ≡ front_len no_reply) × (acts ≡ push_acts room no_reply [] used flags)) =
+    subst (λ (st : state.ChainState). FromReplied kq st (λ reply s₁. (last ≡ front_len reply) × (acts ≡ push_acts room reply [] s₁ flags))
     used) is goes_back in
     by_none may m i kq request room files out out no_reply (serving_words.no_reply [] m.options (Some e)) used flags notice acts last
     room_is small refl refl serving refl refl refl

@@ -70,7 +70,7 @@ use Rattle.fs_chain.specs.Whole.{
   NoAnswer,
   OneAnswer,
   RefusalIsStepBy,
-  acts_of,
+  push_acts,
   after_chain,
   data_behind,
   file_calls,
@@ -116,7 +116,7 @@ pub told_so : {F : Type 0} (may : May F) (m : State F) (i : ℕ) (kq : QueueStat
     → TellsMeaning (setting s.page_size s.options.0 out.room_len) (meaning s.options.0 request out.room_len) (drop 80 request) out
     made asked.state
     → asked.session ≡ s → HasReply made asked given answered
-    → FromReplied kq answered.state (λ reply s₁. (last ≡ front_len reply) × (acts ≡ acts_of room reply (data_behind given) s₁ flags)) used
+    → FromReplied kq answered.state (λ reply s₁. (last ≡ front_len reply) × (acts ≡ push_acts room reply (data_behind given) s₁ flags)) used
     → length flags ≡ 2 → notice ≡ tells flags
     → FileRun may m.files (file_calls (drop 80 request) made given) files
     → AnsweredSo may m i (at_return kq out) out.head request room (file_calls (drop 80 request) made given) notice acts last
@@ -163,8 +163,8 @@ told_so may m i kq request room files s out asks.Nothing asked answered NoAnswer
     subst (λ (o : ℕ). KeepsReply (setting m.page_size o r) (meaning o request r) (drop 80 request) out asked.state) (sym options)
     (subst (λ (p : ℕ). KeepsReply (setting p s.options.0 r) (meaning s.options.0 request r) (drop 80 request) out asked.state)
     (sym page) meant) in
-    let back_so : FromReplied kq asked.state (λ reply s₁. (last ≡ front_len reply) × (acts ≡ acts_of room reply [] s₁ flags)) used =
-    subst (λ (w : ChainHandle). FromReplied kq w.state (λ reply s₁. (last ≡ front_len reply) × (acts ≡ acts_of room reply [] s₁ flags))
+    let back_so : FromReplied kq asked.state (λ reply s₁. (last ≡ front_len reply) × (acts ≡ push_acts room reply [] s₁ flags)) used =
+    subst (λ (w : ChainHandle). FromReplied kq w.state (λ reply s₁. (last ≡ front_len reply) × (acts ≡ push_acts room reply [] s₁ flags))
     used) has back in
     subst (λ (o : ℕ). AnsweredSo may m i (at_return kq out) out.head request room [] notice acts last o files)
     (options ∙ sym (ap (λ (x : Session). x.options.0) same) ∙ sym (ap (λ (w : ChainHandle). w.session.options.0) has))
@@ -181,8 +181,8 @@ told_so may m i kq request room files s out (asks.Fault e) asked answered NoAnsw
     subst (λ (o : ℕ). served (setting m.page_size o r) (meaning o request r) [] ≡ serving_words.no_reply [] o (Some e)) (sym options)
     (subst (λ (p : ℕ). served (setting p s.options.0 r) (meaning s.options.0 request r) [] ≡ serving_words.no_reply [] s.options.0 (Some e))
     (sym page) meant.1) in
-    let back_so : FromReplied kq asked.state (λ reply s₁. (last ≡ front_len reply) × (acts ≡ acts_of room reply [] s₁ flags)) used =
-    subst (λ (w : ChainHandle). FromReplied kq w.state (λ reply s₁. (last ≡ front_len reply) × (acts ≡ acts_of room reply [] s₁ flags))
+    let back_so : FromReplied kq asked.state (λ reply s₁. (last ≡ front_len reply) × (acts ≡ push_acts room reply [] s₁ flags)) used =
+    subst (λ (w : ChainHandle). FromReplied kq w.state (λ reply s₁. (last ≡ front_len reply) × (acts ≡ push_acts room reply [] s₁ flags))
     used) has back in
     subst (λ (o : ℕ). AnsweredSo may m i (at_return kq out) out.head request room [] notice acts last o files)
     (options ∙ sym (ap (λ (x : Session). x.options.0) same) ∙ sym (ap (λ (w : ChainHandle). w.session.options.0) has))
@@ -399,7 +399,7 @@ faulty_so : {F : Type 0} (may : May F) (m : State F) (i : ℕ) (kq : QueueState)
     (fault : ChainFault) (stores : PushStores) (flags : List ℕ)
     (acts : List Act) (last : ℕ) (notice : Bool)
     → length flags ≡ 2 → notice ≡ tells flags → PushesBy kq (faulty_out course pop_id head) no_reply stores → last ≡ front_len no_reply
-    → acts ≡ acts_of [] no_reply [] stores flags
+    → acts ≡ push_acts [] no_reply [] stores flags
     → ReturnsFaultyBy m i (at_position course.layout kq.next_used) head fault [] (faulty head fault) notice
     (record { acts = acts; last = last })
     (after_chain m i (at_position course.layout kq.next_used) m.options m.files)
@@ -439,9 +439,9 @@ faulty_parts {F} may given fault acts last head i notice old before m run goes =
     let state_is : run.popped_handle.state ≡ at.HasReply (faulty_out course pop_id head) no_reply =
     came.1.1 ∙ ap (λ (c : comes.CourseStep). state_after course pop_id ds c) is in
     let back : PushesBy run.back (faulty_out course pop_id head) no_reply run.returns.stores
-    × ((last ≡ front_len no_reply) × (acts ≡ acts_of [] no_reply [] run.returns.stores run.returns.flags)) =
+    × ((last ≡ front_len no_reply) × (acts ≡ push_acts [] no_reply [] run.returns.stores run.returns.flags)) =
     subst (λ (st : state.ChainState). FromReplied run.back st (λ reply s₁. (last ≡ front_len reply)
-    × (acts ≡ acts_of [] reply [] s₁ run.returns.flags)) run.returns.stores) state_is run.returns.returns in
+    × (acts ≡ push_acts [] reply [] s₁ run.returns.flags)) run.returns.stores) state_is run.returns.returns in
     let done = faulty_so may m i run.back course pop_id head fault run.returns.stores run.returns.flags acts last (tells run.returns.flags)
     run.returns.flags_len refl back.0 back.1.0 back.1.1 in
     (loaded, all.1, found, done)

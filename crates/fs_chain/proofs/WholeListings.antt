@@ -35,7 +35,7 @@ use Rattle.fs_chain.specs.Listings.{IsFailedReply, IsListReply, RepliesBy, answe
 use Rattle.fs_chain.specs.Orders.{front_len, reply_len}
 use Rattle.fs_chain.specs.Queues.{at_return}
 use Rattle.fs_chain.specs.Pushes.{PushesBy}
-use Rattle.fs_chain.specs.Whole.{ByEntries, FromReplied, acts_of, after_chain, file_calls}
+use Rattle.fs_chain.specs.Whole.{ByEntries, FromReplied, push_acts, after_chain, file_calls}
 use Rattle.fs_chain.specs.WholeListings.{Ending, EndsBy, EndsThere, FailsAt, FromLists, FullAt, IsListedBy, NotFound, Unreadable, failed_by}
 use Rattle.fs_chain.specs.WholeListings.{listing_calls}
 use Rattle.plain_machine.specs.Step.{State, Calls, ServesRequest, answers_alone, calls_alone, served_exchange}
@@ -241,7 +241,8 @@ pub by_listing : {F : Type 0} (may : May F) (m : State F) (i : ℕ) (kq : QueueS
     → length room ≡ out.room_len → out.room_len ≤ 2 ^ 31
     → KeepsCall (setting m.page_size m.options out.room_len) (meaning m.options request out.room_len) behind made out w.state
     → IsListedBy w b es ending bytes after
-    → FromReplied kq after.state (λ reply s₁. (last ≡ front_len reply) × (acts ≡ acts_of room reply bytes s₁ flags)) used → length flags ≡ 2
+    → FromReplied kq after.state (λ reply s₁. (last ≡ front_len reply) × (acts ≡ push_acts room reply bytes s₁ flags)) used
+    → length flags ≡ 2
     → notice ≡ tells flags
     → FileRun may m.files (file_calls behind (asks.Call made) (ByEntries b es ending bytes)) files
     → AnsweredSo may m i (at_return kq out) out.head request room (file_calls behind (asks.Call made) (ByEntries b es ending bytes)) notice
@@ -262,8 +263,8 @@ by_listing {F} may m i kq request room behind files made b es ending bytes out w
     ap (λ (n : ℕ). length so.0.front + n) (sym so.2) ∙ sym (length-append so.0.front bytes) in
     let fits : length g.reply ≤ r =
     subst (λ (x : ServedMessage). length x.reply ≤ r) so.3 (served_fits s (meaning m.options request r) (answers_alone steps)) in
-    let back : PushesBy kq lists.0 reply used × ((last ≡ front_len reply) × (acts ≡ acts_of room reply bytes used flags)) =
-    subst (λ (x : state.ChainState). FromReplied kq x (λ reply s₁. (last ≡ front_len reply) × (acts ≡ acts_of room reply bytes s₁ flags))
+    let back : PushesBy kq lists.0 reply used × ((last ≡ front_len reply) × (acts ≡ push_acts room reply bytes used flags)) =
+    subst (λ (x : state.ChainState). FromReplied kq x (λ reply s₁. (last ≡ front_len reply) × (acts ≡ push_acts room reply bytes s₁ flags))
     used) so.1 goes_back in
     let by_kept : stores_of used.used ≡ stores_after_reply (at_return kq out) out.head (reply_len out reply) =
     subst (λ (o : InFlight). stores_of used.used ≡ stores_after_reply (at_return kq o) o.head (reply_len o reply)) kept_so.0 back.0.1 in

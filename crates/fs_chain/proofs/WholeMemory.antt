@@ -25,8 +25,8 @@ use Rattle.plain_machine.specs.Step.{State, Exchange, Exchanged, Calls, Step}
 use Rattle.plain_machine.specs.StepBy.{Act, AnswersBy, AreStepLoadsOf, return_acts, return_stores, Effects, FindFlags, IsOfMemory}
 use Rattle.plain_machine.specs.StepBy.{MayStoreLast, StepBy, StepOfBy, offered_by, after_stores, reply_stores, stores_among}
 use Rattle.plain_machine.proofs.StepByLemmas.{step_by_is_step}
-use Rattle.fs_chain.specs.Whole.{ChainIsStep, FromReplied, acts_of, after_chain, data_behind, step_loads, GoesBackBy, IsToldByMemory}
-use Rattle.fs_chain.specs.Whole.{reply_bytes}
+use Rattle.fs_chain.specs.Whole.{ChainIsStep, FromReplied, push_acts, after_chain, data_behind, step_loads, GoesBackBy, IsToldByMemory}
+use Rattle.fs_chain.specs.Whole.{stored_reply}
 use Rattle.vm_memory.proofs.Places.{stored_all-append}
 use Rattle.fs_queue.proofs.ReadLemmas.{length-bytes}
 use Rattle.fs_chain.proofs.WholeChains.{answered_there, chain_parts}
@@ -64,10 +64,10 @@ finds_last m q (store ∷ stores) seen is =
 
 -- a chain that goes back makes stores, and then loads the two bytes
 acts_back : (back : QueueState) (room behind flags : List ℕ) (acts : List Act) (last : ℕ) (st : state.ChainState) (used : PushStores)
-    → FromReplied back st (λ reply s. (last ≡ front_len reply) × (acts ≡ acts_of room reply behind s flags)) used
+    → FromReplied back st (λ reply s. (last ≡ front_len reply) × (acts ≡ push_acts room reply behind s flags)) used
     → (stores : List Store) × (acts ≡ return_acts stores flags)
 acts_back back room behind flags acts last (at.HasReply out reply) used goes =
-    (reply_stores room (reply_bytes reply behind) (front_len reply) ++ stores_of used.used, goes.1.1)
+    (reply_stores room (stored_reply reply behind) (front_len reply) ++ stores_of used.used, goes.1.1)
 acts_back back room behind flags acts last st used goes = absurd goes
 
 seen_in :

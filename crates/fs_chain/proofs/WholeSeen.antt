@@ -29,7 +29,7 @@ use Rattle.fs_chain.specs.Orders.{front_len}
 use Rattle.fs_chain.specs.Queues.{pop_id_of}
 use Rattle.fs_chain.specs.Walks.{HasEvents, course_of, faulty_out, no_reply, out_of, state_after}
 use Rattle.fs_chain.specs.Whole.{ByEntries, ChainBy, FaultyChainBy, FromReplied, FromTaken, ChainAnswer, HasReply, IsByFlags, IsToldBySeen}
-use Rattle.fs_chain.specs.Whole.{NoAnswer, OneAnswer, ReturnsAreToldBySeen, acts_of, data_behind}
+use Rattle.fs_chain.specs.Whole.{NoAnswer, OneAnswer, ReturnsAreToldBySeen, push_acts, data_behind}
 use Rattle.plain_machine.specs.Step.{Calls}
 use Rattle.plain_machine.specs.StepBy.{Act}
 use Rattle.fs_chain.proofs.WholeChains.{came_is, faulty_is}
@@ -118,7 +118,7 @@ chain_seen given request calls acts last head notice old new before s goes run =
     let flags = run.returns.flags in
     record {
       place = seen_so (setting s.page_size s.options.0 out.room_len) (meaning s.options.0 request out.room_len) (drop 80 request) run.back
-          (λ reply s₁. (last ≡ front_len reply) × (acts ≡ acts_of room reply (data_behind run.given) s₁ flags)) out run.made
+          (λ reply s₁. (last ≡ front_len reply) × (acts ≡ push_acts room reply (data_behind run.given) s₁ flags)) out run.made
           run.decoded_handle new run.given run.returns.stores asked.2 run.replies
           run.returns.returns;
       told = run.returns.notified;
@@ -139,7 +139,8 @@ faulty_seen given fault acts last head notice old before goes run =
     all.2.1.1 ∙ ap (λ (c : comes.CourseStep). state_after course (pop_id_of before) ds c) is in
     let flags = run.returns.flags in
     record {
-      place = seen_back run.back (λ reply s₁. (last ≡ front_len reply) × (acts ≡ acts_of [] reply [] s₁ flags)) run.popped_handle.state out
+      place = seen_back run.back (λ reply s₁. (last ≡ front_len reply)
+          × (acts ≡ push_acts [] reply [] s₁ flags)) run.popped_handle.state out
           out no_reply run.returns.stores state_is refl run.returns.returns;
       told = run.returns.notified;
       by_flags = λ is_so. run.returns.notified ∙ flags_tell run.back flags is_so;

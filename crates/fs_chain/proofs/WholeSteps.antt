@@ -18,8 +18,8 @@ use Rattle.virtiofsd_fuse.specs.Serving.{May, Setting, ServedMessage, served, co
 use Rattle.server_phases.specs.declared.answering.Answered.{Answered}
 use Rattle.server_phases.specs.declared.answering.Sent.{Sent}
 use Rattle.server_phases.specs.declared.answering.Sent.TheVariants as sent
-use Rattle.server_phases.specs.Answering.{Gives, TellsBytes, forget_call, served_by}
-use Rattle.server_phases.specs.Gathering.{is_listing}
+use Rattle.server_phases.specs.Answering.{Gives, TellsBytes, forget_calls, served_by}
+use Rattle.server_phases.specs.Gathering.{lists_entries}
 use Rattle.server_phases.specs.Waiting.{first_call}
 use Rattle.fs_chain.specs.declared.decoding.Decoded.TheVariants as asks
 use Rattle.fs_chain.specs.declared.pushing.PushStores.{PushStores}
@@ -30,31 +30,31 @@ use Rattle.fs_chain.specs.Orders.{front_len, reply_len}
 use Rattle.plain_machine.specs.Step.{State, Calls, ServesRequest, calls_alone, answers_alone, served_exchange}
 use Rattle.plain_machine.specs.StepBy.{AnswersBy, Act, reply_stores}
 use Rattle.plain_machine.specs.StepBy as act
-use Rattle.fs_chain.specs.Whole.{OneAnswer, file_calls, front_if, acts_of, after_chain}
+use Rattle.fs_chain.specs.Whole.{OneAnswer, file_calls, front_if, push_acts, after_chain}
 
 -- one answer is enough, unless a directory is listed
-first_is_enough : (s : Setting) (command : FileCommand) (a : file.FileAnswer) (more : List file.FileAnswer) → is_listing command ≡ false
+first_is_enough : (s : Setting) (command : FileCommand) (a : file.FileAnswer) (more : List file.FileAnswer) → lists_entries command ≡ false
     → commanded s command (a ∷ more) ≡ commanded s command (a ∷ [])
 first_is_enough s (One unique call) a more not_list = refl
 first_is_enough s (Starts unique capable readahead) a more not_list = refl
 first_is_enough s (Lists unique l) a more not_list = absurd (true≢false not_list)
 
-forgets : (f : Option (Context × ℕ)) → calls_alone (map (λ c. (c, file.Done)) (forget_call f)) ≡ forget_call f
+forgets : (f : Option (Context × ℕ)) → calls_alone (map (λ c. (c, file.Done)) (forget_calls f)) ≡ forget_calls f
 forgets None = refl
 forgets (Some node) = refl
 
 pub serves_call : (s : Setting) (m : Meaning) (command : FileCommand) (made : made_call.FileCall) (bytes behind : List ℕ) (a : FileAnswer)
     (given : Answered) (options : ℕ)
-    → m ≡ Asks command → call_of behind made ≡ first_call command → is_listing command ≡ false → Gives s command bytes a given options
+    → m ≡ Asks command → call_of behind made ≡ first_call command → lists_entries command ≡ false → Gives s command bytes a given options
     → served s m (answers_alone (file_calls behind (asks.Call made) (OneAnswer a bytes (replied_of given))))
     ≡ served_by (calls_alone (file_calls behind (asks.Call made) (OneAnswer a bytes (replied_of given)))) options given.sent bytes
 serves_call s m command made bytes behind a given options is call_is not_list gives =
     let calls = file_calls behind (asks.Call made) (OneAnswer a bytes (replied_of given)) in
     ap (λ (x : Meaning). served s x (answers_alone calls)) is
-    ∙ first_is_enough s command (answer_of bytes a) (answers_alone (map (λ c. (c, file.Done)) (forget_call given.forget))) not_list
+    ∙ first_is_enough s command (answer_of bytes a) (answers_alone (map (λ c. (c, file.Done)) (forget_calls given.forget))) not_list
     ∙ gives
     ∙ ap (λ (cs : List FileCall). served_by cs options given.sent bytes)
-    (ap (λ (c : FileCall). c ∷ forget_call given.forget) (sym call_is)
+    (ap (λ (c : FileCall). c ∷ forget_calls given.forget) (sym call_is)
     ∙ ap (λ (cs : List FileCall). call_of behind made ∷ cs) (sym (forgets given.forget)))
 
 pub by_calls : (cs : List FileCall) (o : ℕ) (x : Sent) (bytes : List ℕ) → (served_by cs o x bytes).calls ≡ cs
@@ -93,7 +93,7 @@ pub answers : {F : Type 0} (may : May F) (m : State F) (i : ℕ) (q : Queue) (he
     → given.reply ≡ front_if reply.front behind → given.options ≡ options
     → stores_of used.used ≡ stores_after_reply q head (length given.reply) → length flags ≡ 2 → notice ≡ tells flags
     → AnswersBy may m i q head request room calls (served_exchange head request given) notice
-    (record { acts = acts_of room reply behind used flags; last = front_len reply }) (after_chain m i q options files)
+    (record { acts = push_acts room reply behind used flags; last = front_len reply }) (after_chain m i q options files)
 answers {F} may m i q head request room calls files given reply behind used flags notice options serves is_reply is_options stores two
     told = record {
       given = given;

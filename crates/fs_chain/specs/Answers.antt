@@ -45,9 +45,9 @@ abbrev pub replied_of : Answered → Replied
 replied_of given = record { has_room = fits given.sent; forget = given.forget }
 
 -- why an answer is refused, as a call's error
-abbrev pub error_of : why.AnswerRefusal → ChainError
-error_of refused.OtherKind = error.OtherKind
-error_of refused.TooLong = error.LongReply
+abbrev pub refusal_error : why.AnswerRefusal → ChainError
+refusal_error refused.OtherKind = error.OtherKind
+refusal_error refused.TooLong = error.LongReply
 
 -- the answer to a call in flight is accepted. For every command that the call may belong to, `given`
 -- follows from the answer: it is returned as `told`, and the handle keeps it
@@ -74,7 +74,7 @@ CanBeGiven w answer =
 abbrev pub RefusesAnswer : Waiting → FileAnswer → ChainError → Type 0
 RefusesAnswer w answer e =
     (reason : why.AnswerRefusal)
-    × (e ≡ error_of reason)
+    × (e ≡ refusal_error reason)
     × ((command : FileCommand) (bytes : List ℕ) →
     WaitsFor w command →
     TellsBytes bytes answer →

@@ -59,13 +59,13 @@ abbrev pub are_pages : (a n : ℕ) → Bool
 are_pages a n = a % 4096 == 0 && (n % 4096 == 0 && not (n == 0))
 
 -- the error that is returned for one of the table
-abbrev pub error_of : IommuError → ChainError
-error_of iommu.OutOfMemory = OutOfMemory
-error_of _ = BadArgument
+abbrev pub mapping_error : IommuError → ChainError
+mapping_error iommu.OutOfMemory = OutOfMemory
+mapping_error _ = BadArgument
 
 abbrev pub told_of_table : {X : Type 0} → Result X IommuError → Result X ChainError
 told_of_table (Ok done) = Ok done
-told_of_table (Err e) = Err (error_of e)
+told_of_table (Err e) = Err (mapping_error e)
 
 -- a table in its place maps whole pages; a call that is refused changes nothing
 abbrev pub MapsIn : (old : Option (List IotlbRange)) → (iova len guest : ℕ) → Permissions →

@@ -30,7 +30,7 @@ use Rattle.virtiofsd_fuse.specs.Grammar.{meaning}
 use Rattle.virtiofsd_fuse.specs.Serving.{May, setting}
 use Rattle.server_phases.specs.declared.session.Session.{Session}
 use Rattle.server_phases.specs.Asking.{IsRequestFront}
-use Rattle.server_phases.specs.Answering.{TellsBytes, forget_call}
+use Rattle.server_phases.specs.Answering.{TellsBytes, forget_calls}
 use Rattle.server_phases.specs.Gathering.{Brought}
 use Rattle.fs_chain.specs.declared.answering.Replied.{Replied}
 use Rattle.fs_chain.specs.declared.decoding.Decoded as told
@@ -154,7 +154,7 @@ pub data ChainAnswer : Type 0 where
 -- doesn't fit; or a listing and its look-ups
 abbrev pub file_calls : (behind : List ℕ) → told.Decoded → ChainAnswer → Calls
 file_calls behind (asks.Call made) (OneAnswer answer bytes replied) =
-    (call_of behind made, answer_of bytes answer) ∷ map (λ c. (c, file.Done)) (forget_call replied.forget)
+    (call_of behind made, answer_of bytes answer) ∷ map (λ c. (c, file.Done)) (forget_calls replied.forget)
 file_calls behind (asks.Call made) (ByEntries with_nodes es ending bytes) =
     listing_calls (call_of behind made) with_nodes es ending
 file_calls behind made given = []
@@ -188,17 +188,17 @@ front_if None behind = []
 front_if (Some front) behind = front ++ behind
 
 -- the bytes of a reply: none, if there is no front
-abbrev pub reply_bytes : ChainReply → (behind : List ℕ) → List ℕ
-reply_bytes reply behind = front_if reply.front behind
+abbrev pub stored_reply : ChainReply → (behind : List ℕ) → List ℕ
+stored_reply reply behind = front_if reply.front behind
 
 -- the caller's stores and load for a push, in this order: the data into the reply buffer, the front over
 -- its start, the used element's two halves, and the used index. Then the caller loads the two bytes that
 -- decide on the notification: flags, or used_event (2.7.8 and 2.7.7). Without a reply nothing is stored in
 -- the reply buffer
-abbrev pub acts_of :
+abbrev pub push_acts :
     (room : List ℕ) → ChainReply → (behind : List ℕ) → PushStores → (flags : List ℕ) → List Act
-acts_of room reply behind s flags =
-    map act.StoresBytes (reply_stores room (reply_bytes reply behind) (front_len reply) ++ stores_of s.used)
+push_acts room reply behind s flags =
+    map act.StoresBytes (reply_stores room (stored_reply reply behind) (front_len reply) ++ stores_of s.used)
     ++ act.LoadsFlags flags ∷ []
 
 -- a chain is pushed by its caller's stores and loads, and `notice` is the result for the two bytes that
@@ -209,7 +209,7 @@ pub record GoesBackBy (back : QueueState) (room : List ℕ) (behind : List ℕ) 
   pub flags : List ℕ
   pub flags_len : length flags ≡ 2
   pub returns : FromReplied back from (λ reply s. (last ≡ front_len reply)
-      × (acts ≡ acts_of room reply behind s flags)) stores
+      × (acts ≡ push_acts room reply behind s flags)) stores
   pub notified : notice ≡ tells_of back flags
 
 -- ---- the whole

@@ -3,7 +3,7 @@
 ghost use Rattle.std.specs.Prelude.{◌≡◌, IfOk, IfErr, OnOk, OnErr};
 ghost use Rattle.virtiofsd_fuse.specs.Serving.{setting};
 ghost use Rattle.fs_chain.specs.Answers.{AnswerFails, CanBeGiven, IfWaits, IsGiven, IsNotTaken};
-ghost use Rattle.fs_chain.specs.Answers.{RefusesAnswer, IsWaiting, data_len, error_of, fits, replied_of};
+ghost use Rattle.fs_chain.specs.Answers.{RefusesAnswer, IsWaiting, data_len, refusal_error, fits, replied_of};
 ghost use Rattle.fs_chain.specs.Answers.{reply_of};
 ghost use Rattle.fs_chain.specs.Walks.{IsAllBut};
 ghost use Rattle.fs_chain.specs.declared.state.ChainState.TheVariants as at;
@@ -35,8 +35,8 @@ fn data_len(answer: &FileAnswer) -> usize
     }
 }
 
-fn error_of(why: AnswerRefusal) -> ChainError
-    ensures { result ≡ error_of why }
+fn refusal_error(why: AnswerRefusal) -> ChainError
+    ensures { result ≡ refusal_error why }
 {
     match why {
         AnswerRefusal::OtherKind => ChainError::OtherKind,
@@ -98,7 +98,7 @@ impl ChainHandle {
             Err(refusal) => {
                 let why = refusal.why;
                 self.state = ChainState::Waits(out, refusal.waiting);
-                Err(error_of(why))
+                Err(refusal_error(why))
             }
         }
     }

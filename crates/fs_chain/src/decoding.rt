@@ -7,11 +7,11 @@ ghost use Rattle.fuse_fs.specs.declared.answers.Context.{Context};
 ghost use Rattle.fuse_in.specs.Records.{in_header};
 ghost use Rattle.fuse_in.specs.declared.session.InHeader.{InHeader};
 ghost use Rattle.fuse_values.specs.declared.call.FileCall as value;
-ghost use Rattle.server_requests.specs.Reading.{reading_of};
+ghost use Rattle.server_requests.specs.Reading.{record_parser};
 ghost use Rattle.virtiofsd_fuse.specs.Grammar.{Meaning, meaning};
 ghost use Rattle.virtiofsd_fuse.specs.Serving.{Setting, setting};
 ghost use Rattle.server_phases.specs.Asking.{AsksCall, HasAskerByFront, IsAskedBy, IsRequestFront, IsDecoded};
-ghost use Rattle.server_phases.specs.Asking.{IsToldByFront, is_told};
+ghost use Rattle.server_phases.specs.Asking.{IsDecodedByFront, is_decoded};
 ghost use Rattle.fs_chain.specs.Decoding.{IfUndecoded, IsKeptFor, KeepsCall, TellsMeaning, wanted};
 ghost use Rattle.fs_chain.specs.Decoding.{wanted_after, wanted_by};
 ghost use Rattle.fs_chain.specs.Orders.{ask_error};
@@ -104,20 +104,20 @@ impl ChainHandle {
     // Keeps the request that its first bytes decode to, if they suffice.
     fn keep_front<'a>(&mut self, out: InFlight, len: usize, asked: AskedFront<'a>) -> Decoded<'a>
         ensures tells { (s : Setting) (m : Meaning) (bytes : List ℕ)
-            → IsToldByFront s m bytes asked.entry
+            → IsDecodedByFront s m bytes asked.entry
             → TellsMeaning s m bytes out result self.new.state }
         ensures asker { (request : List ℕ)
             → HasAskerByFront request asked.entry
             → (h : InHeader) (more : List ℕ)
-            → reading_of in_header request ≡ Ok (h, more)
+            → record_parser in_header request ≡ Ok (h, more)
             → IsKeptFor (context_of h) self.new.state }
-        ensures wanted { wanted_by result ≡ (if is_told asked.entry then None
+        ensures wanted { wanted_by result ≡ (if is_decoded asked.entry then None
             else Some (wanted len out.request_len)) }
         ensures same { IsAllButPlace self.old self.new }
         ensures list { self.new.list_len ≡ self.old.list_len }
     {
         match asked {
-            AskedFront::Told(asked) => self.keep_asked(out, asked),
+            AskedFront::Decoded(asked) => self.keep_asked(out, asked),
             AskedFront::More => {
                 self.state = ChainState::Taken(out);
                 Decoded::More(wanted(len, out.request_len))
@@ -144,7 +144,7 @@ impl ChainHandle {
             → out.request_len ≡ length whole
             → IsRequestFront request.now whole
             → (h : InHeader) (more : List ℕ)
-            → reading_of in_header whole ≡ Ok (h, more)
+            → record_parser in_header whole ≡ Ok (h, more)
             → IsKeptFor (context_of h) self.new.state) }
         ensures wanted { IfOk result (λ told. wanted_by told ≡ wanted_after request.now out.request_len) }
         ensures same { IsAllBut self.old self.new
@@ -184,7 +184,7 @@ impl ChainHandle {
             → out.request_len ≡ length whole
             → IsRequestFront request.now whole
             → (h : InHeader) (more : List ℕ)
-            → reading_of in_header whole ≡ Ok (h, more)
+            → record_parser in_header whole ≡ Ok (h, more)
             → IsKeptFor (context_of h) self.new.state)) }
         ensures wanted { IfOk result (λ told. IfUndecoded self.old.state
             (λ out. wanted_by told ≡ wanted_after request.now out.request_len)) }

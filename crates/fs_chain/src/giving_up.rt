@@ -15,7 +15,7 @@ use crate::state::{ChainState, InFlight};
 impl ChainHandle {
     // Gives up a chain in flight whose request wasn't decoded. It stays in flight if the queue is another
     // one, or if other chains were popped after it.
-    fn give_back(&mut self, queue: &mut QueueState, out: InFlight) -> Result<(), ChainError>
+    fn untake_chain(&mut self, queue: &mut QueueState, out: InFlight) -> Result<(), ChainError>
         requires { self.old.state ≡ at.Taken out }
         ensures error { IfErr result (λ e. give_up_error (at.Taken out) queue.old ≡ Some e) }
         ensures ok { OnOk result (give_up_error (at.Taken out) queue.old ≡ None) }
@@ -53,7 +53,7 @@ impl ChainHandle {
             }
             ChainState::Taken(out) => {
                 let out = *out;
-                self.give_back(queue, out)
+                self.untake_chain(queue, out)
             }
             _ => Err(ChainError::WrongOrder),
         }

@@ -1,7 +1,7 @@
 //! A place for an IOMMU's table, from which it is lent.
 
 ghost use Rattle.std.specs.Prelude.{◌≡◌, [], Some};
-ghost use Rattle.fs_chain.specs.Tables.{MapsIn, UnmapsIn, are_pages, error_of};
+ghost use Rattle.fs_chain.specs.Tables.{MapsIn, UnmapsIn, are_pages, mapping_error};
 
 use crate::error::ChainError;
 use std::alloc::Global;
@@ -25,8 +25,8 @@ fn are_pages(iova: u64, len: u64) -> bool
 }
 
 // The error of a call that didn't change the table.
-fn error_of(error: IommuError) -> ChainError
-    ensures { result ≡ error_of error }
+fn mapping_error(error: IommuError) -> ChainError
+    ensures { result ≡ mapping_error error }
 {
     match error {
         IommuError::OutOfMemory => ChainError::OutOfMemory,
@@ -63,7 +63,7 @@ impl IotlbPlace {
                 let (iova, guest) = (GuestAddress(iova), GuestAddress(guest));
                 match table.set_mapping(iova, guest, len as usize, access) {
                     Ok(()) => Ok(()),
-                    Err(error) => Err(error_of(error)),
+                    Err(error) => Err(mapping_error(error)),
                 }
             }
             None => Err(ChainError::WrongOrder),
@@ -84,7 +84,7 @@ impl IotlbPlace {
                 let count = len.min(u64::MAX - iova) as usize;
                 match table.invalidate_mapping(GuestAddress(iova), count) {
                     Ok(()) => Ok(()),
-                    Err(error) => Err(error_of(error)),
+                    Err(error) => Err(mapping_error(error)),
                 }
             }
             None => Err(ChainError::WrongOrder),

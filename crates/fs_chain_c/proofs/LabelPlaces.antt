@@ -11,7 +11,7 @@ use Rattle.fuse_wire.specs.Records.{ext_header, secctx}
 use Rattle.fuse_fs.specs.Calls.{Extra, NewLink, SecurityContext}
 use Rattle.server_segments.specs.declared.error.Error.TheVariants.{DecodeMessage, InvalidCString, InvalidHeaderLength, MissingParameter}
 use Rattle.server_requests.specs.Reading.{Parsed, ReadFailure, Parser, Faults, ◌>>◌, ◌>>=◌, and_then, exactly, front_name, give, name_or}
-use Rattle.server_requests.specs.Reading.{needs, reading_of, refuse, rest, within}
+use Rattle.server_requests.specs.Reading.{needs, record_parser, refuse, rest, within}
 use Rattle.server_requests.specs.Extras.{SentParts, all_sent, extension, extensions, extra, extra_in, group_part, new_link, new_name}
 use Rattle.server_requests.specs.Extras.{nothing_sent, one_group, part, parts_of, security_context, security_part, takes_group}
 use Rattle.server_requests.specs.Extras.{takes_security}
@@ -86,7 +86,7 @@ label_read : (body : List ℕ)
 unfolding security_context
 label_read body =
     let Q : SecurityContext → List ℕ → Type 0 = λ l more. AreNameAndValue (drop 8 body) l.name l.label in
-    then_read (IsRecord secctx body) Q (reading_of secctx body)
+    then_read (IsRecord secctx body) Q (record_parser secctx body)
     (λ x. and_then ((needs (not (x.0.size == 0)) (Faults DecodeMessage) >> rest) x.1)
     (λ y. (needs (not (length y.0 == 0)) (Faults MissingParameter) >> within y.0 (label_of_size x.0.size)) y.1))
     (record_read secctx body)
@@ -225,7 +225,7 @@ extension_is sent bytes head behind body more s h i k =
 extension_read : (options : ℕ) (sent : SentParts) (bytes : List ℕ) → IfRead (IsExtension sent bytes) (extension options sent bytes)
 unfolding extension
 extension_read options sent bytes =
-    then_read (IsRecord ext_header bytes) (IsExtension sent bytes) (reading_of ext_header bytes)
+    then_read (IsRecord ext_header bytes) (IsExtension sent bytes) (record_parser ext_header bytes)
     (λ x. and_then ((needs (nat_le 8 x.0.size) (Faults InvalidHeaderLength) >> exactly (x.0.size - 8)) x.1)
     (λ y. within y.0 (part options sent x.0.ext_type) y.1))
     (record_read ext_header bytes)

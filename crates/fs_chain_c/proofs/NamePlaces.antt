@@ -14,7 +14,7 @@ use Rattle.server_segments.specs.declared.error.Error.{Error}
 use Rattle.server_segments.specs.declared.error.Error.TheVariants.{DecodeMessage, InvalidCString, InvalidHeaderLength, InvalidXattrSize}
 use Rattle.server_segments.specs.declared.error.Error.TheVariants.{MissingParameter}
 use Rattle.server_requests.specs.Reading.{Parsed, ReadFailure, Faults, and_then, at_zero, before_zero, ended_or, exactly, front_name}
-use Rattle.server_requests.specs.Reading.{last_name, many, name_and_value, name_by, name_or, needs, reading_of, two_names}
+use Rattle.server_requests.specs.Reading.{last_name, many, name_and_value, name_by, name_or, needs, record_parser, two_names}
 use Rattle.server_requests.specs.Fronts.{counted, forget_pair, with_bytes}
 use Rattle.fs_chain_c.specs.Spans.{IsNotZero}
 
@@ -79,8 +79,8 @@ abbrev pub IsRecord : {R : Type 0} → RecordShape R → (bytes : List ℕ) → 
 IsRecord s bytes r more =
     (r ≡ made s.parts s.make (take (size s.parts) bytes)) × (more ≡ drop (size s.parts) bytes) × (size s.parts ≤ length bytes)
 
-pub record_read : {R : Type 0} (s : RecordShape R) (bytes : List ℕ) → IfRead (IsRecord s bytes) (reading_of s bytes)
-unfolding reading_of
+pub record_read : {R : Type 0} (s : RecordShape R) (bytes : List ℕ) → IfRead (IsRecord s bytes) (record_parser s bytes)
+unfolding record_parser
 record_read {R} s bytes =
     then_read (AreFirst (size s.parts) bytes) (IsRecord s bytes) (exactly (size s.parts) bytes) (λ x. Ok (made s.parts s.make x.0, x.1))
     (exactly_read (size s.parts) bytes)
@@ -113,7 +113,7 @@ with_bytes_read {R} s k len request is =
     let there : drop (size s.parts) (drop 40 request) ≡ drop (40 + k) request =
     drop-drop (size s.parts) 40 request ∙ ap (λ (m : ℕ). drop (40 + m) request) is in
     then_read (IsRecord s (drop 40 request)) (λ (x : R × List ℕ) (more : List ℕ). StandBehind (40 + k) request x more)
-    (reading_of s (drop 40 request)) (λ x. and_then (counted len k x.1) (λ y. Ok ((x.0, y.0), y.1))) (record_read s (drop 40 request))
+    (record_parser s (drop 40 request)) (λ x. and_then (counted len k x.1) (λ y. Ok ((x.0, y.0), y.1))) (record_read s (drop 40 request))
     (λ x h. then_read (λ (a more : List ℕ). a ≡ take n x.1) (λ (x : R × List ℕ) (more : List ℕ). StandBehind (40 + k) request x more)
     (counted len k x.1)
     (λ y. Ok ((x.0, y.0), y.1)) (counted_read len k x.1) (λ y i. (n, i ∙ ap (take n) (h.1 ∙ there))))
@@ -124,7 +124,8 @@ pair_read : (bytes : List ℕ) →
     IfRead (λ (pair : ℕ × ℕ) (more : List ℕ). (pair ≡ pair_in bytes) × (more ≡ drop 16 bytes) × (16 ≤ length bytes)) (forget_pair bytes)
 pair_read bytes =
     then_read (IsRecord forget_one bytes)
-    (λ (pair : ℕ × ℕ) (more : List ℕ). (pair ≡ pair_in bytes) × (more ≡ drop 16 bytes) × (16 ≤ length bytes)) (reading_of forget_one bytes)
+    (λ (pair : ℕ × ℕ) (more : List ℕ). (pair ≡ pair_in bytes) × (more ≡ drop 16 bytes)
+    × (16 ≤ length bytes)) (record_parser forget_one bytes)
     (λ x. Ok ((x.0.nodeid, x.0.nlookup), x.1)) (record_read forget_one bytes)
     (λ x h. (ap (λ (r : ForgetOne). (r.nodeid, r.nlookup)) h.0, h.1, h.2))
 

@@ -16,7 +16,7 @@ use Rattle.fuse_values.specs.declared.call.FileCall as values
 use Rattle.fuse_values.specs.declared.call.FileCall.TheVariants as value
 use Rattle.fuse_values.specs.Values.{call_of}
 use Rattle.server_segments.specs.declared.error.Error.TheVariants.{DecodeMessage}
-use Rattle.server_requests.specs.Reading.{Parsed, ReadFailure, Faults, and_then, needs, reading_of}
+use Rattle.server_requests.specs.Reading.{Parsed, ReadFailure, Faults, and_then, needs, record_parser}
 use Rattle.server_calls.specs.Requests.{write_call}
 use Rattle.server_phases.specs.declared.session.Session.{Session}
 use Rattle.server_phases.specs.Asking.{IsRequestFront, front_tells}
@@ -62,8 +62,8 @@ row_writes : (g : Given) (o : Opcode) (bytes : List ℕ) →
 unfolding row
 row_writes g op.Write bytes =
     then_read (λ (r : WriteIn) (more : List ℕ). Unit {0}) (λ (m : Meaning) (more : List ℕ). true ≡ true → MeansWrite m)
-    (reading_of write_in bytes)
-    (λ x. one g (write_call g.header x.0 x.1) []) (quiet (reading_of write_in bytes)) (λ x h is. tt)
+    (record_parser write_in bytes)
+    (λ x. one g (write_call g.header x.0 x.1) []) (quiet (record_parser write_in bytes)) (λ x h is. tt)
 row_writes g o bytes = unasked (row g o bytes)
 
 write_means : (options room : ℕ) (all : List ℕ) → is_write (opcode_of (opcode_in all)) ≡ true → MeansWrite (meaning options all room)
@@ -94,7 +94,7 @@ header_by bytes false is ok =
     (test_holds (is_write (opcode_of (header_in bytes).opcode)) (Faults DecodeMessage) (header_in bytes) (drop 40 bytes) ok)
 
 write_begins : (bytes : List ℕ) → begins_a_write bytes ≡ true → is_write (opcode_of (opcode_in bytes)) ≡ true
-unfolding reading_of
+unfolding record_parser
 write_begins bytes begins = header_by bytes (nat_lt (length bytes) 40) refl begins
 
 opcode_more : (front more : List ℕ) → 80 ≤ length front → opcode_in (front ++ more) ≡ opcode_in front

@@ -22,7 +22,7 @@ use Rattle.fuse_values.specs.Values.{call_of, label_of}
 use Rattle.server_segments.specs.declared.error.Error.{Error}
 use Rattle.server_segments.specs.declared.error.Error.TheVariants.{DecodeMessage, EncodeMessage}
 use Rattle.server_requests.specs.Reading.{Parsed, ReadFailure, Parser, Faults, Sends, ◌>>=◌, ◌>>◌, and_then, give, last_name, many}
-use Rattle.server_requests.specs.Reading.{name_and_value, needs, reading_of, two_names, within}
+use Rattle.server_requests.specs.Reading.{name_and_value, needs, record_parser, two_names, within}
 use Rattle.server_requests.specs.Extras.{new_link, new_name}
 use Rattle.server_requests.specs.Fronts.{counted, flags2_of, forget_pair, setxattr_front, with_bytes, without_flags}
 use Rattle.server_calls.specs.Requests as request
@@ -106,7 +106,7 @@ module _ (all : List ℕ) (o : Option Opcode) (g : Given) where
 
   record_stands : {R : Type 0} (s : RecordShape R) (c : InHeader → R → FileCall) → ((r : R) → Has (c g.header r))
       → Stands (grammar.record_row s c g (drop 40 all))
-  record_stands s c has = then_any (reading_of s (drop 40 all)) (λ x. one g (c g.header x.0) x.1) (λ x. has x.0)
+  record_stands s c has = then_any (record_parser s (drop 40 all)) (λ x. one g (c g.header x.0) x.1) (λ x. has x.0)
 
   -- what is read of some bytes at a place
   inside :
@@ -203,22 +203,22 @@ module _ (all : List ℕ) (o : Option Opcode) (g : Given) where
 
   listxattr_stands : Stands (grammar.listxattr_row g (drop 40 all))
   listxattr_stands =
-      then_any (reading_of inputs.getxattr_in (drop 40 all))
+      then_any (record_parser inputs.getxattr_in (drop 40 all))
       (λ x. (grammar.at_most_a_mebibyte x.0.size >> one g (request.listxattr_call g.header x.0)) x.1)
       (λ x. then_any (grammar.at_most_a_mebibyte x.0.size x.1) (λ y. one g (request.listxattr_call g.header x.0) y.1) (λ y. tt))
 
   read_stands : Stands (grammar.read_row g (drop 40 all))
   read_stands =
-      then_any (reading_of inputs.read_in (drop 40 all)) (λ x. grammar.read_asked g x.0 x.1)
+      then_any (record_parser inputs.read_in (drop 40 all)) (λ x. grammar.read_asked g x.0 x.1)
       (λ x. then_any (needs (nat_le 16 g.room) (Faults EncodeMessage) x.1)
       (λ y. one g (request.read_call g.header (g.room - 16) x.0) y.1) (λ y. tt))
 
   write_stands : Stands (grammar.write_row g (drop 40 all))
-  write_stands = then_any (reading_of inputs.write_in (drop 40 all)) (λ x. one g (request.write_call g.header x.0 x.1) []) (λ x. tt)
+  write_stands = then_any (record_parser inputs.write_in (drop 40 all)) (λ x. one g (request.write_call g.header x.0 x.1) []) (λ x. tt)
 
   listing_stands : (with_nodes : Bool) → Stands (grammar.listing_row with_nodes g (drop 40 all))
   listing_stands with_nodes =
-      then_any (reading_of inputs.read_in (drop 40 all)) (λ x. grammar.listing_asked with_nodes x.0 g x.1)
+      then_any (record_parser inputs.read_in (drop 40 all)) (λ x. grammar.listing_asked with_nodes x.0 g x.1)
       (λ x. then_any ((grammar.at_most_a_mebibyte x.0.size >> needs (nat_le x.0.size g.room) (Sends grammar.ENOMEM)
       >> needs (nat_le 16 g.room) (Faults EncodeMessage)) x.1)
       (λ y. give (Asks (Lists g.header.unique (listing_of with_nodes g.header x.0))) y.1) (λ y. tt))
@@ -226,7 +226,7 @@ module _ (all : List ℕ) (o : Option Opcode) (g : Given) where
   forgets_stands : Stands (grammar.batch_forget_row g (drop 40 all))
   forgets_stands =
       then_read (IsRecord inputs.batch_forget_in (drop 40 all)) (λ (m : Meaning) (more : List ℕ). MeansNames all o g.options m)
-      (reading_of inputs.batch_forget_in (drop 40 all))
+      (record_parser inputs.batch_forget_in (drop 40 all))
       (λ x. grammar.forgets_asked x.0.count g x.1) (record_read inputs.batch_forget_in (drop 40 all)) (λ x h.
       let there : x.1 ≡ drop 48 all = h.1 ∙ drop-drop 8 40 all in
       then_read (λ (pairs : List (ℕ × ℕ)) (more : List ℕ). ArePairs x.0.count (drop 48 all) pairs)
@@ -243,7 +243,7 @@ module _ (all : List ℕ) (o : Option Opcode) (g : Given) where
 
   init_stands : Stands (grammar.init_row g (drop 40 all))
   init_stands =
-      then_any (reading_of inputs.init_in_compat (drop 40 all)) (λ x. (flags2_of x.0 >>= λ flags2. grammar.started g x.0 flags2) x.1)
+      then_any (record_parser inputs.init_in_compat (drop 40 all)) (λ x. (flags2_of x.0 >>= λ flags2. grammar.started g x.0 flags2) x.1)
       (λ x. then_any (flags2_of x.0 x.1) (λ y. grammar.started g x.0 y.0 y.1)
       (λ y. if_stands (nat_lt x.0.major 7) _ _ y.1 tt
       (if_stands (nat_lt 7 x.0.major) _ _ y.1 tt (if_stands (nat_lt x.0.minor 27) _ _ y.1 tt tt))))
@@ -382,7 +382,7 @@ module _ (P : Option Opcode → Meaning → Type 0) (faults : (o : Option Opcode
   pub meaning_is : (options room : ℕ) (all : List ℕ)
       → ((h : InHeader) (o : Opcode) → IfRead (λ (m : Meaning) (more : List ℕ). P (Some o) m) (row (given h options room) o (drop 40 all)))
       → P (opcode_of (opcode_in all)) (meaning options all room)
-  unfolding meaning reading_of
+  unfolding meaning record_parser
   meaning_is options room all rows = by_length options room all (nat_lt (length all) 40) refl rows
 
 -- the names that a request means stand in it

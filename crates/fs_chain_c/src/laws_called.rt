@@ -49,7 +49,7 @@ pub fn silence(alloc: Global, chain: &mut FsChain, queue: &FsQueue, store: &mut 
     pk_set_notification(alloc, chain, queue, 0, store)
 }
 
-/// Drops a chain in flight: 73 if the handle has none that may be dropped.
+/// Drops the handle's chain, if one is in flight that may be dropped.
 pub fn drop_one(alloc: Global, chain: &mut FsChain, queue: &mut FsQueue) -> u32
     ensures { result ≡ 0 → ActsAsDrop queue.old queue.new }
 {

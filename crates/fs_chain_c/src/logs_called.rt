@@ -2,6 +2,7 @@
 
 ghost use Rattle.std.specs.Prelude.{◌≡◌};
 ghost use Rattle.fs_chain_c.specs.LogsCalled.{MarksReply, MarksUsed};
+ghost use Rattle.fs_chain_c.specs.Ranges.{TellsRanges};
 
 use crate::exports::pk_push;
 use crate::handle::FsChain;
@@ -11,7 +12,8 @@ use crate::queue::FsQueue;
 use crate::ranges::{FsRange, pk_reply_ranges};
 use std::alloc::Global;
 
-/// Fills the ranges of a reply buffer from one of its bytes on. Their addresses are the buffer's.
+/// Fills the ranges of a reply buffer from one of its bytes on, of at most `len` bytes. Their addresses are
+/// the buffer's.
 pub fn mark_reply(
     alloc: Global,
     chain: &mut FsChain,
@@ -19,7 +21,9 @@ pub fn mark_reply(
     len: u64,
     ranges: &mut [FsRange],
 ) -> usize
-    ensures { MarksReply chain.old.held.value from result ranges.new }
+    ensures marks { MarksReply chain.old.held.value from result ranges.new }
+    ensures fills { TellsRanges chain.old.held.value from len ranges.old result chain.new.held.value
+        ranges.new }
 {
     law_log();
     pk_reply_ranges(alloc, chain, from, len, ranges)

@@ -4,7 +4,7 @@ use Rattle.std.specs.Prelude.{IsTrue}
 use Rattle.fuse_fs.specs.declared.answers.Context.{Context}
 use Rattle.fuse_fs.specs.Calls.{FileCall, FileAnswer, suits, kind_of}
 use Rattle.fuse_fs.specs.Calls as call
-use Rattle.server_calls.specs.Requests.{entry_node, give_back, given_back}
+use Rattle.server_calls.specs.Requests.{entry_node, forget_node, given_back}
 use Rattle.plain_machine.specs.Step.{Calls, EachSuits, calls_alone}
 use Rattle.fs_device.specs.Books.{entry_count, forget_count}
 use Rattle.fs_device.proofs.MeaningLemmas.{no_entry, has_entry}
@@ -31,7 +31,7 @@ node_back n who x a counts steps suit asks =
     rw one.1 (omega (arith, e, none), omega (arith, c, counts))
 
 -- by the answer
-entry_back : (n : ℕ) (who : Context) (a : FileAnswer) → GivesBack n a (give_back who (entry_node a))
+entry_back : (n : ℕ) (who : Context) (a : FileAnswer) → GivesBack n a (forget_node who (entry_node a))
 entry_back n who (call.Failed errno) = nothing_back n (call.Failed errno) refl
 entry_back n who call.Done = nothing_back n call.Done refl
 entry_back n who (call.HasEntry e) = node_back n who e.inode (call.HasEntry e) refl

@@ -10,7 +10,7 @@ use Rattle.fuse_fs.specs.declared.answers.Entry.{Entry}
 use Rattle.fuse_fs.specs.Calls.{FileCall, FileAnswer, Listed, suits}
 use Rattle.fuse_fs.specs.Calls as call
 use Rattle.server_replies.specs.Entries.{Fit, GoesIn, IsFull, IsWrong, fit_of, entry_len, entry_bytes, no_node, is_dot}
-use Rattle.virtiofsd_fuse.specs.Listings.{ListRequest, ListingResult, Next, placed, undo_call, with_entry, after_call, looked_up}
+use Rattle.virtiofsd_fuse.specs.Listings.{ListRequest, ListingResult, Next, placed, forget_lookup, with_entry, after_call, looked_up}
 use Rattle.virtiofsd_fuse.specs.Listings.{list_entry, list_entries}
 use Rattle.plain_machine.specs.Step.{Calls, EachSuits, calls_alone, answers_alone}
 use Rattle.fs_device.specs.Books.{entry_count, forget_count, nodes_listed}
@@ -84,21 +84,22 @@ put_in n e d next steps node name rest (suc most) fits =
     omega (arith, behind, listed)
 
 -- an entry is taken back
-taken_back : (n : ℕ) (who : Context) (x : ℕ) (steps : Calls) → EachSuits steps → (undo_call who x ∷ []) ≡ calls_alone steps → (most : ℕ) →
+taken_back : (n : ℕ) (who : Context) (x : ℕ) (steps : Calls) → EachSuits steps → (forget_lookup who x ∷ []) ≡ calls_alone steps
+    → (most : ℕ) →
     entries_in n steps + is_node n x ≡ times n (nodes_listed most []) + counts_in n steps
 taken_back n who x steps suit e most =
-    let one = one_step (undo_call who x) steps e in
-    let only : EachSuits ((undo_call who x, one.0) ∷ []) = subst EachSuits one.1 suit in
-    let none : entry_count n one.0 ≡ 0 = no_entry n (undo_call who x) one.0 refl only.0 in
-    let a = entries_more n (undo_call who x, one.0) [] in
-    let b = counts_more n (undo_call who x, one.0) [] in
+    let one = one_step (forget_lookup who x) steps e in
+    let only : EachSuits ((forget_lookup who x, one.0) ∷ []) = subst EachSuits one.1 suit in
+    let none : entry_count n one.0 ≡ 0 = no_entry n (forget_lookup who x) one.0 refl only.0 in
+    let a = entries_more n (forget_lookup who x, one.0) [] in
+    let b = counts_more n (forget_lookup who x, one.0) [] in
     rw (nothing_listed most, one.1) (omega (arith, none, a, b))
 
 placed_balances : (n : ℕ) (who : Context) (e : Entry ℕ) (d : Listed) (fit : Fit) (next : ListingResult) (steps : Calls) → e.inode < 2 ^ 64 →
     (fit ≡ GoesIn → length d.name < 2 ^ 32) → EachSuits steps →
     (next.calls ≡ calls_alone steps → Balanced n 0 steps next) →
-    (placed fit (entry_bytes true e d) (undo_call who e.inode ∷ []) next).calls ≡ calls_alone steps →
-    Balanced n (is_node n e.inode) steps (placed fit (entry_bytes true e d) (undo_call who e.inode ∷ []) next)
+    (placed fit (entry_bytes true e d) (forget_lookup who e.inode ∷ []) next).calls ≡ calls_alone steps →
+    Balanced n (is_node n e.inode) steps (placed fit (entry_bytes true e d) (forget_lookup who e.inode ∷ []) next)
 placed_balances n who e d GoesIn next steps node name suit rest asks most fits =
     put_in n e d next steps node (name refl) (rest asks) most fits
 placed_balances n who e d IsFull next steps node name suit rest asks most fits = taken_back n who e.inode steps suit asks most
@@ -108,8 +109,8 @@ entry_balances :
     (n : ℕ) (who : Context) (e : Entry ℕ) (d : Listed) (next : Next) (left room : ℕ) (steps : Calls) → e.inode < 2 ^ 64 → EachSuits steps →
     ((left room : ℕ) → (next left room (answers_alone steps)).calls ≡ calls_alone steps →
     Balanced n 0 steps (next left room (answers_alone steps))) →
-    (with_entry true d e (undo_call who e.inode ∷ []) next left room (answers_alone steps)).calls ≡ calls_alone steps →
-    Balanced n (is_node n e.inode) steps (with_entry true d e (undo_call who e.inode ∷ []) next left room (answers_alone steps))
+    (with_entry true d e (forget_lookup who e.inode ∷ []) next left room (answers_alone steps)).calls ≡ calls_alone steps →
+    Balanced n (is_node n e.inode) steps (with_entry true d e (forget_lookup who e.inode ∷ []) next left room (answers_alone steps))
 entry_balances n who e d next left room steps node suit rest asks =
     let len = entry_len true (length d.name) in
     placed_balances n who e d (fit_of (length d.name) len left room) (next (left - len) (room - len) (answers_alone steps)) steps node
@@ -170,7 +171,7 @@ looked_up_balances n l d next left room c (call.Wants options) steps is fits sui
 
 dot_is :
     (l : ListRequest) (d : Listed) (next : Next) (left room : ℕ) (answers : List FileAnswer) → l.with_nodes ≡ true → is_dot d.name ≡ true →
-    list_entry l d next left room answers ≡ with_entry true d (no_node d) (undo_call l.context 0 ∷ []) next left room answers
+    list_entry l d next left room answers ≡ with_entry true d (no_node d) (forget_lookup l.context 0 ∷ []) next left room answers
 dot_is l d next left room answers nodes dot = rw (nodes, dot) refl
 
 name_is :
@@ -203,7 +204,7 @@ by_dot n some l d next left room steps true nodes dot suit rest asks =
     let found = entry_balances n l.context (no_node d) d next left room steps (omega arith) suit
     (λ left room e. rest steps left room suit e) (sym (ap (λ (w : ListingResult). w.calls) is) ∙ asks) in
     subst (λ (w : ListingResult). Balanced n 0 steps w) (sym is)
-    (subst (λ (k : ℕ). Balanced n k steps (with_entry true d (no_node d) (undo_call l.context 0 ∷ []) next left room
+    (subst (λ (k : ℕ). Balanced n k steps (with_entry true d (no_node d) (forget_lookup l.context 0 ∷ []) next left room
     (answers_alone steps))) (no_zero n some) found)
 by_dot n some l d next left room steps false nodes dot suit rest asks =
     let is = name_is l d next left room (answers_alone steps) nodes dot in
@@ -248,7 +249,7 @@ looked_up_fits l d next left room [] low = omega arith
 looked_up_fits l d next left room ((call.Failed errno) ∷ answers) low = omega arith
 looked_up_fits l d next left room (call.Done ∷ answers) low = omega arith
 looked_up_fits l d next left room ((call.HasEntry e) ∷ answers) low =
-    entry_fits e d (undo_call l.context e.inode ∷ []) next left room answers low
+    entry_fits e d (forget_lookup l.context e.inode ∷ []) next left room answers low
 looked_up_fits l d next left room ((call.HasAttr attr timeout) ∷ answers) low = omega arith
 looked_up_fits l d next left room ((call.Opened handle options) ∷ answers) low = omega arith
 looked_up_fits l d next left room ((call.Created e handle options) ∷ answers) low = omega arith
@@ -266,7 +267,7 @@ by_dot_fits : (l : ListRequest) (d : Listed) (next : Next) (left room : ℕ) (an
     length (list_entry l d next left room answers).bytes ≤ room
 by_dot_fits l d next left room answers true nodes dot low =
     subst (λ (w : ListingResult). length w.bytes ≤ room) (sym (dot_is l d next left room answers nodes dot))
-    (entry_fits (no_node d) d (undo_call l.context 0 ∷ []) next left room answers low)
+    (entry_fits (no_node d) d (forget_lookup l.context 0 ∷ []) next left room answers low)
 by_dot_fits l d next left room answers false nodes dot low =
     subst (λ (w : ListingResult). length w.bytes ≤ room) (sym (name_is l d next left room answers nodes dot))
     (looked_up_fits l d next left room answers low)

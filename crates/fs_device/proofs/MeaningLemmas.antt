@@ -22,7 +22,7 @@ use Rattle.fuse_fs.specs.Replies.{open_out_of}
 use Rattle.fuse_fs.specs.Calls.{FileCall, FileAnswer, AnswerForm, kind_of, suits, is_of, NewLink}
 use Rattle.fuse_fs.specs.Calls as call
 use Rattle.server_segments.specs.declared.error.Error.TheVariants.{DecodeMessage, EncodeMessage}
-use Rattle.server_requests.specs.Reading.{ReadFailure, Faults, Sends, Parser, and_then, needs, give, many, rest, reading_of, ◌>>=◌, ◌>>◌}
+use Rattle.server_requests.specs.Reading.{ReadFailure, Faults, Sends, Parser, and_then, needs, give, many, rest, record_parser, ◌>>=◌, ◌>>◌}
 use Rattle.server_requests.specs.Reading.{within, last_name, two_names, name_and_value}
 use Rattle.server_requests.specs.Extras.{new_link, new_name}
 use Rattle.virtiofsd_fuse.specs.Grammar as grammar
@@ -60,7 +60,7 @@ of_other_kind n call.IsStats (call.HasEntry e) without h = absurd (cc)
 of_other_kind n call.IsWritten (call.HasEntry e) without h = absurd (cc)
 of_other_kind n call.IsOffset (call.HasEntry e) without h = absurd (cc)
 of_other_kind n call.IsEntries (call.HasEntry e) without h = absurd (cc)
-of_other_kind n call.IsWish (call.HasEntry e) without h = absurd (cc)
+of_other_kind n call.IsInitOptions (call.HasEntry e) without h = absurd (cc)
 of_other_kind n kind (call.HasAttr attr timeout) without h = refl
 of_other_kind n kind (call.Opened handle options) without h = refl
 of_other_kind n call.IsDone (call.Created e handle options) without h = absurd (cc)
@@ -75,7 +75,7 @@ of_other_kind n call.IsStats (call.Created e handle options) without h = absurd 
 of_other_kind n call.IsWritten (call.Created e handle options) without h = absurd (cc)
 of_other_kind n call.IsOffset (call.Created e handle options) without h = absurd (cc)
 of_other_kind n call.IsEntries (call.Created e handle options) without h = absurd (cc)
-of_other_kind n call.IsWish (call.Created e handle options) without h = absurd (cc)
+of_other_kind n call.IsInitOptions (call.Created e handle options) without h = absurd (cc)
 of_other_kind n kind (call.Bytes bytes) without h = refl
 of_other_kind n kind (call.Count k) without h = refl
 of_other_kind n kind (call.Stats st) without h = refl
@@ -253,7 +253,7 @@ module _ (n : ℕ) (g : Given) (o : Opcode) where
 
   record_ends : {R : Type 0} (s : RecordShape R) (c : InHeader → R → FileCall) (bytes : List ℕ) →
       ((r : R) → RequestAndRoom (c g.header r)) → Ends (grammar.record_row s c g bytes)
-  record_ends s c bytes good = then_ends (reading_of s bytes) (λ r. one g (c g.header r)) (λ r more. good r)
+  record_ends s c bytes good = then_ends (record_parser s bytes) (λ r. one g (c g.header r)) (λ r more. good r)
 
   name_ends : (c : InHeader → List ℕ → FileCall) (bytes : List ℕ) → ((name : List ℕ) → RequestAndRoom (c g.header name)) →
       Ends (grammar.name_row c g bytes)
@@ -278,21 +278,21 @@ module _ (n : ℕ) (g : Given) (o : Opcode) where
   listxattr_ends :
       (bytes : List ℕ) → ((r : GetxattrIn) → RequestAndRoom (request.listxattr_call g.header r)) → Ends (grammar.listxattr_row g bytes)
   listxattr_ends bytes good =
-      then_ends (reading_of inputs.getxattr_in bytes)
+      then_ends (record_parser inputs.getxattr_in bytes)
       (λ r. grammar.at_most_a_mebibyte r.size >> one g (request.listxattr_call g.header r)) (λ r more.
       then_ends (grammar.at_most_a_mebibyte r.size more) (λ x. one g (request.listxattr_call g.header r)) (λ x rest. good r))
 
   read_ends :
       (bytes : List ℕ) → ((r : ReadIn) → RequestAndRoom (request.read_call g.header (g.room - 16) r)) → Ends (grammar.read_row g bytes)
   read_ends bytes good =
-      then_ends (reading_of inputs.read_in bytes) (λ r. grammar.read_asked g r) (λ r more.
+      then_ends (record_parser inputs.read_in bytes) (λ r. grammar.read_asked g r) (λ r more.
       then_ends (needs (nat_le 16 g.room) (Faults EncodeMessage) more) (λ x. one g (request.read_call g.header (g.room - 16) r))
       (λ x rest. good r))
 
   write_ends : (bytes : List ℕ) → ((r : WriteIn) (payload : List ℕ) → RequestAndRoom (request.write_call g.header r payload)) →
       Ends (grammar.write_row g bytes)
   write_ends bytes good =
-      then_ends (reading_of inputs.write_in bytes) (λ r. rest >>= λ payload. one g (request.write_call g.header r payload))
+      then_ends (record_parser inputs.write_in bytes) (λ r. rest >>= λ payload. one g (request.write_call g.header r payload))
       (λ r more. good r more)
 
   -- by a test that refuses
@@ -302,7 +302,7 @@ module _ (n : ℕ) (g : Given) (o : Opcode) where
 
   init_ends : (bytes : List ℕ) → ((body : List ℕ) → nodes_of o body ≡ []) → Ends (grammar.init_row g bytes)
   init_ends bytes none =
-      then_ends (reading_of inputs.init_in_compat bytes) (λ r. fronts.flags2_of r >>= λ flags2. grammar.started g r flags2) (λ r more.
+      then_ends (record_parser inputs.init_in_compat bytes) (λ r. fronts.flags2_of r >>= λ flags2. grammar.started g r flags2) (λ r more.
       then_ends (fronts.flags2_of r more) (λ flags2. grammar.started g r flags2) (λ flags2 rest.
       if_ends (nat_lt r.major 7) _ _ rest (bad (Sends grammar.EPROTO))
       (if_ends (nat_lt 7 r.major) _ _ rest (none _, refl)
@@ -320,7 +320,7 @@ module _ (n : ℕ) (g : Given) (o : Opcode) where
       (with_nodes : Bool) (bytes : List ℕ) → (16 ≤ g.room → ListFits g.room (Some o) with_nodes) →
       Ends (grammar.listing_row with_nodes g bytes)
   listing_ends with_nodes bytes good =
-      then_ends (reading_of inputs.read_in bytes) (λ r. grammar.listing_asked with_nodes r g) (λ r more.
+      then_ends (record_parser inputs.read_in bytes) (λ r. grammar.listing_asked with_nodes r g) (λ r more.
       needed (nat_le 16 g.room) (Faults EncodeMessage)
       ((grammar.at_most_a_mebibyte r.size >> needs (nat_le r.size g.room) (Sends grammar.ENOMEM)) more)
       (Asks (Lists g.header.unique (listings.listing_of with_nodes g.header r))) (λ holds. (good (leb-true 16 g.room holds), refl)))
@@ -343,7 +343,7 @@ row_fits n g op.Lookup bytes = takes_nothing n g op.Lookup bytes
     (λ g. name_ends n g op.Lookup request.lookup_call bytes
     (λ name. entry_call n op.Lookup (request.lookup_call g.header name) refl refl refl (λ b. refl) refl))
 row_fits n g op.Forget bytes = (
-  after_part (MeaningFits n g.room (Some op.Forget)) g.header.unique (reading_of inputs.forget_in bytes)
+  after_part (MeaningFits n g.room (Some op.Forget)) g.header.unique (record_parser inputs.forget_in bytes)
       (λ r. one g (request.forget_call g.header r)) (λ e. (bad n g op.Forget e).0)
       (λ r more. other_fits n op.Forget (request.forget_call g.header r) refl refl refl),
   refl,
@@ -354,7 +354,7 @@ row_fits n g op.Init bytes = takes_nothing n g op.Init bytes (λ g. init_ends n 
 row_fits n g op.Write bytes = takes_nothing n g op.Write bytes
     (λ g. write_ends n g op.Write bytes (λ r payload. quiet_call n op.Write (request.write_call g.header r payload) refl refl refl refl))
 row_fits n g op.BatchForget bytes = (
-  after_part (MeaningFits n g.room (Some op.BatchForget)) g.header.unique (reading_of inputs.batch_forget_in bytes)
+  after_part (MeaningFits n g.room (Some op.BatchForget)) g.header.unique (record_parser inputs.batch_forget_in bytes)
       (λ r. grammar.forgets_asked r.count g)
       (λ e. (bad n g op.BatchForget e).0) (λ r more.
       after_part (MeaningFits n g.room (Some op.BatchForget)) g.header.unique
@@ -516,5 +516,5 @@ by_length n options room bs false is =
 pub meaning_fits : (n options room : ℕ) (bs : List ℕ) →
     MeaningFits n room (opcode_in bs) (meaning options bs room)
     × (forgets_meant n (meaning options bs room) ≡ forgets_meant n (meaning 0 bs 0))
-unfolding meaning reading_of
+unfolding meaning record_parser
 meaning_fits n options room bs = by_length n options room bs (nat_lt (length bs) 40) refl

@@ -28,7 +28,7 @@ use Rattle.fuse_in.specs.Records.{in_header, read_in}
 use Rattle.fuse_in.specs.declared.session.InHeader.{InHeader}
 use Rattle.fuse_wire.specs.Opcodes.{opcode_of}
 use Rattle.server_segments.specs.declared.error.Error.TheVariants.{DecodeMessage}
-use Rattle.server_requests.specs.Reading.{Parsed, Parser, Faults, and_then, give, needs, reading_of, ◌>>=◌, ◌>>◌}
+use Rattle.server_requests.specs.Reading.{Parsed, Parser, Faults, and_then, give, needs, record_parser, ◌>>=◌, ◌>>◌}
 use Rattle.virtiofsd_fuse.specs.Serving.{May, Handles, ServerHandles, setting}
 use Rattle.plain_machine.specs.Step.{Calls}
 use Rattle.fs_device.specs.DeviceView.{AnswersRequest, ServesChain, request_of, server_state, state_of}
@@ -68,14 +68,14 @@ needed false bytes p k ok = absurd (cc)
 
 -- a READ has the bytes of its two records
 pub read_is_long : (bytes : List ℕ) → IsTrue (is_ok (read_request bytes)) → 80 ≤ length bytes
-unfolding reading_of
+unfolding record_parser
 read_is_long bytes ok =
     let after : InHeader × List ℕ → Parsed ReadRequest =
-    λ x. (needs (nat_le x.0.len 0x101000 && is_read (opcode_of x.0.opcode)) (Faults DecodeMessage) >> reading_of read_in
+    λ x. (needs (nat_le x.0.len 0x101000 && is_read (opcode_of x.0.opcode)) (Faults DecodeMessage) >> record_parser read_in
     >>= λ r. give (record { header = x.0; «record» = r })) x.1 in
     let head = begins_with 40 bytes (made in_header.parts in_header.make) after (nat_lt (length bytes) 40) refl ok in
     let header = made in_header.parts in_header.make (take 40 bytes) in
-    let body = needed (nat_le header.len 0x101000 && is_read (opcode_of header.opcode)) (drop 40 bytes) (reading_of read_in)
+    let body = needed (nat_le header.len 0x101000 && is_read (opcode_of header.opcode)) (drop 40 bytes) (record_parser read_in)
     (λ x. give (record { header = header; «record» = x.0 }) x.1) head.1 in
     let record_there =
     begins_with 40 (drop 40 bytes) (made read_in.parts read_in.make) (λ x. give (record { header = header; «record» = x.0 }) x.1)

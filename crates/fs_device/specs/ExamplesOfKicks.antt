@@ -13,7 +13,7 @@ use Rattle.fuse_fs.specs.declared.answers.Entry.{Entry}
 use Rattle.fuse_fs.specs.Calls as files
 use Rattle.server_segments.specs.declared.error.Error.TheVariants.{EncodeMessage}
 use Rattle.server_requests.specs.Fronts.{counted}
-use Rattle.server_requests.specs.Reading.{reading_of, last_name}
+use Rattle.server_requests.specs.Reading.{record_parser, last_name}
 use Rattle.server_replies.specs.Entries.{no_node, fit_of, dirent_bytes, node_bytes}
 use Rattle.server_replies.specs.WholeReplies.{error_bytes, reply_bytes}
 use Rattle.virtiofsd_fuse.specs.Examples.{le16, le32, le64, zeros, nobody, in_header_bytes}
@@ -129,7 +129,8 @@ abbrev exchanges_unknown : (m : Memory) → Type 0
 exchanges_unknown m = Step may (device m queue) 0 [] (Exchanged unknown_exchange true) (after_reply m queue)
 
 first_of_two : exchanges_unknown two_wait
-unfolding offer place addresses stored_all path found meaning reading_of meant error_bytes fields.field_bytes
+unfolding offer place addresses stored_all path found meaning record_parser meant error_bytes
+    fields.field_bytes
 first_of_two = record {
   given = record { calls = []; options = 0; reply = unknown_reply; fault = None };
   serves = record { gives = refl; asks = refl; run = refl };
@@ -154,7 +155,8 @@ abbrev stopped_after_one : State Nothing
 stopped_after_one = record (after_reply no_such_head queue) { queues = with_stop (advanced queue) ∷ [] }
 
 first_before_refusal : exchanges_unknown no_such_head
-unfolding offer place addresses stored_all path found meaning reading_of meant error_bytes fields.field_bytes
+unfolding offer place addresses stored_all path found meaning record_parser meant error_bytes
+    fields.field_bytes
 first_before_refusal = record {
   given = record { calls = []; options = 0; reply = unknown_reply; fault = None };
   serves = record { gives = refl; asks = refl; run = refl };
@@ -229,7 +231,7 @@ kick_calls_the_files : Run counts (with_count 4)
         refused = None;
       }),
     ) ∷ []) forgotten
-unfolding RunTold KickRun offer place addresses stored_all path found meaning reading_of meant row
+unfolding RunTold KickRun offer place addresses stored_all path found meaning record_parser meant row
 kick_calls_the_files =
     let step : Step counts (with_count 4) 0 ((files.Forget nobody 5 3, files.Done) ∷ [])
     (Exchanged (record { head = 0; request = forget; reply = []; fault = None }) true) forgotten =
@@ -245,11 +247,11 @@ forget_is_sent : sent 5 forgets_turn ≡ 3
 forget_is_sent = refl
 
 forget_is_accepted : accepted 5 forgets_turn ≡ 3
-unfolding meaning reading_of meant row
+unfolding meaning record_parser meant row
 forget_is_accepted = refl
 
 forget_of_no_other_node : accepted 6 forgets_turn ≡ 0
-unfolding meaning reading_of meant row
+unfolding meaning record_parser meant row
 forget_of_no_other_node = refl
 
 -- a reply to LOOKUP with node 5
@@ -342,7 +344,7 @@ entry_given_back = after_return short_of_room 0 queue 0 (addresses 0x2000 143) [
 kick_gives_an_entry_back : Run finds short_of_room
     ((run.Kick 0 1, run.Served (record { exchanges = (unheard_exchange, true) ∷ []; refused = None })) ∷ [])
     entry_given_back
-unfolding RunTold KickRun offer place addresses stored_all path found meaning reading_of meant row counted
+unfolding RunTold KickRun offer place addresses stored_all path found meaning record_parser meant row counted
     last_name reply_bytes fields.field_bytes
 kick_gives_an_entry_back =
     let step : Step finds short_of_room 0 unheard_turn.calls (Exchanged unheard_exchange true)
@@ -361,7 +363,7 @@ kick_gives_an_entry_back =
 
 -- the node was answered once and forgotten once, and the driver never saw it
 unheard_balances : accounts unheard_turn ≡ 1 ∷ 1 ∷ 0 ∷ 0 ∷ []
-unfolding meaning reading_of meant row counted last_name
+unfolding meaning record_parser meant row counted last_name
 unheard_balances = refl
 
 -- READDIRPLUS of `.` and `a` with space for one of them: `a`, which was looked up, is forgotten
@@ -389,7 +391,7 @@ listed_turn =
 
 -- the node was answered once and forgotten once
 given_back_once : accounts listed_turn ≡ 1 ∷ 1 ∷ 0 ∷ 0 ∷ []
-unfolding meaning reading_of meant row reply_bytes fields.field_bytes list_entries fit_of dirent_bytes
+unfolding meaning record_parser meant row reply_bytes fields.field_bytes list_entries fit_of dirent_bytes
     node_bytes nodes_listed
 given_back_once = refl
 

@@ -17,7 +17,7 @@ use Rattle.fs_queue.specs.Queue.{with_stop}
 use Rattle.fs_queue.specs.Chain.{path, found}
 use Rattle.fs_queue.specs.Taking.{offer}
 use Rattle.vm_values.specs.Fields as fields
-use Rattle.server_requests.specs.Reading.{reading_of}
+use Rattle.server_requests.specs.Reading.{record_parser}
 use Rattle.server_replies.specs.WholeReplies.{error_bytes}
 use Rattle.virtiofsd_fuse.specs.Examples.{le16, zeros}
 use Rattle.virtiofsd_fuse.specs.Grammar.{meaning, meant}
@@ -327,7 +327,8 @@ across =
 
 serves_across :
     Step may (device across queue) 0 [] (Exchanged unknown_exchange true) (after_reply across queue)
-unfolding offer place addresses stored_all path found meaning reading_of meant error_bytes fields.field_bytes
+unfolding offer place addresses stored_all path found meaning record_parser meant error_bytes
+    fields.field_bytes
 serves_across = record {
   given = record { calls = []; options = 0; reply = unknown_reply; fault = None };
   serves = record { gives = refl; asks = refl; run = refl };

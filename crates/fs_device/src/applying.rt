@@ -12,10 +12,10 @@ use vm_memory_core::{HostMemory, PageBitmap};
 /// Why pages weren't applied to a host: the number in the list, from 0, of the first that doesn't fit.
 #[derive(Clone, Copy, Debug, PartialEq, Eq, Error)]
 pub enum ApplyError {
-    #[error("page {0} is of a block that doesn't exist")]
+    #[error("the block of item {0} doesn't exist")]
     UnknownBlock(usize),
     /// The page has a byte past the end of its block.
-    #[error("page {0} does not lie in its block")]
+    #[error("the page of item {0} doesn't lie in its block")]
     OutOfRange(usize),
 }
 

@@ -17,7 +17,7 @@ use Rattle.fs_queue.specs.Taking as taking
 use Rattle.fs_queue.specs.Returning.{returned}
 use Rattle.fuse_fs.specs.Calls.{FileCall, Read}
 use Rattle.server_segments.specs.declared.error.Error.TheVariants.{EncodeMessage}
-use Rattle.server_requests.specs.Reading.{Faults, and_then, reading_of}
+use Rattle.server_requests.specs.Reading.{Faults, and_then, record_parser}
 use Rattle.server_replies.specs.WholeReplies.{error_bytes, reply_bytes}
 use Rattle.virtiofsd_fuse.specs.Examples.{nobody, zeros, le16, le32, le64, in_header_bytes}
 use Rattle.virtiofsd_fuse.specs.Grammar.{Asks, IsFault, One, ended, meaning, meant, row}
@@ -43,7 +43,7 @@ means room false = refl
 
 -- the request is a READ for any options and any length of the reply buffer
 is_read : IsRead request 2 2 3 1
-unfolding meaning meant reading_of row
+unfolding meaning meant record_parser row
 is_read = (nobody, 0, 0, None, λ options room. means room (nat_le 16 room))
 
 -- memory with the request at 0x1000, in a chain with a reply buffer of this length at 0x2000

@@ -22,12 +22,13 @@ use Rattle.plain_machine.specs.Step.{State, Exchange, Exchanged, Calls}
 use Rattle.plain_machine.specs.StepBy.{StepOfBy, ExchangesBy, Effects, AnswersBy, ReturnsFaultyBy, return_acts, return_stores, reply_stores}
 use Rattle.plain_machine.specs.StepBy.{offered_by}
 use Rattle.fs_live.specs.Several.{LiveQueue}
-use Rattle.fs_live.specs.Live.{Phase, PoppedFaulty, Fetched, Asked, Own, Abandoned, OutChain, LiveState, LiveEvent, Walks, Declines}
+use Rattle.fs_live.specs.Live.{Phase, PoppedFaulty, Fetched, Asked, Own, Abandoned, OutChain, LiveState, LiveEvent, EndsPop, RefusesPop}
 use Rattle.fs_live.specs.Live.{DecodesRequest, ReceivesAnswer}
 use Rattle.fs_live.specs.Live.{PushesChain}
-use Rattle.fs_live.specs.Live.{StoresNotification, ResetsQueue, FillsBuffer, Drops, Abandons, RepliesOwnBytes, Remaps, MovesDevice, Happens}
+use Rattle.fs_live.specs.Live.{StoresNotification, ResetsQueue, FillsBuffer, GivesUpChain, Abandons, RepliesOwnBytes, Remaps, MovesDevice}
+use Rattle.fs_live.specs.Live.{Happens}
 use Rattle.fs_live.specs.Live.{IsUnreplied}
-use Rattle.fs_live.specs.Live.{LiveRun, WalksIn}
+use Rattle.fs_live.specs.Live.{LiveRun, EndsPopIn}
 use Rattle.fs_live.specs.Live.{GoesBackWith, abandoned_chain, new_chain, fault_of, own_exchange, room_in, room_of, calls_in, serving}
 use Rattle.fs_live.specs.Runs.{OwnIsReturned, ReturnedIsStepBy, IsAskedIn, IsServedPhase, after_alone, chain_loads, options_left}
 
@@ -77,7 +78,7 @@ new_walked s i w loaded ds head None h = (h, tt)
 new_walked s i w loaded ds head (Some why) h = (h, tt)
 
 walk_keeps : {F : Type 0} (s after : LiveState F) (i : ℕ) (w : LiveQueue) (loaded : Loaded) (ds : List Descriptor) (came : comes.CourseStep)
-    → WalksIn s i w loaded ds came after
+    → EndsPopIn s i w loaded ds came after
     → AllWalked s → AllWalked after
 walk_keeps {F} s after i w loaded ds step.Idle h all = subst (λ (k : LiveState F). AllWalked k) (sym h.1) all
 walk_keeps {F} s after i w loaded ds (step.Refused e) h all = subst (λ (k : LiveState F). AllWalked k) (sym h.1) all
@@ -122,8 +123,8 @@ own_walked limit c (Asked asked options calls) request reply is un few h = (
 own_walked limit c p request reply is un few h = absurd un
 
 keeps : {F : Type 0} (may : May F) (s after : LiveState F) (e : LiveEvent) → Happens may s e after → AllWalked s → AllWalked after
-keeps may s after (Walks i loaded ds came) h all = walk_keeps s after i h.w loaded ds came h.walks all
-keeps {F} may s after (Declines i e) h all = subst (λ (k : LiveState F). AllWalked k) (sym h.state) all
+keeps may s after (EndsPop i loaded ds came) h all = walk_keeps s after i h.w loaded ds came h.walks all
+keeps {F} may s after (RefusesPop i e) h all = subst (λ (k : LiveState F). AllWalked k) (sym h.state) all
 keeps {F} may s after (DecodesRequest c request told) h all =
     let P = Walked s.limit in
     let parts = one_walked s h.before h.behind c h.out all in
@@ -144,7 +145,7 @@ keeps {F} may s after (StoresNotification i store) h all = subst (λ (k : LiveSt
 keeps {F} may s after (ResetsQueue i w) h all =
     subst (λ (k : LiveState F). AllWalked k) (sym h.state) (all_filter (Walked s.limit) (λ c. not (c.queue == i)) s.outs all)
 keeps {F} may s after (FillsBuffer c stores) h all = subst (λ (k : LiveState F). AllWalked k) (sym h.state) all
-keeps {F} may s after (Drops c) h all =
+keeps {F} may s after (GivesUpChain c) h all =
     let parts = one_walked s h.before h.behind c h.out all in
     subst (λ (k : LiveState F). AllWalked k) (sym h.state) (all_both (Walked s.limit) h.before h.behind parts.0 parts.2)
 keeps {F} may s after (Abandons c) h all =

@@ -37,7 +37,7 @@ use Rattle.fs_chain.specs.declared.popping.PopOutcome as walked
 use Rattle.fs_chain.specs.declared.popping.PopOutcome.TheVariants as says
 use Rattle.fs_chain.specs.declared.chain_handle.ChainHandle.{ChainHandle}
 use Rattle.fs_chain.proofs.WholeWalks.{ComesSo, walk_comes}
-use Rattle.fs_live.specs.Among.{HandleFindsStopped, HandleWalksAmong, LoadsAmong, WalksAmong}
+use Rattle.fs_live.specs.Among.{HandleFindsStopped, HandleEndsPopAmong, LoadsAmong, WalksAmong}
 use Rattle.fs_live.specs.Handles.{IsPopDone, live_of}
 use Rattle.fs_live.specs.Live.{why_declined, with_live}
 use Rattle.fs_live.specs.Several.{LiveQueue, avail_event_at, used_event_at}
@@ -345,7 +345,7 @@ fault_of m event_index q =
     else if not (reach m Write (avail_event_at q) 2) then Some stop.UsedUnreachable
     else None
 
-pub handle_walks_among : {F : Type 0} (may : May F) → HandleWalksAmong may
+pub handle_walks_among : {F : Type 0} (may : May F) → HandleEndsPopAmong may
 handle_walks_among {F} may s i given old new before now after told there places limit goes still same refusal walks done =
     let m = places_in old.regions in
     let so = subst (λ (x : Option QueueError). SoFar x given old new before now after (wents.On told) walks) still

@@ -7,12 +7,12 @@ use Rattle.fs_regions.specs.Walks.{Loaded}
 use Rattle.fuse_fs.specs.Calls.{FileRun}
 use Rattle.virtiofsd_fuse.specs.Serving.{May}
 use Rattle.fs_live.specs.Several.{LiveQueue}
-use Rattle.fs_live.specs.Live.{LiveState, LiveEvent, Walks, ReceivesAnswer}
-use Rattle.fs_live.specs.Live.{Happens, WalksIn, calls_among}
+use Rattle.fs_live.specs.Live.{LiveState, LiveEvent, EndsPop, ReceivesAnswer}
+use Rattle.fs_live.specs.Live.{Happens, EndsPopIn, calls_among}
 use Rattle.fs_live.specs.Runs.{CallsAreARun}
 
 walk_files : {F : Type 0} (s after : LiveState F) (i : ℕ) (w : LiveQueue) (loaded : Loaded) (ds : List Descriptor)
-    (came : comes.CourseStep) → WalksIn s i w loaded ds came after → after.files ≡ s.files
+    (came : comes.CourseStep) → EndsPopIn s i w loaded ds came after → after.files ≡ s.files
 walk_files s after i w loaded ds (step.Load walk) h = absurd h
 walk_files s after i w loaded ds (step.Missing range access) h = absurd h
 walk_files {F} s after i w loaded ds came h = ap (λ (k : LiveState F). k.files) h.1
@@ -20,7 +20,7 @@ walk_files {F} s after i w loaded ds came h = ap (λ (k : LiveState F). k.files)
 one_event : {F : Type 0} (may : May F) (s mid : LiveState F) (end : F) (e : LiveEvent) (es : List LiveEvent) → Happens may s e mid
     → FileRun may mid.files (calls_among es) end
     → FileRun may s.files (calls_among (e ∷ es)) end
-one_event {F} may s mid end (Walks i loaded ds came) es h run =
+one_event {F} may s mid end (EndsPop i loaded ds came) es h run =
     subst (λ (f : F). FileRun may f (calls_among es) end) (walk_files s mid i h.w loaded ds came h.walks) run
 one_event {F} may s mid end (ReceivesAnswer c call answer) es h run =
     let is : mid.files ≡ h.files = ap (λ (k : LiveState F). k.files) h.state in

@@ -6,12 +6,12 @@ use Rattle.fuse_fs.specs.declared.answers.Context.{Context}
 use Rattle.fuse_fs.specs.declared.answers.Entry.{Entry}
 use Rattle.fuse_fs.specs.Calls.{FileCall, FileAnswer, Init, Listed, Lookup}
 use Rattle.fuse_fs.specs.Calls as file
-use Rattle.server_calls.specs.Requests.{entry_node, give_back, given_back, options_after}
+use Rattle.server_calls.specs.Requests.{entry_node, forget_node, given_back, options_after}
 use Rattle.server_replies.specs.Entries.{Fit, GoesIn, IsFull, IsWrong, entry_bytes, entry_len, fit_of, is_dot, no_node}
 use Rattle.server_replies.specs.WholeReplies.{error_bytes, listing_bytes}
 use Rattle.virtiofsd_fuse.specs.Grammar.{Meaning, IsFault, Replies, IsSilent, Asks, One, Starts, Lists}
 use Rattle.virtiofsd_fuse.specs.Listings.{ListRequest, Next, ListingResult, after_call, list_entries, looked_up, placed, readdir_call}
-use Rattle.virtiofsd_fuse.specs.Listings.{undo_call, with_entry}
+use Rattle.virtiofsd_fuse.specs.Listings.{forget_lookup, with_entry}
 use Rattle.virtiofsd_fuse.specs.Serving.{Setting, answer_bytes, list_answered, replied, served, start_answered, start_options, undone}
 use Rattle.plain_machine.specs.Step.{Calls, answers_alone, calls_alone}
 
@@ -53,13 +53,13 @@ entry_leads b d e undo next left room few more short leads =
     (next (left - len) (room - len) (few ++ more)) short
     (leads (left - len) (room - len) few more)
 
-one_undo : (who : Context) (node n : ℕ) → undo_call who node ∷ [] ≡ take (suc n) (undo_call who node ∷ [])
-one_undo who node n = ap (λ (l : List FileCall). undo_call who node ∷ l) (take_nil n)
+one_undo : (who : Context) (node n : ℕ) → forget_lookup who node ∷ [] ≡ take (suc n) (forget_lookup who node ∷ [])
+one_undo who node n = ap (λ (l : List FileCall). forget_lookup who node ∷ l) (take_nil n)
 
 looked_leads : (l : ListRequest) (d : Listed) (next : Next) (left room : ℕ) (few more : List FileAnswer) → NextLeads next
     → Leads (length few) (looked_up l d next left room few) (looked_up l d next left room (few ++ more))
 looked_leads l d next left room (file.HasEntry e ∷ few) more leads =
-    entry_leads true d e (undo_call l.context e.inode ∷ []) next left room few more (one_undo l.context e.inode (length few)) leads
+    entry_leads true d e (forget_lookup l.context e.inode ∷ []) next left room few more (one_undo l.context e.inode (length few)) leads
 looked_leads l d next left room few more leads = refl
 
 list_leads : (l : ListRequest) (ds : List Listed) → NextLeads (list_entries l ds)
@@ -71,7 +71,7 @@ list_leads l (d ∷ ds) left room few more =
     let rest : NextLeads next = list_leads l ds in
     let plain : List FileAnswer → ListingResult = λ answers. with_entry false d (no_node d) [] next left room answers in
     let dot : List FileAnswer → ListingResult =
-    λ answers. with_entry true d (no_node d) (undo_call l.context 0 ∷ []) next left room answers in
+    λ answers. with_entry true d (no_node d) (forget_lookup l.context 0 ∷ []) next left room answers in
     let looks : List FileAnswer → ListingResult =
     λ answers. after_call (Lookup l.context l.node d.name) (looked_up l d next left room answers) in
     let looked : Leads n (looks few) (looks (few ++ more)) =
@@ -80,7 +80,8 @@ list_leads l (d ∷ ds) left room few more =
     (if is_dot d.name then dot (few ++ more) else looks (few ++ more))
     (entry_leads false d (no_node d) [] next left room few more refl rest)
     (choose (is_dot d.name) n (dot few) (looks few) (dot (few ++ more)) (looks (few ++ more))
-    (entry_leads true d (no_node d) (undo_call l.context 0 ∷ []) next left room few more (one_undo l.context 0 (length few)) rest) looked)
+    (entry_leads true d (no_node d) (forget_lookup l.context 0
+    ∷ []) next left room few more (one_undo l.context 0 (length few)) rest) looked)
 
 -- ---- replies
 
@@ -130,7 +131,7 @@ list_more s unique l a few more = refl
 
 -- ---- an entry that is given back
 
-give_short : (who : Context) (node : Option ℕ) (n : ℕ) → give_back who node ≡ take (suc n) (give_back who node)
+give_short : (who : Context) (node : Option ℕ) (n : ℕ) → forget_node who node ≡ take (suc n) (forget_node who node)
 give_short who None n = refl
 give_short who (Some node) n = one_undo who node n
 

@@ -12,12 +12,12 @@ use Rattle.fs_regions.specs.Walks.{FetchesBy, OffersBy, IsLost}
 use Rattle.fuse_fs.specs.Calls.{Failed, Wants}
 use Rattle.server_replies.specs.WholeReplies.{error_bytes, reply_bytes, started_bytes}
 use Rattle.server_requests.specs.Fronts.{counted}
-use Rattle.server_requests.specs.Reading.{reading_of, last_name}
+use Rattle.server_requests.specs.Reading.{record_parser, last_name}
 use Rattle.virtiofsd_fuse.specs.Examples.{le16}
 use Rattle.virtiofsd_fuse.specs.Grammar.{meaning, meant, row}
 use Rattle.virtiofsd_fuse.specs.Serving.{May}
 use Rattle.plain_machine.specs.Examples.{blank, queue}
-use Rattle.fs_live.specs.Live.{DecodesRequestSo, ReceivesAnswerSo, PushesChainSo, WalksSo}
+use Rattle.fs_live.specs.Live.{DecodesRequestSo, ReceivesAnswerSo, PushesChainSo, EndsPopSo}
 use Rattle.fs_live.specs.Overlap.{at_positions, state}
 use Rattle.fs_live.specs.InitBeside.{
   InitBeside,
@@ -73,27 +73,27 @@ unfolding place addresses stored_all found_exactly
 second_fetches = (([], All-nil (IsLost blank), refl), second_offers)
 
 first_walks : {F : Type 0} (f : F) →
-    WalksSo (state f (at_positions 0 0) 0 []) 0 first_loads first_table (step.Chain 0 None) (state f (at_positions 1 0) 0 (first ∷ []))
+    EndsPopSo (state f (at_positions 0 0) 0 []) 0 first_loads first_table (step.Chain 0 None) (state f (at_positions 1 0) 0 (first ∷ []))
 first_walks f = record { w = at_positions 0 0; there = refl; room = refl; goes = refl; walks = (first_fetches, refl) }
 
 first_asks : {F : Type 0} (f : F) →
     DecodesRequestSo (state f (at_positions 1 0) 0 (first ∷ [])) first lookup (looks ∷ []) (state f (at_positions 1 0) 0 (first_asked ∷ []))
-unfolding addresses meaning reading_of meant row last_name counted reply_bytes error_bytes fields.field_bytes
+unfolding addresses meaning record_parser meant row last_name counted reply_bytes error_bytes fields.field_bytes
 first_asks f = record { before = []; behind = []; out = refl; fresh = refl; whole = refl; tells = refl; state = refl }
 
-second_walks : {F : Type 0} (f : F) → WalksSo (state f (at_positions 1 0) 0 (first_asked ∷ [])) 0 second_loads second_table
+second_walks : {F : Type 0} (f : F) → EndsPopSo (state f (at_positions 1 0) 0 (first_asked ∷ [])) 0 second_loads second_table
     (step.Chain 2 None) (state f (at_positions 2 0) 0 (first_asked ∷ second ∷ []))
 second_walks f = record { w = at_positions 1 0; there = refl; room = refl; goes = refl; walks = (second_fetches, refl) }
 
 second_asks : {F : Type 0} (f : F) → DecodesRequestSo (state f (at_positions 2 0) 0 (first_asked ∷ second ∷ [])) second init (starts ∷ [])
     (state f (at_positions 2 0) 0 (first_asked ∷ second_asked ∷ []))
-unfolding addresses meaning reading_of meant row reply_bytes error_bytes fields.field_bytes
+unfolding addresses meaning record_parser meant row reply_bytes error_bytes fields.field_bytes
 second_asks f = record { before = first_asked ∷ []; behind = []; out = refl; fresh = refl; whole = refl; tells = refl; state = refl }
 
 second_answers : {F : Type 0} (may : May F) (before after : F) → may before starts (Wants 0) after →
     ReceivesAnswerSo may (state before (at_positions 2 0) 0 (first_asked ∷ second_asked ∷ [])) second_asked starts (Wants 0)
     (state after (at_positions 2 0) 1 (first_asked ∷ second_answered ∷ []))
-unfolding addresses meaning reading_of meant row reply_bytes error_bytes started_bytes fields.field_bytes
+unfolding addresses meaning record_parser meant row reply_bytes error_bytes started_bytes fields.field_bytes
 second_answers may before after so = record {
   before = first_asked ∷ [];
   behind = [];
@@ -112,7 +112,7 @@ second_answers may before after so = record {
 second_returns : {F : Type 0} (f : F) →
     PushesChainSo (state f (at_positions 2 0) 1 (first_asked ∷ second_answered ∷ [])) second_answered second_exchange true 0 second_used
     (le16 0) (state f (at_positions 2 1) 1 (first_asked ∷ []))
-unfolding addresses meaning reading_of meant row reply_bytes error_bytes started_bytes fields.field_bytes
+unfolding addresses meaning record_parser meant row reply_bytes error_bytes started_bytes fields.field_bytes
 second_returns f = record {
   before = first_asked ∷ [];
   behind = [];
@@ -129,7 +129,7 @@ second_returns f = record {
 first_answers : {F : Type 0} (may : May F) (before after : F) → may before looks (Failed 2) after →
     ReceivesAnswerSo may (state before (at_positions 2 1) 1 (first_asked ∷ [])) first_asked looks (Failed 2)
     (state after (at_positions 2 1) 1 (first_answered ∷ []))
-unfolding addresses meaning reading_of meant row last_name counted reply_bytes error_bytes fields.field_bytes
+unfolding addresses meaning record_parser meant row last_name counted reply_bytes error_bytes fields.field_bytes
 first_answers may before after so = record {
   before = [];
   behind = [];
@@ -148,7 +148,7 @@ first_answers may before after so = record {
 first_returns : {F : Type 0} (f : F)
     → PushesChainSo (state f (at_positions 2 1) 1 (first_answered ∷ [])) first_answered first_exchange true 0
     first_used (le16 0) (state f (at_positions 2 2) 1 [])
-unfolding addresses meaning reading_of meant row last_name counted reply_bytes error_bytes fields.field_bytes
+unfolding addresses meaning record_parser meant row last_name counted reply_bytes error_bytes fields.field_bytes
 first_returns f = record {
   before = [];
   behind = [];

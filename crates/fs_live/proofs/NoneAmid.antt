@@ -15,7 +15,7 @@ use Rattle.fs_chain.specs.declared.popping.PopOutcome.TheVariants as says
 use Rattle.fs_chain.specs.declared.chain_handle.ChainHandle.{ChainHandle}
 use Rattle.fs_chain.proofs.WholeWalks.{walk_comes}
 use Rattle.fs_live.specs.Among.{LoadsAmong, WalksAmong, load_count_among}
-use Rattle.fs_live.specs.Handles.{HandleLoads, HandleWalks, load_count, loads_after}
+use Rattle.fs_live.specs.Handles.{HandleLoads, HandleEndsPop, load_count, loads_after}
 use Rattle.fs_live.proofs.Among.{IsALoad, handle_walks_among}
 use Rattle.fs_live.proofs.AmongLoads.{handle_loads_among}
 
@@ -72,7 +72,7 @@ count_same [] old new before after told goes walks = refl
 count_same (bs ∷ given) old new before after told goes walks =
     ap (loads_after told) (count_same given old walks.0 before walks.1 walks.2 goes walks.3)
 
-pub handle_walks : {F : Type 0} (may : May F) → HandleWalks may
+pub handle_walks : {F : Type 0} (may : May F) → HandleEndsPop may
 handle_walks may s i given old new before after told there places limit goes refusal walks done =
     let amid = none_amid given old new before after (wents.On told) goes walks in
     let made = handle_walks_among may s i given old new before before after told there places limit goes goes refl refusal amid done in

@@ -33,7 +33,7 @@ use Rattle.fs_live.specs.Several.{LiveQueue, returning, seen_at}
 use Rattle.fs_live.specs.Several as several
 use Rattle.fs_live.specs.Live.{GoesBackWith, IsUnreplied, KeepsQueue, OutChain, Own, Phase, fault_of, own_exchange, room_in, room_of}
 use Rattle.fs_live.specs.Handles.{live_of}
-use Rattle.fs_live.specs.Others.{AskedIsHeld, HandleAbandons, HandleDrops, HandleMovesDevice, HandleRemaps, HandleRepliesInstead}
+use Rattle.fs_live.specs.Others.{AskedIsHeld, HandleAbandons, HandleGivesUpChain, HandleMovesDevice, HandleRemaps, HandleRepliesInstead}
 use Rattle.fs_live.specs.Others.{HandleRepliesOwnBytes}
 use Rattle.fs_live.specs.Others.{HandlePushesOwn, IfOut, IsOwn, recorded}
 use Rattle.fs_live.proofs.Alone.{Walked, walked_there}
@@ -51,7 +51,7 @@ first_true : (a b : Bool) → (a && b) ≡ true → a ≡ true
 first_true true b is = refl
 first_true false b is = is
 
-pub handle_drops : {F : Type 0} (may : May F) → HandleDrops may
+pub handle_drops : {F : Type 0} (may : May F) → HandleGivesUpChain may
 handle_drops {F} may s c before behind w kept out there fresh held none =
     let o = out_of (course_of held.kept s.limit) held.pop_id c.head c.descriptors in
     let clear : give_up_error (at.Taken o) kept ≡ None = subst (λ (st : state.ChainState). give_up_error st kept ≡ None) held.state none in

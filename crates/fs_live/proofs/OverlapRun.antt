@@ -11,12 +11,12 @@ use Rattle.fs_regions.specs.declared.step.CourseStep.TheVariants as step
 use Rattle.fs_regions.specs.Walks.{FetchesBy, OffersBy, IsLost}
 use Rattle.fuse_fs.specs.Calls.{Destroy, Done}
 use Rattle.server_replies.specs.WholeReplies.{error_bytes, reply_bytes}
-use Rattle.server_requests.specs.Reading.{reading_of}
+use Rattle.server_requests.specs.Reading.{record_parser}
 use Rattle.virtiofsd_fuse.specs.Examples.{le16}
 use Rattle.virtiofsd_fuse.specs.Grammar.{meaning, meant, row}
 use Rattle.virtiofsd_fuse.specs.Serving.{May}
 use Rattle.plain_machine.specs.Examples.{blank, queue}
-use Rattle.fs_live.specs.Live.{DecodesRequestSo, ReceivesAnswerSo, PushesChainSo, WalksSo}
+use Rattle.fs_live.specs.Live.{DecodesRequestSo, ReceivesAnswerSo, PushesChainSo, EndsPopSo}
 use Rattle.fs_live.specs.Overlap.{
   Overlap,
   at_positions,
@@ -77,28 +77,28 @@ unfolding place addresses stored_all found_exactly
 second_fetches = (([], All-nil (IsLost blank), refl), second_offers)
 
 first_walks : {F : Type 0} (f : F) →
-    WalksSo (state f (at_positions 0 0) 1 []) 0 first_loads first_table (step.Chain 0 None) (state f (at_positions 1 0) 1 (first ∷ []))
+    EndsPopSo (state f (at_positions 0 0) 1 []) 0 first_loads first_table (step.Chain 0 None) (state f (at_positions 1 0) 1 (first ∷ []))
 first_walks f = record { w = at_positions 0 0; there = refl; room = refl; goes = refl; walks = (first_fetches, refl) }
 
 first_asks : {F : Type 0} (f : F) →
     DecodesRequestSo (state f (at_positions 1 0) 1 (first ∷ [])) first destroy (Destroy ∷ [])
     (state f (at_positions 1 0) 1 (first_asked ∷ []))
-unfolding addresses meaning reading_of meant row reply_bytes error_bytes fields.field_bytes
+unfolding addresses meaning record_parser meant row reply_bytes error_bytes fields.field_bytes
 first_asks f = record { before = []; behind = []; out = refl; fresh = refl; whole = refl; tells = refl; state = refl }
 
-second_walks : {F : Type 0} (f : F) → WalksSo (state f (at_positions 1 0) 1 (first_asked ∷ [])) 0 second_loads second_table
+second_walks : {F : Type 0} (f : F) → EndsPopSo (state f (at_positions 1 0) 1 (first_asked ∷ [])) 0 second_loads second_table
     (step.Chain 2 None) (state f (at_positions 2 0) 1 (first_asked ∷ second ∷ []))
 second_walks f = record { w = at_positions 1 0; there = refl; room = refl; goes = refl; walks = (second_fetches, refl) }
 
 second_asks : {F : Type 0} (f : F) → DecodesRequestSo (state f (at_positions 2 0) 1 (first_asked ∷ second ∷ [])) second unknown []
     (state f (at_positions 2 0) 1 (first_asked ∷ second_asked ∷ []))
-unfolding addresses meaning reading_of meant row reply_bytes error_bytes fields.field_bytes
+unfolding addresses meaning record_parser meant row reply_bytes error_bytes fields.field_bytes
 second_asks f = record { before = first_asked ∷ []; behind = []; out = refl; fresh = refl; whole = refl; tells = refl; state = refl }
 
 second_returns : {F : Type 0} (f : F) →
     PushesChainSo (state f (at_positions 2 0) 1 (first_asked ∷ second_asked ∷ [])) second_asked second_exchange true 0 second_used (le16 0)
     (state f (at_positions 2 1) 1 (first_asked ∷ []))
-unfolding addresses meaning reading_of meant row reply_bytes error_bytes fields.field_bytes
+unfolding addresses meaning record_parser meant row reply_bytes error_bytes fields.field_bytes
 second_returns f = record {
   before = first_asked ∷ [];
   behind = [];
@@ -115,7 +115,7 @@ second_returns f = record {
 first_answers : {F : Type 0} (may : May F) (before after : F) → may before Destroy Done after →
     ReceivesAnswerSo may (state before (at_positions 2 1) 1 (first_asked ∷ [])) first_asked Destroy Done
     (state after (at_positions 2 1) 0 (first_answered ∷ []))
-unfolding addresses meaning reading_of meant row reply_bytes error_bytes fields.field_bytes
+unfolding addresses meaning record_parser meant row reply_bytes error_bytes fields.field_bytes
 first_answers may before after so = record {
   before = [];
   behind = [];
@@ -134,7 +134,7 @@ first_answers may before after so = record {
 first_returns : {F : Type 0} (f : F)
     → PushesChainSo (state f (at_positions 2 1) 0 (first_answered ∷ [])) first_answered first_exchange true 0
     first_used (le16 0) (state f (at_positions 2 2) 0 [])
-unfolding addresses meaning reading_of meant row reply_bytes error_bytes fields.field_bytes
+unfolding addresses meaning record_parser meant row reply_bytes error_bytes fields.field_bytes
 first_returns f = record {
   before = [];
   behind = [];

@@ -14,12 +14,13 @@ use Rattle.fs_regions.specs.declared.step.CourseStep.TheVariants as step
 use Rattle.fs_regions.specs.Walks.{Loaded}
 use Rattle.virtiofsd_fuse.specs.Serving.{May}
 use Rattle.fs_live.specs.Several.{LiveQueue, InFlightId, took, untook, gave, returning}
-use Rattle.fs_live.specs.Live.{Phase, PoppedFaulty, Own, Abandoned, OutChain, LiveState, LiveEvent, Walks, Declines, DecodesRequest}
+use Rattle.fs_live.specs.Live.{Phase, PoppedFaulty, Own, Abandoned, OutChain, LiveState, LiveEvent, EndsPop, RefusesPop, DecodesRequest}
 use Rattle.fs_live.specs.Live.{ReceivesAnswer}
-use Rattle.fs_live.specs.Live.{PushesChain, StoresNotification, ResetsQueue, FillsBuffer, Drops, Abandons, RepliesOwnBytes, Remaps}
+use Rattle.fs_live.specs.Live.{PushesChain, StoresNotification, ResetsQueue, FillsBuffer, GivesUpChain, Abandons, RepliesOwnBytes, Remaps}
 use Rattle.fs_live.specs.Live.{MovesDevice, Happens}
 use Rattle.fs_live.specs.Live.{LiveRun}
-use Rattle.fs_live.specs.Live.{IfKeepsReturns, KeepsQueue, KeepsReturns, WalksIn, after_answer, after_asking, after_beginning, after_drop}
+use Rattle.fs_live.specs.Live.{IfKeepsReturns, KeepsQueue, KeepsReturns, EndsPopIn, after_answer, after_asking, after_beginning}
+use Rattle.fs_live.specs.Live.{after_giving_up}
 use Rattle.fs_live.specs.Live.{abandoned_chain, after_abandoning, after_giving, after_own, asked_chain, fault_of, new_chain}
 use Rattle.fs_live.specs.Live.{room_in, why_declined}
 use Rattle.fs_live.specs.Runs.{HasNoneInFlight, HasUsedEvent, ReturnHasPlaces, ReturnsHavePlaces, has_places, tickets_on}
@@ -208,7 +209,7 @@ module _ (i : ℕ) where
 
   walks : {F : Type 0} (s mid : LiveState F) (j : ℕ) (v : LiveQueue) (loaded : Loaded) (ds : List Descriptor) (came : comes.CourseStep)
       → slice_get s.queues j ≡ Some v
-      → why_declined s.places v ≡ None → WalksIn s j v loaded ds came mid → Kept s → Kept mid
+      → why_declined s.places v ≡ None → EndsPopIn s j v loaded ds came mid → Kept s → Kept mid
   walks s mid j v loaded ds (step.Load walk) at clear h kept = absurd h
   walks s mid j v loaded ds (step.Missing range access) at clear h kept = absurd h
   walks {F} s mid j v loaded ds step.Idle at clear h kept = subst (λ (k : LiveState F). Kept k) (sym h.1) kept
@@ -243,8 +244,8 @@ module _ (i : ℕ) where
       (λ rest. mapped_all s m' w cs there keeps.1 rest) ahead
 
   keeps : {F : Type 0} (may : May F) (s mid : LiveState F) (e : LiveEvent) → Happens may s e mid → Kept s → Kept mid
-  keeps may s mid (Walks j loaded ds came) h kept = walks s mid j h.w loaded ds came h.there h.goes h.walks kept
-  keeps {F} may s mid (Declines j e) h kept = subst (λ (k : LiveState F). Kept k) (sym h.state)
+  keeps may s mid (EndsPop j loaded ds came) h kept = walks s mid j h.w loaded ds came h.there h.goes h.walks kept
+  keeps {F} may s mid (RefusesPop j e) h kept = subst (λ (k : LiveState F). Kept k) (sym h.state)
       (refuses s j h.w (stops_queue e) h.there kept)
   keeps {F} may s mid (DecodesRequest c request told) h kept =
       subst (λ (k : LiveState F). Kept k) (sym h.state)
@@ -271,10 +272,10 @@ module _ (i : ℕ) where
       (λ is ahead. subst (λ (l : List InFlightId). Ahead s.places v (length l)) (sym (none_left i j s.outs is)) h.both)
       (λ is. ap (λ (l : List InFlightId). length l) (dropped i j s.outs (apart_of j i is))) kept)
   keeps {F} may s mid (FillsBuffer c stores) h kept = subst (λ (k : LiveState F). Kept k) (sym h.state) kept
-  keeps {F} may s mid (Drops c) h kept =
+  keeps {F} may s mid (GivesUpChain c) h kept =
       let out : out_on i s.outs ≡ out_on i (h.before ++ c ∷ h.behind) = ap (λ (cs : List OutChain). out_on i cs) h.out in
       subst (λ (k : LiveState F). Kept k) (sym h.state)
-      (changes s (after_drop s h.before h.behind c h.w) c.queue h.w (untook h.w) (c.queue == i) refl refl refl h.there
+      (changes s (after_giving_up s h.before h.behind c h.w) c.queue h.w (untook h.w) (c.queue == i) refl refl refl h.there
       (λ is ahead. ahead_dropped s.places h.w (out_on i (h.before ++ h.behind))
       (subst (λ (n : ℕ). Ahead s.places h.w n) (out ∙ one_less i h.before h.behind c is) ahead))
       (λ is. none_less i h.before h.behind c is ∙ sym out) kept)
@@ -399,7 +400,7 @@ refusal_tied s j v stops at all =
     all_tied s.places s.queues j v (record v { queue = if stops then with_stop v.queue else v.queue }) s.outs at (refusal_moves v stops) all
 
 walk_tied : {F : Type 0} (s mid : LiveState F) (j : ℕ) (v : LiveQueue) (loaded : Loaded) (ds : List Descriptor) (came : comes.CourseStep)
-    → slice_get s.queues j ≡ Some v → WalksIn s j v loaded ds came mid
+    → slice_get s.queues j ≡ Some v → EndsPopIn s j v loaded ds came mid
     → AllTied s → AllTied mid
 walk_tied s mid j v loaded ds (step.Load walk) at h all = absurd h
 walk_tied s mid j v loaded ds (step.Missing range access) at h all = absurd h
@@ -417,8 +418,8 @@ walk_tied {F} s mid j v loaded ds (step.Chain head fault) at h all =
     (λ m m' keeps. record { returns = keeps.returns; event = keeps.event }) all) (mine, tt))
 
 ties : {F : Type 0} (may : May F) (s mid : LiveState F) (e : LiveEvent) → Happens may s e mid → AllTied s → AllTied mid
-ties may s mid (Walks j loaded ds came) h all = walk_tied s mid j h.w loaded ds came h.there h.walks all
-ties {F} may s mid (Declines j e) h all =
+ties may s mid (EndsPop j loaded ds came) h all = walk_tied s mid j h.w loaded ds came h.there h.walks all
+ties {F} may s mid (RefusesPop j e) h all =
     subst (λ (k : LiveState F). AllTied k) (sym h.state) (refusal_tied s j h.w (stops_queue e) h.there all)
 ties {F} may s mid (DecodesRequest c request told) h all =
     subst (λ (k : LiveState F). AllTied k) (sym h.state)
@@ -436,7 +437,7 @@ ties {F} may s mid (StoresNotification j store) h all = subst (λ (k : LiveState
 ties {F} may s mid (ResetsQueue j v) h all =
     subst (λ (k : LiveState F). AllTied k) (sym h.state) (left_tied s.places s.queues j v s.outs all)
 ties {F} may s mid (FillsBuffer c stores) h all = subst (λ (k : LiveState F). AllTied k) (sym h.state) all
-ties {F} may s mid (Drops c) h all =
+ties {F} may s mid (GivesUpChain c) h all =
     subst (λ (k : LiveState F). AllTied k) (sym h.state)
     (all_tied s.places s.queues c.queue h.w (untook h.w) (h.before ++ h.behind) h.there
     (λ m m' keeps. record { returns = keeps.returns; event = keeps.event })

@@ -35,8 +35,8 @@ use Rattle.fs_chain.proofs.WholeWalks.{event_fault_refuses, event_miss_is_no_ste
 use Rattle.fs_chain.specs.Queues.{pop_id_of}
 use Rattle.fs_live.specs.Several.{LiveQueue, may_take}
 use Rattle.fs_live.specs.Several as several
-use Rattle.fs_live.specs.Live.{LiveState, WalksIn, after_walk, why_declined, with_live}
-use Rattle.fs_live.specs.Handles.{HandleDeclines, IsPopDone, IsHeld, live_of}
+use Rattle.fs_live.specs.Live.{LiveState, EndsPopIn, after_pop, why_declined, with_live}
+use Rattle.fs_live.specs.Handles.{HandleRefusesPop, IsPopDone, IsHeld, live_of}
 use Rattle.fs_live.proofs.Queues.{none_some, same_some, there_same}
 use Rattle.fs_live.proofs.Refusals.{refusal_stops}
 
@@ -45,8 +45,8 @@ use Rattle.fs_live.proofs.Refusals.{refusal_stops}
 -- what a walk came to is an event, which leaves the queue so, and the handle has its chain
 abbrev pub WalkEvent : {F : Type 0} → LiveState F → ℕ → QueueState → QueueState → Loaded → List Descriptor → comes.CourseStep → Type 0
 WalkEvent {F} s i before after loaded ds came =
-    WalksIn s i (live_of before) loaded ds came (after_walk s i (live_of before) loaded ds came)
-    × (slice_get (after_walk s i (live_of before) loaded ds came).queues i ≡ Some (live_of after))
+    EndsPopIn s i (live_of before) loaded ds came (after_pop s i (live_of before) loaded ds came)
+    × (slice_get (after_pop s i (live_of before) loaded ds came).queues i ≡ Some (live_of after))
 
 stopped_by : (q : QueueState) (after : QueueState) (e : QueueError) → stops_queue e ≡ true → after ≡ record q { stopped = Some e }
     → Some (record (live_of q) { queue = after_refusal (live_of q).queue e }) ≡ Some (live_of after)
@@ -216,7 +216,7 @@ declined_walk (bs ∷ given) old new before after told e why none walks =
     let earlier = declined_walk given old walks.0 before walks.1 walks.2 e why none walks.3 in
     absurd (wants_none walks.2 e before walks.1 earlier.1 walks.4)
 
-pub handle_declines : {F : Type 0} (may : May F) → HandleDeclines may
+pub handle_declines : {F : Type 0} (may : May F) → HandleRefusesPop may
 handle_declines {F} may s i given old new before after told e there places why none walks =
     let there_why : why_declined (places_in old.regions) (live_of before) ≡ Some e =
     subst (λ (m : Memory). why_declined m (live_of before) ≡ Some e) places why in

@@ -13,7 +13,7 @@ use Rattle.fs_chain.specs.Decoding.{TellsMeaning}
 use Rattle.fs_chain.specs.Walks.{course_of, faulty_out, no_reply}
 use Rattle.fs_chain.specs.Orders.{front_len}
 use Rattle.fs_chain.specs.Pushes.{PushesBy}
-use Rattle.fs_chain.specs.Whole.{FromReplied, acts_of as acts_by, data_behind, file_calls, reply_bytes}
+use Rattle.fs_chain.specs.Whole.{FromReplied, push_acts as acts_by, data_behind, file_calls, stored_reply}
 use Rattle.fs_chain.specs.declared.queue.QueueState.{QueueState}
 use Rattle.fs_chain.specs.declared.pushing.PushStores.{PushStores}
 use Rattle.fs_chain.specs.declared.state.ChainState as state
@@ -52,7 +52,7 @@ flags_of (store ∷ stores) flags = flags_of stores flags
 flags_back : (kept : QueueState) (st : state.ChainState) (used : PushStores) (room behind flags : List ℕ) (acts : List Act) (last : ℕ)
     → FromReplied kept st (λ reply s. (last ≡ front_len reply) × (acts ≡ acts_by room reply behind s flags)) used → flags_in acts ≡ flags
 flags_back kept (at.HasReply out reply) used room behind flags acts last back =
-    ap flags_in back.1.1 ∙ flags_of (reply_stores room (reply_bytes reply behind) (front_len reply) ++ stores_of used.used) flags
+    ap flags_in back.1.1 ∙ flags_of (reply_stores room (stored_reply reply behind) (front_len reply) ++ stores_of used.used) flags
 flags_back kept st used room behind flags acts last back = absurd back
 
 -- where they stand, of a queue

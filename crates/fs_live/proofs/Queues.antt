@@ -16,11 +16,12 @@ use Rattle.virtiofsd_fuse.specs.Serving.{May}
 use Rattle.fs_live.specs.Several.{LiveQueue, InFlightId, QueueEvent, RunsOver, may_take, took, untook, gave, returning}
 use Rattle.fs_live.specs.Several as several
 use Rattle.fs_live.proofs.SeveralRuns.{once, used_in_order}
-use Rattle.fs_live.specs.Live.{OutChain, LiveState, LiveEvent, Walks, Declines, DecodesRequest, ReceivesAnswer, PushesChain}
+use Rattle.fs_live.specs.Live.{OutChain, LiveState, LiveEvent, EndsPop, RefusesPop, DecodesRequest, ReceivesAnswer, PushesChain}
 use Rattle.fs_live.specs.Live.{StoresNotification, ResetsQueue}
-use Rattle.fs_live.specs.Live.{FillsBuffer, Drops}
-use Rattle.fs_live.specs.Live.{Abandons, RepliesOwnBytes, Remaps, MovesDevice, Happens, LiveRun, WalksIn}
-use Rattle.fs_live.specs.Live.{Own, abandoned_chain, after_abandoning, after_answer, after_asking, after_beginning, after_drop, after_own}
+use Rattle.fs_live.specs.Live.{FillsBuffer, GivesUpChain}
+use Rattle.fs_live.specs.Live.{Abandons, RepliesOwnBytes, Remaps, MovesDevice, Happens, LiveRun, EndsPopIn}
+use Rattle.fs_live.specs.Live.{Own, abandoned_chain, after_abandoning, after_answer, after_asking, after_beginning, after_giving_up}
+use Rattle.fs_live.specs.Live.{after_own}
 use Rattle.fs_live.specs.Live.{asked_chain}
 use Rattle.fs_live.specs.Live.{new_chain}
 use Rattle.fs_live.specs.Runs.{RunsOnQueue, OncePerLiveChain, LiveUsedInOrder, NotAnew, event_on, events_on, tickets_on, going}
@@ -194,7 +195,7 @@ module _ (i : ℕ) where
   -- walks
   walks : {F : Type 0} (s mid : LiveState F) (j : ℕ) (w v : LiveQueue) (loaded : Loaded) (ds : List Descriptor) (came : comes.CourseStep)
       → slice_get s.queues i ≡ Some w → slice_get s.queues j ≡ Some v
-      → IsTrue (may_take v) → WalksIn s j v loaded ds came mid → Carries s mid w (event_on i (Walks j loaded ds came))
+      → IsTrue (may_take v) → EndsPopIn s j v loaded ds came mid → Carries s mid w (event_on i (EndsPop j loaded ds came))
   walks s mid j w v loaded ds (step.Load walk) there at room h = absurd h
   walks s mid j w v loaded ds (step.Missing range access) there at room h = absurd h
   walks {F} s mid j w v loaded ds step.Idle there at room h =
@@ -202,7 +203,7 @@ module _ (i : ℕ) where
   walks {F} s mid j w v loaded ds (step.Refused e) there at room h =
       subst (λ (k : LiveState F). Carries s k w []) (sym h.1) (refuses s j w v (j == i) (stops_queue e) refl there at)
   walks {F} s mid j w v loaded ds (step.Chain head fault) there at room h =
-      subst (λ (k : LiveState F). Carries s k w (event_on i (Walks j loaded ds (step.Chain head fault)))) (sym h.1)
+      subst (λ (k : LiveState F). Carries s k w (event_on i (EndsPop j loaded ds (step.Chain head fault)))) (sym h.1)
       (takes s j w v (j == i) (new_chain s j v loaded ds head fault) refl there at refl refl room)
 
   -- a return
@@ -241,14 +242,14 @@ module _ (i : ℕ) where
   drops : {F : Type 0} (s : LiveState F) (before behind : List OutChain) (c : OutChain) (w v : LiveQueue) (b : Bool) → (c.queue == i) ≡ b
       → slice_get s.queues i ≡ Some w → slice_get s.queues c.queue ≡ Some v → s.outs ≡ before ++ c ∷ behind
       → v.queue.position ≡ (c.taken.position + 1) % 2 ^ 16
-      → Carries s (after_drop s before behind c v) w (if b then several.DropsLast (c.taken.position, c.head) ∷ [] else [])
+      → Carries s (after_giving_up s before behind c v) w (if b then several.DropsLast (c.taken.position, c.head) ∷ [] else [])
   drops {F} s before behind c w v true is there at out youngest =
       let same : c.queue ≡ i = eqb-true c.queue i is in
       let one : v ≡ w = same_some v w (sym at ∙ ap (λ (n : ℕ). slice_get s.queues n) same ∙ there) in
       let split : tickets_on i s.outs ≡ tickets_on i before ++ ticket_of c ∷ tickets_on i behind =
       ap (λ (l : List OutChain). tickets_on i l) out ∙ tickets-append before (c ∷ behind)
       ∙ ap (λ (l : List InFlightId). tickets_on i before ++ l) (one_ticket c behind true is) in
-      subst (λ (k : LiveQueue). Carries s (after_drop s before behind c v) k (several.DropsLast (c.taken.position, c.head) ∷ [])) one (
+      subst (λ (k : LiveQueue). Carries s (after_giving_up s before behind c v) k (several.DropsLast (c.taken.position, c.head) ∷ [])) one (
         untook v,
         there_same s.queues c.queue i (λ _. untook v) w same there,
         λ es u outs run. (
@@ -260,7 +261,8 @@ module _ (i : ℕ) where
         ),
       )
   drops {F} s before behind c w v false is there at out youngest =
-      stays s (after_drop s before behind c v) w w (there_other s.queues c.queue i (λ _. untook v) (apart_of c.queue i is) ∙ there) refl
+      stays s (after_giving_up s before behind c v) w w (there_other s.queues c.queue i (λ _. untook v) (apart_of c.queue i is)
+      ∙ there) refl
       (tickets-append before behind
       ∙ sym (ap (λ (l : List OutChain). tickets_on i l) out ∙ tickets-append before (c ∷ behind)
       ∙ ap (λ (l : List InFlightId). tickets_on i before ++ l) (one_ticket c behind false is)))
@@ -271,8 +273,8 @@ module _ (i : ℕ) where
 
   carries : {F : Type 0} (may : May F) (s mid : LiveState F) (w : LiveQueue) (e : LiveEvent) → slice_get s.queues i ≡ Some w → NotAnew i e
       → Happens may s e mid → Carries s mid w (event_on i e)
-  carries may s mid w (Walks j loaded ds came) there anew h = walks s mid j w h.w loaded ds came there h.there h.room h.walks
-  carries {F} may s mid w (Declines j e) there anew h =
+  carries may s mid w (EndsPop j loaded ds came) there anew h = walks s mid j w h.w loaded ds came there h.there h.room h.walks
+  carries {F} may s mid w (RefusesPop j e) there anew h =
       subst (λ (k : LiveState F). Carries s k w []) (sym h.state) (refuses s j w h.w (j == i) (stops_queue e) refl there h.there)
   carries {F} may s mid w (DecodesRequest c request told) there anew h =
       subst (λ (k : LiveState F). Carries s k w []) (sym h.state)
@@ -296,8 +298,8 @@ module _ (i : ℕ) where
       (there_other s.queues j i (λ _. v) apart ∙ there) refl (dropped j s.outs apart))
   carries {F} may s mid w (FillsBuffer c stores) there anew h =
       subst (λ (k : LiveState F). Carries s k w []) (sym h.state) (stays s s w w there refl refl)
-  carries {F} may s mid w (Drops c) there anew h =
-      subst (λ (k : LiveState F). Carries s k w (event_on i (Drops c))) (sym h.state)
+  carries {F} may s mid w (GivesUpChain c) there anew h =
+      subst (λ (k : LiveState F). Carries s k w (event_on i (GivesUpChain c))) (sym h.state)
       (drops s h.before h.behind c w h.w (c.queue == i) refl there h.there h.out h.is_last)
   carries {F} may s mid w (Abandons c) there anew h =
       subst (λ (k : LiveState F). Carries s k w []) (sym h.state)

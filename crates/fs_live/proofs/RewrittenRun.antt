@@ -12,12 +12,12 @@ use Rattle.fs_regions.specs.declared.step.CourseStep.TheVariants as step
 use Rattle.fs_regions.specs.Walks.{FetchesBy, OffersBy, IsLost}
 use Rattle.fuse_fs.specs.Calls.{Done}
 use Rattle.server_replies.specs.WholeReplies.{error_bytes, reply_bytes}
-use Rattle.server_requests.specs.Reading.{reading_of}
+use Rattle.server_requests.specs.Reading.{record_parser}
 use Rattle.virtiofsd_fuse.specs.Examples.{le16}
 use Rattle.virtiofsd_fuse.specs.Grammar.{meaning, meant, row}
 use Rattle.virtiofsd_fuse.specs.Serving.{May}
 use Rattle.plain_machine.specs.Examples.{blank}
-use Rattle.fs_live.specs.Live.{DecodesRequestSo, ReceivesAnswerSo, PushesChainSo, WalksSo}
+use Rattle.fs_live.specs.Live.{DecodesRequestSo, ReceivesAnswerSo, PushesChainSo, EndsPopSo}
 use Rattle.fs_live.specs.Overlap.{state}
 use Rattle.fs_live.specs.Rewritten.{Rewritten, at_positions, exchange, first, first_answered, first_asked, first_loads, forget, queue}
 use Rattle.fs_live.specs.Rewritten.{second_loads, stopped_at, table, told, used}
@@ -47,22 +47,22 @@ second_offers = (
 )
 
 first_walks : {F : Type 0} (f : F) →
-    WalksSo (state f (at_positions 0 0) 0 []) 0 first_loads table (step.Chain 0 None) (state f (at_positions 1 0) 0 (first ∷ []))
+    EndsPopSo (state f (at_positions 0 0) 0 []) 0 first_loads table (step.Chain 0 None) (state f (at_positions 1 0) 0 (first ∷ []))
 first_walks f = record { w = at_positions 0 0; there = refl; room = refl; goes = refl; walks = (first_fetches, refl) }
 
-second_walks : {F : Type 0} (f : F) → WalksSo (state f (at_positions 1 0) 0 (first ∷ [])) 0 second_loads [] (step.Refused HeadOutOfTable)
+second_walks : {F : Type 0} (f : F) → EndsPopSo (state f (at_positions 1 0) 0 (first ∷ [])) 0 second_loads [] (step.Refused HeadOutOfTable)
     (state f (stopped_at 1 0) 0 (first ∷ []))
 second_walks f = record { w = at_positions 1 0; there = refl; room = refl; goes = refl; walks = (second_offers, refl) }
 
 first_asks : {F : Type 0} (f : F) →
     DecodesRequestSo (state f (stopped_at 1 0) 0 (first ∷ [])) first forget (told ∷ []) (state f (stopped_at 1 0) 0 (first_asked ∷ []))
-unfolding addresses meaning reading_of meant row reply_bytes error_bytes fields.field_bytes
+unfolding addresses meaning record_parser meant row reply_bytes error_bytes fields.field_bytes
 first_asks f = record { before = []; behind = []; out = refl; fresh = refl; whole = refl; tells = refl; state = refl }
 
 first_answers : {F : Type 0} (may : May F) (before after : F) → may before told Done after →
     ReceivesAnswerSo may (state before (stopped_at 1 0) 0 (first_asked ∷ [])) first_asked told Done
     (state after (stopped_at 1 0) 0 (first_answered ∷ []))
-unfolding addresses meaning reading_of meant row reply_bytes error_bytes fields.field_bytes
+unfolding addresses meaning record_parser meant row reply_bytes error_bytes fields.field_bytes
 first_answers may before after so = record {
   before = [];
   behind = [];
@@ -80,7 +80,7 @@ first_answers may before after so = record {
 
 first_returns : {F : Type 0} (f : F) → PushesChainSo (state f (stopped_at 1 0) 0 (first_answered ∷ [])) first_answered exchange true 0 used
     (le16 0) (state f (stopped_at 1 1) 0 [])
-unfolding addresses meaning reading_of meant row reply_bytes error_bytes fields.field_bytes
+unfolding addresses meaning record_parser meant row reply_bytes error_bytes fields.field_bytes
 first_returns f = record {
   before = [];
   behind = [];

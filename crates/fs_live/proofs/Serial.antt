@@ -28,7 +28,7 @@ use Rattle.plain_machine.specs.StepBy.{after_stores, stores_among, offered_by, r
 use Rattle.plain_machine.proofs.StepByLemmas.{step_by_is_step}
 use Rattle.fs_live.specs.Live.{Phase, PoppedFaulty, Fetched, Asked, OutChain, LiveState, LiveEvent, DecodesRequest, ReceivesAnswer}
 use Rattle.fs_live.specs.Live.{Happens, LiveRun}
-use Rattle.fs_live.specs.Live.{WalksSo, DecodesRequestSo, ReceivesAnswerSo, PushesChainSo, calls_in, fault_of, new_chain, after_take}
+use Rattle.fs_live.specs.Live.{EndsPopSo, DecodesRequestSo, ReceivesAnswerSo, PushesChainSo, calls_in, fault_of, new_chain, after_take}
 use Rattle.fs_live.specs.Live.{room_of, serving, event_acts}
 use Rattle.fs_live.specs.Live.{GoesBackWith}
 use Rattle.fs_live.specs.Runs.{IsAskedIn, IsServedPhase, options_left, after_alone, chain_loads, request_in}
@@ -344,7 +344,7 @@ wants_flags w seen no_event = rw no_event refl
 pub single_is_step : {F : Type 0} (may : May F) → SingleIsStep may
 single_is_step {F} may s after r m w none there rest of run found =
     let i = r.queue in
-    let walk : WalksSo s i r.loaded r.descriptors (step.Chain r.head r.fault) run.0 = run.1 in
+    let walk : EndsPopSo s i r.loaded r.descriptors (step.Chain r.head r.fault) run.0 = run.1 in
     let v = walk.w in
     let same : v ≡ w = same_some v w (sym walk.there ∙ there) in
     let calm : IsAtRest v = subst (λ (k : LiveQueue). IsAtRest k) (sym same) rest in

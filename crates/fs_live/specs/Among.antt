@@ -17,7 +17,7 @@ use Rattle.fs_chain.specs.declared.state.ChainState.TheVariants as at
 use Rattle.fs_chain.specs.declared.popping.PopOutcome as walked
 use Rattle.fs_chain.specs.declared.popping.PopOutcome.TheVariants as says
 use Rattle.fs_chain.specs.declared.chain_handle.ChainHandle.{ChainHandle}
-use Rattle.fs_live.specs.Live.{Declines, Happens, LiveState, Walks, after_walk}
+use Rattle.fs_live.specs.Live.{RefusesPop, Happens, LiveState, EndsPop, after_pop}
 use Rattle.fs_live.specs.Handles.{IsPopDone, IsHeld, loads_after, live_of}
 
 -- a pop by calls of the handle, the last one first, which finds the queue as `now`. Before each call
@@ -46,8 +46,8 @@ LoadsAmong (bs ∷ given) old new before now after told walks loaded =
 
 -- such a pop is the event of a pop by all its loads, at the moment of its last call. Its queue must not be
 -- stopped before the first call or at the last one
-abbrev pub HandleWalksAmong : {F : Type 0} → May F → Type 0
-HandleWalksAmong {F} may =
+abbrev pub HandleEndsPopAmong : {F : Type 0} → May F → Type 0
+HandleEndsPopAmong {F} may =
     (s : LiveState F) (i : ℕ) (given : List (List ℕ)) (old new : ChainHandle) (before now after : QueueState)
     (told : walked.PopOutcome) →
     slice_get s.queues i ≡ Some (live_of now) →
@@ -63,9 +63,9 @@ HandleWalksAmong {F} may =
     × LoadsAmong given old new before now after (wents.On told) walks loaded
     × (came : comes.CourseStep)
     × (told ≡ told_of new.descriptors.items came)
-    × Happens may s (Walks i loaded new.descriptors.items came)
-    (after_walk s i (live_of now) loaded new.descriptors.items came)
-    × (slice_get (after_walk s i (live_of now) loaded new.descriptors.items came).queues i
+    × Happens may s (EndsPop i loaded new.descriptors.items came)
+    (after_pop s i (live_of now) loaded new.descriptors.items came)
+    × (slice_get (after_pop s i (live_of now) loaded new.descriptors.items came).queues i
     ≡ Some (live_of after))
     × IsHeld s i (live_of now) loaded came new
 
@@ -110,5 +110,5 @@ HandleFindsStopped {F} may =
     × (new.state ≡ at.Free)
     × (after ≡ now)
     × (next : LiveState F)
-    × Happens may s (Declines i Stopped) next
+    × Happens may s (RefusesPop i Stopped) next
     × (slice_get next.queues i ≡ Some (live_of after))

@@ -44,12 +44,12 @@ use Rattle.fs_chain.specs.declared.chain_handle.ChainHandle.{ChainHandle}
 use Rattle.plain_machine.specs.Step.{Calls, EachSuits, Exchange}
 use Rattle.plain_machine.specs.StepBy.{Act}
 use Rattle.fs_live.specs.Several.{LiveQueue, seen_at}
-use Rattle.fs_live.specs.Live.{Asked, Declines, DecodesRequest, Fetched, LiveEvent, LiveRun, ReceivesAnswer}
+use Rattle.fs_live.specs.Live.{Asked, RefusesPop, DecodesRequest, Fetched, LiveEvent, LiveRun, ReceivesAnswer}
 use Rattle.fs_live.specs.Live.{ResetsQueue}
 use Rattle.fs_live.specs.Live.{PoppedFaulty}
-use Rattle.fs_live.specs.Live.{LiveState, OutChain, PushesChain, StoresNotification, Walks}
+use Rattle.fs_live.specs.Live.{LiveState, OutChain, PushesChain, StoresNotification, EndsPop}
 use Rattle.fs_live.specs.Live.{Happens, HasPlace, NoneWaits, after_answer, after_asking, event_acts}
-use Rattle.fs_live.specs.Live.{after_beginning, after_giving, after_walk, asked_chain, new_chain, room_of}
+use Rattle.fs_live.specs.Live.{after_beginning, after_giving, after_pop, asked_chain, new_chain, room_of}
 use Rattle.fs_live.specs.Live.{serving, why_declined}
 
 -- a `QueueState` as a queue of a run
@@ -95,8 +95,8 @@ IsHeld s i q loaded _ w = Unit {0}
 
 -- a pop by calls of the handle, of a queue that isn't stopped, is the event of a pop by all its loads. The
 -- queue is then as the calls left it: a refusal has stopped it
-abbrev pub HandleWalks : {F : Type 0} → May F → Type 0
-HandleWalks {F} may =
+abbrev pub HandleEndsPop : {F : Type 0} → May F → Type 0
+HandleEndsPop {F} may =
     (s : LiveState F) (i : ℕ) (given : List (List ℕ)) (old new : ChainHandle) (before after : QueueState)
     (told : walked.PopOutcome) →
     slice_get s.queues i ≡ Some (live_of before) →
@@ -110,9 +110,9 @@ HandleWalks {F} may =
     × LoadsOf given old new before after (wents.On told) walks loaded
     × (came : comes.CourseStep)
     × (told ≡ told_of new.descriptors.items came)
-    × Happens may s (Walks i loaded new.descriptors.items came)
-    (after_walk s i (live_of before) loaded new.descriptors.items came)
-    × (slice_get (after_walk s i (live_of before) loaded new.descriptors.items came).queues i
+    × Happens may s (EndsPop i loaded new.descriptors.items came)
+    (after_pop s i (live_of before) loaded new.descriptors.items came)
+    × (slice_get (after_pop s i (live_of before) loaded new.descriptors.items came).queues i
     ≡ Some (live_of after))
     × IsHeld s i (live_of before) loaded came new
 
@@ -140,8 +140,8 @@ HandleLoads =
 -- a pop of a queue that is stopped, or whose event index isn't mapped, is refused by its first call: no load
 -- was made. If the table doesn't map a field of the event index, the pop misses it instead (`Missed` of
 -- fs_chain)
-abbrev pub HandleDeclines : {F : Type 0} → May F → Type 0
-HandleDeclines {F} may =
+abbrev pub HandleRefusesPop : {F : Type 0} → May F → Type 0
+HandleRefusesPop {F} may =
     (s : LiveState F) (i : ℕ) (given : List (List ℕ)) (old new : ChainHandle) (before after : QueueState)
     (told : walked.PopOutcome) (e : QueueError) →
     slice_get s.queues i ≡ Some (live_of before) →
@@ -152,7 +152,7 @@ HandleDeclines {F} may =
     (told ≡ says.Refused e)
     × (given ≡ [])
     × (next : LiveState F)
-    × Happens may s (Declines i e) next
+    × Happens may s (RefusesPop i e) next
     × (slice_get next.queues i ≡ Some (live_of after))
 
 -- ---- decoding and answers

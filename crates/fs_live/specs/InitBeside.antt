@@ -9,7 +9,7 @@ use Rattle.virtiofsd_fuse.specs.Examples.{le16, le32, le64, in_header_bytes, nob
 use Rattle.virtiofsd_fuse.specs.Serving.{May}
 use Rattle.plain_machine.specs.Examples.{blank, descriptor_bytes, queue}
 use Rattle.plain_machine.specs.Step.{Exchange}
-use Rattle.fs_live.specs.Live.{Fetched, Asked, OutChain, Walks, DecodesRequest, ReceivesAnswer, PushesChain}
+use Rattle.fs_live.specs.Live.{Fetched, Asked, OutChain, EndsPop, DecodesRequest, ReceivesAnswer, PushesChain}
 use Rattle.fs_live.specs.Live.{LiveRun}
 use Rattle.fs_live.specs.Overlap.{at_positions, entry, state}
 
@@ -142,9 +142,9 @@ InitBeside {F} may =
     may between looks (Failed 2) after →
     LiveRun may (state before (at_positions 0 0) 0 [])
     (
-    Walks 0 first_loads first_table (step.Chain 0 None)
+    EndsPop 0 first_loads first_table (step.Chain 0 None)
     ∷ DecodesRequest first lookup (looks ∷ [])
-    ∷ Walks 0 second_loads second_table (step.Chain 2 None)
+    ∷ EndsPop 0 second_loads second_table (step.Chain 2 None)
     ∷ DecodesRequest second init (starts ∷ [])
     ∷ ReceivesAnswer second_asked starts (Wants 0)
     ∷ PushesChain second_answered second_exchange true 0 second_used (le16 0)

@@ -94,9 +94,9 @@ pub record LiveState (F : Type 0) : Type 0 where
 -- an event of the device
 pub data LiveEvent : Type 0 where
   -- a pop of queue i ended with this result after these loads, with these descriptors
-  Walks : (i : ℕ) → Loaded → List Descriptor → comes.CourseStep → LiveEvent
+  EndsPop : (i : ℕ) → Loaded → List Descriptor → comes.CourseStep → LiveEvent
   -- a pop of queue i was refused with this error, before any load, or because the queue was stopped meanwhile
-  Declines : (i : ℕ) → QueueError → LiveEvent
+  RefusesPop : (i : ℕ) → QueueError → LiveEvent
   -- the request of a chain in flight was decoded: its first call, or none
   DecodesRequest : OutChain → (request : List ℕ) → (told : List FileCall) → LiveEvent
   -- the pending call of the chain was answered
@@ -113,7 +113,7 @@ pub data LiveEvent : Type 0 where
   -- count or not
   FillsBuffer : OutChain → List Store → LiveEvent
   -- the chain popped last from its queue, and not decoded, is given up: it is available again
-  Drops : OutChain → LiveEvent
+  GivesUpChain : OutChain → LiveEvent
   -- the handle of a chain is freed in any phase: the chain stays in flight
   Abandons : OutChain → LiveEvent
   -- the caller replies to a request with bytes of its own, instead of decoding it or of answering its pending
@@ -161,23 +161,23 @@ abbrev pub after_take : {F : Type 0} → LiveState F → ℕ → LiveQueue → O
 after_take s i w c = record s { queues = changed_at s.queues i (λ _. took w); outs = s.outs ++ c ∷ [] }
 
 -- how a pop of a queue ends. A pop that misses addresses is no event: it changes nothing
-abbrev pub WalksIn : {F : Type 0} → LiveState F → ℕ → LiveQueue → Loaded → List Descriptor →
+abbrev pub EndsPopIn : {F : Type 0} → LiveState F → ℕ → LiveQueue → Loaded → List Descriptor →
     comes.CourseStep → LiveState F → Type 0
-WalksIn s i w loaded ds (step.Load walk) after = ⊥
-WalksIn s i w loaded ds (step.Missing range access) after = ⊥
-WalksIn s i w loaded ds step.Idle after = OffersBy s.places s.limit w.queue loaded [] Idle × (after ≡ s)
-WalksIn s i w loaded ds (step.Refused e) after =
+EndsPopIn s i w loaded ds (step.Load walk) after = ⊥
+EndsPopIn s i w loaded ds (step.Missing range access) after = ⊥
+EndsPopIn s i w loaded ds step.Idle after = OffersBy s.places s.limit w.queue loaded [] Idle × (after ≡ s)
+EndsPopIn s i w loaded ds (step.Refused e) after =
     OffersBy s.places s.limit w.queue loaded [] (Refuses e)
     × (after ≡ with_live s i (record w { queue = after_refusal w.queue e }))
-WalksIn s i w loaded ds (step.Chain head fault) after =
+EndsPopIn s i w loaded ds (step.Chain head fault) after =
     FetchesBy s.places s.limit w.queue loaded ds head fault
     × (after ≡ after_take s i w (new_chain s i w loaded ds head fault))
 
-abbrev pub after_walk :
+abbrev pub after_pop :
     {F : Type 0} → LiveState F → ℕ → LiveQueue → Loaded → List Descriptor → comes.CourseStep → LiveState F
-after_walk s i w loaded ds (step.Refused e) = with_live s i (record w { queue = after_refusal w.queue e })
-after_walk s i w loaded ds (step.Chain head fault) = after_take s i w (new_chain s i w loaded ds head fault)
-after_walk s i w loaded ds _ = s
+after_pop s i w loaded ds (step.Refused e) = with_live s i (record w { queue = after_refusal w.queue e })
+after_pop s i w loaded ds (step.Chain head fault) = after_take s i w (new_chain s i w loaded ds head fault)
+after_pop s i w loaded ds _ = s
 
 -- why a pop is refused before a load, or before its next one: the queue is stopped, or it has the event
 -- index, and used_event or avail_event isn't mapped
@@ -191,16 +191,16 @@ why_declined m w =
 
 -- a pop of a queue that exists and isn't declined, if one more of its chains may be in flight. The queue
 -- isn't stopped, and with the event index used_event and avail_event are mapped
-pub record WalksSo {F : Type 0} (s : LiveState F) (i : ℕ) (loaded : Loaded) (ds : List Descriptor)
+pub record EndsPopSo {F : Type 0} (s : LiveState F) (i : ℕ) (loaded : Loaded) (ds : List Descriptor)
     (came : comes.CourseStep) (after : LiveState F) : Type 0 where
   pub w : LiveQueue
   pub there : slice_get s.queues i ≡ Some w
   pub room : IsTrue (may_take w)
   pub goes : why_declined s.places w ≡ None
-  pub walks : WalksIn s i w loaded ds came after
+  pub walks : EndsPopIn s i w loaded ds came after
 
 -- a pop of a queue is refused with this error, if one more of its chains may be in flight
-pub record DeclinesSo {F : Type 0} (s : LiveState F) (i : ℕ) (e : QueueError) (after : LiveState F) :
+pub record RefusesPopSo {F : Type 0} (s : LiveState F) (i : ℕ) (e : QueueError) (after : LiveState F) :
     Type 0 where
   pub w : LiveQueue
   pub there : slice_get s.queues i ≡ Some w
@@ -345,13 +345,13 @@ pub record FillsBufferSo {F : Type 0} (s : LiveState F) (c : OutChain) (stores :
 
 -- ---- chains that end without an answer
 
-abbrev pub after_drop :
+abbrev pub after_giving_up :
     {F : Type 0} → LiveState F → (before behind : List OutChain) → OutChain → LiveQueue → LiveState F
-after_drop s before behind c w =
+after_giving_up s before behind c w =
     record s { queues = changed_at s.queues c.queue (λ _. untook w); outs = before ++ behind }
 
 -- a chain that wasn't decoded, and after which none of its queue was popped, is no longer in flight
-pub record DropsSo {F : Type 0} (s : LiveState F) (c : OutChain) (after : LiveState F) : Type 0 where
+pub record GivesUpChainSo {F : Type 0} (s : LiveState F) (c : OutChain) (after : LiveState F) : Type 0 where
   pub before : List OutChain
   pub behind : List OutChain
   pub out : s.outs ≡ before ++ c ∷ behind
@@ -359,7 +359,7 @@ pub record DropsSo {F : Type 0} (s : LiveState F) (c : OutChain) (after : LiveSt
   pub w : LiveQueue
   pub there : slice_get s.queues c.queue ≡ Some w
   pub is_last : w.queue.position ≡ (c.taken.position + 1) % 2 ^ 16
-  pub state : after ≡ after_drop s before behind c w
+  pub state : after ≡ after_giving_up s before behind c w
 
 -- an abandoned chain keeps its fault
 abbrev pub abandoned_chain : OutChain → OutChain
@@ -438,15 +438,15 @@ pub record MovesDeviceSo {F : Type 0} (s : LiveState F) (m : Memory) (queues : L
 
 -- an event leads from a state to a state
 abbrev pub Happens : {F : Type 0} → May F → LiveState F → LiveEvent → LiveState F → Type 0
-Happens may s (Walks i loaded ds came) after = WalksSo s i loaded ds came after
-Happens may s (Declines i e) after = DeclinesSo s i e after
+Happens may s (EndsPop i loaded ds came) after = EndsPopSo s i loaded ds came after
+Happens may s (RefusesPop i e) after = RefusesPopSo s i e after
 Happens may s (DecodesRequest c request told) after = DecodesRequestSo s c request told after
 Happens may s (ReceivesAnswer c call answer) after = ReceivesAnswerSo may s c call answer after
 Happens may s (PushesChain c x notice last used seen) after = PushesChainSo s c x notice last used seen after
 Happens may s (StoresNotification i store) after = StoresNotificationSo s i store after
 Happens may s (ResetsQueue i w) after = ResetsQueueSo s i w after
 Happens may s (FillsBuffer c stores) after = FillsBufferSo s c stores after
-Happens may s (Drops c) after = DropsSo s c after
+Happens may s (GivesUpChain c) after = GivesUpChainSo s c after
 Happens may s (Abandons c) after = AbandonsSo s c after
 Happens may s (RepliesOwnBytes c request reply options) after =
     RepliesOwnBytesSo s c request reply options after

@@ -26,10 +26,10 @@ use Rattle.fs_chain.specs.declared.state.ChainState.TheVariants as at
 use Rattle.fs_chain.specs.declared.chain_handle.ChainHandle.{ChainHandle}
 use Rattle.plain_machine.specs.Step.{Calls}
 use Rattle.plain_machine.specs.StepBy.{Act, reply_stores, return_acts}
-use Rattle.fs_live.specs.Live.{Abandons, Asked, Drops, Fetched, HasValidMaximum, KeepsQueue, LiveState}
+use Rattle.fs_live.specs.Live.{Abandons, Asked, GivesUpChain, Fetched, HasValidMaximum, KeepsQueue, LiveState}
 use Rattle.fs_live.specs.Live.{MovesDevice}
 use Rattle.fs_live.specs.Live.{Remaps}
-use Rattle.fs_live.specs.Live.{OutChain, Own, RepliesOwnBytes, Happens, after_drop, after_abandoning}
+use Rattle.fs_live.specs.Live.{OutChain, Own, RepliesOwnBytes, Happens, after_giving_up, after_abandoning}
 use Rattle.fs_live.specs.Live.{after_own}
 use Rattle.fs_live.specs.Live.{room_of}
 use Rattle.fs_live.specs.Runs.{HasNoneInFlight}
@@ -37,18 +37,19 @@ use Rattle.fs_live.specs.Handles.{IsKept, IsOut, IsReached, IsReturn, live_of}
 
 -- ---- chains that are given up, and handles that are freed
 
--- giving up a chain with a handle is the event `Drops`, and leaves the queue as the call's contract
+-- giving up a chain with a handle is the event `GivesUpChain`, and leaves the queue as the call's contract
 -- says. Giving up a pop that hasn't ended is no event: it changes no queue
-abbrev pub HandleDrops : {F : Type 0} → May F → Type 0
-HandleDrops {F} may =
+abbrev pub HandleGivesUpChain : {F : Type 0} → May F → Type 0
+HandleGivesUpChain {F} may =
     (s : LiveState F) (c : OutChain) (before behind : List OutChain) (w : ChainHandle) (kept : QueueState) →
     s.outs ≡ before ++ c ∷ behind →
     slice_get s.queues c.queue ≡ Some (live_of kept) →
     c.phase ≡ Fetched →
     IsOut s.limit c w →
     give_up_error w.state kept ≡ None →
-    Happens may s (Drops c) (after_drop s before behind c (live_of kept))
-    × (slice_get (after_drop s before behind c (live_of kept)).queues c.queue ≡ Some (live_of (untook kept)))
+    Happens may s (GivesUpChain c) (after_giving_up s before behind c (live_of kept))
+    × (slice_get (after_giving_up s before behind c (live_of kept)).queues c.queue
+    ≡ Some (live_of (untook kept)))
 
 -- freeing a handle, in any phase of its chain, is the event `Abandons`: the chain stays in flight, and
 -- no queue changes

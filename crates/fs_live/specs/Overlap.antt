@@ -11,7 +11,7 @@ use Rattle.virtiofsd_fuse.specs.Serving.{May}
 use Rattle.plain_machine.specs.Examples.{blank, descriptor_bytes, queue}
 use Rattle.plain_machine.specs.Step.{Exchange}
 use Rattle.fs_live.specs.Several.{LiveQueue}
-use Rattle.fs_live.specs.Live.{Fetched, Asked, OutChain, LiveState, Walks, DecodesRequest, ReceivesAnswer}
+use Rattle.fs_live.specs.Live.{Fetched, Asked, OutChain, LiveState, EndsPop, DecodesRequest, ReceivesAnswer}
 use Rattle.fs_live.specs.Live.{PushesChain, LiveRun}
 
 -- DESTROY, which makes a call
@@ -149,9 +149,9 @@ abbrev pub Overlap : {F : Type 0} → May F → Type 0
 Overlap {F} may =
     (before after : F) → may before Destroy Done after → LiveRun may (state before (at_positions 0 0) 1 [])
     (
-    Walks 0 first_loads first_table (step.Chain 0 None)
+    EndsPop 0 first_loads first_table (step.Chain 0 None)
     ∷ DecodesRequest first destroy (Destroy ∷ [])
-    ∷ Walks 0 second_loads second_table (step.Chain 2 None)
+    ∷ EndsPop 0 second_loads second_table (step.Chain 2 None)
     ∷ DecodesRequest second unknown []
     ∷ PushesChain second_asked second_exchange true 0 second_used (le16 0)
     ∷ ReceivesAnswer first_asked Destroy Done

@@ -12,7 +12,7 @@ use Rattle.virtiofsd_fuse.specs.Serving.{May}
 use Rattle.plain_machine.specs.Examples.{blank, descriptor_bytes}
 use Rattle.plain_machine.specs.Step.{Exchange}
 use Rattle.fs_live.specs.Several.{LiveQueue}
-use Rattle.fs_live.specs.Live.{Fetched, Asked, OutChain, Walks, DecodesRequest, ReceivesAnswer, PushesChain}
+use Rattle.fs_live.specs.Live.{Fetched, Asked, OutChain, EndsPop, DecodesRequest, ReceivesAnswer, PushesChain}
 use Rattle.fs_live.specs.Live.{LiveRun}
 use Rattle.fs_live.specs.Overlap.{entry, state}
 
@@ -101,8 +101,8 @@ abbrev pub Rewritten : {F : Type 0} → May F → Type 0
 Rewritten {F} may =
     (before after : F) → may before told Done after → LiveRun may (state before (at_positions 0 0) 0 [])
     (
-    Walks 0 first_loads table (step.Chain 0 None)
-    ∷ Walks 0 second_loads [] (step.Refused HeadOutOfTable)
+    EndsPop 0 first_loads table (step.Chain 0 None)
+    ∷ EndsPop 0 second_loads [] (step.Refused HeadOutOfTable)
     ∷ DecodesRequest first forget (told ∷ [])
     ∷ ReceivesAnswer first_asked told Done
     ∷ PushesChain first_answered exchange true 0 used (le16 0) ∷ []

@@ -23,9 +23,9 @@ use Rattle.fs_live.specs.Several.{heads_ended, returns_among, returning, avail_e
 use Rattle.fs_live.specs.Several.{used_event_at}
 use Rattle.fs_live.specs.Several as several
 pub use Rattle.fs_live.specs.Live.{HasNoneInFlight}
-use Rattle.fs_live.specs.Live.{Phase, Asked, Own, OutChain, LiveState, LiveEvent, Walks, PushesChain}
+use Rattle.fs_live.specs.Live.{Phase, Asked, Own, OutChain, LiveState, LiveEvent, EndsPop, PushesChain}
 use Rattle.fs_live.specs.Live.{StoresNotification}
-use Rattle.fs_live.specs.Live.{ResetsQueue, FillsBuffer, Drops, Remaps, MovesDevice, Happens, LiveRun}
+use Rattle.fs_live.specs.Live.{ResetsQueue, FillsBuffer, GivesUpChain, Remaps, MovesDevice, Happens, LiveRun}
 use Rattle.fs_live.specs.Live.{event_acts}
 use Rattle.fs_live.specs.Live.{calls_among}
 use Rattle.fs_live.specs.Live.{calls_in, room_of, serving}
@@ -241,8 +241,8 @@ ReturnsHavePlaces {F} may =
 
 -- the events of queue i: pops of a chain, chains that are given up, and returns
 abbrev pub event_on : ℕ → LiveEvent → List QueueEvent
-event_on i (Walks j loaded ds (step.Chain head fault)) = if j == i then several.PopsOne head ∷ [] else []
-event_on i (Drops c) = if c.queue == i then several.DropsLast (c.taken.position, c.head) ∷ [] else []
+event_on i (EndsPop j loaded ds (step.Chain head fault)) = if j == i then several.PopsOne head ∷ [] else []
+event_on i (GivesUpChain c) = if c.queue == i then several.DropsLast (c.taken.position, c.head) ∷ [] else []
 event_on i (PushesChain c x notice last used seen) =
     if c.queue == i then several.PushesOne (c.taken.position, c.head) (length x.reply) used ∷ [] else []
 event_on i _ = []

@@ -14,7 +14,7 @@ use Rattle.plain_machine.specs.Run.{KickRun, Turn}
 use Rattle.plain_machine.specs.Step.{State, Exchange, Exchanged, Step}
 use Rattle.plain_machine.specs.StepBy.{FindFlags, MayStoreLast, after_stores, stores_among}
 use Rattle.fs_live.specs.Several.{LiveQueue}
-use Rattle.fs_live.specs.Live.{OutChain, LiveState, LiveEvent, Walks, DecodesRequest, ReceivesAnswer}
+use Rattle.fs_live.specs.Live.{OutChain, LiveState, LiveEvent, EndsPop, DecodesRequest, ReceivesAnswer}
 use Rattle.fs_live.specs.Live.{PushesChain}
 use Rattle.fs_live.specs.Live.{LiveRun}
 use Rattle.fs_live.specs.Live.{calls_in, event_acts, room_of}
@@ -41,7 +41,7 @@ return_in r = PushesChain r.chain r.exchange r.notice r.last r.used r.seen
 -- the chain's events: its pop, those between, and its return
 abbrev pub events_in : Single → List LiveEvent
 events_in r =
-    Walks r.queue r.loaded r.descriptors (step.Chain r.head r.fault) ∷ (r.between ++ return_in r ∷ [])
+    EndsPop r.queue r.loaded r.descriptors (step.Chain r.head r.fault) ∷ (r.between ++ return_in r ∷ [])
 
 -- between them the chain is decoded and answered, and nothing else happens
 abbrev pub IsOfChain : LiveEvent → Type 0

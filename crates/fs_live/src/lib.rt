@@ -2,17 +2,17 @@
 //! of a function that does nothing.
 #![tactic(auto)]
 
-ghost use Rattle.fs_live.specs.Among.{HandleFindsStopped, HandleLoadsAmong, HandleWalksAmong};
+ghost use Rattle.fs_live.specs.Among.{HandleFindsStopped, HandleLoadsAmong, HandleEndsPopAmong};
 ghost use Rattle.fs_live.specs.Among.{WantedAmongHasAPlace};
 ghost use Rattle.fs_live.specs.Filling.{HandleFillsBuffer, HandleFillsRange};
 ghost use Rattle.fs_live.specs.Guest.{PagesOfRun};
-ghost use Rattle.fs_live.specs.Handles.{HandleCalls, HandleDeclines, HandleDecodesRequest};
+ghost use Rattle.fs_live.specs.Handles.{HandleCalls, HandleRefusesPop, HandleDecodesRequest};
 ghost use Rattle.fs_live.specs.Handles.{HandleReceivesAnswer, HandleResetsQueue};
 ghost use Rattle.fs_live.specs.Handles.{HandleFaulty, HandleLoads, HandlePushesChain};
-ghost use Rattle.fs_live.specs.Handles.{HandleStoresNotification, HandleWalks};
+ghost use Rattle.fs_live.specs.Handles.{HandleStoresNotification, HandleEndsPop};
 ghost use Rattle.fs_live.specs.Handles.{OptionsStay};
 ghost use Rattle.fs_live.specs.InitBeside.{InitBeside};
-ghost use Rattle.fs_live.specs.Others.{AskedIsHeld, HandleAbandons, HandleDrops, HandleMovesDevice};
+ghost use Rattle.fs_live.specs.Others.{AskedIsHeld, HandleAbandons, HandleGivesUpChain, HandleMovesDevice};
 ghost use Rattle.fs_live.specs.Others.{HandleRemaps};
 ghost use Rattle.fs_live.specs.Others.{HandlePushesOwn, HandleRepliesInstead, HandleRepliesOwnBytes};
 ghost use Rattle.fs_live.specs.Overlap.{Overlap};
@@ -95,13 +95,13 @@ pub fn law_examples<F: FileSystem>()
 /// - While no chain is in flight, so are other regions, and a record that is made here and read
 ///   elsewhere.
 pub fn law_handles<F: FileSystem>()
-    ensures walks { HandleWalks F.may }
-    ensures among { HandleWalksAmong F.may }
+    ensures walks { HandleEndsPop F.may }
+    ensures among { HandleEndsPopAmong F.may }
     ensures wanted_among { WantedAmongHasAPlace }
     ensures stopped { HandleFindsStopped F.may }
     ensures loads { HandleLoads }
     ensures loads_among { HandleLoadsAmong }
-    ensures declines { HandleDeclines F.may }
+    ensures declines { HandleRefusesPop F.may }
     ensures asks { HandleDecodesRequest F.may }
     ensures answers { HandleReceivesAnswer F.may }
     ensures calls { HandleCalls F.may }
@@ -109,7 +109,7 @@ pub fn law_handles<F: FileSystem>()
     ensures faulty { HandleFaulty F.may }
     ensures sleeps { HandleStoresNotification F.may }
     ensures begins { HandleResetsQueue F.may }
-    ensures drops { HandleDrops F.may }
+    ensures drops { HandleGivesUpChain F.may }
     ensures abandons { HandleAbandons F.may }
     ensures replies { HandleRepliesOwnBytes F.may }
     ensures instead { HandleRepliesInstead F.may }

@@ -11,13 +11,13 @@ use Rattle.fs_queue.specs.NextAvail.{NextAvail, next_avail}
 use Rattle.fs_queue.specs.NextAvail as avail
 use Rattle.fs_queue.specs.declared.walk.Walk.{Walk}
 use Rattle.fs_queue.specs.declared.walk.Walk.TheVariants as walk
-use Rattle.fs_queue.specs.RingingView.{Stage, Told, stage_of}
+use Rattle.fs_queue.specs.RingingView.{Stage, HasResult, stage_of}
 use Rattle.fs_queue.specs.Taking.{Offer, Refuses, is_idle, offer, offer_of, on_next_avail}
 use Rattle.fs_queue.proofs.OfferLemmas.{offer_next_avail}
 
 -- what a walk through the ring ended with is that nothing waits
 abbrev pub tells_idle : Stage → Bool
-tells_idle (Told avail.Idle) = true
+tells_idle (HasResult avail.Idle) = true
 tells_idle _ = false
 
 found_waits : (m : Memory) (limit head : ℕ) (f : Found) → is_idle (offer_of m limit head f) ≡ false
@@ -29,14 +29,14 @@ unless_refused : (b : Bool) (e : QueueError) (o : Offer) → is_idle o ≡ false
 unless_refused true e o waits = refl
 unless_refused false e o waits = waits
 
-by_ring : (m : Memory) (limit : ℕ) (q : Queue) (n : NextAvail) → is_idle (on_next_avail m limit q n) ≡ tells_idle (Told n)
+by_ring : (m : Memory) (limit : ℕ) (q : Queue) (n : NextAvail) → is_idle (on_next_avail m limit q n) ≡ tells_idle (HasResult n)
 by_ring m limit q avail.Idle = refl
 by_ring m limit q (avail.Refused e) = refl
 by_ring m limit q (avail.Head head) =
     unless_refused (not (reach m Write (element_at q) 8 && reach m Write (index_at q) 2)) stop.UsedUnreachable _
     (unless_refused (not (reach m Read q.avail 2)) stop.AvailFlagsUnreachable _ (found_waits m limit head (chain m q head)))
 
-pub ring_is_idle : (m : Memory) (limit : ℕ) (q : Queue) (stage : Stage) → q.stopped ≡ false → stage ≡ Told (next_avail m q) →
+pub ring_is_idle : (m : Memory) (limit : ℕ) (q : Queue) (stage : Stage) → q.stopped ≡ false → stage ≡ HasResult (next_avail m q) →
     is_idle (offer m limit q) ≡ tells_idle stage
 ring_is_idle m limit q stage on told =
     ap is_idle (offer_next_avail m limit q on) ∙ by_ring m limit q (next_avail m q) ∙ sym (ap tells_idle told)

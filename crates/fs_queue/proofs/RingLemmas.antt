@@ -19,7 +19,7 @@ use Rattle.fs_queue.specs.declared.fault.QueueError.TheVariants.{AvailIndexUnrea
 use Rattle.fs_queue.specs.Queue.{Queue, avail_index_at, ring_entry_at}
 use Rattle.fs_queue.specs.NextAvail.{NextAvail, Idle, Head, Refused, next_avail}
 use Rattle.fs_queue.specs.Loads.{holding, index_load, entry_load, asks_entry, IsLoadOf, RingStill, RingIsStill}
-use Rattle.fs_queue.specs.RingingView.{Stage, Told}
+use Rattle.fs_queue.specs.RingingView.{Stage, HasResult}
 use Rattle.fs_queue.proofs.ReadLemmas.{length-bytes}
 use Rattle.fs_queue.proofs.TakeLemmas.{reach-range}
 
@@ -299,12 +299,12 @@ pub asked_told :
     (m : Memory) (q : Queue) (i e : Option (List ℕ)) (stage : Stage) → IsLoadOf m 2 (index_load q i) → IsLoadOf m 2 (entry_load q e) →
     asks_entry (next_avail (holding (index_load q i ∷ [])) q) ≡ true →
     ((bs : List ℕ) → length bs ≡ 2 → asks_entry (next_avail (holding (index_load q (Some bs) ∷ [])) q) ≡ true →
-    stage ≡ Told (next_avail (holding (index_load q (Some bs) ∷ entry_load q e ∷ [])) q)) →
-    stage ≡ Told (next_avail m q)
+    stage ≡ HasResult (next_avail (holding (index_load q (Some bs) ∷ entry_load q e ∷ [])) q)) →
+    stage ≡ HasResult (next_avail m q)
 asked_told m q i e stage is es asks tells =
     by_reach (reach m Read (avail_index_at q) 2) refl
   where
-    by_reach : (b : Bool) → reach m Read (avail_index_at q) 2 ≡ b → stage ≡ Told (next_avail m q)
+    by_reach : (b : Bool) → reach m Read (avail_index_at q) 2 ≡ b → stage ≡ HasResult (next_avail m q)
     by_reach false r =
         let none : i ≡ None = is ∙ (rw r refl) in
         let other = ap asks_entry (index_lost q i none) in
@@ -314,4 +314,5 @@ asked_told m q i e stage is es asks tells =
         let pair = from_memory m (avail_index_at q) true r in
         let still = ring_is_still m q (Some (bytes m (avail_index_at q) 2)) e (rw r refl) es in
         tells (bytes m (avail_index_at q) 2) pair.0
-        (ap (λ (o : Option (List ℕ)). asks_entry (next_avail (holding (index_load q o ∷ [])) q)) (sym came) ∙ asks) ∙ ap Told still.both
+        (ap (λ (o : Option (List ℕ)). asks_entry (next_avail (holding (index_load q o
+        ∷ [])) q)) (sym came) ∙ asks) ∙ ap HasResult still.both

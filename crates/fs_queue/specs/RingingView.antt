@@ -25,19 +25,19 @@ by_entry q index entry = next_avail (holding (index_load q index ∷ entry_load 
 pub data Stage : Type 0 where
   AsksIndex : Stage
   AsksEntry : Stage
-  Told : NextAvail → Stage
+  HasResult : NextAvail → Stage
 
 -- the stage after the load of the index, by the result that the index alone gives
 abbrev pub stage_at : NextAvail → Stage
-stage_at next = if asks_entry next then AsksEntry else Told next
+stage_at next = if asks_entry next then AsksEntry else HasResult next
 
 -- the stage of a walk of the code
 abbrev pub stage_of : code.Walk → Stage
 stage_of (says.Index w) = AsksIndex
 stage_of (says.RingEntry w) = AsksEntry
-stage_of (says.Chain head progress) = Told (Head head)
-stage_of says.Idle = Told Idle
-stage_of (says.Refused e) = Told (Refused e)
+stage_of (says.Chain head progress) = HasResult (Head head)
+stage_of says.Idle = HasResult Idle
+stage_of (says.Refused e) = HasResult (Refused e)
 
 -- a walk begins at a position of a queue: it asks for the index
 abbrev pub BeginsAt : QueueLayout → (position : ℕ) → code.Walk → Type 0

@@ -23,7 +23,7 @@ in_table table index earlier = record { table = table; index = index; earlier = 
 -- the definitions' step for a step of the code
 abbrev pub walk_step_of : code_step.WalkStep → WalkStep
 walk_step_of (says.Ordinary d) = Ordinary d
-walk_step_of (says.Table table) = Indirect table
+walk_step_of (says.Indirect table) = Indirect table
 walk_step_of (says.Faulty fault) = Faulty fault
 walk_step_of says.Stops = Stops
 
@@ -52,16 +52,16 @@ found_of comes_to.Stopped ds = StopsQueue
 -- if a step is at an ordinary descriptor, that descriptor has a property
 abbrev pub IfOrdinary : code_step.WalkStep → (Descriptor → Type 0) → Type 0
 IfOrdinary (says.Ordinary d) P = P d
-IfOrdinary (says.Table table) P = Unit {0}
+IfOrdinary (says.Indirect table) P = Unit {0}
 IfOrdinary (says.Faulty fault) P = Unit {0}
 IfOrdinary says.Stops P = Unit {0}
 
 -- if a step is at a descriptor that refers to an indirect table, that table has a property
-abbrev pub IfTable : code_step.WalkStep → (DescriptorTable → Type 0) → Type 0
-IfTable (says.Ordinary d) P = Unit {0}
-IfTable (says.Table table) P = P table
-IfTable (says.Faulty fault) P = Unit {0}
-IfTable says.Stops P = Unit {0}
+abbrev pub IfIndirect : code_step.WalkStep → (DescriptorTable → Type 0) → Type 0
+IfIndirect (says.Ordinary d) P = Unit {0}
+IfIndirect (says.Indirect table) P = P table
+IfIndirect (says.Faulty fault) P = Unit {0}
+IfIndirect says.Stops P = Unit {0}
 
 -- each of some descriptors ends below 2^64
 unfoldable pub AllEndIn64Bits : List Descriptor → Type 0

@@ -7,7 +7,7 @@ ghost use Rattle.vm_memory.specs.Memory.{bytes, reach};
 ghost use Rattle.fs_queue.specs.Chain.{chain, first_visit};
 ghost use Rattle.fs_queue.specs.Loads.{ahead_at};
 ghost use Rattle.fs_queue.specs.SteppingView.{ahead_of, IfWants};
-ghost use Rattle.fs_queue.specs.RingingView.{stage_of, Told, BeginsChain, IfRefuses};
+ghost use Rattle.fs_queue.specs.RingingView.{stage_of, HasResult, BeginsChain, IfRefuses};
 ghost use Rattle.fs_queue.specs.NextAvail.{next_avail};
 ghost use Rattle.fs_queue.specs.Taking.{stops_queue};
 ghost use Rattle.fs_queue.specs.Windows.{IsLongChain};
@@ -250,7 +250,7 @@ pub(crate) fn walk_ring<M: GuestMemory, H: HostBlocks>(
 ) -> Walk
     requires { M.IsHeld mem.now (H.host host.now) }
     ensures told { stage_of result
-        ≡ Told (next_avail (M.memory mem.now (H.host host.now)) (at_position layout position)) }
+        ≡ HasResult (next_avail (M.memory mem.now (H.host host.now)) (at_position layout position)) }
     ensures chain { BeginsChain layout result }
     ensures stops { IfRefuses result (λ e. IsTrue (stops_queue e)) }
 {

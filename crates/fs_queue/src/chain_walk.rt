@@ -71,7 +71,7 @@ impl ChainWalk {
     ghost use Rattle.fs_queue.specs.Chain.{entry_address};
     ghost use Rattle.fs_queue.specs.Loads.{ahead_at, ahead_after, step_by};
     ghost use Rattle.fs_queue.specs.SteppingView.{visit_of, load_of, ahead_of, joining, steps_left, IfWants};
-    ghost use Rattle.fs_queue.specs.WalkingView.{at_position, in_table, walk_step_of, IfOrdinary, IfTable};
+    ghost use Rattle.fs_queue.specs.WalkingView.{at_position, in_table, walk_step_of, IfOrdinary, IfIndirect};
     ghost use Rattle.fs_queue.specs.WalkingView.{EndsIn64Bits};
 
     // The walk at an entry of a table, or its end with `NextOutOfTable` if the index is past the table.
@@ -127,7 +127,7 @@ impl ChainWalk {
         ensures step { walk_step_of result ≡ step_by self.size (visit_of self) (load_of self came) }
         ensures fits { IfOrdinary result (λ d. d.addr + d.len < 2 ^ 64) }
         ensures room { IfOrdinary result (λ _. self.earlier ≡ self.size → ⊥) }
-        ensures table { IfTable result (λ t. (self.table.indirect ≡ false)
+        ensures table { IfIndirect result (λ t. (self.table.indirect ≡ false)
             × (t.indirect ≡ true)
             × EndsIn64Bits t) }
     {
@@ -168,7 +168,7 @@ impl ChainWalk {
                 joins: None,
                 then: Progress::Ends(WalkEnd::Faulty(fault)),
             },
-            WalkStep::Table(indirect) => WalkAdvance {
+            WalkStep::Indirect(indirect) => WalkAdvance {
                 joins: None,
                 then: Self::at(size, indirect, 0, earlier),
             },

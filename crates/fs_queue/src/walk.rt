@@ -41,7 +41,7 @@ pub struct RingEntryWalk {
 ghost use Rattle.fs_queue.specs.Queue.{avail_index_at, ring_entry_at};
 ghost use Rattle.fs_queue.specs.Loads.{asks_entry};
 ghost use Rattle.fs_queue.specs.Taking.{stops_queue};
-ghost use Rattle.fs_queue.specs.RingingView.{by_index, by_entry, stage_of, stage_at, Told, BeginsAt};
+ghost use Rattle.fs_queue.specs.RingingView.{by_index, by_entry, stage_of, stage_at, HasResult, BeginsAt};
 ghost use Rattle.fs_queue.specs.RingingView.{BeginsChain, IfRingEntry, IfRefuses};
 ghost use Rattle.fs_queue.specs.WalkingView.{at_position};
 
@@ -114,7 +114,7 @@ impl RingEntryWalk {
             → length index ≡ 2
             → asks_entry (by_index (at_position self.layout self.position) (Some index)) ≡ true
             →
-            stage_of result ≡ Told (by_entry (at_position self.layout self.position) (Some index) came) }
+            stage_of result ≡ HasResult (by_entry (at_position self.layout self.position) (Some index) came) }
         ensures stops { IfRefuses result (λ e. IsTrue (stops_queue e)) }
         ensures chain { BeginsChain self.layout result }
     {

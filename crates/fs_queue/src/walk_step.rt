@@ -36,13 +36,13 @@ impl Model for DescriptorTable {
 #[derive(Clone, Copy, Debug, PartialEq, Eq)]
 pub(crate) enum WalkStep {
     Ordinary(Descriptor),
-    Table(DescriptorTable),
+    Indirect(DescriptorTable),
     Faulty(ChainFault),
     Stops,
 }
 
 ghost use Rattle.fs_queue.specs.Chain.{indirect_step, ordinary_step, own_table};
-ghost use Rattle.fs_queue.specs.WalkingView.{at_position, in_table, walk_step_of, IfOrdinary, IfTable};
+ghost use Rattle.fs_queue.specs.WalkingView.{at_position, in_table, walk_step_of, IfOrdinary, IfIndirect};
 ghost use Rattle.fs_queue.specs.WalkingView.{EndsIn64Bits};
 
 // The step at a descriptor of `table` that refers to an indirect table, after `earlier` ordinary ones.
@@ -54,7 +54,7 @@ pub(crate) fn indirect_step(
 ) -> WalkStep
     ensures step { walk_step_of result ≡ indirect_step (in_table table index earlier) descriptor }
     ensures indirect { IfOrdinary result (λ _. ⊥) }
-    ensures table { IfTable result (λ t. (table.indirect ≡ false) × (t.indirect ≡ true) × EndsIn64Bits t) }
+    ensures table { IfIndirect result (λ t. (table.indirect ≡ false) × (t.indirect ≡ true) × EndsIn64Bits t) }
 {
     if descriptor.has_next() {
         WalkStep::Faulty(ChainFault::IndirectWithNext)
@@ -65,7 +65,7 @@ pub(crate) fn indirect_step(
     } else if descriptor.addr > u64::MAX - u64::from(descriptor.len) {
         WalkStep::Faulty(ChainFault::AddressOverflow)
     } else {
-        WalkStep::Table(DescriptorTable {
+        WalkStep::Indirect(DescriptorTable {
             address: descriptor.addr,
             entries: descriptor.len / ENTRY,
             indirect: true,
@@ -85,7 +85,7 @@ pub(crate) fn ordinary_step(
     ensures step { walk_step_of result ≡ ordinary_step size (in_table table index earlier) descriptor }
     ensures fits { IfOrdinary result (λ d. d.addr + d.len < 2 ^ 64) }
     ensures room { IfOrdinary result (λ _. earlier ≡ size → ⊥) }
-    ensures ordinary { IfTable result (λ _. ⊥) }
+    ensures ordinary { IfIndirect result (λ _. ⊥) }
 {
     if earlier == size {
         WalkStep::Faulty(ChainFault::TooLong)

@@ -20,12 +20,13 @@ use Rattle.fs_queue.specs.NextAvail.{NextAvail, Idle, Head, Refused}
 use Rattle.fs_queue.specs.Chain.{Descriptor, Found, Visit, WalkStep, after_walk_step, entry_address, first_visit}
 use Rattle.fs_queue.specs.Loads.{Load, Reads, Ends, asks_entry, is_whole, found_exactly, chain_exactly, ahead_at, ahead_after}
 use Rattle.fs_queue.specs.OfferLoads.{waits_by}
-use Rattle.fs_queue.specs.RingingView.{Stage, AsksIndex, AsksEntry, Told, by_index, by_entry, stage_of, stage_at, BeginsAt, BeginsChain}
+use Rattle.fs_queue.specs.RingingView.{Stage, AsksIndex, AsksEntry, HasResult, by_index, by_entry, stage_of, stage_at, BeginsAt}
+use Rattle.fs_queue.specs.RingingView.{BeginsChain}
 use Rattle.fs_queue.specs.RingingView.{IfRingEntry}
 use Rattle.fs_queue.specs.WalkingView.{at_position, found_of}
 use Rattle.fs_queue.proofs.LoadLemmas.{step_at, step_lost, reach_none}
 use Rattle.fs_regions.specs.Walks.{Loaded, nothing, standing_before, Brings, BeginsAtHead, BeginsIfChain, TellsBy, StandsAfterIndex}
-use Rattle.fs_regions.specs.Walks.{HeadWaits, Waits, IsLost, FindsBy}
+use Rattle.fs_regions.specs.Walks.{HeadWaits, HeadIsAvailable, IsLost, FindsBy}
 use Rattle.fs_regions.specs.Misses.{OfIndex, OfRingEntry, first_miss, needed_at}
 use Rattle.fs_regions.proofs.Finding.{brings_end, before}
 
@@ -96,13 +97,13 @@ index_came q (Some bs) whole asks = (bs, refl, eqb-true (length bs) 2 whole)
 next_of : Stage → NextAvail
 next_of AsksIndex = Idle
 next_of AsksEntry = Idle
-next_of (Told next) = next
+next_of (HasResult next) = next
 
-pub untold : (a b : NextAvail) → Told a ≡ Told b → a ≡ b
+pub untold : (a b : NextAvail) → HasResult a ≡ HasResult b → a ≡ b
 unfolding next_of
 untold a b e = ap next_of e
 
-asks : (b : Bool) (next : NextAvail) → AsksEntry ≡ (if b then AsksEntry else Told next) → b ≡ true
+asks : (b : Bool) (next : NextAvail) → AsksEntry ≡ (if b then AsksEntry else HasResult next) → b ≡ true
 asks true next e = refl
 asks false next e = absurd (cc)
 
@@ -110,8 +111,8 @@ asks false next e = absurd (cc)
 pub entry_asked : (next : NextAvail) → AsksEntry ≡ stage_at next → asks_entry next ≡ true
 entry_asked next e = asks (asks_entry next) next e
 
-told_or_asks : (b : Bool) (next : NextAvail) (s : Stage) → (s ≡ AsksEntry → ⊥) → s ≡ (if b then AsksEntry else Told next) →
-    (s ≡ Told next) × (b ≡ false)
+told_or_asks : (b : Bool) (next : NextAvail) (s : Stage) → (s ≡ AsksEntry → ⊥) → s ≡ (if b then AsksEntry else HasResult next) →
+    (s ≡ HasResult next) × (b ≡ false)
 told_or_asks true next s not_entry e = absurd (not_entry e)
 told_or_asks false next s not_entry e = (e, refl)
 
@@ -152,7 +153,7 @@ pub tells_both : (m : Memory) (q : Queue) (index entry : Option (List ℕ)) (w :
     asks_entry (by_index q index) ≡ true → is_whole 2 entry ≡ true →
     (index ≡ None → reach m Read (avail_index_at q) 2 ≡ false) → (entry ≡ None → reach m Read (ring_entry_at q) 2 ≡ false) →
     (index ≡ None → first_miss m (needed_at q OfIndex) ≡ None) → (entry ≡ None → first_miss m (needed_at q OfRingEntry) ≡ None) →
-    BeginsIfChain q w → stage_of w ≡ Told (by_entry q index entry) →
+    BeginsIfChain q w → stage_of w ≡ HasResult (by_entry q index entry) →
     TellsBy m q (record { index = index; entry = entry; entries = [] }) w
 tells_both m q index entry w whole asks_it whole_entry no_index no_entry index_there entry_there begins told = record {
   next = by_entry q index entry;
@@ -188,18 +189,18 @@ head_waits m q loaded head progress tells = record {
 -- what both loads tell, by what the code answers
 pub entry_told : (p q : Queue) (index entry : Option (List ℕ)) (bs : List ℕ) (w : code.Walk) → p ≡ q → index ≡ Some bs → length bs ≡ 2 →
     asks_entry (by_index q index) ≡ true →
-    ((i : List ℕ) → length i ≡ 2 → asks_entry (by_index p (Some i)) ≡ true → stage_of w ≡ Told (by_entry p (Some i) entry)) →
-    stage_of w ≡ Told (by_entry q index entry)
+    ((i : List ℕ) → length i ≡ 2 → asks_entry (by_index p (Some i)) ≡ true → stage_of w ≡ HasResult (by_entry p (Some i) entry)) →
+    stage_of w ≡ HasResult (by_entry q index entry)
 entry_told p q index entry bs w same is long asks_it tells =
-    let here : (i : List ℕ) → length i ≡ 2 → asks_entry (by_index q (Some i)) ≡ true → stage_of w ≡ Told (by_entry q (Some i) entry) =
+    let here : (i : List ℕ) → length i ≡ 2 → asks_entry (by_index q (Some i)) ≡ true → stage_of w ≡ HasResult (by_entry q (Some i) entry) =
     subst (λ (x : Queue). (i : List ℕ) → length i ≡ 2 → asks_entry (by_index x (Some i)) ≡ true →
-    stage_of w ≡ Told (by_entry x (Some i) entry)) same tells in
+    stage_of w ≡ HasResult (by_entry x (Some i) entry)) same tells in
     here bs long (ap (λ (o : Option (List ℕ)). asks_entry (by_index q o)) (sym is) ∙ asks_it)
-    ∙ ap (λ (o : Option (List ℕ)). Told (by_entry q o entry)) (sym is)
+    ∙ ap (λ (o : Option (List ℕ)). HasResult (by_entry q o entry)) (sym is)
 
 -- a chain goes on to wait, whatever entries were loaded
-pub waits_on : (m : Memory) (q : Queue) (loaded : Loaded) (entries : List Load) (head : ℕ) → Waits m q loaded head →
-    Waits m q (record loaded { entries = entries }) head
+pub waits_on : (m : Memory) (q : Queue) (loaded : Loaded) (entries : List Load) (head : ℕ) → HeadIsAvailable m q loaded head →
+    HeadIsAvailable m q (record loaded { entries = entries }) head
 waits_on m q loaded entries head waits = record { by_loads = waits.by_loads; asked = waits.asked; returns = waits.returns }
 
 ring_same : (l : QueueLayout) (position : ℕ) (q : Queue) (w : code.Walk) → at_position l position ≡ q →
@@ -240,5 +241,5 @@ not_none (Some bs) is none = absurd (cc)
 pub without_entry : (q : Queue) (w : code.Walk) → stage_of w ≡ stage_at (by_index q None) → (x : RingEntryWalk) → w ≡ says.RingEntry x → ⊥
 without_entry q w is x e = not_told (ap stage_of (sym e) ∙ is ∙ ap stage_at (index_lost q))
   where
-    not_told : AsksEntry ≡ Told (Refused AvailIndexUnreachable) → ⊥
+    not_told : AsksEntry ≡ HasResult (Refused AvailIndexUnreachable) → ⊥
     not_told same = cc

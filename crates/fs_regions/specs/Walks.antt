@@ -22,7 +22,7 @@ use Rattle.fs_queue.specs.Loads.{is_whole}
 use Rattle.fs_queue.specs.OfferLoads.{waits_by, offer_by}
 use Rattle.fs_queue.specs.Taking.{readable, writable, total_len, IsRequest, CannotFetch, Offer, Idle, Refuses}
 use Rattle.fs_queue.specs.Taking.{Offers, addresses_of, chain_fault, return_fault}
-use Rattle.fs_queue.specs.RingingView.{Told, by_index, stage_of, stage_at, IfRingEntry}
+use Rattle.fs_queue.specs.RingingView.{HasResult, by_index, stage_of, stage_at, IfRingEntry}
 use Rattle.fs_queue.specs.SteppingView.{ahead_of, visit_of, IfWants}
 use Rattle.fs_queue.specs.WalkingView.{at_position}
 use Rattle.fs_regions.specs.Places.{left_in}
@@ -87,7 +87,7 @@ BeginsIfChain q _ = Unit {0}
 -- the ring's loads determine the walk: a chain, none, or a refusal
 pub record TellsBy (m : Memory) (q : Queue) (loaded : Loaded) (walk : code.Walk) : Type 0 where
   pub next : NextAvail
-  pub tells : stage_of walk ≡ Told next
+  pub tells : stage_of walk ≡ HasResult next
   pub by_loads : waits_by q loaded.index loaded.entry ≡ Some next
   pub no_entries : loaded.entries ≡ []
   pub asked : RingIsAsked m q loaded
@@ -113,7 +113,7 @@ pub record HeadWaits (m : Memory) (q : Queue) (loaded : Loaded) (head : ℕ) (pr
   pub begins : BeginsAtHead q head progress
 
 -- the chain of this head is available, and the stores of its push are mapped
-pub record Waits (m : Memory) (q : Queue) (loaded : Loaded) (head : ℕ) : Type 0 where
+pub record HeadIsAvailable (m : Memory) (q : Queue) (loaded : Loaded) (head : ℕ) : Type 0 where
   pub by_loads : waits_by q loaded.index loaded.entry ≡ Some (Head head)
   pub asked : RingIsAsked m q loaded
   pub returns : return_fault m q ≡ None
@@ -153,7 +153,7 @@ IsWalkAt m q loaded ds (at.RingEntry w) =
     × (loaded.entries ≡ [])
     × (ds ≡ [])
 IsWalkAt m q loaded ds (at.Entries w) =
-    Waits m q loaded w.head
+    HeadIsAvailable m q loaded w.head
     × (w.walk.size ≡ q.size)
     × Brings q.size loaded.entries (ahead_at q.size (first_visit q w.head)) ds (Reads (visit_of w.walk))
 
@@ -267,12 +267,12 @@ LeadsTo m limit q loaded ds OfReturn =
     × (ds ≡ [])
 LeadsTo m limit q loaded ds (OfEntry v) =
     (head : ℕ)
-    × Waits m q loaded head
+    × HeadIsAvailable m q loaded head
     × (v.index < v.table.entries)
     × Brings q.size loaded.entries (ahead_at q.size (first_visit q head)) ds (Reads v)
 LeadsTo m limit q loaded ds (OfBuffers found) =
     (head : ℕ)
-    × Waits m q loaded head
+    × HeadIsAvailable m q loaded head
     × FindsBy m q loaded head (IsChain found)
     × (found ≡ ds)
     × (chain_fault m limit ds ≡ Some fault.OverLimit → ⊥)
@@ -292,7 +292,7 @@ MissesNothing m limit q loaded ds test =
 -- the walk finds this by the loads that were made
 abbrev pub FindsAlone : Memory → Queue → Loaded → Found → Type 0
 FindsAlone m q loaded found =
-    (head : ℕ) × Waits m q loaded head × (chain_exactly loaded.entries q head ≡ Some found)
+    (head : ℕ) × HeadIsAvailable m q loaded head × (chain_exactly loaded.entries q head ≡ Some found)
 
 -- the walk needs an entry that the table maps: it isn't mapped to memory, or can't be read
 abbrev pub EntryIsNoMiss : Memory → (limit : ℕ) → Queue → Loaded → Type 0

@@ -10,23 +10,24 @@ use Rattle.fs_shared.specs.Laws.{CallsKeepMarks, CallsMark, JoinsKeepMarks, Meet
 use Rattle.fs_shared.proofs.Gathering.{either_marked}
 
 -- what one receipt tells is marked
-abbrev pub Told : List Tally → Receipt → Type 0
-Told pages r = (page : ℕ) → page < length pages → Contains r.pages.items page → (tally_of pages page).marked ≡ true
+abbrev pub AreMarked : List Tally → Receipt → Type 0
+AreMarked pages r = (page : ℕ) → page < length pages → Contains r.pages.items page → (tally_of pages page).marked ≡ true
 
 pub calls_mark : CallsMark
 calls_mark r old new m =
-    All-cons (Told new) r [] (λ page within here. let k = m.count in (m.marked page (omega arith) here).0) (All-nil (Told new))
+    All-cons (AreMarked new) r [] (λ page within here. let k = m.count in (m.marked page (omega arith) here).0) (All-nil (AreMarked new))
 
 pub calls_keep : CallsKeepMarks
 calls_keep receipts pages old new m has =
-    All-weaker (Told old) (Told new) (λ r told page within here. let k = m.count in m.kept page (told page (omega arith) here)) receipts has
+    All-weaker (AreMarked old) (AreMarked new) (λ r told page within here. let k = m.count in m.kept page (told page
+    (omega arith) here)) receipts has
 
 pub joins_keep : JoinsKeepMarks
 joins_keep receipts others ts us same mine theirs =
-    All-append (Told (joined_with us ts)) receipts others
-    (All-weaker (Told ts) (Told (joined_with us ts))
+    All-append (AreMarked (joined_with us ts)) receipts others
+    (All-weaker (AreMarked ts) (AreMarked (joined_with us ts))
     (λ r told page within here. first page (short page within) (told page (short page within) here)) receipts mine)
-    (All-weaker (Told us) (Told (joined_with us ts))
+    (All-weaker (AreMarked us) (AreMarked (joined_with us ts))
     (λ r told page within here. let s = short page within in second page s (told page (omega arith) here)) others theirs)
   where
     short : (page : ℕ) → page < length (joined_with us ts) → page < length ts
@@ -45,7 +46,7 @@ joins_keep receipts others ts us same mine theirs =
 
 pub meets_keep : MeetsKeepMarks
 meets_keep receipts ts us has =
-    All-weaker (Told ts) (Told (met_with us ts))
+    All-weaker (AreMarked ts) (AreMarked (met_with us ts))
     (λ r told page within here.
     let k = length-each_tally (λ p t. met_of t (tally_of us p)) 0 ts in
     let short : page < length ts = omega arith in

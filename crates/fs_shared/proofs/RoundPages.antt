@@ -19,19 +19,19 @@ use Rattle.fs_shared.specs.Laws.{HaveSamePart}
 use Rattle.fs_shared.specs.Marks.{AccountsFor, AccountsSince, Harvest, HasMarked, HasMarkedSince, first_of}
 use Rattle.fs_shared.specs.Rounds.{KeepsSince, LeavesSince, TellsPages, following}
 use Rattle.fs_shared.proofs.Gathering.{bit_below}
-use Rattle.fs_shared.proofs.MarksKept.{calls_keep, calls_mark, Told}
+use Rattle.fs_shared.proofs.MarksKept.{calls_keep, calls_mark, AreMarked}
 use Rattle.fs_shared.proofs.SinceKept.{calls_keep_since, calls_mark_since, ToldSince}
 use Rattle.fs_shared.proofs.WholePasses.{halves_are_whole}
 
 -- nothing was told, so all that was told is marked
 pub none_told : (pages : List Tally) → HasMarked pages []
-none_told pages = All-nil (Told pages)
+none_told pages = All-nil (AreMarked pages)
 
 -- one receipt more
 pub one_told : (receipts : List Receipt) (r : Receipt) (old new : List Tally) → MarksPages r.pages.items old new → HasMarked old receipts →
     HasMarked new (receipts ++ r ∷ [])
 one_told receipts r old new m has =
-    All-append (Told new) receipts (r ∷ []) (calls_keep receipts r.pages.items old new m has) (calls_mark r old new m)
+    All-append (AreMarked new) receipts (r ∷ []) (calls_keep receipts r.pages.items old new m has) (calls_mark r old new m)
 
 -- the passes of a new device are the whole, whatever they have counted since
 round_whole : (len : ℕ) (h v : PageCounts) → h ≡ with_pages (new_half (first_pass len)) h.pages →

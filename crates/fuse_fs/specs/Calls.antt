@@ -185,7 +185,7 @@ pub data AnswerForm : Type 0 where
   IsWritten : AnswerForm
   IsOffset : AnswerForm
   IsEntries : AnswerForm
-  IsWish : AnswerForm
+  IsInitOptions : AnswerForm
 
 -- the kind of a call's successful answer
 abbrev pub kind_of : FileCall → AnswerForm
@@ -208,7 +208,7 @@ kind_of (Write c n h b s o w d k f) = IsWritten
 kind_of (CopyFileRange c n h o n' h' o' l f) = IsWritten
 kind_of (Lseek c n h o w) = IsOffset
 kind_of (Readdir c n h s o) = IsEntries
-kind_of (Init c) = IsWish
+kind_of (Init c) = IsInitOptions
 kind_of TmpFile = IsNeverGood
 kind_of _ = IsDone
 
@@ -239,7 +239,7 @@ is_of IsStats (Stats st) = true
 is_of IsWritten (Wrote n) = nat_lt n (2 ^ 32)
 is_of IsOffset (Offset n) = nat_lt n (2 ^ 64)
 is_of IsEntries (Entries ds) = true
-is_of IsWish (Wants o) = nat_lt o (2 ^ 64)
+is_of IsInitOptions (Wants o) = nat_lt o (2 ^ 64)
 is_of _ _ = false
 
 -- whether a call can have this answer

@@ -14,7 +14,7 @@ use Rattle.fuse_wire.specs.Opcodes.{opcode_of}
 use Rattle.fuse_fs.specs.Calls.{FileCall, FileAnswer}
 use Rattle.fuse_fs.specs.Calls as call
 use Rattle.server_segments.specs.declared.error.Error.TheVariants.{EncodeMessage}
-use Rattle.server_requests.specs.Reading.{ReadFailure, Faults, Sends, Parser, and_then, needs, give, many, rest, reading_of, ◌>>=◌, ◌>>◌}
+use Rattle.server_requests.specs.Reading.{ReadFailure, Faults, Sends, Parser, and_then, needs, give, many, rest, record_parser, ◌>>=◌, ◌>>◌}
 use Rattle.server_requests.specs.Reading.{within, last_name, two_names, name_and_value}
 use Rattle.server_requests.specs.Extras.{new_link, new_name}
 use Rattle.server_requests.specs.Fronts as fronts
@@ -177,7 +177,7 @@ module _ (g : Given) where
   if_ends false p q bytes x y = y
 
   record_ends : {R : Type 0} (s : RecordShape R) (c : InHeader → R → FileCall) (bytes : List ℕ) → Ends (grammar.record_row s c g bytes)
-  record_ends s c bytes = then_ends (reading_of s bytes) (λ r. one g (c g.header r)) (λ r more. tt)
+  record_ends s c bytes = then_ends (record_parser s bytes) (λ r. one g (c g.header r)) (λ r more. tt)
 
   name_ends : (c : InHeader → List ℕ → FileCall) (bytes : List ℕ) → Ends (grammar.name_row c g bytes)
   name_ends c bytes =
@@ -198,23 +198,24 @@ module _ (g : Given) where
 
   listxattr_ends : (bytes : List ℕ) → Ends (grammar.listxattr_row g bytes)
   listxattr_ends bytes =
-      then_ends (reading_of inputs.getxattr_in bytes)
+      then_ends (record_parser inputs.getxattr_in bytes)
       (λ r. grammar.at_most_a_mebibyte r.size >> one g (request.listxattr_call g.header r)) (λ r more.
       then_ends (grammar.at_most_a_mebibyte r.size more) (λ x. one g (request.listxattr_call g.header r)) (λ x rest. tt))
 
   read_ends : (bytes : List ℕ) → Ends (grammar.read_row g bytes)
   read_ends bytes =
-      then_ends (reading_of inputs.read_in bytes) (λ r. grammar.read_asked g r) (λ r more.
+      then_ends (record_parser inputs.read_in bytes) (λ r. grammar.read_asked g r) (λ r more.
       then_ends (needs (nat_le 16 g.room) (Faults EncodeMessage) more) (λ x. one g (request.read_call g.header (g.room - 16) r))
       (λ x rest. tt))
 
   write_ends : (bytes : List ℕ) → Ends (grammar.write_row g bytes)
   write_ends bytes =
-      then_ends (reading_of inputs.write_in bytes) (λ r. rest >>= λ payload. one g (request.write_call g.header r payload)) (λ r more. tt)
+      then_ends (record_parser inputs.write_in bytes) (λ r. rest >>= λ payload. one g (request.write_call g.header r payload))
+      (λ r more. tt)
 
   init_ends : (bytes : List ℕ) → Ends (grammar.init_row g bytes)
   init_ends bytes =
-      then_ends (reading_of inputs.init_in_compat bytes) (λ r. fronts.flags2_of r >>= λ flags2. grammar.started g r flags2) (λ r more.
+      then_ends (record_parser inputs.init_in_compat bytes) (λ r. fronts.flags2_of r >>= λ flags2. grammar.started g r flags2) (λ r more.
       then_ends (fronts.flags2_of r more) (λ flags2. grammar.started g r flags2) (λ flags2 rest.
       if_ends (nat_lt r.major 7) _ _ rest (refused_headed g.header.unique (Sends grammar.EPROTO))
       (if_ends (nat_lt 7 r.major) _ _ rest (reply_headed g.header.unique _)
@@ -222,7 +223,7 @@ module _ (g : Given) where
 
   batch_ends : (bytes : List ℕ) → Ends (grammar.batch_forget_row g bytes)
   batch_ends bytes =
-      then_ends (reading_of inputs.batch_forget_in bytes) (λ r. grammar.forgets_asked r.count g) (λ r more.
+      then_ends (record_parser inputs.batch_forget_in bytes) (λ r. grammar.forgets_asked r.count g) (λ r more.
       then_ends ((grammar.at_most_a_mebibyte (r.count * 16) >> many r.count fronts.forget_pair) more)
       (λ pairs. one g (request.batch_forget_call g.header pairs)) (λ pairs rest. tt))
 
@@ -236,7 +237,7 @@ module _ (g : Given) where
 
   listing_ends : (with_nodes : Bool) (bytes : List ℕ) → Ends (grammar.listing_row with_nodes g bytes)
   listing_ends with_nodes bytes =
-      then_ends (reading_of inputs.read_in bytes) (λ r. grammar.listing_asked with_nodes r g) (λ r more.
+      then_ends (record_parser inputs.read_in bytes) (λ r. grammar.listing_asked with_nodes r g) (λ r more.
       tests_end (nat_le 16 g.room) (Faults EncodeMessage)
       ((grammar.at_most_a_mebibyte r.size >> needs (nat_le r.size g.room) (Sends grammar.ENOMEM)) more)
       (Asks (Lists g.header.unique (listings.listing_of with_nodes g.header r))) tt)
@@ -318,7 +319,7 @@ with_header_headed options room (Err e) = tt
 
 meaning_headed : (options room : ℕ) (bs : List ℕ) → RepliesHeaded (meaning options bs room)
 unfolding meaning
-meaning_headed options room bs = with_header_headed options room (reading_of inputs.in_header bs)
+meaning_headed options room bs = with_header_headed options room (record_parser inputs.in_header bs)
 
 -- the reply to a request begins with its header, and has room
 pub reply_told : (s : Setting) (options room : ℕ) (bs : List ℕ) (answers : List FileAnswer) →

@@ -12,7 +12,7 @@ use Rattle.fs_queue.specs.Chain.{path, found}
 use Rattle.fs_queue.specs.Taking.{Offer, Idle, Refuses, Offers, IsRequest, CannotFetch, offer}
 use Rattle.server_segments.specs.declared.error.Error.TheVariants as error
 use Rattle.vm_values.specs.Fields as fields
-use Rattle.server_requests.specs.Reading.{reading_of}
+use Rattle.server_requests.specs.Reading.{record_parser}
 use Rattle.server_replies.specs.WholeReplies.{error_bytes}
 use Rattle.virtiofsd_fuse.specs.Examples.{zeros, le16, le32, le64, in_header_bytes}
 use Rattle.virtiofsd_fuse.specs.Grammar.{IsFault, Replies, meaning, meant}
@@ -172,16 +172,16 @@ loop_in_table = refl
 -- ---- requests
 
 unknown : meaning 0 request 16 ≡ Replies (0x10 ∷ 0 ∷ 0 ∷ 0 ∷ 0xda ∷ 0xff ∷ 0xff ∷ 0xff ∷ 1 ∷ zeros 7)
-unfolding meaning reading_of meant error_bytes fields.field_bytes
+unfolding meaning record_parser meant error_bytes fields.field_bytes
 unknown = refl
 
 too_great_a_length : meaning 0 (in_header_bytes 0x101001 7 1 0) 16
     ≡ Replies (0x10 ∷ 0 ∷ 0 ∷ 0 ∷ 0xf4 ∷ 0xff ∷ 0xff ∷ 0xff ∷ 1 ∷ zeros 7)
-unfolding meaning reading_of meant error_bytes fields.field_bytes
+unfolding meaning record_parser meant error_bytes fields.field_bytes
 too_great_a_length = refl
 
 too_short : meaning 0 (zeros 39) 16 ≡ IsFault error.DecodeMessage
-unfolding meaning reading_of meant error_bytes fields.field_bytes
+unfolding meaning record_parser meant error_bytes fields.field_bytes
 too_short = refl
 
 -- ---- whole steps of a device that calls no file system
@@ -214,7 +214,8 @@ after_reply m q = after_return (device m q) 0 q 0 (addresses 0x2000 16) unknown_
 -- the chain is taken, answered and returned, and the driver is notified
 pub one_step : Step may (device with_one_request queue) 0 [] (Exchanged unknown_exchange true)
     (after_reply with_one_request queue)
-unfolding offer place addresses stored_all path found meaning reading_of meant error_bytes fields.field_bytes
+unfolding offer place addresses stored_all path found meaning record_parser meant error_bytes
+    fields.field_bytes
 one_step = record {
   given = record { calls = []; options = 0; reply = unknown_reply; fault = None };
   serves = record { gives = refl; asks = refl; run = refl };
@@ -234,7 +235,8 @@ element_stands = refl
 -- the driver suppresses notifications (VIRTQ_AVAIL_F_NO_INTERRUPT)
 not_told : Step may (device (put with_one_request 0x100 (le16 1)) queue) 0 []
     (Exchanged unknown_exchange false) (after_reply (put with_one_request 0x100 (le16 1)) queue)
-unfolding offer place addresses stored_all path found meaning reading_of meant error_bytes fields.field_bytes
+unfolding offer place addresses stored_all path found meaning record_parser meant error_bytes
+    fields.field_bytes
 not_told = record {
   given = record { calls = []; options = 0; reply = unknown_reply; fault = None };
   serves = record { gives = refl; asks = refl; run = refl };

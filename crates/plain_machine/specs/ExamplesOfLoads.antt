@@ -13,7 +13,7 @@ use Rattle.fs_queue.specs.Returning.{Store, advanced}
 use Rattle.server_replies.specs.WholeReplies.{error_bytes}
 use Rattle.virtiofsd_fuse.specs.Examples.{le16, le32}
 use Rattle.vm_values.specs.Fields as fields
-use Rattle.server_requests.specs.Reading.{reading_of}
+use Rattle.server_requests.specs.Reading.{record_parser}
 use Rattle.virtiofsd_fuse.specs.Grammar.{meaning, meant}
 use Rattle.plain_machine.specs.declared.error.DeviceError.TheVariants as device_error
 use Rattle.plain_machine.specs.Step.{Exchanged, Refused}
@@ -122,7 +122,7 @@ stored_in_order =
 
 step_by_loads : StepBy may (device blank queue) 0 loads [] (Exchanged unknown_exchange true) stored_in_order
     (record (device blank queue) { queues = advanced queue ∷ [] })
-unfolding place addresses stored_all found_exactly meaning reading_of meant error_bytes fields.field_bytes
+unfolding place addresses stored_all found_exactly meaning record_parser meant error_bytes fields.field_bytes
 step_by_loads = (
   Offers 0 (IsRequest request (addresses 0x2000 16)),
   offered,

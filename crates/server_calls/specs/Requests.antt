@@ -238,16 +238,16 @@ entry_node (Created e handle options) = Some e.inode
 entry_node _ = None
 
 -- FORGET of one lookup of a node, if there is a node
-abbrev pub give_back : Context → (node : Option ℕ) → List FileCall
-give_back who None = []
-give_back who (Some node) = Forget who node 1 ∷ []
+abbrev pub forget_node : Context → (node : Option ℕ) → List FileCall
+forget_node who None = []
+forget_node who (Some node) = Forget who node 1 ∷ []
 
 -- FORGET of the entry that a call answered, for node 0 too. A file that CREATE opened stays open
 abbrev pub given_back : FileCall → FileAnswer → List FileCall
-given_back (Lookup who n name) answer = give_back who (entry_node answer)
-given_back (Symlink who l n name x) answer = give_back who (entry_node answer)
-given_back (Mknod who n name m r u x) answer = give_back who (entry_node answer)
-given_back (Mkdir who n name m u x) answer = give_back who (entry_node answer)
-given_back (Link who o n name) answer = give_back who (entry_node answer)
-given_back (Create who n name m k f u x) answer = give_back who (entry_node answer)
+given_back (Lookup who n name) answer = forget_node who (entry_node answer)
+given_back (Symlink who l n name x) answer = forget_node who (entry_node answer)
+given_back (Mknod who n name m r u x) answer = forget_node who (entry_node answer)
+given_back (Mkdir who n name m u x) answer = forget_node who (entry_node answer)
+given_back (Link who o n name) answer = forget_node who (entry_node answer)
+given_back (Create who n name m k f u x) answer = forget_node who (entry_node answer)
 given_back _ answer = []

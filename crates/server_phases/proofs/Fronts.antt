@@ -12,7 +12,7 @@ use Rattle.fuse_wire.specs.declared.opcodes.Opcode.TheVariants as op
 use Rattle.server_segments.specs.declared.error.Error.{Error}
 use Rattle.server_segments.specs.declared.error.Error.TheVariants.{DecodeMessage}
 use Rattle.server_requests.specs.Reading as reading
-use Rattle.server_requests.specs.Reading.{Faults, and_then, reading_of}
+use Rattle.server_requests.specs.Reading.{Faults, and_then, record_parser}
 use Rattle.virtiofsd_fuse.specs.DataApart.{is_write}
 use Rattle.server_phases.specs.Asking.{IsRequestFront, BeginsRecord}
 
@@ -40,8 +40,8 @@ read_by false false n make front all e f = rw f refl
 
 -- a record that begins two lists of bytes is read from both
 read_by_front : {R : Type 0} → (s : RecordShape R) (front all : List ℕ) → take (size s.parts) front ≡ take (size s.parts) all
-    → reading_of s all ≡ leaving (reading_of s front) (drop (size s.parts) all)
-unfolding reading_of
+    → record_parser s all ≡ leaving (record_parser s front) (drop (size s.parts) all)
+unfolding record_parser
 read_by_front s front all e =
     read_by (nat_lt (length front) (size s.parts)) (nat_lt (length all) (size s.parts)) (size s.parts)
     (λ b. made s.parts s.make b) front all
@@ -49,13 +49,13 @@ read_by_front s front all e =
 
 pub record_by_front :
     {R : Type 0} → (s : RecordShape R) (front all more : List ℕ) (r : R) → take (size s.parts) front ≡ take (size s.parts) all
-    → Ok (r, more) ≡ reading_of s front → Ok (r, drop (size s.parts) all) ≡ reading_of s all
+    → Ok (r, more) ≡ record_parser s front → Ok (r, drop (size s.parts) all) ≡ record_parser s all
 record_by_front {R} s front all more r e h =
     ap (λ (x : reading.Parsed R). leaving x (drop (size s.parts) all)) h ∙ sym (read_by_front s front all e)
 
 pub fault_by_front :
     {R : Type 0} → (s : RecordShape R) (front all : List ℕ) (f : Error) → take (size s.parts) front ≡ take (size s.parts) all
-    → Err (Faults f) ≡ reading_of s front → Err (Faults f) ≡ reading_of s all
+    → Err (Faults f) ≡ record_parser s front → Err (Faults f) ≡ record_parser s all
 fault_by_front {R} s front all f e h =
     ap (λ (x : reading.Parsed R). leaving x (drop (size s.parts) all)) h ∙ sym (read_by_front s front all e)
 
@@ -96,10 +96,11 @@ behind_by true n make bytes more r e = absurd (cc)
 behind_by false n make bytes more r e = sym (ap (left_over bytes) e)
 
 pub behind :
-    {R : Type 0} → (s : RecordShape R) (bytes more : List ℕ) (r : R) → Ok (r, more) ≡ reading_of s bytes → drop (size s.parts) bytes ≡ more
-unfolding reading_of
+    {R : Type 0} → (s : RecordShape R) (bytes more : List ℕ) (r : R) → Ok (r, more) ≡ record_parser s bytes
+    → drop (size s.parts) bytes ≡ more
+unfolding record_parser
 behind s bytes more r e = behind_by (nat_lt (length bytes) (size s.parts)) (size s.parts) (λ b. made s.parts s.make b) bytes more r e
 
 -- the data of a WRITE stands behind 80 bytes
-pub data_behind : (request more : List ℕ) (h : InHeader) → Ok (h, more) ≡ reading_of in_header request → drop 40 more ≡ drop 80 request
+pub data_behind : (request more : List ℕ) (h : InHeader) → Ok (h, more) ≡ record_parser in_header request → drop 40 more ≡ drop 80 request
 data_behind request more h e = ap (drop 40) (sym (behind in_header request more h e)) ∙ drop-drop 40 40 request

@@ -18,7 +18,8 @@ use Rattle.server_replies.specs.WholeReplies.{reply_bytes, error_bytes, listing_
 use Rattle.server_replies.proofs.ReplyLemmas.{length_reply, length_error}
 use Rattle.virtiofsd_fuse.specs.Grammar.{FileCommand, One, Starts, Lists}
 use Rattle.virtiofsd_fuse.specs.Listings as asked
-use Rattle.virtiofsd_fuse.specs.Listings.{ListingResult, Next, after_call, undo_call, with_entry, list_entry, list_entries, readdir_call}
+use Rattle.virtiofsd_fuse.specs.Listings.{ListingResult, Next, after_call, forget_lookup, with_entry, list_entry, list_entries}
+use Rattle.virtiofsd_fuse.specs.Listings.{readdir_call}
 use Rattle.virtiofsd_fuse.specs.Serving.{Setting, ServedMessage, commanded, replied, list_ended}
 use Rattle.server_phases.specs.declared.listing.Listing.{Listing}
 use Rattle.server_phases.specs.declared.listing.NotAdded.{NotAdded}
@@ -93,10 +94,10 @@ brought_by : (b dot : Bool) (unique : ℕ) (l : asked.ListRequest) (e : Brought)
 brought_by false dot unique l e next left room answers w n t s f g k =
     rw n (goes_in false e.0 (no_node e.0) [] next left room answers w s f g k)
 brought_by true true unique l e next left room answers w n t s f g k =
-    rw (n, t) (goes_in true e.0 (no_node e.0) (undo_call l.context 0 ∷ []) next left room answers w s f g k)
+    rw (n, t) (goes_in true e.0 (no_node e.0) (forget_lookup l.context 0 ∷ []) next left room answers w s f g k)
 brought_by true false unique l e next left room answers w n t s f g k =
     rw (n, t) (ap (after_call (Lookup l.context l.node e.0.name))
-    (goes_in true e.0 e.1 (undo_call l.context e.1.inode ∷ []) next left room answers w s f g k))
+    (goes_in true e.0 e.1 (forget_lookup l.context e.1.inode ∷ []) next left room answers w s f g k))
 
 assoc : (a b c : List FileCall) (x y z : List ℕ) (e : Option ℕ) →
     went (a ++ (b ++ c)) (x ++ (y ++ z)) e ≡ went ((a ++ b) ++ c) ((x ++ y) ++ z) e
@@ -218,10 +219,10 @@ out_by : (b dot : Bool) (unique : ℕ) (l : asked.ListRequest) (e : Brought) (ne
     ≡ went (look_up (Lists unique l) e.0 ++ node_given_back (Lists unique l) e) [] error
 out_by false dot unique l e next left room answers error n t f = rw n (left_out false e.0 (no_node e.0) [] next left room answers error f)
 out_by true true unique l e next left room answers error n t f =
-    rw (n, t) (left_out true e.0 (no_node e.0) (undo_call l.context 0 ∷ []) next left room answers error f)
+    rw (n, t) (left_out true e.0 (no_node e.0) (forget_lookup l.context 0 ∷ []) next left room answers error f)
 out_by true false unique l e next left room answers error n t f =
     rw (n, t) (ap (after_call (Lookup l.context l.node e.0.name))
-    (left_out true e.0 e.1 (undo_call l.context e.1.inode ∷ []) next left room answers error f))
+    (left_out true e.0 e.1 (forget_lookup l.context e.1.inode ∷ []) next left room answers error f))
 
 out_first :
     (unique : ℕ) (l : asked.ListRequest) (e : Brought) (behind : List Listed) (left room : ℕ) (answers : List FileAnswer) (error : Option ℕ)

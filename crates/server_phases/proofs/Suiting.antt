@@ -10,7 +10,7 @@ use Rattle.fuse_fs.specs.Calls.{Failed}
 use Rattle.fuse_values.specs.declared.answer.FileAnswer as made
 use Rattle.fuse_values.specs.declared.answer.FileAnswer.TheVariants as value
 use Rattle.fuse_values.specs.Answers.{answer_of}
-use Rattle.server_calls.specs.Requests.{is_silent, options_after, given_back, give_back, entry_node}
+use Rattle.server_calls.specs.Requests.{is_silent, options_after, given_back, forget_node, entry_node}
 use Rattle.server_replies.specs.WholeReplies.{reply_bytes, error_bytes, told_bytes}
 use Rattle.server_replies.proofs.ReplyLemmas.{length_reply}
 use Rattle.server_segments.specs.declared.error.Error.TheVariants.{EncodeMessage}
@@ -24,7 +24,7 @@ use Rattle.server_phases.specs.declared.waiting.Waiting.{Waiting}
 use Rattle.server_calls.specs.Callers.{IsFor}
 use Rattle.server_phases.specs.Waiting.{awaits_of, WaitsFor, first_call}
 use Rattle.server_phases.specs.Answering.{TellsBytes, tells_nothing, leaves_options, brings_entry, takes, back_by, served_by, data_of}
-use Rattle.server_phases.specs.Answering.{wish_of}
+use Rattle.server_phases.specs.Answering.{init_options_of}
 
 silent_same : (call : FileCall) → is_silent call ≡ tells_nothing (awaits_of call)
 silent_same Destroy = refl
@@ -36,12 +36,12 @@ options_same options _ = refl
 
 back_same : (who : Context) (call : FileCall) (answer : FileAnswer) → IsFor who call →
     given_back call answer ≡ back_by (brings_entry (awaits_of call)) who answer
-back_same who (Lookup c n name) answer e = ap (λ (w : Context). give_back w (entry_node answer)) e
-back_same who (Symlink c l n name x) answer e = ap (λ (w : Context). give_back w (entry_node answer)) e
-back_same who (Mknod c n name m r u x) answer e = ap (λ (w : Context). give_back w (entry_node answer)) e
-back_same who (Mkdir c n name m u x) answer e = ap (λ (w : Context). give_back w (entry_node answer)) e
-back_same who (Link c o n name) answer e = ap (λ (w : Context). give_back w (entry_node answer)) e
-back_same who (Create c n name m k f u x) answer e = ap (λ (w : Context). give_back w (entry_node answer)) e
+back_same who (Lookup c n name) answer e = ap (λ (w : Context). forget_node w (entry_node answer)) e
+back_same who (Symlink c l n name x) answer e = ap (λ (w : Context). forget_node w (entry_node answer)) e
+back_same who (Mknod c n name m r u x) answer e = ap (λ (w : Context). forget_node w (entry_node answer)) e
+back_same who (Mkdir c n name m u x) answer e = ap (λ (w : Context). forget_node w (entry_node answer)) e
+back_same who (Link c o n name) answer e = ap (λ (w : Context). forget_node w (entry_node answer)) e
+back_same who (Create c n name m k f u x) answer e = ap (λ (w : Context). forget_node w (entry_node answer)) e
 back_same who _ answer e = refl
 
 pub none_back : (t : Bool) (undo : List FileCall) → undo ≡ [] → cond t undo [] ≡ []
@@ -95,7 +95,7 @@ failed_list s w unique call with_nodes size errno given a b h =
 
 pub single_gives : (s : Setting) (w : Waiting) (command : FileCommand) (bytes : List ℕ) (answer : made.FileAnswer) (given : ServedMessage)
     → WaitsFor w command
-    → TellsBytes bytes answer → takes w.awaits (answer_of bytes answer) ≡ true → data_of answer ≡ None → wish_of w.awaits ≡ None
+    → TellsBytes bytes answer → takes w.awaits (answer_of bytes answer) ≡ true → data_of answer ≡ None → init_options_of w.awaits ≡ None
     → Placed s w (first_call command) (answer_of bytes answer) given → commanded s command (answer_of bytes answer ∷ []) ≡ given
 single_gives s w (One unique call) bytes answer given waits t taken plain single h =
     let a = answer_of bytes answer in
@@ -105,7 +105,7 @@ single_gives s w (One unique call) bytes answer given waits t taken plain single
     waits.1 h) in
     rw (silent_same call, back_same w.context call a waits.2, options_same s.options call) h1
 single_gives s w (Starts unique capable readahead) bytes answer given waits t taken plain single h =
-    let clash : Some (capable, readahead) ≡ None = ap wish_of (sym waits.1) ∙ single in absurd (cc)
+    let clash : Some (capable, readahead) ≡ None = ap init_options_of (sym waits.1) ∙ single in absurd (cc)
 single_gives s w (Lists unique l) bytes (value.Failed errno) given waits t taken plain single h =
     failed_list s w unique (readdir_call l) l.with_nodes l.size errno given waits.0 waits.1 h
 single_gives s w (Lists unique l) bytes answer given waits t taken plain single h =

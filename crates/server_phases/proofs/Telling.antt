@@ -11,7 +11,7 @@ use Rattle.fuse_values.specs.declared.call.FileCall as made
 use Rattle.fuse_values.specs.declared.call.FileCall.TheVariants as value
 use Rattle.fuse_values.specs.Values.{call_of, pairs_in, pairs_of}
 use Rattle.server_requests.specs.Fronts.{forget_pair}
-use Rattle.server_requests.specs.Reading.{Faults, many, reading_of, value_of}
+use Rattle.server_requests.specs.Reading.{Faults, many, record_parser, value_of}
 use Rattle.server_calls.specs.Callers.{CallSays, is_plain}
 use Rattle.server_calls.specs.Requests.{batch_forget_call}
 use Rattle.server_replies.specs.WholeReplies.{error_bytes, reply_bytes, versions_bytes}
@@ -43,7 +43,7 @@ error_told page_size options room unique errno bytes =
     reply_told page_size options room (error_bytes unique errno) bytes (omega (arith, length_error unique errno))
 
 -- what is kept of a call names who sent the header
-pub has_asker : (request left : List ℕ) (head : InHeader) (a : DecodedRequest) → Ok (head, left) ≡ reading_of in_header request →
+pub has_asker : (request left : List ℕ) (head : InHeader) (a : DecodedRequest) → Ok (head, left) ≡ record_parser in_header request →
     IsAskedBy (context_of head) a → HasAsker request a
 has_asker request left head a reads by = λ h more e.
     let both = reads ∙ e in

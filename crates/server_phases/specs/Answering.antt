@@ -4,11 +4,12 @@ use Rattle.std.specs.Prelude.{◌++◌, length, Option, Some, None, if◌then◌
 use Rattle.fuse_fs.specs.declared.answers.Context.{Context}
 use Rattle.fuse_fs.specs.Calls as call
 use Rattle.fuse_fs.specs.Calls.{AnswerForm, IsDone, IsNeverGood, IsEntry, IsAttr, IsOpen, IsCreate, IsBytes}
-use Rattle.fuse_fs.specs.Calls.{IsBytesOrCount, IsStats, IsWritten, IsOffset, IsEntries, IsWish, is_of, suits}
+use Rattle.fuse_fs.specs.Calls.{IsBytesOrCount, IsStats, IsWritten, IsOffset, IsEntries, IsInitOptions}
+use Rattle.fuse_fs.specs.Calls.{is_of, suits}
 use Rattle.fuse_values.specs.declared.answer.FileAnswer.{FileAnswer}
 use Rattle.fuse_values.specs.declared.answer.FileAnswer.TheVariants as value
 use Rattle.fuse_values.specs.Answers.{answer_of}
-use Rattle.server_calls.specs.Requests.{give_back, entry_node}
+use Rattle.server_calls.specs.Requests.{forget_node, entry_node}
 use Rattle.server_segments.specs.declared.error.Error.TheVariants.{EncodeMessage}
 use Rattle.virtiofsd_fuse.specs.Grammar.{FileCommand}
 use Rattle.virtiofsd_fuse.specs.Serving.{Setting, ServedMessage, commanded}
@@ -34,7 +35,7 @@ kind_for awaits.Stats = IsStats
 kind_for awaits.Written = IsWritten
 kind_for awaits.Offset = IsOffset
 kind_for (awaits.Entries with_nodes size) = IsEntries
-kind_for (awaits.Wish capable readahead) = IsWish
+kind_for (awaits.InitOptions capable readahead) = IsInitOptions
 kind_for awaits.Failure = IsNeverGood
 kind_for _ = IsDone
 
@@ -74,9 +75,9 @@ TellsBytes bytes (value.Bytes len) = len ≡ length bytes
 TellsBytes bytes _ = bytes ≡ []
 
 -- FORGET of 1 for a node and its caller, if there is one
-abbrev pub forget_call : Option (Context × ℕ) → List call.FileCall
-forget_call None = []
-forget_call (Some node) = call.Forget node.0 node.1 1 ∷ []
+abbrev pub forget_calls : Option (Context × ℕ) → List call.FileCall
+forget_calls None = []
+forget_calls (Some node) = call.Forget node.0 node.1 1 ∷ []
 
 -- the calls that were made, the options, and the reply, whose data behind the front are `bytes`
 abbrev pub served_by : List call.FileCall → (options : ℕ) → Sent → (bytes : List ℕ) → ServedMessage
@@ -89,11 +90,11 @@ served_by calls options sent.NoRoom bytes =
 abbrev pub Gives : Setting → FileCommand → (bytes : List ℕ) → FileAnswer → Answered → (options : ℕ) → Type 0
 Gives s command bytes answer given options =
     commanded s command (answer_of bytes answer ∷ [])
-    ≡ served_by (first_call command ∷ forget_call given.forget) options given.sent bytes
+    ≡ served_by (first_call command ∷ forget_calls given.forget) options given.sent bytes
 
 -- FORGET of 1 for the entry in an answer, if the call answers an entry
 abbrev pub back_by : Bool → Context → call.FileAnswer → List call.FileCall
-back_by entry who answer = if entry then give_back who (entry_node answer) else []
+back_by entry who answer = if entry then forget_node who (entry_node answer) else []
 
 -- the length of an answer that is data
 abbrev pub data_of : FileAnswer → Option ℕ
@@ -101,9 +102,9 @@ data_of (value.Bytes len) = Some len
 data_of _ = None
 
 -- the options of client and server, and the client's readahead in bytes, if the call is INIT's
-abbrev pub wish_of : Awaits → Option (ℕ × ℕ)
-wish_of (awaits.Wish capable readahead) = Some (capable, readahead)
-wish_of _ = None
+abbrev pub init_options_of : Awaits → Option (ℕ × ℕ)
+init_options_of (awaits.InitOptions capable readahead) = Some (capable, readahead)
+init_options_of _ = None
 
 -- an answer is data whose reply fits in the reply buffer, but not in its header's 32-bit length
 -- (struct fuse_out_header, len)

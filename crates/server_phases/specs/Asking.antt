@@ -8,7 +8,7 @@ use Rattle.fuse_in.specs.declared.session.InHeader.{InHeader}
 use Rattle.fuse_in.specs.Records.{in_header}
 use Rattle.fuse_fs.specs.declared.answers.Context.{Context}
 use Rattle.fuse_fs.specs.Answers.{context_of}
-use Rattle.server_requests.specs.Reading.{Parser, reading_of}
+use Rattle.server_requests.specs.Reading.{Parser, record_parser}
 use Rattle.server_segments.specs.declared.error.Error.TheVariants.{EncodeMessage}
 use Rattle.virtiofsd_fuse.specs.DataApart.{begins_a_write}
 use Rattle.virtiofsd_fuse.specs.Grammar.{Meaning, Asks, FileCommand, Given, ended, given}
@@ -58,7 +58,7 @@ IsAskedBy who asked = Unit {0}
 abbrev pub HasAsker : (request : List ℕ) → DecodedRequest → Type 0
 HasAsker request asked =
     (h : InHeader) (more : List ℕ) →
-    reading_of in_header request ≡ Ok (h, more) →
+    record_parser in_header request ≡ Ok (h, more) →
     IsAskedBy (context_of h) asked
 
 -- a reply without a call, or a fault if it doesn't fit
@@ -83,18 +83,18 @@ front_tells front len =
     length front == len || (nat_le 80 (length front) && nat_le (length front) len && begins_a_write front)
 
 -- the request was decoded from its first bytes
-abbrev pub is_told : AskedFront → Bool
-is_told (asked_front.Told asked) = true
-is_told asked_front.More = false
+abbrev pub is_decoded : AskedFront → Bool
+is_decoded (asked_front.Decoded asked) = true
+is_decoded asked_front.More = false
 
 -- a request with this meaning is decoded from its first bytes, if these are enough
-abbrev pub IsToldByFront : Setting → Meaning → (bytes : List ℕ) → AskedFront → Type 0
-IsToldByFront s m bytes (asked_front.Told asked) = IsDecoded s m bytes asked
-IsToldByFront s m bytes asked_front.More = Unit {0}
+abbrev pub IsDecodedByFront : Setting → Meaning → (bytes : List ℕ) → AskedFront → Type 0
+IsDecodedByFront s m bytes (asked_front.Decoded asked) = IsDecoded s m bytes asked
+IsDecodedByFront s m bytes asked_front.More = Unit {0}
 
 -- a call decoded from the first bytes has the sender of the request as its caller
 abbrev pub HasAskerByFront : (request : List ℕ) → AskedFront → Type 0
-HasAskerByFront request (asked_front.Told asked) = HasAsker request asked
+HasAskerByFront request (asked_front.Decoded asked) = HasAsker request asked
 HasAskerByFront request asked_front.More = Unit {0}
 
 -- the bytes behind two headers have the same first 40 bytes, the record of a WRITE, or are equally short

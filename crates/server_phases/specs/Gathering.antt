@@ -7,7 +7,7 @@ use Rattle.fuse_fs.specs.Calls.{FileCall, FileAnswer, Listed, Lookup, HasEntry, 
 use Rattle.server_replies.specs.Entries.{entry_len, entry_bytes, is_dot, no_node, EIO, EOVERFLOW}
 use Rattle.server_replies.specs.WholeReplies.{listing_bytes}
 use Rattle.virtiofsd_fuse.specs.Grammar.{FileCommand, Lists}
-use Rattle.virtiofsd_fuse.specs.Listings.{undo_call}
+use Rattle.virtiofsd_fuse.specs.Listings.{forget_lookup}
 use Rattle.virtiofsd_fuse.specs.Serving.{ServedMessage, Setting, commanded}
 use Rattle.server_phases.specs.declared.listing.Listing.{Listing}
 use Rattle.server_phases.specs.declared.listing.ListingReply.{ListingReply}
@@ -57,7 +57,8 @@ look_ups command (e ∷ es) = look_up command e.0 ++ look_ups command es
 
 -- the FORGET of an entry's node in READDIRPLUS: node 0 for `.` and `..`
 abbrev pub node_given_back : FileCommand → Brought → List FileCall
-node_given_back (Lists unique l) e = if l.with_nodes then undo_call l.context (node_of e).inode ∷ [] else []
+node_given_back (Lists unique l) e = if l.with_nodes then forget_lookup l.context (node_of e).inode
+    ∷ [] else []
 node_given_back command e = []
 
 -- the entries without their nodes
@@ -75,9 +76,9 @@ IsListingFor l room (Lists unique asked) =
 IsListingFor l room command = ⊥
 
 -- a command is a listing
-abbrev pub is_listing : FileCommand → Bool
-is_listing (Lists unique l) = true
-is_listing command = false
+abbrev pub lists_entries : FileCommand → Bool
+lists_entries (Lists unique l) = true
+lists_entries command = false
 
 -- the bytes of the entries so far are at the front of a list
 pub record Holds (l : Listing) (list : List ℕ) (es : List Brought) : Type 0 where

@@ -57,7 +57,7 @@ WaitsFor w (One unique call) =
     (w.unique ≡ unique) × (w.awaits ≡ awaits_of call) × IsFor w.context call × (is_one_call call ≡ true)
 WaitsFor w (Starts unique capable readahead) =
     (w.unique ≡ unique)
-    × (w.awaits ≡ awaits.Wish capable readahead)
+    × (w.awaits ≡ awaits.InitOptions capable readahead)
     × (bit_and capable known_options ≡ capable)
 WaitsFor w (Lists unique l) =
     (w.unique ≡ unique)

@@ -51,7 +51,7 @@ pub enum DecodedRequest<'a> {
 #[derive(Drop)]
 pub enum AskedFront<'a> {
     /// The decoded request.
-    Told(DecodedRequest<'a>),
+    Decoded(DecodedRequest<'a>),
     /// The first bytes aren't enough: pass all bytes of the request.
     More,
 }
@@ -247,7 +247,7 @@ pub(crate) fn init_asked<'a>(
     let waiting = Waiting {
         unique: head.unique,
         context: Context::from(*head),
-        awaits: Awaits::Wish {
+        awaits: Awaits::InitOptions {
             capable: capable.bits(),
             readahead,
         },

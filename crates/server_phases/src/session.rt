@@ -5,7 +5,7 @@ ghost use Rattle.server_replies.specs.PageSizes.{is_page_size};
 ghost use Rattle.virtiofsd_fuse.specs.Grammar.{meaning, known_options};
 ghost use Rattle.virtiofsd_fuse.specs.Serving.{setting};
 ghost use Rattle.server_phases.specs.Asking.{IsDecoded, HasAsker, HasAskerByFront, IsRequestFront};
-ghost use Rattle.server_phases.specs.Asking.{IsToldByFront, front_tells, is_told};
+ghost use Rattle.server_phases.specs.Asking.{IsDecodedByFront, front_tells, is_decoded};
 
 use crate::asking::{AskedFront, DecodedRequest, ask_write_front};
 use bitflags::Flags;
@@ -85,20 +85,20 @@ impl Session {
         ensures told { (request : List ℕ)
             → len ≡ length request
             → IsRequestFront front.now request
-            → IsToldByFront (setting self.now.page_size self.now.options.0 room)
+            → IsDecodedByFront (setting self.now.page_size self.now.options.0 room)
             (meaning self.now.options.0 request room) (drop 80 request) result }
         ensures asker { (request : List ℕ)
             → len ≡ length request
             → IsRequestFront front.now request
             → HasAskerByFront request result }
-        ensures more { is_told result ≡ front_tells front.now len }
+        ensures more { is_decoded result ≡ front_tells front.now len }
     {
         if front.len() == len {
-            return AskedFront::Told(self.ask(front, room));
+            return AskedFront::Decoded(self.ask(front, room));
         }
         if front.len() < REQUEST_FRONT || len < front.len() || !begins_a_write(front) {
             return AskedFront::More;
         }
-        AskedFront::Told(ask_write_front(front, len, room))
+        AskedFront::Decoded(ask_write_front(front, len, room))
     }
 }

@@ -42,7 +42,7 @@ pub enum Awaits {
     Offset,
     /// INIT's options that the file system wants. `capable` are those of client and server; the
     /// client reads `readahead` bytes ahead.
-    Wish { capable: u64, readahead: u32 },
+    InitOptions { capable: u64, readahead: u32 },
     /// The entries of a directory in at most `size` bytes, with their nodes in READDIRPLUS.
     Entries { with_nodes: bool, size: u32 },
 }

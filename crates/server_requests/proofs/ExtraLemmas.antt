@@ -14,25 +14,25 @@ use Rattle.fuse_fs.specs.Calls.{SecurityContext, Extra}
 use Rattle.server_segments.specs.declared.error.Error.{Error}
 use Rattle.server_segments.specs.declared.error.Error.TheVariants.{DecodeMessage, MissingParameter, MissingExtension, InvalidHeaderLength}
 use Rattle.server_segments.specs.declared.error.Error.TheVariants.{InvalidCString}
-use Rattle.server_requests.specs.Reading.{Parsed, ReadFailure, Faults, and_then, at_zero, reading_of, value_of, front_name}
+use Rattle.server_requests.specs.Reading.{Parsed, ReadFailure, Faults, and_then, at_zero, record_parser, value_of, front_name}
 use Rattle.server_requests.specs.Extras.{SentParts, takes_security, takes_group, security_context, group_number, one_group, security_part}
 use Rattle.server_requests.specs.Extras.{group_part, part, extension, extensions, extra_in, parts_of, nothing_sent, new_name, new_link}
 use Rattle.server_requests.proofs.RecordLemmas.{read_front}
 
 -- a label that isn't whole
 pub label_short :
-    (bytes : List ℕ) (e : Error) → Err (Faults e) ≡ reading_of secctx bytes → value_of (security_context bytes) ≡ Err (Faults e)
+    (bytes : List ℕ) (e : Error) → Err (Faults e) ≡ record_parser secctx bytes → value_of (security_context bytes) ≡ Err (Faults e)
 unfolding security_context
 label_short bytes e h = rw (← h) refl
 
-pub label_empty : (bytes more : List ℕ) (r : Secctx) → Ok (r, more) ≡ reading_of secctx bytes → r.size ≡ 0 →
+pub label_empty : (bytes more : List ℕ) (r : Secctx) → Ok (r, more) ≡ record_parser secctx bytes → r.size ≡ 0 →
     value_of (security_context bytes) ≡ Err (Faults DecodeMessage)
 unfolding security_context
 label_empty bytes more r h z =
     let test : (r.size == 0) ≡ true = grind (arith, nat_tests, z) in
     rw (← h, test) refl
 
-pub label_nothing : (bytes more : List ℕ) (r : Secctx) → Ok (r, more) ≡ reading_of secctx bytes → r.size ≢ 0 → length more ≡ 0
+pub label_nothing : (bytes more : List ℕ) (r : Secctx) → Ok (r, more) ≡ record_parser secctx bytes → r.size ≢ 0 → length more ≡ 0
     → value_of (security_context bytes) ≡ Err (Faults MissingParameter)
 unfolding security_context
 label_nothing bytes more r h z l =
@@ -41,7 +41,7 @@ label_nothing bytes more r h z l =
     rw (← h, test, none) refl
 
 pub label_unnamed :
-    (bytes more : List ℕ) (r : Secctx) → Ok (r, more) ≡ reading_of secctx bytes → r.size ≢ 0 → length more ≢ 0 → at_zero more ≡ None
+    (bytes more : List ℕ) (r : Secctx) → Ok (r, more) ≡ record_parser secctx bytes → r.size ≢ 0 → length more ≢ 0 → at_zero more ≡ None
     → value_of (security_context bytes) ≡ Err (Faults DecodeMessage)
 unfolding security_context
 label_unnamed bytes more r h z l a =
@@ -49,7 +49,7 @@ label_unnamed bytes more r h z l a =
     let some : (length more == 0) ≡ false = grind (arith, nat_tests, l) in
     rw (← h, test, some, a) refl
 
-pub label_cut : (bytes more name others : List ℕ) (r : Secctx) → Ok (r, more) ≡ reading_of secctx bytes → r.size ≢ 0 → length more ≢ 0
+pub label_cut : (bytes more name others : List ℕ) (r : Secctx) → Ok (r, more) ≡ record_parser secctx bytes → r.size ≢ 0 → length more ≢ 0
     → at_zero more ≡ Some (name, others) → length others < r.size → value_of (security_context bytes) ≡ Err (Faults DecodeMessage)
 unfolding security_context
 label_cut bytes more name others r h z l a s =
@@ -57,7 +57,7 @@ label_cut bytes more name others r h z l a s =
     let some : (length more == 0) ≡ false = grind (arith, nat_tests, l) in
     rw (← h, test, some, a, lt-ltb (length others) r.size s) refl
 
-pub label_whole : (bytes more name others : List ℕ) (r : Secctx) → Ok (r, more) ≡ reading_of secctx bytes → r.size ≢ 0 → length more ≢ 0
+pub label_whole : (bytes more name others : List ℕ) (r : Secctx) → Ok (r, more) ≡ record_parser secctx bytes → r.size ≢ 0 → length more ≢ 0
     → at_zero more ≡ Some (name, others) → r.size ≤ length others
     → value_of (security_context bytes) ≡ Ok (record { name = name; label = take r.size others })
 unfolding security_context
@@ -67,30 +67,31 @@ label_whole bytes more name others r h z l a s =
     rw (← h, test, some, a, le-ltb (length others) r.size s) refl
 
 -- a group
-pub group_short : (bytes : List ℕ) (e : Error) → Err (Faults e) ≡ reading_of supp_groups bytes → value_of (one_group bytes) ≡ Err (Faults e)
+pub group_short : (bytes : List ℕ) (e : Error) → Err (Faults e) ≡ record_parser supp_groups bytes
+    → value_of (one_group bytes) ≡ Err (Faults e)
 unfolding one_group
 group_short bytes e h = rw (← h) refl
 
-pub group_many : (bytes more : List ℕ) (r : SuppGroups) → Ok (r, more) ≡ reading_of supp_groups bytes → r.nr_groups ≢ 1 →
+pub group_many : (bytes more : List ℕ) (r : SuppGroups) → Ok (r, more) ≡ record_parser supp_groups bytes → r.nr_groups ≢ 1 →
     value_of (one_group bytes) ≡ Err (Faults DecodeMessage)
 unfolding one_group
 group_many bytes more r h n =
     let test : (r.nr_groups == 1) ≡ false = grind (arith, nat_tests, n) in
     rw (← h, test) refl
 
-pub group_cut : (bytes more : List ℕ) (r : SuppGroups) → Ok (r, more) ≡ reading_of supp_groups bytes → r.nr_groups ≡ 1 → length more < 4
+pub group_cut : (bytes more : List ℕ) (r : SuppGroups) → Ok (r, more) ≡ record_parser supp_groups bytes → r.nr_groups ≡ 1 → length more < 4
     → value_of (one_group bytes) ≡ Err (Faults DecodeMessage)
-unfolding one_group reading_of
+unfolding one_group record_parser
 group_cut bytes more r h n s =
     let test : (r.nr_groups == 1) ≡ true = grind (arith, nat_tests, n) in
     rw (← h, test, lt-ltb (length more) 4 s) refl
 
 number_read : (all front more : List ℕ) (n : ℕ) → all ≡ front ++ more → front ≡ spelled (unsigned w32 n ∷ []) →
-    AllFit (unsigned w32 n ∷ []) → Ok (n, more) ≡ reading_of group_number all
+    AllFit (unsigned w32 n ∷ []) → Ok (n, more) ≡ record_parser group_number all
 number_read all front more n e s f =
     read_front group_number (λ k. unsigned w32 k ∷ []) 4 (λ k. refl, λ k. refl, refl) n all more (e ∙ ap (λ b. b ++ more) s) f
 
-pub group_whole : (bytes more front others : List ℕ) (r : SuppGroups) (n : ℕ) → Ok (r, more) ≡ reading_of supp_groups bytes
+pub group_whole : (bytes more front others : List ℕ) (r : SuppGroups) (n : ℕ) → Ok (r, more) ≡ record_parser supp_groups bytes
     → r.nr_groups ≡ 1 → more ≡ front ++ others
     → front ≡ spelled (unsigned w32 n ∷ []) → AllFit (unsigned w32 n ∷ []) → value_of (one_group bytes) ≡ Ok n
 unfolding one_group
@@ -171,20 +172,20 @@ pub group_fault : (options : ℕ) (sent : SentParts) (bytes : List ℕ) (f : Err
 group_fault options sent bytes f e h = group_part_by options sent bytes e ∙ ap (with_group sent) (sym h)
 
 -- one more extension
-pub extension_short : (options : ℕ) (sent : SentParts) (bytes : List ℕ) (e : Error) → Err (Faults e) ≡ reading_of ext_header bytes →
+pub extension_short : (options : ℕ) (sent : SentParts) (bytes : List ℕ) (e : Error) → Err (Faults e) ≡ record_parser ext_header bytes →
     extension options sent bytes ≡ Err (Faults e)
 unfolding extension
 extension_short options sent bytes e h = rw (← h) refl
 
 pub extension_small :
-    (options : ℕ) (sent : SentParts) (bytes more : List ℕ) (r : ExtHeader) → Ok (r, more) ≡ reading_of ext_header bytes → r.size < 8
+    (options : ℕ) (sent : SentParts) (bytes more : List ℕ) (r : ExtHeader) → Ok (r, more) ≡ record_parser ext_header bytes → r.size < 8
     → extension options sent bytes ≡ Err (Faults InvalidHeaderLength)
 unfolding extension
 extension_small options sent bytes more r h s =
     let test : nat_le 8 r.size ≡ false = grind (arith, nat_tests) in
     rw (← h, test) refl
 
-pub extension_cut : (options : ℕ) (sent : SentParts) (bytes more : List ℕ) (r : ExtHeader) → Ok (r, more) ≡ reading_of ext_header bytes
+pub extension_cut : (options : ℕ) (sent : SentParts) (bytes more : List ℕ) (r : ExtHeader) → Ok (r, more) ≡ record_parser ext_header bytes
     → 8 ≤ r.size → length more < r.size - 8
     → extension options sent bytes ≡ Err (Faults DecodeMessage)
 unfolding extension
@@ -200,7 +201,7 @@ part_by : (others : List ℕ) (r : Parsed SentParts) → and_then r (λ x. Ok (x
 part_by others (Ok x) = refl
 part_by others (Err r) = refl
 
-extension_by : (options : ℕ) (sent : SentParts) (bytes more : List ℕ) (r : ExtHeader) → Ok (r, more) ≡ reading_of ext_header bytes
+extension_by : (options : ℕ) (sent : SentParts) (bytes more : List ℕ) (r : ExtHeader) → Ok (r, more) ≡ record_parser ext_header bytes
     → 8 ≤ r.size → r.size - 8 ≤ length more
     → extension options sent bytes ≡ with_others (drop (r.size - 8) more) (value_of (part options sent r.ext_type (take (r.size - 8) more)))
 unfolding extension
@@ -210,7 +211,7 @@ extension_by options sent bytes more r h s l =
     (part_by (drop (r.size - 8) more) (part options sent r.ext_type (take (r.size - 8) more)))
 
 pub extension_given : (options : ℕ) (sent after : SentParts) (bytes more body others : List ℕ) (r : ExtHeader)
-    → Ok (r, more) ≡ reading_of ext_header bytes → 8 ≤ r.size → r.size - 8 ≤ length more
+    → Ok (r, more) ≡ record_parser ext_header bytes → 8 ≤ r.size → r.size - 8 ≤ length more
     → body ≡ take (r.size - 8) more → others ≡ drop (r.size - 8) more → Ok after ≡ value_of (part options sent r.ext_type body)
     → extension options sent bytes ≡ Ok (after, others)
 extension_given options sent after bytes more body others r h s l b o p =
@@ -218,7 +219,7 @@ extension_given options sent after bytes more body others r h s l b o p =
     ∙ ap (λ (d : List ℕ). Ok (after, d)) (sym o)
 
 pub extension_fault : (options : ℕ) (sent : SentParts) (bytes more body : List ℕ) (r : ExtHeader) (e : Error)
-    → Ok (r, more) ≡ reading_of ext_header bytes → 8 ≤ r.size → r.size - 8 ≤ length more
+    → Ok (r, more) ≡ record_parser ext_header bytes → 8 ≤ r.size → r.size - 8 ≤ length more
     → body ≡ take (r.size - 8) more → Err (Faults e) ≡ value_of (part options sent r.ext_type body)
     → extension options sent bytes ≡ Err (Faults e)
 extension_fault options sent bytes more body r e h s l b p =

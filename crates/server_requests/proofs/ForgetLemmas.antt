@@ -9,18 +9,18 @@ use Rattle.fuse_wire.specs.declared.others.ForgetOne.{ForgetOne}
 use Rattle.fuse_wire.specs.Records.{forget_one}
 use Rattle.server_segments.specs.declared.error.Error.{Error}
 use Rattle.fuse_values.specs.Values.{pair_in, pairs_of, pairs_in}
-use Rattle.server_requests.specs.Reading.{Parsed, Faults, and_then, many, reading_of, value_of}
+use Rattle.server_requests.specs.Reading.{Parsed, Faults, and_then, many, record_parser, value_of}
 use Rattle.server_requests.specs.Fronts.{forget_pair, has_pairs}
 
 -- a list that was read, behind another
 abbrev pub behind : {A : Type 0} → List A → Parsed (List A) → Parsed (List A)
 behind done r = and_then r (λ x. Ok (done ++ x.0, x.1))
 
-pub pair_read : (bytes more : List ℕ) (r : ForgetOne) → Ok (r, more) ≡ reading_of forget_one bytes →
+pub pair_read : (bytes more : List ℕ) (r : ForgetOne) → Ok (r, more) ≡ record_parser forget_one bytes →
     forget_pair bytes ≡ Ok ((r.nodeid, r.nlookup), more)
 pair_read bytes more r h = rw (← h) refl
 
-pub pair_short : (bytes : List ℕ) (e : Error) → Err (Faults e) ≡ reading_of forget_one bytes → forget_pair bytes ≡ Err (Faults e)
+pub pair_short : (bytes : List ℕ) (e : Error) → Err (Faults e) ≡ record_parser forget_one bytes → forget_pair bytes ≡ Err (Faults e)
 pair_short bytes e h = rw (← h) refl
 
 behind_one :
@@ -48,11 +48,11 @@ unfolding many
 many_short left n whole done bytes e k w h = sym (w ∙ rw (k, h) refl)
 
 pair_there : (bytes : List ℕ) → 16 ≤ length bytes → forget_pair bytes ≡ Ok (pair_in bytes, drop 16 bytes)
-unfolding reading_of
+unfolding record_parser
 pair_there bytes h = rw (le-ltb (length bytes) 16 h) refl
 
 pair_cut : (bytes : List ℕ) → length bytes < 16 → forget_pair bytes ≡ Err (Faults DecodeMessage)
-unfolding reading_of
+unfolding record_parser
 pair_cut bytes h = rw (lt-ltb (length bytes) 16 h) refl
 
 -- too few bytes for all of them

@@ -13,7 +13,7 @@ use Rattle.server_segments.specs.declared.error.Error.TheVariants.{MissingParame
 use Rattle.server_segments.specs.declared.error.Error.{Error}
 use Rattle.fuse_in.specs.Shapes.{RecordShape}
 use Rattle.server_requests.specs.Reading.{Parsed, ReadFailure, Faults, and_then, at_zero, before_zero, last_name, two_names, name_and_value}
-use Rattle.server_requests.specs.Reading.{front_name, value_of, reading_of}
+use Rattle.server_requests.specs.Reading.{front_name, value_of, record_parser}
 use Rattle.vm_values.specs.Bits.{has_bit}
 use Rattle.fuse_in.specs.declared.nodes.SetxattrIn.{SetxattrIn}
 use Rattle.fuse_in.specs.declared.nodes.SetxattrInCompat.{SetxattrInCompat}
@@ -208,19 +208,19 @@ with_value : {R : Type 0} → (r : R) (x : Parsed (List ℕ)) → value_of (and_
 with_value r (Ok b) = refl
 with_value r (Err e) = refl
 
-pub with_both : {R : Type 0} → (s : RecordShape R) (k len : ℕ) (all more bytes : List ℕ) (r : R) → Ok (r, more) ≡ reading_of s all
+pub with_both : {R : Type 0} → (s : RecordShape R) (k len : ℕ) (all more bytes : List ℕ) (r : R) → Ok (r, more) ≡ record_parser s all
     → Ok bytes ≡ value_of (counted len k more)
     → Ok (r, bytes) ≡ value_of (with_bytes s k len all)
 unfolding with_bytes
 with_both s k len all more bytes r e h = sym (rw (← e) (with_value r (counted len k more) ∙ ap (paired r) (sym h)))
 
-pub with_few : {R : Type 0} → (s : RecordShape R) (k len : ℕ) (all more : List ℕ) (r : R) (f : Error) → Ok (r, more) ≡ reading_of s all
+pub with_few : {R : Type 0} → (s : RecordShape R) (k len : ℕ) (all more : List ℕ) (r : R) (f : Error) → Ok (r, more) ≡ record_parser s all
     → Err (Faults f) ≡ value_of (counted len k more)
     → Err (Faults f) ≡ value_of (with_bytes s k len all)
 unfolding with_bytes
 with_few s k len all more r f e h = sym (rw (← e) (with_value r (counted len k more) ∙ ap (paired r) (sym h)))
 
-pub with_short : {R : Type 0} → (s : RecordShape R) (k len : ℕ) (all : List ℕ) (f : Error) → Err (Faults f) ≡ reading_of s all →
+pub with_short : {R : Type 0} → (s : RecordShape R) (k len : ℕ) (all : List ℕ) (f : Error) → Err (Faults f) ≡ record_parser s all →
     Err (Faults f) ≡ value_of (with_bytes s k len all)
 unfolding with_bytes
 with_short s k len all f e = sym (rw (← e) refl)

@@ -11,7 +11,7 @@ use Rattle.vm_values.specs.UniqueProof.{then_is}
 use Rattle.fuse_in.specs.Shapes.{RecordPart, u16, u32, u64, u32s, Said, size_of, numbers, said, MakesOf, size, made, AllSaid, field_of}
 use Rattle.fuse_in.specs.Shapes.{fields_of, made_of, RecordShape, fields_by}
 use Rattle.server_segments.specs.declared.error.Error.TheVariants.{DecodeMessage}
-use Rattle.server_requests.specs.Reading.{Faults, reading_of}
+use Rattle.server_requests.specs.Reading.{Faults, record_parser}
 
 length_numbers : (xs : List ℕ) → length (flat_map (to_le_bytes w32) xs) ≡ length xs * 4
 length_numbers [] = refl
@@ -69,8 +69,8 @@ made_is (p ∷ ps) make xs h =
 -- where the bytes of a record stand in front, it is read; the law is that of the trait `InRecord`
 pub read_front : {R : Type 0} → (s : RecordShape R) (fields : R → List Field) (n : ℕ)
     → ((x : R) → fields_by s x ≡ fields x) × ((x : R) → made_of s.parts s.make (s.says x) ≡ x) × (size s.parts ≡ n)
-    → (x : R) (all more : List ℕ) → all ≡ spelled (fields x) ++ more → AllFit (fields x) → Ok (x, more) ≡ reading_of s all
-unfolding reading_of
+    → (x : R) (all more : List ℕ) → all ≡ spelled (fields x) ++ more → AllFit (fields x) → Ok (x, more) ≡ record_parser s all
+unfolding record_parser
 read_front s fields n law x all more e h =
     let b = spelled (fields_by s x) in
     let fit : AllFit (fields_by s x) = rw (law.0 x) h in
@@ -84,8 +84,8 @@ read_front s fields n law x all more e h =
 -- too few bytes are no record
 pub read_short : {R : Type 0} → (s : RecordShape R) (fields : R → List Field) (n : ℕ)
     → ((x : R) → fields_by s x ≡ fields x) × ((x : R) → made_of s.parts s.make (s.says x) ≡ x) × (size s.parts ≡ n)
-    → (all : List ℕ) → length all < n → Err (Faults DecodeMessage) ≡ reading_of s all
-unfolding reading_of
+    → (all : List ℕ) → length all < n → Err (Faults DecodeMessage) ≡ record_parser s all
+unfolding record_parser
 read_short s fields n law all h =
     let few : length all < size s.parts = rw law.2 h in
     rw (lt-ltb (length all) (size s.parts) few) refl

@@ -13,7 +13,7 @@ use Rattle.server_segments.specs.declared.error.Error.TheVariants.{InvalidCStrin
 use Rattle.fuse_values.specs.Values.{received_extra}
 use Rattle.server_requests.specs.declared.extensions.SoFar.{SoFar}
 use Rattle.server_requests.specs.Reading.{ReadFailure, Faults, Parser, and_then, ◌>>=◌, ◌>>◌, give, refuse}
-use Rattle.server_requests.specs.Reading.{needs, rest, exactly, within, name_or, front_name, reading_of}
+use Rattle.server_requests.specs.Reading.{needs, rest, exactly, within, name_or, front_name, record_parser}
 
 -- FUSE_SECURITY_CTX (bit 32 of the options) is agreed
 abbrev pub takes_security : ℕ → Bool
@@ -42,7 +42,7 @@ sent_of s =
 -- a security context that isn't empty: its name and its label
 unfoldable pub security_context : Parser SecurityContext
 security_context =
-    reading_of secctx >>= λ head. needs (not (head.size == 0)) (Faults DecodeMessage) >> rest >>= λ more.
+    record_parser secctx >>= λ head. needs (not (head.size == 0)) (Faults DecodeMessage) >> rest >>= λ more.
     needs (not (length more == 0)) (Faults MissingParameter) >> within more (
     name_or DecodeMessage
     >>= λ name. exactly head.size >>= λ label. give (record { name = name; label = label }))
@@ -54,8 +54,8 @@ group_number = record { parts = u32 ∷ []; make = λ n. n; says = λ n. n & end
 -- a list of exactly one group
 unfoldable pub one_group : Parser ℕ
 one_group =
-    reading_of supp_groups
-    >>= λ head. needs (head.nr_groups == 1) (Faults DecodeMessage) >> reading_of group_number
+    record_parser supp_groups
+    >>= λ head. needs (head.nr_groups == 1) (Faults DecodeMessage) >> record_parser group_number
 
 -- a security context is added to the extensions so far; kind 0 is empty
 abbrev pub security_part : ℕ → SentParts → ℕ → Parser SentParts
@@ -82,7 +82,7 @@ part options sent kind =
 -- one extension is read; further bytes of its body are ignored
 unfoldable pub extension : ℕ → SentParts → Parser SentParts
 extension options sent =
-    reading_of ext_header
+    record_parser ext_header
     >>= λ head. needs (nat_le 8 head.size) (Faults InvalidHeaderLength) >> exactly (head.size - 8) >>= λ body.
     within body (part options sent head.ext_type)
 

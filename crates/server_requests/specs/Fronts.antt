@@ -11,7 +11,7 @@ use Rattle.fuse_in.specs.Records.{init_in_ext, setxattr_in, setxattr_in_compat}
 use Rattle.fuse_wire.specs.Records.{forget_one}
 use Rattle.server_segments.specs.declared.error.Error.TheVariants.{InvalidHeaderLength}
 use Rattle.server_requests.specs.Reading.{Faults, Parsed, Parser, ◌>>=◌, ◌>>◌, give, needs, exactly}
-use Rattle.server_requests.specs.Reading.{reading_of}
+use Rattle.server_requests.specs.Reading.{record_parser}
 
 -- the bytes of a request behind its header and k bytes of record, by the header's length
 unfoldable pub counted : (len k : ℕ) → Parser (List ℕ)
@@ -27,7 +27,7 @@ counted_split len k segments = is_split (len - 40 - k) (past k segments)
 
 -- a record of k bytes, and the bytes after it, by the header's length
 unfoldable pub with_bytes : {R : Type 0} → RecordShape R → (k len : ℕ) → Parser (R × List ℕ)
-with_bytes s k len = reading_of s >>= λ r. counted len k >>= λ bytes. give (r, bytes)
+with_bytes s k len = record_parser s >>= λ r. counted len k >>= λ bytes. give (r, bytes)
 
 -- the length of SETXATTR's record: 16 with FUSE_SETXATTR_EXT (bit 29 of the options), else 8
 abbrev pub setxattr_len : (options : ℕ) → ℕ
@@ -45,7 +45,7 @@ setxattr_front options len =
 
 -- struct fuse_forget_one: a node, and the number to subtract from its lookup count
 abbrev pub forget_pair : Parser (ℕ × ℕ)
-forget_pair = reading_of forget_one >>= λ r. give (r.nodeid, r.nlookup)
+forget_pair = record_parser forget_one >>= λ r. give (r.nodeid, r.nlookup)
 
 -- at least one pair was read
 abbrev pub has_pairs : Parsed (List (ℕ × ℕ)) → Bool
@@ -55,4 +55,4 @@ has_pairs (Err r) = false
 -- the upper half of the client's options: with FUSE_INIT_EXT (bit 30 of `flags`) it is read from
 -- the rest of the record, else it is 0
 abbrev pub flags2_of : InitInCompat → Parser ℕ
-flags2_of r = if has_bit r.flags 30 then (reading_of init_in_ext >>= λ more. give more.flags2) else give 0
+flags2_of r = if has_bit r.flags 30 then (record_parser init_in_ext >>= λ more. give more.flags2) else give 0

@@ -6,16 +6,16 @@ use Rattle.server_segments.specs.declared.error.Error.{Error}
 use Rattle.server_segments.specs.declared.error.Error.TheVariants.{DecodeMessage, InvalidCString}
 use Rattle.server_segments.specs.declared.error.Error.TheVariants.{InvalidXattrSize, MissingParameter}
 
--- a failed reading: a fault, or an error number that is the reply
+-- why a parser fails: a fault, or an error number that is the reply
 pub data ReadFailure : Type 0 where
   Faults : Error → ReadFailure
   Sends : (errno : ℕ) → ReadFailure
 
--- the result of a reading: a value and the bytes after it, or a failure
+-- the result of a parser: a value and the bytes after it, or a failure
 abbrev pub Parsed : Type 0 → Type 0
 Parsed X = Result (X × List ℕ) ReadFailure
 
--- a reading of a value from the front of some bytes
+-- a parser: it reads a value from the front of some bytes
 abbrev pub Parser : Type 0 → Type 0
 Parser X = List ℕ → Parsed X
 
@@ -26,28 +26,28 @@ and_then (Ok x) f = f x
 and_then (Err r) f = Err r
 
 infixl 10 ◌>>=◌
--- one reading, and then another
+-- one parser, and then another
 abbrev pub ◌>>=◌ : {A B : Type 0} → Parser A → (A → Parser B) → Parser B
 p >>= f = λ bytes. and_then (p bytes) (λ x. f x.0 x.1)
 
 infixl 10 ◌>>◌
--- one reading, whose value is dropped, and then another
+-- one parser, whose value is dropped, and then another
 abbrev pub ◌>>◌ : {A B : Type 0} → Parser A → Parser B → Parser B
 p >> q = λ bytes. and_then (p bytes) (λ x. q x.1)
 
--- a value, without reading
+-- the parser of a value that reads nothing
 abbrev pub give : {A : Type 0} → A → Parser A
 give x = λ bytes. Ok (x, bytes)
 
--- a failure for all bytes
+-- the parser that fails for all bytes
 abbrev pub refuse : {A : Type 0} → ReadFailure → Parser A
 refuse r = λ bytes. Err r
 
--- a failure unless the test holds; no byte is read
+-- a parser that reads nothing, and fails unless the test holds
 abbrev pub needs : Bool → ReadFailure → Parser (Unit {0})
 needs test r = λ bytes. if test then Ok (tt, bytes) else Err r
 
--- all bytes that are left
+-- the parser of all bytes that are left
 abbrev pub rest : Parser (List ℕ)
 rest = λ bytes. Ok (bytes, [])
 
@@ -62,10 +62,10 @@ many zero p = give []
 many (suc n) p = p >>= λ x. many n p >>= λ xs. give (x ∷ xs)
 
 -- a record, field by field
-unfoldable pub reading_of : {R : Type 0} → RecordShape R → Parser R
-reading_of s = exactly (size s.parts) >>= λ bytes. give (made s.parts s.make bytes)
+unfoldable pub record_parser : {R : Type 0} → RecordShape R → Parser R
+record_parser s = exactly (size s.parts) >>= λ bytes. give (made s.parts s.make bytes)
 
--- a reading of these bytes alone; those that it leaves are ignored
+-- a parser over these bytes alone; those that it leaves are ignored
 abbrev pub within : {A : Type 0} → List ℕ → Parser A → Parser A
 within bytes p = λ others. and_then (p bytes) (λ x. Ok (x.0, others))
 
@@ -119,7 +119,7 @@ abbrev pub value_of : {A : Type 0} → Parsed A → Result A ReadFailure
 value_of (Ok x) = Ok x.0
 value_of (Err r) = Err r
 
--- the result of a function, as the result of a reading without its rest
+-- the result of a function, as the result of a parser without its rest
 abbrev pub outcome : {A B : Type 0} → (A → B) → Result A Error → Result B ReadFailure
 outcome view (Ok x) = Ok (view x)
 outcome view (Err e) = Err (Faults e)

@@ -3,7 +3,7 @@
 ghost use Rattle.std.specs.Prelude.{◌≡◌, ◌+◌, ◌<◌, ◌&&◌, ◌||◌, not, nat_le, length, is_none, Ok, Err, IfOk};
 ghost use Rattle.std.specs.Prelude.{IfErr, false};
 ghost use Rattle.fuse_fs.specs.Answers.{extra_of, security_of};
-ghost use Rattle.server_requests.specs.Reading.{Faults, outcome, reading_of, value_of};
+ghost use Rattle.server_requests.specs.Reading.{Faults, outcome, record_parser, value_of};
 ghost use Rattle.fuse_values.specs.Values.{label_of, received_extra};
 ghost use Rattle.server_requests.specs.Extras.{takes_security, takes_group, sent_of, nothing_sent};
 ghost use Rattle.server_requests.specs.Extras.{security_context, one_group, part, extension, extensions};
@@ -58,8 +58,8 @@ fn takes_group(options: FsOptions) -> bool
 
 // The record at the front, or `DecodeMessage` if it is cut short.
 fn front_record<T: InRecord>(bytes: &[u8]) -> Result<WithRest<'_, T>, Error>
-    ensures reads { IfOk result (λ x. Ok (x.record, x.rest.now) ≡ reading_of T.shape bytes.now) }
-    ensures fault { IfErr result (λ e. (Err (Faults e) ≡ reading_of T.shape bytes.now)
+    ensures reads { IfOk result (λ x. Ok (x.record, x.rest.now) ≡ record_parser T.shape bytes.now) }
+    ensures fault { IfErr result (λ e. (Err (Faults e) ≡ record_parser T.shape bytes.now)
         × (is_memory e ≡ false)) }
     ensures len { IfOk result (λ x. length x.rest.now + T.SIZE ≡ length bytes.now) }
 {

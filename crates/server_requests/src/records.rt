@@ -2,7 +2,7 @@
 
 ghost use Rattle.std.specs.Prelude.{◌≡◌, IfErr, OnOk};
 ghost use Rattle.fuse_fs.specs.Lengths.{past};
-ghost use Rattle.server_requests.specs.Reading.{read_result, reading_of};
+ghost use Rattle.server_requests.specs.Reading.{read_result, record_parser};
 
 use fuse_in::InRecord;
 use server_segments::{Error, Reader};
@@ -10,7 +10,7 @@ use server_segments::{Error, Reader};
 /// The record in the next bytes, or `DecodeMessage` if there are too few.
 #[inline(always)]
 pub fn read_record<T: InRecord>(r: &mut Reader<'_>) -> Result<T, Error>
-    ensures reads { read_result result r.new.left ≡ reading_of T.shape r.old.left }
+    ensures reads { read_result result r.new.left ≡ record_parser T.shape r.old.left }
     ensures fault { IfErr result (λ e. e ≡ Error.DecodeMessage) }
     ensures segments { OnOk result (r.new.segments ≡ past T.SIZE r.old.segments) }
 {

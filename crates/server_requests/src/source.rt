@@ -3,7 +3,7 @@
 ghost use Rattle.std.specs.Prelude.{◌≡◌, ◌-◌, ◌≤◌, ◌*◌, ◌&&◌, ℕ, Bool, true, false, List, [], length, Ok};
 ghost use Rattle.std.specs.Prelude.{Err, IfOk, IfErr, OnOk};
 ghost use Rattle.fuse_values.specs.Values.{pairs_in};
-ghost use Rattle.server_requests.specs.Reading.{Faults, many, reading_of, read_result, value_of};
+ghost use Rattle.server_requests.specs.Reading.{Faults, many, record_parser, read_result, value_of};
 ghost use Rattle.server_requests.specs.Fronts.{counted, counted_split, flags2_of, forget_pair, is_split};
 ghost use Rattle.server_requests.specs.Fronts.{setxattr_front, setxattr_len, with_bytes};
 ghost use Rattle.fuse_fs.specs.Lengths.{past};
@@ -35,7 +35,7 @@ pub trait Source<'a> {
 
     /// The record in the next bytes, or `DecodeMessage` if there are too few.
     fn record<T: InRecord>(&mut self) -> Result<T, Error>
-        ensures reads { read_result result (left self.new) ≡ reading_of T.shape (left self.old) }
+        ensures reads { read_result result (left self.new) ≡ record_parser T.shape (left self.old) }
         ensures fault { IfErr result (λ e. e ≡ Error.DecodeMessage) }
         ensures segments { OnOk result (segments self.new ≡ past T.SIZE (segments self.old)) };
 

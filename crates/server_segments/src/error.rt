@@ -27,12 +27,12 @@ pub enum Error {
     #[error("a name has no zero byte")]
     InvalidCString2,
     /// The `size` of `struct fuse_setxattr_in`, and the value's length, in bytes.
-    #[error("the value hasn't the size that the request says")]
+    #[error("the value's length isn't the size in the request")]
     InvalidXattrSize((u32, usize)),
     #[error("the lengths of a chain's parts add up to too much")]
     DescriptorChainOverflow,
     /// The offset of the split, in bytes.
-    #[error("a split at {0} is out of bounds")]
+    #[error("a split at offset {0} is out of bounds")]
     SplitOutOfBounds(usize),
     #[error("reading or writing failed")]
     IoError(io::ErrorKind),

@@ -4,7 +4,7 @@ use Rattle.std.specs.Prelude.{nat_le}
 use Rattle.std.proofs.lemmas.Bool.Decides.{nat_tests}
 use Rattle.fuse_in.specs.Records.{batch_forget_in}
 use Rattle.server_segments.specs.declared.error.Error.{Error}
-use Rattle.server_requests.specs.Reading.{Faults, many, reading_of}
+use Rattle.server_requests.specs.Reading.{Faults, many, record_parser}
 use Rattle.server_requests.specs.Fronts.{forget_pair}
 use Rattle.server_calls.specs.Requests.{batch_forget_call}
 use Rattle.server_replies.specs.WholeReplies.{error_bytes}
@@ -30,6 +30,6 @@ forgets_short count g bytes e h k =
     let test : nat_le (count * 16) (2 ^ 20) ≡ true = grind (arith, nat_tests) in
     rw (test, ← k) refl
 
-pub batch_short : (g : Given) (bytes : List ℕ) (e : Error) → Err (Faults e) ≡ reading_of batch_forget_in bytes →
+pub batch_short : (g : Given) (bytes : List ℕ) (e : Error) → Err (Faults e) ≡ record_parser batch_forget_in bytes →
     ended g.header.unique (batch_forget_row g bytes) ≡ IsFault e
 batch_short g bytes e h = rw (← h) refl

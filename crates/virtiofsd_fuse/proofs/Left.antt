@@ -7,7 +7,7 @@ use Rattle.fuse_fs.specs.Lengths.{past}
 use Rattle.fuse_fs.specs.Calls.{FileCall}
 use Rattle.server_segments.specs.declared.error.Error.{Error}
 use Rattle.server_segments.specs.ReaderAndWriterView.{ReaderView, WriterView}
-use Rattle.server_requests.specs.Reading.{reading_of}
+use Rattle.server_requests.specs.Reading.{record_parser}
 use Rattle.server_calls.specs.Requests.{owns_memory}
 use Rattle.server_replies.specs.WholeReplies.{LeavesWriter}
 use Rattle.virtiofsd_fuse.specs.Grammar.{Meaning, Asks, One, given}
@@ -36,7 +36,7 @@ pub owned_none : (m : Meaning) (split : Bool) (unique : ℕ) (made call : FileCa
 owned_none m split unique made call e f none = ap owns_memory f ∙ sym (ap meaning_owns e) ∙ or_none (meaning_owns m) split none
 
 -- a request that takes no memory takes none behind its header
-pub takes_none : (options room : ℕ) (r : ReaderView) (h : InHeader) (segments more : List ℕ) → Ok (h, more) ≡ reading_of in_header r.left
+pub takes_none : (options room : ℕ) (r : ReaderView) (h : InHeader) (segments more : List ℕ) → Ok (h, more) ≡ record_parser in_header r.left
     → segments ≡ past 40 r.segments
     → may_take_memory options r room ≡ false → body_takes_memory (given h options room) segments more ≡ false
 takes_none options room r h segments more e s p = rw s (rw (← e) at p)

@@ -4,7 +4,7 @@ use Rattle.std.proofs.Common.{refl, sym, ap, ◌∙◌, subst, arith, append_ass
 use Rattle.std.specs.Prelude.{IsTrue, OnOk, OnErr, slice_get}
 use Rattle.fuse_fs.specs.declared.answers.Entry.{Entry}
 use Rattle.fuse_fs.specs.Calls.{FileCall, FileAnswer, FileRun, Listed, Lookup, HasEntry, Failed, suits}
-use Rattle.virtiofsd_fuse.specs.Listings.{ListRequest, ListingResult, Next, undo_call, after_call, with_entry, list_entries}
+use Rattle.virtiofsd_fuse.specs.Listings.{ListRequest, ListingResult, Next, forget_lookup, after_call, with_entry, list_entries}
 use Rattle.server_replies.specs.Entries.{Fit, GoesIn, IsFull, IsWrong, entry_len, entry_bytes, fit_of, is_dot, no_node, AfterEntry}
 use Rattle.server_replies.specs.Entries.{after_entry}
 use Rattle.virtiofsd_fuse.specs.ListingRuns.{ListRun, EntryRun}
@@ -167,7 +167,7 @@ module _ {F : Type 0} (may : F → FileCall → FileAnswer → F → Type 0) whe
   -- `.` and `..`
   from_dot : (l : ListRequest) (d : Listed) (ds : List Listed) (left room : ℕ) (f end : F) (written final : List ℕ) (error : Option ℕ)
       → l.with_nodes ≡ true → is_dot d.name ≡ true
-      → PlacedRun may true d (no_node d) (undo_call l.context 0 ∷ []) (list_entries l ds) left room f written final error end
+      → PlacedRun may true d (no_node d) (forget_lookup l.context 0 ∷ []) (list_entries l ds) left room f written final error end
       → ListRun may l (d ∷ ds) left room f written final error end
   unfolding list_entries
   from_dot l d ds left room f end written final error nodes dot p =
@@ -175,7 +175,7 @@ module _ {F : Type 0} (may : F → FileCall → FileAnswer → F → Type 0) whe
 
   pub dot_run : (l : ListRequest) (d : Listed) (left room room_after : ℕ) (f f_after : F) (written written_after : List ℕ) (o : AfterEntry)
       → l.with_nodes ≡ true → is_dot d.name ≡ true
-      → PlacedOne may true d (no_node d) (undo_call l.context 0 ∷ []) left room f written o room_after f_after written_after
+      → PlacedOne may true d (no_node d) (forget_lookup l.context 0 ∷ []) left room f written o room_after f_after written_after
       → EntryRun may l d left room f written o room_after f_after written_after
   dot_run l d left room room_after f f_after written written_after (Ok left_after) nodes dot p =
       λ ds final error end rest. from_dot l d ds left room f end written final error nodes dot (p l ds final error end rest)
@@ -186,7 +186,7 @@ module _ {F : Type 0} (may : F → FileCall → FileAnswer → F → Type 0) whe
   from_found : (l : ListRequest) (d : Listed) (e : Entry ℕ) (ds : List Listed) (left room : ℕ) (f between end : F) (written final : List ℕ)
       (error : Option ℕ) → l.with_nodes ≡ true → is_dot d.name ≡ false
       → IsTrue (suits (Lookup l.context l.node d.name) (HasEntry e)) → may f (Lookup l.context l.node d.name) (HasEntry e) between
-      → PlacedRun may true d e (undo_call l.context e.inode ∷ []) (list_entries l ds) left room between written final error end
+      → PlacedRun may true d e (forget_lookup l.context e.inode ∷ []) (list_entries l ds) left room between written final error end
       → ListRun may l (d ∷ ds) left room f written final error end
   unfolding list_entries
   from_found l d e ds left room f between end written final error nodes dot fits step p =
@@ -201,7 +201,7 @@ module _ {F : Type 0} (may : F → FileCall → FileAnswer → F → Type 0) whe
   pub found_run : (l : ListRequest) (d : Listed) (e : Entry ℕ) (left room room_after : ℕ) (f between f_after : F)
       (written written_after : List ℕ) (o : AfterEntry) → l.with_nodes ≡ true → is_dot d.name ≡ false
       → IsTrue (suits (Lookup l.context l.node d.name) (HasEntry e)) → may f (Lookup l.context l.node d.name) (HasEntry e) between
-      → PlacedOne may true d e (undo_call l.context e.inode ∷ []) left room between written o room_after f_after written_after
+      → PlacedOne may true d e (forget_lookup l.context e.inode ∷ []) left room between written o room_after f_after written_after
       → EntryRun may l d left room f written o room_after f_after written_after
   found_run l d e left room room_after f between f_after written written_after (Ok left_after) nodes dot fits step p =
       λ ds final error end rest. from_found l d e ds left room f between end written final error nodes dot fits step

@@ -16,7 +16,7 @@ use Rattle.fuse_wire.specs.Opcodes.{opcode_of}
 use Rattle.fuse_fs.specs.Answers.{data_answer, written_answer}
 use Rattle.fuse_fs.specs.Calls.{FileCall, suits, Failed}
 use Rattle.fuse_fs.specs.Transfers.{moved}
-use Rattle.server_requests.specs.Reading.{Parser, ◌>>◌, Faults, Sends, and_then, within, value_of, reading_of, last_name}
+use Rattle.server_requests.specs.Reading.{Parser, ◌>>◌, Faults, Sends, and_then, within, value_of, record_parser, last_name}
 use Rattle.virtiofsd_fuse.specs.Grammar.{IsFault, Replies, Asks, One, Starts, Given, given, one, row, row_of, meant, meaning, record_row}
 use Rattle.virtiofsd_fuse.specs.Grammar.{name_row, bytes_row, ended}
 use Rattle.server_requests.specs.Fronts.{counted, flags2_of}
@@ -54,7 +54,7 @@ meant_none g bytes h e = meant_row g bytes None h e
 
 -- a request that is one record
 pub record_asks : {R : Type 0} → (g : Given) (s : RecordShape R) (call : InHeader → R → FileCall) (bytes more : List ℕ) (r : R)
-    → Ok (r, more) ≡ reading_of s bytes
+    → Ok (r, more) ≡ record_parser s bytes
     → ended g.header.unique (record_row s call g bytes) ≡ Asks (One g.header.unique (call g.header r))
 record_asks g s call bytes more r h = rw (← h) refl
 
@@ -111,19 +111,19 @@ too_large n p bytes h =
     rw test refl
 
 -- LISTXATTR, by its record
-pub list_asks : (g : Given) (bytes more : List ℕ) (r : GetxattrIn) → Ok (r, more) ≡ reading_of getxattr_in bytes → r.size ≤ 2 ^ 20
+pub list_asks : (g : Given) (bytes more : List ℕ) (r : GetxattrIn) → Ok (r, more) ≡ record_parser getxattr_in bytes → r.size ≤ 2 ^ 20
     → ended g.header.unique (listxattr_row g bytes) ≡ Asks (One g.header.unique (listxattr_call g.header r))
 list_asks g bytes more r e h =
     let test : nat_le r.size (2 ^ 20) ≡ true = grind (arith, nat_tests) in
     rw (← e, test) refl
 
-pub list_large : (g : Given) (bytes more : List ℕ) (r : GetxattrIn) → Ok (r, more) ≡ reading_of getxattr_in bytes → 2 ^ 20 < r.size
+pub list_large : (g : Given) (bytes more : List ℕ) (r : GetxattrIn) → Ok (r, more) ≡ record_parser getxattr_in bytes → 2 ^ 20 < r.size
     → ended g.header.unique (listxattr_row g bytes) ≡ Replies (error_bytes g.header.unique 12)
 list_large g bytes more r e h =
     let test : nat_le r.size (2 ^ 20) ≡ false = grind (arith, nat_tests) in
     rw (← e, test) refl
 
-pub list_short : (g : Given) (bytes : List ℕ) (e : Error) → Err (Faults e) ≡ reading_of getxattr_in bytes →
+pub list_short : (g : Given) (bytes : List ℕ) (e : Error) → Err (Faults e) ≡ record_parser getxattr_in bytes →
     ended g.header.unique (listxattr_row g bytes) ≡ IsFault e
 list_short g bytes e h = rw (← h) refl
 
@@ -134,16 +134,16 @@ read_without_room g r more h =
     let test : nat_le 16 g.room ≡ false = grind (arith, nat_tests) in
     rw test refl
 
-pub read_short : (g : Given) (bytes : List ℕ) (e : Error) → Err (Faults e) ≡ reading_of read_in bytes →
+pub read_short : (g : Given) (bytes : List ℕ) (e : Error) → Err (Faults e) ≡ record_parser read_in bytes →
     ended g.header.unique (read_row g bytes) ≡ IsFault e
 read_short g bytes e h = rw (← h) refl
 
 -- an INIT that is cut short in its first record, or in its second
-pub init_short : (g : Given) (bytes : List ℕ) (e : Error) → Err (Faults e) ≡ reading_of init_in_compat bytes →
+pub init_short : (g : Given) (bytes : List ℕ) (e : Error) → Err (Faults e) ≡ record_parser init_in_compat bytes →
     ended g.header.unique (init_row g bytes) ≡ IsFault e
 init_short g bytes e h = rw (← h) refl
 
-pub init_short_later : (g : Given) (bytes more : List ℕ) (r : InitInCompat) (e : Error) → Ok (r, more) ≡ reading_of init_in_compat bytes
+pub init_short_later : (g : Given) (bytes more : List ℕ) (r : InitInCompat) (e : Error) → Ok (r, more) ≡ record_parser init_in_compat bytes
     → Err (Faults e) ≡ flags2_of r more
     → ended g.header.unique (init_row g bytes) ≡ IsFault e
 init_short_later g bytes more r e h k = rw (← h, ← k) refl
@@ -154,12 +154,12 @@ pub silent_told : (room : ℕ) (result : Result ℕ Error) (written : List ℕ) 
 silent_told room result written e w = let room_enough : 0 ≤ room = omega arith in rw (e, w, le-ltb room 0 room_enough) refl
 
 -- a request by its header
-pub meaning_head : (options room : ℕ) (request more : List ℕ) (h : InHeader) → Ok (h, more) ≡ reading_of in_header request →
+pub meaning_head : (options room : ℕ) (request more : List ℕ) (h : InHeader) → Ok (h, more) ≡ record_parser in_header request →
     meaning options request room ≡ meant (given h options room) more
 unfolding meaning
 meaning_head options room request more h e = rw (← e) refl
 
-pub meaning_fault : (options room : ℕ) (request : List ℕ) (e : Error) → Err (Faults e) ≡ reading_of in_header request →
+pub meaning_fault : (options room : ℕ) (request : List ℕ) (e : Error) → Err (Faults e) ≡ record_parser in_header request →
     meaning options request room ≡ IsFault DecodeMessage
 unfolding meaning
 meaning_fault options room request e h = rw (← h) refl
@@ -234,8 +234,9 @@ moved_all (Ok n) bytes long none = long
 moved_all (Err e) bytes long none = sym none
 
 -- a READ, by its header and its record
-pub read_means : (options room : ℕ) (request more rest : List ℕ) (h : InHeader) (r : ReadIn) → Ok (h, more) ≡ reading_of in_header request
-    → Ok (r, rest) ≡ reading_of read_in more
+pub read_means : (options room : ℕ) (request more rest : List ℕ) (h : InHeader) (r : ReadIn)
+    → Ok (h, more) ≡ record_parser in_header request
+    → Ok (r, rest) ≡ record_parser read_in more
     → h.len ≤ 0x101000 → opcode_of h.opcode ≡ Some op.Read → 16 ≤ room
     → meaning options request room ≡ Asks (One h.unique (read_call h (room - 16) r))
 unfolding row
@@ -244,11 +245,11 @@ read_means options room request more rest h r e k short is fits =
     ∙ rw (← k) (read_asks (given h options room) r rest fits)
 
 -- WRITE, by its record and what is left
-pub write_asks : (g : Given) (bytes more : List ℕ) (r : WriteIn) → Ok (r, more) ≡ reading_of write_in bytes
+pub write_asks : (g : Given) (bytes more : List ℕ) (r : WriteIn) → Ok (r, more) ≡ record_parser write_in bytes
     → ended g.header.unique (write_row g bytes) ≡ Asks (One g.header.unique (write_call g.header r more))
 write_asks g bytes more r h = rw (← h) refl
 
-pub write_short : (g : Given) (bytes : List ℕ) (e : Error) → Err (Faults e) ≡ reading_of write_in bytes →
+pub write_short : (g : Given) (bytes : List ℕ) (e : Error) → Err (Faults e) ≡ record_parser write_in bytes →
     ended g.header.unique (write_row g bytes) ≡ IsFault e
 write_short g bytes e h = rw (← h) refl
 
@@ -259,7 +260,7 @@ write_suits h r bytes (Ok n) k c = grind (arith, nat_tests, c)
 write_suits h r bytes (Err n) k c = grind (arith, nat_tests, k.0, k.1)
 
 -- a listing, by its record
-pub listing_short : (with_nodes : Bool) (g : Given) (bytes : List ℕ) (e : Error) → Err (Faults e) ≡ reading_of read_in bytes →
+pub listing_short : (with_nodes : Bool) (g : Given) (bytes : List ℕ) (e : Error) → Err (Faults e) ≡ record_parser read_in bytes →
     ended g.header.unique (listing_row with_nodes g bytes) ≡ IsFault e
 listing_short with_nodes g bytes e h = rw (← h) refl
 

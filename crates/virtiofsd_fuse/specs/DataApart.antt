@@ -6,7 +6,7 @@ use Rattle.fuse_wire.specs.declared.opcodes.Opcode.{Opcode}
 use Rattle.fuse_wire.specs.declared.opcodes.Opcode.TheVariants as op
 use Rattle.fuse_wire.specs.Opcodes.{opcode_of}
 use Rattle.server_segments.specs.declared.error.Error.TheVariants.{DecodeMessage}
-use Rattle.server_requests.specs.Reading.{Parser, Faults, ◌>>=◌, ◌>>◌, give, needs, reading_of}
+use Rattle.server_requests.specs.Reading.{Parser, Faults, ◌>>=◌, ◌>>◌, give, needs, record_parser}
 
 -- the opcode is that of a WRITE
 abbrev pub is_write : Option Opcode → Bool
@@ -16,7 +16,7 @@ is_write _ = false
 -- the header of a WRITE at the front of a request (linux/fuse.h, struct fuse_in_header)
 abbrev pub write_header : Parser InHeader
 write_header =
-    reading_of in_header >>= λ h. needs (is_write (opcode_of h.opcode)) (Faults DecodeMessage) >> give h
+    record_parser in_header >>= λ h. needs (is_write (opcode_of h.opcode)) (Faults DecodeMessage) >> give h
 
 -- a request begins with the header of a WRITE
 abbrev pub begins_a_write : (request : List ℕ) → Bool

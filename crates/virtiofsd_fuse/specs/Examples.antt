@@ -10,7 +10,7 @@ use Rattle.fuse_fs.specs.Calls.{Listed, Readdir, Entries, HasEntry, Created, Don
 use Rattle.server_segments.specs.declared.error.Error.TheVariants.{DecodeMessage, EncodeMessage}
 use Rattle.server_segments.specs.declared.error.Error.TheVariants.{InvalidHeaderLength, InvalidXattrSize}
 use Rattle.server_segments.specs.declared.error.Error.TheVariants.{MissingExtension}
-use Rattle.server_requests.specs.Reading.{reading_of, last_name, two_names, name_and_value, front_name}
+use Rattle.server_requests.specs.Reading.{record_parser, last_name, two_names, name_and_value, front_name}
 use Rattle.server_requests.specs.Extras.{one_group, part, extension, extensions, extra_in, new_name}
 use Rattle.virtiofsd_fuse.specs.Grammar.{meaning, meant, row, IsFault, Asks, One}
 use Rattle.server_requests.specs.Fronts.{counted, with_bytes, setxattr_front}
@@ -59,40 +59,40 @@ serve request room answers = served (setting 4096 0 room) (meaning 0 request roo
 
 -- FORGET of node 5: its lookup count decreases by 3
 forget_means : meaning 0 (in_header_bytes 48 2 2 5 ++ le64 3) 0 ≡ Asks (One 2 (Forget nobody 5 3))
-unfolding meaning meant reading_of row
+unfolding meaning meant record_parser row
 forget_means = refl
 
 -- LOOKUP of `a` in the root
 lookup_means :
     meaning 0 (in_header_bytes 42 1 1 1 ++ 97 ∷ 0 ∷ []) 143 ≡ Asks (One 1 (Lookup nobody 1 (97 ∷ [])))
-unfolding meaning meant reading_of row counted last_name
+unfolding meaning meant record_parser row counted last_name
 lookup_means = refl
 
 -- GETATTR of node 5 with its open file 9
 getattr_means : meaning 0 (in_header_bytes 56 3 2 5 ++ le32 1 ++ le32 0 ++ le64 9) 0
     ≡ Asks (One 2 (Getattr nobody 5 (Some 9)))
-unfolding meaning meant reading_of row
+unfolding meaning meant record_parser row
 getattr_means = refl
 
 -- RELEASE of file 9 with a flush: the lock owner counts
 release_means : meaning 0 (in_header_bytes 64 18 2 5 ++ le64 9 ++ le32 2 ++ le32 1 ++ le64 7) 0
     ≡ Asks (One 2 (Release nobody 5 2 9 true false (Some 7)))
-unfolding meaning meant reading_of row
+unfolding meaning meant record_parser row
 release_means = refl
 
 -- an unknown opcode has the error -38 as its reply
 unknown_means : (serve (in_header_bytes 40 7 1 0) 16 []).reply ≡ answer_header 16 (2 ^ 32 - 38) 1
-unfolding meaning meant reading_of row error_bytes field_bytes
+unfolding meaning meant record_parser row error_bytes field_bytes
 unknown_means = refl
 
 -- INIT of version 8.0 has version 7.38 in its reply, without a call
 later_means : (serve (init 8 0 0 0) 80 []).reply ≡ answer_header 80 0 1 ++ le32 7 ++ le32 38 ++ zeros 56
-unfolding meaning meant reading_of row reply_bytes versions_bytes field_bytes
+unfolding meaning meant record_parser row reply_bytes versions_bytes field_bytes
 later_means = refl
 
 -- the same with a reply buffer of 79 bytes
 later_cut : (serve (init 8 0 0 0) 79 []).fault ≡ Some EncodeMessage
-unfolding meaning meant reading_of row reply_bytes versions_bytes field_bytes
+unfolding meaning meant record_parser row reply_bytes versions_bytes field_bytes
 later_cut = refl
 
 -- struct fuse_init_out for a client with readahead 0x20000 and agreed option 1: 65535 requests,
@@ -104,19 +104,19 @@ told_options =
 
 -- INIT of version 7.38 with one option; the file system wants none
 start_means : (serve (init 7 38 0x20000 1) 80 (Wants 0 ∷ [])).reply ≡ answer_header 80 0 1 ++ told_options
-unfolding meaning meant reading_of row reply_bytes started_bytes field_bytes
+unfolding meaning meant record_parser row reply_bytes started_bytes field_bytes
 start_means = refl
 
 -- RENAME of `a` to `b` in node 3
 rename_means : meaning 0 (in_header_bytes 52 12 1 1 ++ le64 3 ++ 97 ∷ 0 ∷ 98 ∷ 0 ∷ []) 0
     ≡ Asks (One 1 (Rename nobody 1 (97 ∷ []) 3 (98 ∷ []) 0))
-unfolding meaning meant reading_of row counted with_bytes two_names last_name
+unfolding meaning meant record_parser row counted with_bytes two_names last_name
 rename_means = refl
 
 -- SETXATTR whose value has one byte less than its record says
 setxattr_means : meaning 0 (in_header_bytes 54 21 1 1 ++ le32 3 ++ le32 0 ++ 117 ∷ 46 ∷ 97 ∷ 0 ∷ 1 ∷ 2 ∷ []) 0
     ≡ IsFault (InvalidXattrSize (3, 2))
-unfolding meaning meant reading_of row counted with_bytes setxattr_front name_and_value
+unfolding meaning meant record_parser row counted with_bytes setxattr_front name_and_value
 setxattr_means = refl
 
 -- MKDIR of `d` with an extension of this length, which holds the group 1000
@@ -127,30 +127,30 @@ mkdir size =
 -- groups are agreed
 mkdir_means : meaning (2 ^ 34) (mkdir 16) 0
     ≡ Asks (One 1 (Mkdir nobody 1 (100 ∷ []) 511 18 (record { security = None; group = Some 1000 })))
-unfolding meaning meant reading_of row counted with_bytes front_name new_name extra_in extensions extension
+unfolding meaning meant record_parser row counted with_bytes front_name new_name extra_in extensions extension
     part one_group
 mkdir_means = refl
 
 -- the extension is longer than the bytes left
 mkdir_long : meaning (2 ^ 34) (mkdir 17) 0 ≡ IsFault DecodeMessage
-unfolding meaning meant reading_of row counted with_bytes front_name new_name extra_in extensions extension
+unfolding meaning meant record_parser row counted with_bytes front_name new_name extra_in extensions extension
 mkdir_long = refl
 
 -- the extension is shorter than its header
 mkdir_short : meaning (2 ^ 34) (mkdir 7) 0 ≡ IsFault InvalidHeaderLength
-unfolding meaning meant reading_of row counted with_bytes front_name new_name extra_in extensions extension
+unfolding meaning meant record_parser row counted with_bytes front_name new_name extra_in extensions extension
 mkdir_short = refl
 
 -- security contexts are agreed too, but the request has none
 mkdir_missing : meaning (2 ^ 34 + 2 ^ 32) (mkdir 16) 0 ≡ IsFault MissingExtension
-unfolding meaning meant reading_of row counted with_bytes front_name new_name extra_in extensions extension
+unfolding meaning meant record_parser row counted with_bytes front_name new_name extra_in extensions extension
     part one_group
 mkdir_missing = refl
 
 -- BATCH_FORGET of more pairs than those of 2^20 bytes has the error -12 as its reply
 forgets_means :
     (serve (in_header_bytes 48 42 2 0 ++ le32 65537 ++ le32 0) 16 []).reply ≡ answer_header 16 (2 ^ 32 - 12) 2
-unfolding meaning meant reading_of row error_bytes field_bytes
+unfolding meaning meant record_parser row error_bytes field_bytes
 forgets_means = refl
 
 -- a directory itself, and a file `a` in it
@@ -167,18 +167,18 @@ list_root opcode size = in_header_bytes 80 opcode 2 1 ++ zeros 16 ++ le32 size +
 
 -- READDIR: both entries have 32 bytes
 both_listed : length (serve (list_root 28 64) 80 (Entries (itself ∷ named_a ∷ []) ∷ [])).reply ≡ 80
-unfolding meaning meant reading_of row reply_bytes field_bytes list_entries fit_of dirent_bytes
+unfolding meaning meant record_parser row reply_bytes field_bytes list_entries fit_of dirent_bytes
 both_listed = refl
 
 -- READDIR for one byte less: the second entry doesn't go in
 one_listed : length (serve (list_root 28 63) 80 (Entries (itself ∷ named_a ∷ []) ∷ [])).reply ≡ 48
-unfolding meaning meant reading_of row reply_bytes field_bytes list_entries fit_of dirent_bytes
+unfolding meaning meant record_parser row reply_bytes field_bytes list_entries fit_of dirent_bytes
 one_listed = refl
 
 -- a reply buffer of one byte less: the error is -5
 no_room_listed : (serve (list_root 28 64) 79 (Entries (itself ∷ named_a ∷ []) ∷ [])).reply
     ≡ answer_header 16 (2 ^ 32 - 5) 2
-unfolding meaning meant reading_of row error_bytes field_bytes list_entries fit_of dirent_bytes
+unfolding meaning meant record_parser row error_bytes field_bytes list_entries fit_of dirent_bytes
 no_room_listed = refl
 
 -- the entry of `a`, with node 2
@@ -189,7 +189,7 @@ node_of_a = record (no_node named_a) { inode = 2 }
 plus_means :
     (serve (list_root 44 160) 176 (Entries (itself ∷ named_a ∷ []) ∷ HasEntry node_of_a ∷ Done ∷ [])).calls
     ≡ Readdir nobody 1 0 160 0 ∷ Lookup nobody 1 (97 ∷ []) ∷ Forget nobody 2 1 ∷ []
-unfolding meaning meant reading_of row reply_bytes field_bytes list_entries fit_of dirent_bytes node_bytes
+unfolding meaning meant record_parser row reply_bytes field_bytes list_entries fit_of dirent_bytes node_bytes
 plus_means = refl
 
 -- LOOKUP of `a` with a reply buffer of one byte too few: node 2 is forgotten
@@ -200,13 +200,13 @@ lookup_given_back : serve (in_header_bytes 42 1 1 1 ++ 97 ∷ 0 ∷ []) 143 (Has
       reply = [];
       fault = Some EncodeMessage;
     }
-unfolding meaning meant reading_of row counted last_name reply_bytes field_bytes
+unfolding meaning meant record_parser row counted last_name reply_bytes field_bytes
 lookup_given_back = refl
 
 -- with that byte the reply fits, and no node is forgotten
 lookup_told : (serve (in_header_bytes 42 1 1 1 ++ 97 ∷ 0 ∷ []) 144 (HasEntry node_of_a ∷ [])).calls
     ≡ Lookup nobody 1 (97 ∷ []) ∷ []
-unfolding meaning meant reading_of row counted last_name reply_bytes field_bytes
+unfolding meaning meant record_parser row counted last_name reply_bytes field_bytes
 lookup_told = refl
 
 -- CREATE of `c`, opened for reading and writing
@@ -217,7 +217,8 @@ create = in_header_bytes 58 35 1 1 ++ le32 2 ++ le32 420 ++ le32 18 ++ zeros 4 +
 created_given_back : (serve create 159 (Created node_of_a (Some 9) 0 ∷ Done ∷ [])).calls
     ≡ Create nobody 1 (99 ∷ []) 420 false 2 18 (record { security = None; group = None })
     ∷ Forget nobody 2 1 ∷ []
-unfolding meaning meant reading_of row counted with_bytes front_name new_name extra_in reply_bytes field_bytes
+unfolding meaning meant record_parser row counted with_bytes front_name new_name extra_in reply_bytes
+    field_bytes
 created_given_back = refl
 
 -- a name of 2^32 bytes is the error 75, with any size and room

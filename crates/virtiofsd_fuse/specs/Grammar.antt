@@ -21,7 +21,7 @@ use Rattle.fuse_fs.specs.Calls.{NotifyReply, TmpFile}
 use Rattle.server_segments.specs.declared.error.Error.{Error}
 use Rattle.server_segments.specs.declared.error.Error.TheVariants.{DecodeMessage, EncodeMessage}
 use Rattle.server_requests.specs.Reading.{ReadFailure, Faults, Sends, Parser, ◌>>=◌, ◌>>◌, give, refuse}
-use Rattle.server_requests.specs.Reading.{needs, reading_of, within, last_name, two_names, name_and_value}
+use Rattle.server_requests.specs.Reading.{needs, record_parser, within, last_name, two_names, name_and_value}
 use Rattle.server_requests.specs.Reading.{rest, many}
 use Rattle.server_calls.specs.Requests.{lookup_call, forget_call, getattr_call, setattr_call, readlink_call}
 use Rattle.server_calls.specs.Requests.{unlink_call, rmdir_call, open_call, statfs_call, release_call}
@@ -94,7 +94,7 @@ started g r flags2 =
 
 -- the row of a request that is one record
 abbrev pub record_row : {R : Type 0} → RecordShape R → (InHeader → R → FileCall) → Given → Parser Meaning
-record_row s call g = reading_of s >>= λ r. one g (call g.header r)
+record_row s call g = record_parser s >>= λ r. one g (call g.header r)
 
 -- the row of a request that is only its header
 abbrev pub header_row : (InHeader → FileCall) → Given → Parser Meaning
@@ -145,7 +145,7 @@ getxattr_row =
 -- LISTXATTR: struct fuse_getxattr_in
 abbrev pub listxattr_row : Given → Parser Meaning
 listxattr_row g =
-    reading_of getxattr_in >>= λ r. at_most_a_mebibyte r.size >> one g (listxattr_call g.header r)
+    record_parser getxattr_in >>= λ r. at_most_a_mebibyte r.size >> one g (listxattr_call g.header r)
 
 -- SETXATTR: the attribute's name and its value
 abbrev pub setxattr_row : Given → Parser Meaning
@@ -158,11 +158,11 @@ read_asked g r = needs (nat_le 16 g.room) (Faults EncodeMessage) >> one g (read_
 
 -- READ: struct fuse_read_in
 abbrev pub read_row : Given → Parser Meaning
-read_row g = reading_of read_in >>= λ r. read_asked g r
+read_row g = record_parser read_in >>= λ r. read_asked g r
 
 -- WRITE: struct fuse_write_in, and the data, which is all bytes behind it
 abbrev pub write_row : Given → Parser Meaning
-write_row g = reading_of write_in >>= λ r. rest >>= λ bytes. one g (write_call g.header r bytes)
+write_row g = record_parser write_in >>= λ r. rest >>= λ bytes. one g (write_call g.header r bytes)
 
 -- READDIR and READDIRPLUS ask for at most 2^20 bytes and at most the reply buffer's length, else
 -- the error is ENOMEM. It is a fault if the reply's header doesn't fit
@@ -174,7 +174,7 @@ listing_asked with_nodes r g =
 
 -- READDIR and READDIRPLUS: struct fuse_read_in
 abbrev pub listing_row : (with_nodes : Bool) → Given → Parser Meaning
-listing_row with_nodes g = reading_of read_in >>= λ r. listing_asked with_nodes r g
+listing_row with_nodes g = record_parser read_in >>= λ r. listing_asked with_nodes r g
 
 -- BATCH_FORGET with this number of pairs: their bytes are at most 2^20, else the error is ENOMEM
 abbrev pub forgets_asked : ℕ → Given → Parser Meaning
@@ -184,11 +184,11 @@ forgets_asked count g =
 
 -- BATCH_FORGET: struct fuse_batch_forget_in, and `count` times struct fuse_forget_one
 abbrev pub batch_forget_row : Given → Parser Meaning
-batch_forget_row g = reading_of batch_forget_in >>= λ r. forgets_asked r.count g
+batch_forget_row g = record_parser batch_forget_in >>= λ r. forgets_asked r.count g
 
 -- INIT: struct fuse_init_in, whose last 48 bytes are read only with FUSE_INIT_EXT
 abbrev pub init_row : Given → Parser Meaning
-init_row g = reading_of init_in_compat >>= λ r. flags2_of r >>= λ flags2. started g r flags2
+init_row g = record_parser init_in_compat >>= λ r. flags2_of r >>= λ flags2. started g r flags2
 
 -- a request without a call and without a reply
 abbrev pub silent_row : Given → Parser Meaning
@@ -250,7 +250,7 @@ row g op.Link = record_name_row link_in 8 link_call g
 row g op.Rename = two_names_row rename_in 8 rename_call g
 row g op.Rename2 = two_names_row rename2_in 16 rename2_call g
 
--- the meaning of a failed reading: a fault, or the reply of an error
+-- the meaning of a parser's failure: a fault, or the reply of an error
 abbrev pub refused : ℕ → ReadFailure → Meaning
 refused unique (Faults fault) = IsFault fault
 refused unique (Sends errno) = Replies (error_bytes unique errno)
@@ -280,4 +280,4 @@ with_header options room (Ok x) = meant (given x.0 options room) x.1
 
 -- the meaning of a request
 unfoldable pub meaning : (options : ℕ) (request : List ℕ) (room : ℕ) → Meaning
-meaning options request room = with_header options room (reading_of in_header request)
+meaning options request room = with_header options room (record_parser in_header request)

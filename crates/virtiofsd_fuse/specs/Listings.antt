@@ -58,8 +58,8 @@ abbrev pub after_call : FileCall → ListingResult → ListingResult
 after_call call w = record { calls = call ∷ w.calls; bytes = w.bytes; error = w.error }
 
 -- the call that forgets a node: FORGET of 1
-abbrev pub undo_call : Context → (node : ℕ) → FileCall
-undo_call who node = Forget who node 1
+abbrev pub forget_lookup : Context → (node : ℕ) → FileCall
+forget_lookup who node = Forget who node 1
 
 -- the result of the entries behind one, from the size and room left and the answers left
 abbrev pub Next : Type 0
@@ -76,7 +76,7 @@ with_entry with_nodes d e undo next left room answers =
 -- an entry that is looked up; a failed lookup ends the list with its error
 abbrev pub looked_up : ListRequest → Listed → Next → (left room : ℕ) → List FileAnswer → ListingResult
 looked_up l d next left room (HasEntry e ∷ answers) =
-    with_entry true d e (undo_call l.context e.inode ∷ []) next left room answers
+    with_entry true d e (forget_lookup l.context e.inode ∷ []) next left room answers
 looked_up l d next left room (Failed errno ∷ answers) = nothing_more [] (Some errno)
 looked_up l d next left room _ = nothing_more [] None
 
@@ -84,7 +84,7 @@ looked_up l d next left room _ = nothing_more [] None
 abbrev pub list_entry : ListRequest → Listed → Next → (left room : ℕ) → List FileAnswer → ListingResult
 list_entry l d next left room answers =
     if not l.with_nodes then with_entry false d (no_node d) [] next left room answers
-    else if is_dot d.name then with_entry true d (no_node d) (undo_call l.context 0 ∷ []) next left
+    else if is_dot d.name then with_entry true d (no_node d) (forget_lookup l.context 0 ∷ []) next left
     room answers
     else after_call (Lookup l.context l.node d.name) (looked_up l d next left room answers)
 

@@ -5,7 +5,7 @@ use Rattle.fuse_wire.specs.declared.opcodes.Opcode.{Opcode}
 use Rattle.fuse_wire.specs.declared.opcodes.Opcode.TheVariants as op
 use Rattle.fuse_wire.specs.Opcodes.{opcode_of}
 use Rattle.server_segments.specs.declared.error.Error.TheVariants.{DecodeMessage}
-use Rattle.server_requests.specs.Reading.{Parser, Faults, ◌>>=◌, ◌>>◌, give, needs, reading_of}
+use Rattle.server_requests.specs.Reading.{Parser, Faults, ◌>>=◌, ◌>>◌, give, needs, record_parser}
 use Rattle.server_calls.specs.Requests.{read_call}
 use Rattle.virtiofsd_fuse.specs.declared.reads.ReadRequest.{ReadRequest}
 use Rattle.virtiofsd_fuse.specs.Grammar.{Meaning, Asks, One}
@@ -22,6 +22,6 @@ is_read _ = false
 -- the READ in the first bytes of a request: its header, with a length of at most 0x101000, and its record
 abbrev pub read_request : Parser ReadRequest
 read_request =
-    reading_of in_header
+    record_parser in_header
     >>= λ h. needs (nat_le h.len 0x101000 && is_read (opcode_of h.opcode)) (Faults DecodeMessage)
-    >> reading_of read_in >>= λ r. give (record { header = h; «record» = r })
+    >> record_parser read_in >>= λ r. give (record { header = h; «record» = r })

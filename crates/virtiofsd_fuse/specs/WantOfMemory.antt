@@ -7,7 +7,7 @@ use Rattle.fuse_wire.specs.declared.opcodes.Opcode.TheVariants as op
 use Rattle.fuse_wire.specs.Opcodes.{opcode_of}
 use Rattle.fuse_fs.specs.Lengths.{past}
 use Rattle.server_segments.specs.ReaderAndWriterView.{ReaderView}
-use Rattle.server_requests.specs.Reading.{Parser, ReadFailure, reading_of}
+use Rattle.server_requests.specs.Reading.{Parser, ReadFailure, record_parser}
 use Rattle.server_requests.specs.Fronts.{counted_split, setxattr_len}
 use Rattle.server_calls.specs.Requests.{owns_memory}
 use Rattle.virtiofsd_fuse.specs.Grammar.{Meaning, Asks, One, Given, given, ended, row}
@@ -66,4 +66,4 @@ header_takes_memory options room segments (Ok x) = body_takes_memory (given x.0 
 -- a request may need memory
 abbrev pub may_take_memory : (options : ℕ) → (request : ReaderView) → (room : ℕ) → Bool
 may_take_memory options request room =
-    header_takes_memory options room (past 40 request.segments) (reading_of in_header request.left)
+    header_takes_memory options room (past 40 request.segments) (record_parser in_header request.left)

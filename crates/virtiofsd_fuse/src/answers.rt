@@ -4,7 +4,7 @@ ghost use Rattle.std.specs.Prelude.{◌≡◌, ◌<◌, ◌^◌, [], false, opti
 ghost use Rattle.fuse_fs.specs.Calls.{FileRun};
 ghost use Rattle.server_segments.specs.Errors.{lacks_memory};
 ghost use Rattle.server_replies.specs.WholeReplies.{with_written, whole_or_none, told_bytes, LeavesWriter};
-ghost use Rattle.server_calls.specs.Requests.{entry_node, give_back};
+ghost use Rattle.server_calls.specs.Requests.{entry_node, forget_node};
 ghost use Rattle.virtiofsd_fuse.specs.Serving.{undone, all_done};
 
 use crate::server::Server;
@@ -16,9 +16,9 @@ use server_segments::{Error, Writer};
 
 impl<F: FileSystem> Server<F> {
     // Calls `forget` once for a node, if there is one.
-    fn give_back(&mut self, context: Context, node: Option<F::Inode>)
+    fn forget_node(&mut self, context: Context, node: Option<F::Inode>)
         ensures run { FileRun F.may self.old.fs
-            (all_done (give_back context (option_map F.Inode.number node))) self.new.fs }
+            (all_done (forget_node context (option_map F.Inode.number node))) self.new.fs }
         ensures options { self.new.options ≡ self.old.options }
         ensures page_size { self.new.page_size ≡ self.old.page_size }
     {
@@ -43,7 +43,7 @@ impl<F: FileSystem> Server<F> {
             ≡ whole_or_none w.old.free (told_bytes A.silent unique (A.said answer)) }
         ensures back { FileRun F.may self.old.fs
             (all_done (undone w.old.free (told_bytes A.silent unique (A.said answer))
-            (give_back context (entry_node (A.said answer)))))
+            (forget_node context (entry_node (A.said answer)))))
             self.new.fs }
         ensures writer { LeavesWriter result w.old w.new }
         ensures memory { lacks_memory result ≡ false }
@@ -54,7 +54,7 @@ impl<F: FileSystem> Server<F> {
         match reply_answer(w, unique, answer) {
             Ok(len) => Ok(len),
             Err(error) => {
-                self.give_back(context, node);
+                self.forget_node(context, node);
                 Err(error)
             }
         }

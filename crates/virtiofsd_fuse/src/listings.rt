@@ -7,7 +7,7 @@ ghost use Rattle.fuse_fs.specs.Answers.{listed, numbered, context_of};
 ghost use Rattle.fuse_fs.specs.Calls.{Done};
 ghost use Rattle.server_replies.specs.Entries.{dirent_bytes, node_bytes, entry_len, fit_of, is_dot};
 ghost use Rattle.server_replies.specs.Entries.{after_entry};
-ghost use Rattle.virtiofsd_fuse.specs.Listings.{listing_of, undo_call};
+ghost use Rattle.virtiofsd_fuse.specs.Listings.{listing_of, forget_lookup};
 ghost use Rattle.virtiofsd_fuse.specs.ListingRuns.{ListRun, EntryRun};
 ghost use Rattle.virtiofsd_fuse.specs.Grammar.{Asks, Lists, listing_row};
 ghost use Rattle.virtiofsd_fuse.specs.Serving.{RowHandles, ServerHandles, Leaves};
@@ -43,7 +43,7 @@ impl<F: FileSystem> Server<F> {
         ensures same { OnErr result (w.new ≡ w.old) }
         ensures kept { OnOk result (self.new.fs ≡ self.old.fs) }
         ensures undone { OnErr result (F.may self.old.fs
-            (undo_call (context_of head.now) (F.Inode.number node.inode)) Done self.new.fs) }
+            (forget_lookup (context_of head.now) (F.Inode.number node.inode)) Done self.new.fs) }
         ensures room { length w.new.written + w.new.free ≡ length w.old.written + w.old.free }
         ensures options { self.new.options ≡ self.old.options }
         ensures page_size { self.new.page_size ≡ self.old.page_size }

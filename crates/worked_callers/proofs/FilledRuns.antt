@@ -13,13 +13,13 @@ use Rattle.fs_chain.specs.declared.popping.PopOutcome.TheVariants as says
 use Rattle.fs_chain.specs.declared.queue.QueueState.{QueueState}
 use Rattle.fs_chain.specs.declared.chain_handle.ChainHandle.{ChainHandle}
 use Rattle.fs_live.specs.Filling.{HandleFillsBuffer, HandleFillsRange, data_stores}
-use Rattle.fs_live.specs.Handles.{HandleWalks, live_of}
-use Rattle.fs_live.specs.Live.{FillsBuffer, LiveEvent, LiveRun, LiveState, OutChain, Walks, after_walk, new_chain, room_of}
+use Rattle.fs_live.specs.Handles.{HandleEndsPop, live_of}
+use Rattle.fs_live.specs.Live.{FillsBuffer, LiveEvent, LiveRun, LiveState, OutChain, EndsPop, after_pop, new_chain, room_of}
 use Rattle.fs_live.specs.Runs.{told_by}
 use Rattle.worked_callers.specs.OwnReplies.{IsAt}
 use Rattle.worked_callers.proofs.OwnRuns.{popped}
 
-module _ {F : Type 0} (may : May F) (walks_law : HandleWalks may) (old one : ChainHandle) (before after : QueueState) (head n r : ℕ)
+module _ {F : Type 0} (may : May F) (walks_law : HandleEndsPop may) (old one : ChainHandle) (before after : QueueState) (head n r : ℕ)
     (goes : before.stopped ≡ None) (walks : IsWalked old one before after (wents.On (says.Chain head n r))) (from : ℕ)
     (bytes : List ℕ) (s : LiveState F) (i : ℕ) (here : IsAt may s i old before) where
   pub filled_window : HandleFillsBuffer may → (v : Window) → IsWindowFrom one.regions true one.descriptors.items from v
@@ -32,9 +32,9 @@ module _ {F : Type 0} (may : May F) (walks_law : HandleWalks may) (old one : Cha
       let ds = one.descriptors.items in
       let pop = popped may walks_law old one before after head n r goes walks s i here in
       let c : OutChain = new_chain s i (live_of before) pop.loaded ds head None in
-      let s₁ : LiveState F = after_walk s i (live_of before) pop.loaded ds (step.Chain head None) in
+      let s₁ : LiveState F = after_pop s i (live_of before) pop.loaded ds (step.Chain head None) in
       let fills = law s₁ c s.outs [] one from v bytes refl tt refl window few in
-      (Walks i pop.loaded ds (step.Chain head None), c, s₁, (s₁, pop.happens, (s₁, fills.0, refl)), fills.1)
+      (EndsPop i pop.loaded ds (step.Chain head None), c, s₁, (s₁, pop.happens, (s₁, fills.0, refl)), fills.1)
 
   pub filled_range : HandleFillsRange may → (guest len : ℕ) → IsRangeFrom true one.descriptors.items from guest len → length bytes ≤ len
       → (popped : LiveEvent) × (c : OutChain) × (mid : LiveState F) × (address : ℕ)
@@ -45,9 +45,9 @@ module _ {F : Type 0} (may : May F) (walks_law : HandleWalks may) (old one : Cha
       let ds = one.descriptors.items in
       let pop = popped may walks_law old one before after head n r goes walks s i here in
       let c : OutChain = new_chain s i (live_of before) pop.loaded ds head None in
-      let s₁ : LiveState F = after_walk s i (live_of before) pop.loaded ds (step.Chain head None) in
+      let s₁ : LiveState F = after_pop s i (live_of before) pop.loaded ds (step.Chain head None) in
       let fills = law s₁ c s.outs [] one from guest len bytes refl tt refl range few in (
-        Walks i pop.loaded ds (step.Chain head None),
+        EndsPop i pop.loaded ds (step.Chain head None),
         c,
         s₁,
         fills.0,

@@ -15,15 +15,16 @@ use Rattle.fs_chain.specs.declared.loads.LoadOutcome.TheVariants as wents
 use Rattle.fs_chain.specs.declared.queue.QueueState.{QueueState}
 use Rattle.fs_chain.specs.declared.popping.PopOutcome.TheVariants as says
 use Rattle.fs_chain.specs.declared.chain_handle.ChainHandle.{ChainHandle}
-use Rattle.fs_live.specs.Handles.{HandleDecodesRequest, HandleWalks, IsHeld, IsOut, IsReached, IsSessionOf, live_of}
-use Rattle.fs_live.specs.Live.{Abandons, DecodesRequest, Happens, LiveEvent, LiveRun, LiveState, OutChain, ReceivesAnswer, Walks}
+use Rattle.fs_live.specs.Handles.{HandleDecodesRequest, HandleEndsPop, IsHeld, IsOut, IsReached, IsSessionOf, live_of}
+use Rattle.fs_live.specs.Live.{Abandons, DecodesRequest, Happens, LiveEvent, LiveRun, LiveState, OutChain, ReceivesAnswer, EndsPop}
 use Rattle.fs_live.specs.Live.{after_answer}
 use Rattle.fs_live.specs.Live.{after_asking}
-use Rattle.fs_live.specs.Live.{after_abandoning, after_walk, asked_chain, calls_among, new_chain}
+use Rattle.fs_live.specs.Live.{after_abandoning, after_pop, asked_chain, calls_among, new_chain}
 use Rattle.fs_live.specs.Others.{HandleAbandons}
 use Rattle.worked_callers.proofs.ServedBeside.{chain_is, reached_by}
 
-module _ {F : Type 0} (may : May F) (walks_law : HandleWalks may) (asks_law : HandleDecodesRequest may) (abandons_law : HandleAbandons may)
+module _ {F : Type 0} (may : May F) (walks_law : HandleEndsPop may) (asks_law : HandleDecodesRequest may)
+    (abandons_law : HandleAbandons may)
     (old one two : ChainHandle) (before after : QueueState) (head n r : ℕ)
     (session : Session) (request : List ℕ) (made : made_call.FileCall) (goes : before.stopped ≡ None)
     (walks : IsWalked old one before after (wents.On (says.Chain head n r)))
@@ -47,18 +48,18 @@ module _ {F : Type 0} (may : May F) (walks_law : HandleWalks may) (asks_law : Ha
       let is = chain_is ds walk.2 head n r walk.3 in
       let came = step.Chain head None in
       let c : OutChain = new_chain s i q loaded ds head None in
-      let s₁ : LiveState F = after_walk s i q loaded ds came in
-      let first : Happens may s (Walks i loaded ds came) s₁ =
-      subst (λ (k : comes.CourseStep). Happens may s (Walks i loaded ds k) (after_walk s i q loaded ds k)) is walk.4 in
+      let s₁ : LiveState F = after_pop s i q loaded ds came in
+      let first : Happens may s (EndsPop i loaded ds came) s₁ =
+      subst (λ (k : comes.CourseStep). Happens may s (EndsPop i loaded ds k) (after_pop s i q loaded ds k)) is walk.4 in
       let there₁ : slice_get s₁.queues i ≡ Some (live_of after) =
-      subst (λ (k : comes.CourseStep). slice_get (after_walk s i q loaded ds k).queues i ≡ Some (live_of after)) is walk.5 in
+      subst (λ (k : comes.CourseStep). slice_get (after_pop s i q loaded ds k).queues i ≡ Some (live_of after)) is walk.5 in
       let held : IsOut s.limit c one = subst (λ (k : comes.CourseStep). IsHeld s i q loaded k one) is walk.6 in
       let asking = asks_law s₁ c s.outs [] one two session request request (asks.Call made)
-      (reached_by may s s₁ (Walks i loaded ds came) reached first) small refl refl held in_session asked tt in
+      (reached_by may s s₁ (EndsPop i loaded ds came) reached first) small refl refl held in_session asked tt in
       let s₂ : LiveState F = after_asking s₁ s.outs [] c request in
       let d : OutChain = asked_chain c request s.options [] in
       let end : LiveState F = after_abandoning s₂ s.outs [] d in
-      let walked : LiveEvent = Walks i loaded ds came in
+      let walked : LiveEvent = EndsPop i loaded ds came in
       let told : LiveEvent = DecodesRequest c request (call ∷ []) in (
         (
           walked ∷ told ∷ Abandons d ∷ [],

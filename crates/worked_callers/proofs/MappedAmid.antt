@@ -15,9 +15,9 @@ use Rattle.fs_chain.specs.declared.state.ChainState.TheVariants as at
 use Rattle.fs_chain.specs.declared.popping.PopOutcome.TheVariants as says
 use Rattle.fs_chain.specs.declared.chain_handle.ChainHandle.{ChainHandle}
 use Rattle.plain_machine.specs.StepBy.{Act}
-use Rattle.fs_live.specs.Handles.{HandleWalks, IsHeld, IsOut, IsReached, live_of}
+use Rattle.fs_live.specs.Handles.{HandleEndsPop, IsHeld, IsOut, IsReached, live_of}
 use Rattle.fs_live.specs.Live.{Happens, IfKeepsReturns, KeepsQueue, KeepsReturns, LiveEvent, LiveRun, LiveState, OutChain, Own, Remaps}
-use Rattle.fs_live.specs.Live.{PushesChain, RepliesOwnBytes, Walks, after_giving, after_own, after_walk, calls_among, new_chain, room_of}
+use Rattle.fs_live.specs.Live.{PushesChain, RepliesOwnBytes, EndsPop, after_giving, after_own, after_pop, calls_among, new_chain, room_of}
 use Rattle.fs_live.specs.Others.{GoesBackOwn, HandlePushesOwn, HandleRemaps, HandleRepliesOwnBytes, IsOwn}
 use Rattle.fs_live.specs.Several.{LiveQueue, took}
 use Rattle.fs_live.proofs.Queues.{same_some, there_same}
@@ -25,7 +25,7 @@ use Rattle.worked_callers.proofs.OthersBeside.{own_kept}
 use Rattle.worked_callers.proofs.ServedBeside.{chain_is, reached_by, taken_of}
 
 pub mapped_amid :
-    {F : Type 0} (may : May F) (walks_law : HandleWalks may) (maps_law : HandleRemaps may) (replies_law : HandleRepliesOwnBytes may)
+    {F : Type 0} (may : May F) (walks_law : HandleEndsPop may) (maps_law : HandleRemaps may) (replies_law : HandleRepliesOwnBytes may)
     (returns_law : HandlePushesOwn may) (old one two other : ChainHandle)
     (before after : QueueState) (head n r serial : ℕ) (request reply : List ℕ) (notice : Bool) → before.stopped ≡ None
     → IsWalked old one before after (wents.On (says.Chain head n r))
@@ -48,11 +48,11 @@ mapped_amid {F} may walks_law maps_law replies_law returns_law old one two other
     let is = chain_is ds walk.2 head n r walk.3 in
     let came = step.Chain head None in
     let c : OutChain = new_chain s i q loaded ds head None in
-    let s₁ : LiveState F = after_walk s i q loaded ds came in
-    let first : Happens may s (Walks i loaded ds came) s₁ =
-    subst (λ (k : comes.CourseStep). Happens may s (Walks i loaded ds k) (after_walk s i q loaded ds k)) is walk.4 in
+    let s₁ : LiveState F = after_pop s i q loaded ds came in
+    let first : Happens may s (EndsPop i loaded ds came) s₁ =
+    subst (λ (k : comes.CourseStep). Happens may s (EndsPop i loaded ds k) (after_pop s i q loaded ds k)) is walk.4 in
     let there₁ : slice_get s₁.queues i ≡ Some (live_of after) =
-    subst (λ (k : comes.CourseStep). slice_get (after_walk s i q loaded ds k).queues i ≡ Some (live_of after)) is walk.5 in
+    subst (λ (k : comes.CourseStep). slice_get (after_pop s i q loaded ds k).queues i ≡ Some (live_of after)) is walk.5 in
     let held : IsOut s.limit c one = subst (λ (k : comes.CourseStep). IsHeld s i q loaded k one) is walk.6 in
     let taken_is : took q ≡ live_of after =
     same_some (took q) (live_of after) (sym (there_same s.queues i i (λ _. took q) q refl there) ∙ there₁) in
@@ -63,7 +63,7 @@ mapped_amid {F} may walks_law maps_law replies_law returns_law old one two other
     subst (λ (outs : List OutChain). AllByRecursion (KeepsQueue s₁ m) (outs ++ c ∷ [])) (sym none) (keeps_c, tt) in
     let s₂ : LiveState F = record s₁ { places = m } in
     let mapped : Happens may s₁ (Remaps m) s₂ = maps_law s₁ other (inr all) in
-    let reached₂ = reached_by may s₁ s₂ (Remaps m) (reached_by may s s₁ (Walks i loaded ds came) reached first) mapped in
+    let reached₂ = reached_by may s₁ s₂ (Remaps m) (reached_by may s s₁ (EndsPop i loaded ds came) reached first) mapped in
     let replied = replies_law s₂ c s.outs [] one serial s.options request reply reached₂ small refl refl held len clear in
     let d : OutChain = record c { phase = Own request reply } in
     let s₃ : LiveState F = after_own s₂ s.outs [] c request reply s.options in
@@ -72,7 +72,7 @@ mapped_amid {F} may walks_law maps_law replies_law returns_law old one two other
     let next_used = returns_law s₃ d s.outs [] two.state after request reply goes_back.0 0 notice refl there₁
     (taken_of before after goes taken_is) refl own goes_back.1 in
     let s₄ : LiveState F = after_giving s₃ s.outs [] d (live_of after) in (
-      Walks i loaded ds came ∷ Remaps m ∷ RepliesOwnBytes c request reply s.options
+      EndsPop i loaded ds came ∷ Remaps m ∷ RepliesOwnBytes c request reply s.options
           ∷ PushesChain d next_used.0 notice 0 next_used.1 next_used.2 ∷ [],
       s₄,
       (s₁, first, (s₂, mapped, (s₃, replied.0, (s₄, next_used.4, refl)))),

@@ -29,21 +29,23 @@ use Rattle.fs_chain.specs.declared.state.ChainState.TheVariants as at
 use Rattle.fs_chain.specs.declared.popping.PopOutcome.TheVariants as says
 use Rattle.fs_chain.specs.declared.chain_handle.ChainHandle.{ChainHandle}
 use Rattle.plain_machine.specs.StepBy.{Act, reply_stores, return_acts}
-use Rattle.fs_live.specs.Handles.{HandleWalks, IsHeld, IsOut, IsReached, live_of}
-use Rattle.fs_live.specs.Live.{Abandons, Drops, Happens, HasNoneInFlight, HasValidMaximum, LiveEvent, LiveRun, LiveState, MovesDevice}
+use Rattle.fs_live.specs.Handles.{HandleEndsPop, IsHeld, IsOut, IsReached, live_of}
+use Rattle.fs_live.specs.Live.{Abandons, GivesUpChain, Happens, HasNoneInFlight, HasValidMaximum, LiveEvent, LiveRun, LiveState}
+use Rattle.fs_live.specs.Live.{MovesDevice}
 use Rattle.fs_live.specs.Live.{OutChain, Own}
 use Rattle.fs_live.specs.Live.{RepliesOwnBytes}
-use Rattle.fs_live.specs.Live.{PushesChain, Walks, after_abandoning, after_drop, after_giving, after_own, after_walk, calls_among}
+use Rattle.fs_live.specs.Live.{PushesChain, EndsPop, after_abandoning, after_giving_up, after_giving, after_own, after_pop, calls_among}
 use Rattle.fs_live.specs.Live.{new_chain}
 use Rattle.fs_live.specs.Live.{room_of}
-use Rattle.fs_live.specs.Others.{AreBegunBy, GoesBackOwn, HandleAbandons, HandleDrops, HandleMovesDevice, HandlePushesOwn}
+use Rattle.fs_live.specs.Others.{AreBegunBy, GoesBackOwn, HandleAbandons, HandleGivesUpChain, HandleMovesDevice, HandlePushesOwn}
 use Rattle.fs_live.specs.Others.{HandleRepliesOwnBytes, IfOut}
 use Rattle.fs_live.specs.Others.{IsOwn, recorded}
 use Rattle.fs_live.specs.Several.{took}
 use Rattle.fs_live.proofs.Queues.{same_some, there_same}
 use Rattle.worked_callers.proofs.ServedBeside.{chain_is, held_later, reached_by, taken_of}
 
-pub dropped_beside : {F : Type 0} (may : May F) (walks_law : HandleWalks may) (drops_law : HandleDrops may) (old one later : ChainHandle)
+pub dropped_beside : {F : Type 0} (may : May F) (walks_law : HandleEndsPop may) (drops_law : HandleGivesUpChain may)
+    (old one later : ChainHandle)
     (before after last : QueueState) (head n r : ℕ) → before.stopped ≡ None
     → IsWalked old one before after (wents.On (says.Chain head n r)) → later.state ≡ one.state → give_up_error later.state after ≡ None
     → last ≡ (if is_out later.state then untook after else after) → (s : LiveState F) (i : ℕ)
@@ -58,24 +60,24 @@ dropped_beside {F} may walks_law drops_law old one later before after last head 
     let is = chain_is ds walk.2 head n r walk.3 in
     let came = step.Chain head None in
     let c : OutChain = new_chain s i q loaded ds head None in
-    let s₁ : LiveState F = after_walk s i q loaded ds came in
-    let first : Happens may s (Walks i loaded ds came) s₁ =
-    subst (λ (k : comes.CourseStep). Happens may s (Walks i loaded ds k) (after_walk s i q loaded ds k)) is walk.4 in
+    let s₁ : LiveState F = after_pop s i q loaded ds came in
+    let first : Happens may s (EndsPop i loaded ds came) s₁ =
+    subst (λ (k : comes.CourseStep). Happens may s (EndsPop i loaded ds k) (after_pop s i q loaded ds k)) is walk.4 in
     let there₁ : slice_get s₁.queues i ≡ Some (live_of after) =
-    subst (λ (k : comes.CourseStep). slice_get (after_walk s i q loaded ds k).queues i ≡ Some (live_of after)) is walk.5 in
+    subst (λ (k : comes.CourseStep). slice_get (after_pop s i q loaded ds k).queues i ≡ Some (live_of after)) is walk.5 in
     let held : IsOut s.limit c one = subst (λ (k : comes.CourseStep). IsHeld s i q loaded k one) is walk.6 in
     let dropped = drops_law s₁ c s.outs [] later after refl there₁ refl (held_later s.limit c one later same held) clear in
-    let s₂ : LiveState F = after_drop s₁ s.outs [] c (live_of after) in
+    let s₂ : LiveState F = after_giving_up s₁ s.outs [] c (live_of after) in
     let out : is_out later.state ≡ true = ap is_out (same ∙ held.state) in
     let left_is : untook after ≡ last = sym (left ∙ ap (λ (b : Bool). if b then untook after else after) out) in (
-      Walks i loaded ds came ∷ Drops c ∷ [],
+      EndsPop i loaded ds came ∷ GivesUpChain c ∷ [],
       s₂,
       (s₁, first, (s₂, dropped.0, refl)),
       append-nil s.outs,
       dropped.1 ∙ ap (λ (k : QueueState). Some (live_of k)) left_is,
     )
 
-pub lost_beside : {F : Type 0} (may : May F) (walks_law : HandleWalks may) (abandons_law : HandleAbandons may) (old one : ChainHandle)
+pub lost_beside : {F : Type 0} (may : May F) (walks_law : HandleEndsPop may) (abandons_law : HandleAbandons may) (old one : ChainHandle)
     (before after : QueueState) (head n r : ℕ) → before.stopped ≡ None
     → IsWalked old one before after (wents.On (says.Chain head n r)) → (s : LiveState F) (i : ℕ)
     → slice_get s.queues i ≡ Some (live_of before) → s.places ≡ places_in old.regions → s.limit ≡ old.limit
@@ -88,13 +90,13 @@ lost_beside {F} may walks_law abandons_law old one before after head n r goes wa
     let is = chain_is ds walk.2 head n r walk.3 in
     let came = step.Chain head None in
     let c : OutChain = new_chain s i q loaded ds head None in
-    let s₁ : LiveState F = after_walk s i q loaded ds came in
-    let first : Happens may s (Walks i loaded ds came) s₁ =
-    subst (λ (k : comes.CourseStep). Happens may s (Walks i loaded ds k) (after_walk s i q loaded ds k)) is walk.4 in
+    let s₁ : LiveState F = after_pop s i q loaded ds came in
+    let first : Happens may s (EndsPop i loaded ds came) s₁ =
+    subst (λ (k : comes.CourseStep). Happens may s (EndsPop i loaded ds k) (after_pop s i q loaded ds k)) is walk.4 in
     let there₁ : slice_get s₁.queues i ≡ Some (live_of after) =
-    subst (λ (k : comes.CourseStep). slice_get (after_walk s i q loaded ds k).queues i ≡ Some (live_of after)) is walk.5 in
+    subst (λ (k : comes.CourseStep). slice_get (after_pop s i q loaded ds k).queues i ≡ Some (live_of after)) is walk.5 in
     let lost = abandons_law s₁ c s.outs [] refl in (
-      Walks i loaded ds came ∷ Abandons c
+      EndsPop i loaded ds came ∷ Abandons c
           ∷ [],
       after_abandoning s₁ s.outs [] c,
       (s₁, first, (after_abandoning s₁ s.outs [] c, lost.0, refl)),
@@ -135,7 +137,7 @@ changed_twice [] i x y = refl
 changed_twice (z ∷ zs) zero x y = refl
 changed_twice {A} (z ∷ zs) (suc i) x y = ap (λ (l : List A). z ∷ l) (changed_twice zs i x y)
 
-pub replied_beside : {F : Type 0} (may : May F) (walks_law : HandleWalks may) (replies_law : HandleRepliesOwnBytes may)
+pub replied_beside : {F : Type 0} (may : May F) (walks_law : HandleEndsPop may) (replies_law : HandleRepliesOwnBytes may)
     (returns_law : HandlePushesOwn may) (old one two : ChainHandle)
     (before after final : QueueState) (head n r serial : ℕ) (request reply : List ℕ) (notice : Bool) → before.stopped ≡ None
     → IsWalked old one before after (wents.On (says.Chain head n r))
@@ -157,13 +159,14 @@ replied_beside {F} may walks_law replies_law returns_law old one two before afte
     let is = chain_is ds walk.2 head n r walk.3 in
     let came = step.Chain head None in
     let c : OutChain = new_chain s i q loaded ds head None in
-    let s₁ : LiveState F = after_walk s i q loaded ds came in
-    let first : Happens may s (Walks i loaded ds came) s₁ =
-    subst (λ (k : comes.CourseStep). Happens may s (Walks i loaded ds k) (after_walk s i q loaded ds k)) is walk.4 in
+    let s₁ : LiveState F = after_pop s i q loaded ds came in
+    let first : Happens may s (EndsPop i loaded ds came) s₁ =
+    subst (λ (k : comes.CourseStep). Happens may s (EndsPop i loaded ds k) (after_pop s i q loaded ds k)) is walk.4 in
     let there₁ : slice_get s₁.queues i ≡ Some (live_of after) =
-    subst (λ (k : comes.CourseStep). slice_get (after_walk s i q loaded ds k).queues i ≡ Some (live_of after)) is walk.5 in
+    subst (λ (k : comes.CourseStep). slice_get (after_pop s i q loaded ds k).queues i ≡ Some (live_of after)) is walk.5 in
     let held : IsOut s.limit c one = subst (λ (k : comes.CourseStep). IsHeld s i q loaded k one) is walk.6 in
-    let replied = replies_law s₁ c s.outs [] one serial s.options request reply (reached_by may s s₁ (Walks i loaded ds came) reached first)
+    let replied = replies_law s₁ c s.outs [] one serial s.options request reply (reached_by may s s₁
+    (EndsPop i loaded ds came) reached first)
     small refl refl held len clear in
     let d : OutChain = record c { phase = Own request reply } in
     let s₂ : LiveState F = after_own s₁ s.outs [] c request reply s.options in
@@ -174,7 +177,8 @@ replied_beside {F} may walks_law replies_law returns_law old one two before afte
     let next_used = returns_law s₂ d s.outs [] two.state after request reply goes_back.0 0 notice refl there₁
     (taken_of before after goes taken_is) refl own goes_back.1 in
     let s₃ : LiveState F = after_giving s₂ s.outs [] d (live_of after) in (
-      Walks i loaded ds came ∷ RepliesOwnBytes c request reply s.options ∷ PushesChain d next_used.0 notice 0 next_used.1 next_used.2 ∷ [],
+      EndsPop i loaded ds came ∷ RepliesOwnBytes c request reply s.options ∷ PushesChain d next_used.0 notice 0 next_used.1 next_used.2
+          ∷ [],
       s₃,
       (s₁, first, (s₂, replied.0, (s₃, next_used.4, refl))),
       refl,

@@ -42,10 +42,10 @@ use Rattle.plain_machine.specs.MarkedPages.{returned_addresses}
 use Rattle.plain_machine.specs.Step.{Calls, Exchange}
 use Rattle.plain_machine.specs.StepBy.{Act}
 use Rattle.fs_live.specs.Guest.{DeviceEvent, PagesOfRun, Writes}
-use Rattle.fs_live.specs.Handles.{HandleDecodesRequest, HandleWalks, IsHeld, IsOut, IsReached, IsSessionOf, live_of}
+use Rattle.fs_live.specs.Handles.{HandleDecodesRequest, HandleEndsPop, IsHeld, IsOut, IsReached, IsSessionOf, live_of}
 use Rattle.fs_live.specs.Live.{DecodesRequest, GoesBackWith, Happens, LiveEvent, LiveRun, LiveState, OutChain, Own, Phase, ReceivesAnswer}
 use Rattle.fs_live.specs.Live.{PushesChain, RepliesOwnBytes}
-use Rattle.fs_live.specs.Live.{Walks, after_answer, after_asking, after_giving, after_own, after_walk, asked_chain, calls_among, new_chain}
+use Rattle.fs_live.specs.Live.{EndsPop, after_answer, after_asking, after_giving, after_own, after_pop, asked_chain, calls_among, new_chain}
 use Rattle.fs_live.specs.Live.{room_of}
 use Rattle.fs_live.specs.Others.{AskedIsHeld, GoesBackOwn, HandlePushesOwn, HandleRepliesInstead, HandleRepliesOwnBytes, IfOut, IsHeldAsked}
 use Rattle.fs_live.specs.Others.{IsOwn}
@@ -65,13 +65,13 @@ use Rattle.worked_callers.proofs.ServedBeside.{calls_of_both, chain_is, reached_
 pub record IsPopped {F : Type 0} (may : May F) (s : LiveState F) (i : ℕ) (before after : QueueState) (head : ℕ) (one : ChainHandle) :
     Type 0 where
   pub loaded : Loaded
-  pub happens : Happens may s (Walks i loaded one.descriptors.items (step.Chain head None))
-      (after_walk s i (live_of before) loaded one.descriptors.items (step.Chain head None))
-  pub there : slice_get (after_walk s i (live_of before) loaded one.descriptors.items (step.Chain head None)).queues i
+  pub happens : Happens may s (EndsPop i loaded one.descriptors.items (step.Chain head None))
+      (after_pop s i (live_of before) loaded one.descriptors.items (step.Chain head None))
+  pub there : slice_get (after_pop s i (live_of before) loaded one.descriptors.items (step.Chain head None)).queues i
       ≡ Some (live_of after)
   pub held : IsOut s.limit (new_chain s i (live_of before) loaded one.descriptors.items head None) one
 
-pub popped : {F : Type 0} (may : May F) (law : HandleWalks may) (old one : ChainHandle) (before after : QueueState) (head n r : ℕ)
+pub popped : {F : Type 0} (may : May F) (law : HandleEndsPop may) (old one : ChainHandle) (before after : QueueState) (head n r : ℕ)
     → before.stopped ≡ None → IsWalked old one before after (wents.On (says.Chain head n r)) → (s : LiveState F) (i : ℕ)
     → IsAt may s i old before → IsPopped may s i before after head one
 popped {F} may law old one before after head n r goes walks s i here =
@@ -81,8 +81,8 @@ popped {F} may law old one before after head n r goes walks s i here =
     let is = chain_is ds walk.2 head n r walk.3 in
     record {
       loaded = walk.0;
-      happens = subst (λ (k : comes.CourseStep). Happens may s (Walks i walk.0 ds k) (after_walk s i q walk.0 ds k)) is walk.4;
-      there = subst (λ (k : comes.CourseStep). slice_get (after_walk s i q walk.0 ds k).queues i ≡ Some (live_of after)) is walk.5;
+      happens = subst (λ (k : comes.CourseStep). Happens may s (EndsPop i walk.0 ds k) (after_pop s i q walk.0 ds k)) is walk.4;
+      there = subst (λ (k : comes.CourseStep). slice_get (after_pop s i q walk.0 ds k).queues i ≡ Some (live_of after)) is walk.5;
       held = subst (λ (k : comes.CourseStep). IsHeld s i q walk.0 k one) is walk.6;
     }
 
@@ -172,12 +172,12 @@ module _ {F : Type 0} (may : May F) (s : LiveState F) (i : ℕ) (before after : 
 
 both_events : (i head : ℕ) (loaded : Loaded) (ds : List Descriptor) (c d : OutChain) (request reply : List ℕ) (options : ℕ) (x : Exchange)
     (notice : Bool) (used : List Store) (seen : List ℕ) → (i == i) ≡ true → (d.queue == i) ≡ true
-    → events_on i (Walks i loaded ds (step.Chain head None) ∷ RepliesOwnBytes c request reply options
+    → events_on i (EndsPop i loaded ds (step.Chain head None) ∷ RepliesOwnBytes c request reply options
     ∷ PushesChain d x notice 0 used seen ∷ [])
     ≡ several.PopsOne head ∷ several.PushesOne (d.taken.position, d.head) (length x.reply) used ∷ []
 both_events i head loaded ds c d request reply options x notice used seen same so = rw (same, so) refl
 
-module _ {F : Type 0} (may : May F) (walks_law : HandleWalks may) (replies_law : HandleRepliesOwnBytes may)
+module _ {F : Type 0} (may : May F) (walks_law : HandleEndsPop may) (replies_law : HandleRepliesOwnBytes may)
     (returns_law : HandlePushesOwn may)
     (old one two : ChainHandle) (before after : QueueState) (head n r serial : ℕ) (request reply : List ℕ) (notice : Bool)
     (goes : before.stopped ≡ None) (walks : IsWalked old one before after (wents.On (says.Chain head n r)))
@@ -192,8 +192,8 @@ module _ {F : Type 0} (may : May F) (walks_law : HandleWalks may) (replies_law :
       let ds = one.descriptors.items in
       let pop = popped may walks_law old one before after head n r goes walks s i here in
       let c : OutChain = new_chain s i q pop.loaded ds head None in
-      let s₁ : LiveState F = after_walk s i q pop.loaded ds (step.Chain head None) in
-      let walked : LiveEvent = Walks i pop.loaded ds (step.Chain head None) in
+      let s₁ : LiveState F = after_pop s i q pop.loaded ds (step.Chain head None) in
+      let walked : LiveEvent = EndsPop i pop.loaded ds (step.Chain head None) in
       let replied = replies_law s₁ c s.outs [] one serial s.options request reply (reached_by may s s₁ walked here.reached pop.happens)
       here.small refl refl pop.held len clear in
       let own = own_kept one.state one two (record c { phase = Own request reply }) reply replied.1 kept in
@@ -207,8 +207,8 @@ module _ {F : Type 0} (may : May F) (walks_law : HandleWalks may) (replies_law :
       let ds = one.descriptors.items in
       let pop = popped may walks_law old one before after head n r goes walks s i here in
       let c : OutChain = new_chain s i q pop.loaded ds head None in
-      let s₁ : LiveState F = after_walk s i q pop.loaded ds (step.Chain head None) in
-      let walked : LiveEvent = Walks i pop.loaded ds (step.Chain head None) in
+      let s₁ : LiveState F = after_pop s i q pop.loaded ds (step.Chain head None) in
+      let walked : LiveEvent = EndsPop i pop.loaded ds (step.Chain head None) in
       let told : LiveEvent = RepliesOwnBytes c request reply s.options in
       let replied = replies_law s₁ c s.outs [] one serial s.options request reply (reached_by may s s₁ walked here.reached pop.happens)
       here.small refl refl pop.held len clear in
@@ -236,8 +236,8 @@ module _ {F : Type 0} (may : May F) (walks_law : HandleWalks may) (replies_law :
       let ds = one.descriptors.items in
       let pop = popped may walks_law old one before after head n r goes walks s i here in
       let c : OutChain = new_chain s i q pop.loaded ds head None in
-      let s₁ : LiveState F = after_walk s i q pop.loaded ds (step.Chain head None) in
-      let walked : LiveEvent = Walks i pop.loaded ds (step.Chain head None) in
+      let s₁ : LiveState F = after_pop s i q pop.loaded ds (step.Chain head None) in
+      let walked : LiveEvent = EndsPop i pop.loaded ds (step.Chain head None) in
       let told : LiveEvent = RepliesOwnBytes c request reply s.options in
       let replied = replies_law s₁ c s.outs [] one serial s.options request reply (reached_by may s s₁ walked here.reached pop.happens)
       here.small refl refl pop.held len clear in
@@ -289,7 +289,7 @@ entry_keeps w w' list list' e out brings is = elim brings.0 [
   | inr adds ↦ added_keeps w.state w'.state list list' e (λ l. added_found l (length list) (length e.0.name)) out adds is
 ]
 
-module _ {F : Type 0} (may : May F) (walks_law : HandleWalks may) (asks_law : HandleDecodesRequest may) (held_law : AskedIsHeld)
+module _ {F : Type 0} (may : May F) (walks_law : HandleEndsPop may) (asks_law : HandleDecodesRequest may) (held_law : AskedIsHeld)
     (instead_law : HandleRepliesInstead may) (returns_law : HandlePushesOwn may)
     (old one two three four : ChainHandle) (before after : QueueState) (head n r serial : ℕ) (session : Session) (request reply : List ℕ)
     (made : made_call.FileCall) (notice : Bool) (goes : before.stopped ≡ None)
@@ -309,8 +309,8 @@ module _ {F : Type 0} (may : May F) (walks_law : HandleWalks may) (asks_law : Ha
       let ds = one.descriptors.items in
       let pop = popped may walks_law old one before after head n r goes walks s i here in
       let c : OutChain = new_chain s i q pop.loaded ds head None in
-      let s₁ : LiveState F = after_walk s i q pop.loaded ds (step.Chain head None) in
-      let walked : LiveEvent = Walks i pop.loaded ds (step.Chain head None) in
+      let s₁ : LiveState F = after_pop s i q pop.loaded ds (step.Chain head None) in
+      let walked : LiveEvent = EndsPop i pop.loaded ds (step.Chain head None) in
       let told : LiveEvent = DecodesRequest c request (call ∷ []) in
       let asking = asks_law s₁ c s.outs [] one two session request request (asks.Call made)
       (reached_by may s s₁ walked here.reached pop.happens) here.small refl refl pop.held in_session asked tt in
@@ -337,8 +337,8 @@ module _ {F : Type 0} (may : May F) (walks_law : HandleWalks may) (asks_law : Ha
       let ds = one.descriptors.items in
       let pop = popped may walks_law old one before after head n r goes walks s i here in
       let c : OutChain = new_chain s i q pop.loaded ds head None in
-      let s₁ : LiveState F = after_walk s i q pop.loaded ds (step.Chain head None) in
-      let walked : LiveEvent = Walks i pop.loaded ds (step.Chain head None) in
+      let s₁ : LiveState F = after_pop s i q pop.loaded ds (step.Chain head None) in
+      let walked : LiveEvent = EndsPop i pop.loaded ds (step.Chain head None) in
       let told : LiveEvent = DecodesRequest c request (call ∷ []) in
       let asking = asks_law s₁ c s.outs [] one two session request request (asks.Call made)
       (reached_by may s s₁ walked here.reached pop.happens) here.small refl refl pop.held in_session asked tt in

@@ -24,7 +24,7 @@ use Rattle.fs_chain.specs.Orders.{front_len, return_error}
 use Rattle.fs_chain.specs.Queues.{pop_id_of}
 use Rattle.fs_chain.specs.Pushes.{IfHasReply, PushesBy}
 use Rattle.fs_chain.specs.Walks.{RefusalHasEvents, course_of, queue_after, state_after, told_of}
-use Rattle.fs_chain.specs.Whole.{FromTaken, GoesBackBy, IsByFlags, IsToldBySeen, IsWalked, acts_of}
+use Rattle.fs_chain.specs.Whole.{FromTaken, GoesBackBy, IsByFlags, IsToldBySeen, IsWalked, push_acts}
 use Rattle.fs_chain.proofs.WholeWalks.{walk_comes}
 
 abbrev IsAChain : walked.PopOutcome → Type 0
@@ -114,7 +114,7 @@ pub goes_back : (st : state.ChainState) (q : QueueState) (len : ℕ) (s : PushSt
     IfHasReply st (λ out reply. PushesBy q out reply s) →
     (acts : List Act) × (last : ℕ) × GoesBackBy q room behind st acts last (tells_of q flags)
 goes_back (at.HasReply out reply) q len s flags room behind can two back = (
-  acts_of room reply behind s flags,
+  push_acts room reply behind s flags,
   front_len reply,
   record { stores = s; flags = flags; flags_len = two; returns = (back, (refl, refl)); notified = refl },
 )
@@ -132,7 +132,7 @@ pub goes_back_by : (st : state.ChainState) (q : QueueState) (len : ℕ) (s : Pus
     (acts : List Act) × (last : ℕ) × (back : GoesBackBy q room behind st acts last (tells_of q flags)) × (back.flags ≡ flags)
     × (back.stores.seen_at ≡ s.seen_at)
 goes_back_by (at.HasReply out reply) q len s flags room behind can two back = (
-  acts_of room reply behind s flags,
+  push_acts room reply behind s flags,
   front_len reply,
   record { stores = s; flags = flags; flags_len = two; returns = (back, (refl, refl)); notified = refl },
   refl,

@@ -28,7 +28,8 @@ use Rattle.fs_chain.specs.declared.chain_handle.ChainHandle.{ChainHandle}
 use Rattle.fs_chain.proofs.WholeChains.{came_is, faulty_is}
 use Rattle.plain_machine.specs.Step.{Calls, EachSuits}
 use Rattle.plain_machine.specs.StepBy.{Act}
-use Rattle.fs_live.specs.Handles.{HandleCalls, HandleDecodesRequest, HandleFaulty, HandlePushesChain, HandleStoresNotification, HandleWalks}
+use Rattle.fs_live.specs.Handles.{HandleCalls, HandleDecodesRequest, HandleFaulty, HandlePushesChain, HandleStoresNotification}
+use Rattle.fs_live.specs.Handles.{HandleEndsPop}
 use Rattle.fs_live.specs.Handles.{IsFaultyOut, IsHeld}
 use Rattle.fs_live.specs.Handles.{IsKept, IsOut, IsReached, IsSessionOf, IsDecodedWhole, calls_told, live_of}
 use Rattle.fs_live.specs.Live.{
@@ -36,8 +37,8 @@ use Rattle.fs_live.specs.Live.{
   DecodesRequest,
   Abandons,
   ResetsQueue,
-  Declines,
-  Drops,
+  RefusesPop,
+  GivesUpChain,
   FillsBuffer,
   Happens,
   HasPlace,
@@ -50,11 +51,11 @@ use Rattle.fs_live.specs.Live.{
   RepliesOwnBytes,
   PushesChain,
   StoresNotification,
-  Walks,
+  EndsPop,
   after_answer,
   after_asking,
   after_giving,
-  after_walk,
+  after_pop,
   asked_chain,
   calls_among,
   calls_in,
@@ -80,15 +81,15 @@ module _ {F : Type 0} (may : May F) where
 
 calls_behind : (e : LiveEvent) (es fs : List LiveEvent) → calls_among (es ++ fs) ≡ calls_among es ++ calls_among fs →
     calls_among (e ∷ (es ++ fs)) ≡ calls_among (e ∷ es) ++ calls_among fs
-calls_behind (Walks i loaded ds came) es fs is = is
-calls_behind (Declines i e) es fs is = is
+calls_behind (EndsPop i loaded ds came) es fs is = is
+calls_behind (RefusesPop i e) es fs is = is
 calls_behind (DecodesRequest c request told) es fs is = is
 calls_behind (ReceivesAnswer c call answer) es fs is = ap (λ (calls : Calls). (call, answer) ∷ calls) is
 calls_behind (PushesChain c x notice last used seen) es fs is = is
 calls_behind (StoresNotification i store) es fs is = is
 calls_behind (ResetsQueue i w) es fs is = is
 calls_behind (FillsBuffer c stores) es fs is = is
-calls_behind (Drops c) es fs is = is
+calls_behind (GivesUpChain c) es fs is = is
 calls_behind (Abandons c) es fs is = is
 calls_behind (RepliesOwnBytes c request reply options) es fs is = is
 calls_behind (Remaps m) es fs is = is
@@ -225,7 +226,7 @@ pub record IsServed {F : Type 0} (may : May F) (s : LiveState F) (i : ℕ) (afte
   pub calls_of : calls_in single.chain.phase ≡ calls
   pub single_run : LiveRun may s (events_in single) end
 
-module _ {F : Type 0} (may : May F) (walks_law : HandleWalks may) (asks_law : HandleDecodesRequest may) (calls_law : HandleCalls may)
+module _ {F : Type 0} (may : May F) (walks_law : HandleEndsPop may) (asks_law : HandleDecodesRequest may) (calls_law : HandleCalls may)
     (returns_law : HandlePushesChain may) (old one later two three : ChainHandle)
     (before after : QueueState) (head n r : ℕ) (session : Session) (request : List ℕ) (made : told.Decoded) (given : ChainAnswer)
     (notice : Bool) (goes : before.stopped ≡ None)
@@ -245,14 +246,14 @@ module _ {F : Type 0} (may : May F) (walks_law : HandleWalks may) (asks_law : Ha
       let loaded = walk.0 in
       let is = chain_is ds walk.2 head n r walk.3 in
       let c : OutChain = new_chain s i q loaded ds head None in
-      let s₁ : LiveState F = after_walk s i q loaded ds (step.Chain head None) in
-      let first : Happens may s (Walks i loaded ds (step.Chain head None)) s₁ =
-      subst (λ (k : comes.CourseStep). Happens may s (Walks i loaded ds k) (after_walk s i q loaded ds k)) is walk.4 in
+      let s₁ : LiveState F = after_pop s i q loaded ds (step.Chain head None) in
+      let first : Happens may s (EndsPop i loaded ds (step.Chain head None)) s₁ =
+      subst (λ (k : comes.CourseStep). Happens may s (EndsPop i loaded ds k) (after_pop s i q loaded ds k)) is walk.4 in
       let there₁ : slice_get s₁.queues i ≡ Some (live_of after) =
-      subst (λ (k : comes.CourseStep). slice_get (after_walk s i q loaded ds k).queues i ≡ Some (live_of after)) is walk.5 in
+      subst (λ (k : comes.CourseStep). slice_get (after_pop s i q loaded ds k).queues i ≡ Some (live_of after)) is walk.5 in
       let held : IsOut s.limit c one = subst (λ (k : comes.CourseStep). IsHeld s i q loaded k one) is walk.6 in
       let asking = asks_law s₁ c s.outs [] later two session request request made
-      (reached_by may s s₁ (Walks i loaded ds (step.Chain head None)) reached first) small refl refl
+      (reached_by may s s₁ (EndsPop i loaded ds (step.Chain head None)) reached first) small refl refl
       (held_later s.limit c one later same held) in_session asked
       (told_with_reply made two three given has) in
       let s₂ : LiveState F = after_asking s₁ s.outs [] c request in
@@ -272,7 +273,7 @@ module _ {F : Type 0} (may : May F) (walks_law : HandleWalks may) (asks_law : Ha
       let last = PushesChain d next_used.0 notice goes_back.1 next_used.1 next_used.2 in
       let s₄ : LiveState F = after_giving ans.end s.outs [] d (live_of after) in
       record {
-        es = Walks i loaded ds (step.Chain head None) ∷ DecodesRequest c request (calls_told (drop 80 request) made)
+        es = EndsPop i loaded ds (step.Chain head None) ∷ DecodesRequest c request (calls_told (drop 80 request) made)
             ∷ (ans.es ++ last ∷ []);
         end = s₄;
         run = (s₁, first, (s₂, asking.0, run_more may s₂ ans.end s₄ ans.es last ans.run next_used.4));
@@ -320,7 +321,7 @@ sleep_is {F} may q wanted (Some store) law stores is = λ s i there place.
     (run, stores s s (StoresNotification i (store_of store) ∷ []) run)
 
 -- a faulty chain that is walked and goes back
-pub faulty_beside : {F : Type 0} (may : May F) (walks_law : HandleWalks may) (faulty_law : HandleFaulty may) (old one later : ChainHandle)
+pub faulty_beside : {F : Type 0} (may : May F) (walks_law : HandleEndsPop may) (faulty_law : HandleFaulty may) (old one later : ChainHandle)
     (before after : QueueState) (head : ℕ) (fault : ChainFault)
     (notice : Bool) → before.stopped ≡ None → IsWalked old one before after (wents.On (says.Faulty head fault))
     → later.state ≡ one.state
@@ -336,11 +337,11 @@ faulty_beside {F} may walks_law faulty_law old one later before after head fault
     let is = faulty_is ds walk.2 head fault walk.3 in
     let came = step.Chain head (Some fault) in
     let c : OutChain = new_chain s i q loaded ds head (Some fault) in
-    let s₁ : LiveState F = after_walk s i q loaded ds came in
-    let first : Happens may s (Walks i loaded ds came) s₁ =
-    subst (λ (k : comes.CourseStep). Happens may s (Walks i loaded ds k) (after_walk s i q loaded ds k)) is walk.4 in
+    let s₁ : LiveState F = after_pop s i q loaded ds came in
+    let first : Happens may s (EndsPop i loaded ds came) s₁ =
+    subst (λ (k : comes.CourseStep). Happens may s (EndsPop i loaded ds k) (after_pop s i q loaded ds k)) is walk.4 in
     let there₁ : slice_get s₁.queues i ≡ Some (live_of after) =
-    subst (λ (k : comes.CourseStep). slice_get (after_walk s i q loaded ds k).queues i ≡ Some (live_of after)) is walk.5 in
+    subst (λ (k : comes.CourseStep). slice_get (after_pop s i q loaded ds k).queues i ≡ Some (live_of after)) is walk.5 in
     let held : IsFaultyOut s.limit c one = subst (λ (k : comes.CourseStep). IsHeld s i q loaded k one) is walk.6 in
     let taken_is : took q ≡ live_of after =
     same_some (took q) (live_of after) (sym (there_same s.queues i i (λ _. took q) q refl there) ∙ there₁) in
@@ -348,7 +349,7 @@ faulty_beside {F} may walks_law faulty_law old one later before after head fault
     let next_used = faulty_law s₁ c s.outs [] later after fault goes_back.0 goes_back.1 notice refl there₁
     (taken_of before after goes taken_is) refl (faulty_later s.limit c one later same held) goes_back.2 in
     let s₂ : LiveState F = after_giving s₁ s.outs [] c (live_of after) in (
-      Walks i loaded ds came ∷ PushesChain c next_used.0 notice goes_back.1 next_used.1 next_used.2 ∷ [],
+      EndsPop i loaded ds came ∷ PushesChain c next_used.0 notice goes_back.1 next_used.1 next_used.2 ∷ [],
       s₂,
       (s₁, first, (s₂, next_used.4, refl)),
       refl,

@@ -19,12 +19,12 @@ use Rattle.fs_chain.specs.declared.popping.PopOutcome.TheVariants as says
 use Rattle.fs_chain.specs.declared.chain_handle.ChainHandle.{ChainHandle}
 use Rattle.plain_machine.specs.Step.{Calls}
 use Rattle.plain_machine.specs.StepBy.{Act}
-use Rattle.fs_live.specs.Handles.{HandleCalls, HandleDecodesRequest, HandlePushesChain, HandleWalks, IsHeld, IsKept, IsOut, IsReached}
+use Rattle.fs_live.specs.Handles.{HandleCalls, HandleDecodesRequest, HandlePushesChain, HandleEndsPop, IsHeld, IsKept, IsOut, IsReached}
 use Rattle.fs_live.specs.Handles.{IsSessionOf}
 use Rattle.fs_live.specs.Handles.{calls_told, live_of}
-use Rattle.fs_live.specs.Live.{DecodesRequest, Happens, LiveEvent, LiveRun, LiveState, OutChain, PushesChain, Walks, after_asking}
+use Rattle.fs_live.specs.Live.{DecodesRequest, Happens, LiveEvent, LiveRun, LiveState, OutChain, PushesChain, EndsPop, after_asking}
 use Rattle.fs_live.specs.Live.{after_giving}
-use Rattle.fs_live.specs.Live.{after_walk, asked_chain, calls_among, new_chain, room_of}
+use Rattle.fs_live.specs.Live.{after_pop, asked_chain, calls_among, new_chain, room_of}
 use Rattle.fs_live.specs.Several.{LiveQueue, took}
 use Rattle.fs_live.proofs.Queues.{same_some, there_same}
 use Rattle.worked_callers.proofs.TakenTwo.{goes_still}
@@ -42,7 +42,7 @@ late_of : (before mid after : QueueState) → before.stopped ≡ None → took (
 late_of before mid after goes one two =
     taken_of before mid goes one ∙ ap (λ (k : LiveQueue). record (k.queue) { position = before.next_avail; stopped = false }) two
 
-module _ {F : Type 0} (may : May F) (walks_law : HandleWalks may) (asks_law : HandleDecodesRequest may) (calls_law : HandleCalls may)
+module _ {F : Type 0} (may : May F) (walks_law : HandleEndsPop may) (asks_law : HandleDecodesRequest may) (calls_law : HandleCalls may)
     (returns_law : HandlePushesChain may) (old one one₂ one₃ old' two two₂ two₃ : ChainHandle)
     (before mid after : QueueState) (head n r head' n' r' : ℕ) (session session' : Session) (request request' : List ℕ)
     (made made' : told.Decoded) (given given' : ChainAnswer) (notice notice' : Bool)
@@ -72,24 +72,25 @@ module _ {F : Type 0} (may : May F) (walks_law : HandleWalks may) (asks_law : Ha
       let is = chain_is ds walk.2 head n r walk.3 in
       let came = step.Chain head None in
       let c : OutChain = new_chain s i q walk.0 ds head None in
-      let s₁ : LiveState F = after_walk s i q walk.0 ds came in
-      let first : Happens may s (Walks i walk.0 ds came) s₁ =
-      subst (λ (k : comes.CourseStep). Happens may s (Walks i walk.0 ds k) (after_walk s i q walk.0 ds k)) is walk.4 in
+      let s₁ : LiveState F = after_pop s i q walk.0 ds came in
+      let first : Happens may s (EndsPop i walk.0 ds came) s₁ =
+      subst (λ (k : comes.CourseStep). Happens may s (EndsPop i walk.0 ds k) (after_pop s i q walk.0 ds k)) is walk.4 in
       let there₁ : slice_get s₁.queues i ≡ Some q' =
-      subst (λ (k : comes.CourseStep). slice_get (after_walk s i q walk.0 ds k).queues i ≡ Some q') is walk.5 in
+      subst (λ (k : comes.CourseStep). slice_get (after_pop s i q walk.0 ds k).queues i ≡ Some q') is walk.5 in
       let held : IsOut s.limit c one = subst (λ (k : comes.CourseStep). IsHeld s i q walk.0 k one) is walk.6 in
       let goes' : mid.stopped ≡ None = goes_still old one before mid head n r goes walks in
       let walk' = walks_law s₁ i walks'.0 old' two mid after (says.Chain head' n' r') there₁ places' limit' goes' tt walks'.1 tt in
       let is' = chain_is ds' walk'.2 head' n' r' walk'.3 in
       let came' = step.Chain head' None in
       let c' : OutChain = new_chain s₁ i q' walk'.0 ds' head' None in
-      let s₂ : LiveState F = after_walk s₁ i q' walk'.0 ds' came' in
-      let second : Happens may s₁ (Walks i walk'.0 ds' came') s₂ =
-      subst (λ (k : comes.CourseStep). Happens may s₁ (Walks i walk'.0 ds' k) (after_walk s₁ i q' walk'.0 ds' k)) is' walk'.4 in
+      let s₂ : LiveState F = after_pop s₁ i q' walk'.0 ds' came' in
+      let second : Happens may s₁ (EndsPop i walk'.0 ds' came') s₂ =
+      subst (λ (k : comes.CourseStep). Happens may s₁ (EndsPop i walk'.0 ds' k) (after_pop s₁ i q' walk'.0 ds' k)) is' walk'.4 in
       let there₂ : slice_get s₂.queues i ≡ Some (live_of after) =
-      subst (λ (k : comes.CourseStep). slice_get (after_walk s₁ i q' walk'.0 ds' k).queues i ≡ Some (live_of after)) is' walk'.5 in
+      subst (λ (k : comes.CourseStep). slice_get (after_pop s₁ i q' walk'.0 ds' k).queues i ≡ Some (live_of after)) is' walk'.5 in
       let held' : IsOut s.limit c' two = subst (λ (k : comes.CourseStep). IsHeld s₁ i q' walk'.0 k two) is' walk'.6 in
-      let reached₂ = reached_by may s₁ s₂ (Walks i walk'.0 ds' came') (reached_by may s s₁ (Walks i walk.0 ds came) reached first) second in
+      let reached₂ = reached_by may s₁ s₂ (EndsPop i walk'.0 ds' came') (reached_by may s s₁
+      (EndsPop i walk.0 ds came) reached first) second in
       let asking = asks_law s₂ c s.outs (c' ∷ []) one one₂ session request request made reached₂ small
       (append_assoc s.outs (c ∷ []) (c' ∷ [])) refl held in_session asked
       (told_with_reply made one₂ one₃ given has) in
@@ -137,7 +138,7 @@ module _ {F : Type 0} (may : May F) (walks_law : HandleWalks may) (asks_law : Ha
       let last' = PushesChain e' returned'.0 notice' goes_back'.1 returned'.1 returned'.2 in
       let last = PushesChain e next_used.0 notice goes_back.1 next_used.1 next_used.2 in
       let ends : List LiveEvent = ans.es ++ last ∷ [] in (
-        Walks i walk.0 ds came ∷ Walks i walk'.0 ds' came' ∷ asks ∷ asks' ∷ (ans'.es ++ last' ∷ ends),
+        EndsPop i walk.0 ds came ∷ EndsPop i walk'.0 ds' came' ∷ asks ∷ asks' ∷ (ans'.es ++ last' ∷ ends),
         s₆,
         (
           s₁,

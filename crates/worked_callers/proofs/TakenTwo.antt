@@ -14,7 +14,7 @@ use Rattle.fs_chain.specs.declared.queue.QueueState.{QueueState}
 use Rattle.fs_chain.specs.declared.popping.PopOutcome.TheVariants as says
 use Rattle.fs_chain.specs.declared.chain_handle.ChainHandle.{ChainHandle}
 use Rattle.fs_chain.proofs.WholeWalks.{walk_comes}
-use Rattle.fs_live.specs.Live.{Happens, LiveState, Walks, WalksIn}
+use Rattle.fs_live.specs.Live.{Happens, LiveState, EndsPop, EndsPopIn}
 use Rattle.fs_live.specs.Runs.{events_on}
 use Rattle.fs_live.specs.Several.{heads_ended, heads_taken}
 use Rattle.worked_callers.proofs.ServedBeside.{chain_is}
@@ -22,10 +22,10 @@ use Rattle.worked_callers.proofs.ServedBeside.{chain_is}
 -- a walk that told a chain took it: places and limit stay
 pub took_so : {F : Type 0} (may : May F) (s next : LiveState F) (i : ℕ) (loaded : Loaded) (ds : List Descriptor) (came : comes.CourseStep)
     (head n r : ℕ) → says.Chain head n r ≡ told_of ds came
-    → Happens may s (Walks i loaded ds came) next → (came ≡ step.Chain head None) × (next.places ≡ s.places) × (next.limit ≡ s.limit)
+    → Happens may s (EndsPop i loaded ds came) next → (came ≡ step.Chain head None) × (next.places ≡ s.places) × (next.limit ≡ s.limit)
 took_so {F} may s next i loaded ds came head n r told happens =
     let is = chain_is ds came head n r told in
-    let goes = subst (λ (k : comes.CourseStep). WalksIn s i happens.w loaded ds k next) is happens.walks in
+    let goes = subst (λ (k : comes.CourseStep). EndsPopIn s i happens.w loaded ds k next) is happens.walks in
     (is, ap (λ (k : LiveState F). k.places) goes.1, ap (λ (k : LiveState F). k.limit) goes.1)
 
 -- and its queue goes on
@@ -38,13 +38,13 @@ goes_still old new before after head n r goes walked =
 
 -- two takes on one queue
 takes_two : (i head other : ℕ) (one two : Loaded) (ds more : List Descriptor) → (i == i) ≡ true
-    → (heads_taken (events_on i (Walks i one ds (step.Chain head None) ∷ Walks i two more (step.Chain other None) ∷ []))
+    → (heads_taken (events_on i (EndsPop i one ds (step.Chain head None) ∷ EndsPop i two more (step.Chain other None) ∷ []))
     ≡ head ∷ other ∷ [])
-    × (heads_ended (events_on i (Walks i one ds (step.Chain head None) ∷ Walks i two more (step.Chain other None) ∷ [])) ≡ [])
+    × (heads_ended (events_on i (EndsPop i one ds (step.Chain head None) ∷ EndsPop i two more (step.Chain other None) ∷ [])) ≡ [])
 takes_two i head other one two ds more same = (rw same refl, rw same refl)
 
 pub two_takes : (i head other : ℕ) (one two : Loaded) (ds more : List Descriptor)
-    → (heads_taken (events_on i (Walks i one ds (step.Chain head None) ∷ Walks i two more (step.Chain other None) ∷ []))
+    → (heads_taken (events_on i (EndsPop i one ds (step.Chain head None) ∷ EndsPop i two more (step.Chain other None) ∷ []))
     ≡ head ∷ other ∷ [])
-    × (heads_ended (events_on i (Walks i one ds (step.Chain head None) ∷ Walks i two more (step.Chain other None) ∷ [])) ≡ [])
+    × (heads_ended (events_on i (EndsPop i one ds (step.Chain head None) ∷ EndsPop i two more (step.Chain other None) ∷ [])) ≡ [])
 two_takes i head other one two ds more = takes_two i head other one two ds more (eq-eqb i i refl)

@@ -10,7 +10,7 @@ ghost use Rattle.fs_chain.specs.declared.state.ChainState.TheVariants as at;
 ghost use Rattle.fs_chain.specs.declared.popping.PopOutcome.{PopOutcome};
 ghost use Rattle.fs_live.specs.Among.{WalksAmong, load_count_among};
 ghost use Rattle.fs_live.specs.Handles.{live_of};
-ghost use Rattle.fs_live.specs.Live.{Declines, Happens, LiveEvent, LiveRun, LiveState};
+ghost use Rattle.fs_live.specs.Live.{RefusesPop, Happens, LiveEvent, LiveRun, LiveState};
 
 use crate::wholes::{give_back, wants_bytes};
 use fs_chain::{ChainError, ChainHandle, LoadOutcome, PopOutcome, QueueState};
@@ -100,7 +100,7 @@ pub fn find_stopped<F: FileSystem>(
         → slice_get s.queues i ≡ Some (live_of queue.old)
         → (told ≡ PopOutcome.Refused QueueError.Stopped)
         × (next : LiveState F)
-        × Happens F.may s (Declines i QueueError.Stopped) next
+        × Happens F.may s (RefusesPop i QueueError.Stopped) next
         × (slice_get next.queues i ≡ Some (live_of queue.new)) }
 {
     law_handles::<F>();

@@ -18,7 +18,7 @@ ghost use Rattle.fs_chain.specs.declared.decoding.Decoded.TheVariants as asks;
 ghost use Rattle.fs_chain.specs.declared.state.ChainState.TheVariants as at;
 ghost use Rattle.plain_machine.specs.Step.{Calls};
 ghost use Rattle.fs_live.specs.Handles.{IsKept, IsReached, IsSessionOf, changes_options, live_of, load_count};
-ghost use Rattle.fs_live.specs.Live.{Asked, Declines, Happens, HasPlace, LiveEvent, ReceivesAnswer};
+ghost use Rattle.fs_live.specs.Live.{Asked, RefusesPop, Happens, HasPlace, LiveEvent, ReceivesAnswer};
 ghost use Rattle.fs_live.specs.Live.{ResetsQueue};
 ghost use Rattle.fs_live.specs.Live.{LiveRun};
 ghost use Rattle.fs_live.specs.Live.{LiveState, NoneWaits, OutChain, StoresNotification, calls_among};
@@ -170,7 +170,7 @@ pub fn refuse_beside<F: FileSystem>(
         → event_miss (places_in handle.old.regions) queue.old ≡ None
         → (told ≡ PopOutcome.Refused e)
         × (next : LiveState F)
-        × Happens F.may s (Declines i e) next
+        × Happens F.may s (RefusesPop i e) next
         × (slice_get next.queues i ≡ Some (live_of queue.new))) }
 {
     law_handles::<F>();

@@ -11,7 +11,7 @@ use Rattle.fs_queue.specs.declared.walk.Walk as code
 use Rattle.fs_queue.specs.declared.walk.Walk.TheVariants as says
 use Rattle.fs_queue.specs.NextAvail.{NextAvail}
 use Rattle.fs_queue.specs.Loads.{asks_entry}
-use Rattle.fs_queue.specs.RingingView.{AsksEntry, Told, by_index, by_entry, stage_at, stage_of}
+use Rattle.fs_queue.specs.RingingView.{AsksEntry, HasResult, by_index, by_entry, stage_at, stage_of}
 use Rattle.fs_queue.proofs.RingLemmas.{ring_is_still, asked_told}
 use Rattle.fs_queue.proofs.by_loads.walk_ring.Goals as goal
 
@@ -22,7 +22,7 @@ placed l k p r e f = ap (λ (x : QueueLayout). at_position x p) e ∙ ap (at_pos
 asked : (n : NextAvail) → AsksEntry ≡ stage_at n → asks_entry n ≡ true
 asked n e = by_test (asks_entry n) e
   where
-    by_test : (b : Bool) → AsksEntry ≡ (if b then AsksEntry else Told n) → b ≡ true
+    by_test : (b : Bool) → AsksEntry ≡ (if b then AsksEntry else HasResult n) → b ≡ true
     by_test true h = refl
     by_test false h = absurd (cc)
 
@@ -34,12 +34,12 @@ is_entry says.Idle e = absurd (cc)
 is_entry (says.Refused x) e = absurd (cc)
 
 told_alone : (r : code.Walk) (n k : NextAvail) → ((w : RingEntryWalk) → r ≡ says.RingEntry w → ⊥) → stage_of r ≡ stage_at n →
-    (asks_entry n ≡ false → n ≡ k) → stage_of r ≡ Told k
+    (asks_entry n ≡ false → n ≡ k) → stage_of r ≡ HasResult k
 told_alone r n k other e same = by_test (asks_entry n) refl e
   where
-    by_test : (b : Bool) → asks_entry n ≡ b → stage_of r ≡ (if b then AsksEntry else Told n) → stage_of r ≡ Told k
+    by_test : (b : Bool) → asks_entry n ≡ b → stage_of r ≡ (if b then AsksEntry else HasResult n) → stage_of r ≡ HasResult k
     by_test true asks h = let w = is_entry r h in absurd (other w.0 w.1)
-    by_test false asks h = h ∙ ap Told (same asks)
+    by_test false asks h = h ∙ ap HasResult (same asks)
 
 pub returns-in-RingEntry-clause-told : goal.returns-in-RingEntry-clause-told
 returns-in-RingEntry-clause-told g c =
@@ -50,7 +50,7 @@ returns-in-RingEntry-clause-told g c =
     let asks = asked (by_index q c.load_from_ring-index.result)
     (c.in-RingEntry.ensures.stage ∙ ap (λ x. stage_at (by_index x c.load_from_ring-index.result)) here) in
     let tells = subst (λ (x : Queue). (index : List ℕ) → length index ≡ 2 → asks_entry (by_index x (Some index)) ≡ true →
-    stage_of c.give-in-RingEntry.result ≡ Told (by_entry x (Some index) c.load_from_ring-entry.result)) there
+    stage_of c.give-in-RingEntry.result ≡ HasResult (by_entry x (Some index) c.load_from_ring-entry.result)) there
     c.give-in-RingEntry.ensures.tells in
     asked_told m q c.load_from_ring-index.result c.load_from_ring-entry.result _ c.load_from_ring-index.ensures
     (c.load_from_ring-entry.ensures ∙ ap (λ a. if reach m Read a 2 then Some (bytes m a 2) else None) c.entry_offset-offset.ensures.at) asks

@@ -3,15 +3,15 @@ use Rattle.fs_queue.specs.WalkingView.{at_position}
 use Rattle.fs_queue.specs.Taking.{on_next_avail}
 use Rattle.fs_queue.proofs.OfferLemmas.{offer_next_avail, offer_lacks, refuses, refused_found, refused_walk, taken_found}
 use Rattle.fs_queue.specs.NextAvail.{NextAvail, Idle}
-use Rattle.fs_queue.specs.RingingView.{Stage, AsksIndex, AsksEntry, Told}
+use Rattle.fs_queue.specs.RingingView.{Stage, AsksIndex, AsksEntry, HasResult}
 use Rattle.fs_queue.proofs.take.take_into.Goals as goal
 
 abbrev next_of : Stage → NextAvail
 next_of AsksIndex = Idle
 next_of AsksEntry = Idle
-next_of (Told next) = next
+next_of (HasResult next) = next
 
-untold : (a b : NextAvail) → Told a ≡ Told b → a ≡ b
+untold : (a b : NextAvail) → HasResult a ≡ HasResult b → a ≡ b
 untold a b e = ap next_of e
 
 pub returns-in-Idle-clause-takes : goal.returns-in-Idle-clause-takes

@@ -1,7 +1,7 @@
 use Rattle.std.proofs.Common.{◌≡◌, ◌-◌, Ok, drop, length, refl, sym, subst, arith, List, ℕ}
 use Rattle.std.proofs.lemmas.List.{drop-drop, length-drop}
 use Rattle.fuse_in.specs.Records.{in_header}
-use Rattle.server_requests.specs.Reading.{reading_of}
+use Rattle.server_requests.specs.Reading.{record_parser}
 use Rattle.virtiofsd_fuse.proofs.Rows.{meaning_head}
 use Rattle.server_phases.specs.Asking.{BeginsRecord}
 use Rattle.server_phases.proofs.Fronts.{behind, front_begins, record_begins, record_by_front}
@@ -14,7 +14,7 @@ returns-in-Ok-clause-told c = λ page_size options request len is.
     let head = c.in-Ok.head in
     let left = c.record.new.self.bytes.now in
     let long = c.requires.front in
-    let reads : Ok (head, left) ≡ reading_of in_header front = c.in-Ok.ensures.reads in
+    let reads : Ok (head, left) ≡ record_parser in_header front = c.in-Ok.ensures.reads in
     let begins = record_by_front in_header front request left head (front_begins 40 front request is (omega arith)) reads in
     let same = behind in_header front left head reads in
     let joined : drop 40 (drop 40 request) ≡ drop 80 request = drop-drop 40 40 request in
@@ -28,7 +28,7 @@ returns-in-Ok-clause-asker c = λ request is.
     let front = c.args.front.now in
     let head = c.in-Ok.head in
     let long = c.requires.front in
-    let reads : Ok (head, c.record.new.self.bytes.now) ≡ reading_of in_header front = c.in-Ok.ensures.reads in
+    let reads : Ok (head, c.record.new.self.bytes.now) ≡ record_parser in_header front = c.in-Ok.ensures.reads in
     let begins = record_by_front in_header front request c.record.new.self.bytes.now head
     (front_begins 40 front request is (omega arith)) reads in
     has_asker request (drop 40 request) head c.ask_write_head.result begins c.ask_write_head.ensures.asker

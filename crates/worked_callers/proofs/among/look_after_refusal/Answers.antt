@@ -10,7 +10,7 @@ use Rattle.fs_chain.specs.declared.popping.PopOutcome.TheVariants as says
 use Rattle.fs_chain.specs.declared.chain_handle.ChainHandle.{ChainHandle}
 use Rattle.fs_live.specs.Among.{WalksAmong}
 use Rattle.fs_live.specs.Handles.{live_of}
-use Rattle.fs_live.specs.Live.{Walks, after_walk}
+use Rattle.fs_live.specs.Live.{EndsPop, after_pop}
 use Rattle.worked_callers.proofs.Looks.{keeps_queue}
 use Rattle.worked_callers.proofs.among.look_after_refusal.Goals as goal
 
@@ -41,8 +41,8 @@ returns-in-Err g c =
           let law = c.law_handles.ensures.among s i (index ∷ []) old new before now after says.Idle
           (there ∙ ap (λ (q : QueueState). Some (live_of q)) (sym same)) places limit c.requires.goes
           (ap (λ (q : QueueState). q.stopped) same ∙ c.requires.goes) (ap (λ (q : QueueState). q.event_index) same) tt walks tt in
-          let end = after_walk s i (live_of now) law.0 new.descriptors.items law.2 in
-          (Walks i law.0 new.descriptors.items law.2 ∷ [], end, (end, law.4, refl), law.5);
+          let end = after_pop s i (live_of now) law.0 new.descriptors.items law.2 in
+          (EndsPop i law.0 new.descriptors.items law.2 ∷ [], end, (end, law.4, refl), law.5);
       wants = λ n is lacks. c.law_handles.ensures.wanted_among (index ∷ []) old new before now after (wents.On (says.Load n))
           c.requires.goes (walks_so (says.Load n) is) tt lacks;
     }

@@ -10,7 +10,7 @@ use Rattle.fs_chain.specs.declared.queue.QueueState.{QueueState}
 use Rattle.fs_chain.specs.declared.popping.PopOutcome.TheVariants as says
 use Rattle.fs_live.specs.Among.{WalksAmong}
 use Rattle.fs_live.specs.Handles.{live_of}
-use Rattle.fs_live.specs.Live.{Walks, after_walk}
+use Rattle.fs_live.specs.Live.{EndsPop, after_pop}
 use Rattle.worked_callers.proofs.Looks.{keeps_queue}
 use Rattle.worked_callers.proofs.Served.{if_ok}
 use Rattle.worked_callers.proofs.among.look_amid_return.Goals as goal
@@ -47,6 +47,6 @@ returns g c =
           (there ∙ ap (λ (q : QueueState). Some (live_of q)) (sym now_is)) places limit c.requires.goes
           (ap (λ (q : QueueState). q.stopped) now_is ∙ c.requires.goes) (ap (λ (q : QueueState). q.event_index) now_is) tt
           (walks_so (wents.On says.Idle) goes) tt in
-          let end = after_walk s i (live_of now) law.0 new.descriptors.items law.2 in
-          (Walks i law.0 new.descriptors.items law.2 ∷ [], end, (end, law.4, refl), law.5);
+          let end = after_pop s i (live_of now) law.0 new.descriptors.items law.2 in
+          (EndsPop i law.0 new.descriptors.items law.2 ∷ [], end, (end, law.4, refl), law.5);
     }

@@ -5,7 +5,7 @@ use Rattle.fs_chain.specs.declared.loads.LoadOutcome.TheVariants as wents
 use Rattle.fs_chain.specs.declared.popping.PopOutcome as walked
 use Rattle.fs_chain.specs.declared.popping.PopOutcome.TheVariants as says
 use Rattle.fs_live.specs.Handles.{live_of}
-use Rattle.fs_live.specs.Live.{Walks, after_walk}
+use Rattle.fs_live.specs.Live.{EndsPop, after_pop}
 use Rattle.worked_callers.proofs.Served.{if_ok}
 use Rattle.worked_callers.proofs.beside.refuse_beside.Goals as goal
 
@@ -20,8 +20,8 @@ returns-clause-loaded g c e is s i there places limit events =
     c.walk_to_end.ensures.walked in
     let walk = c.law_handles.ensures.walks s i walks.0 old new before after (says.Refused e) there places limit c.requires.goes events
     walks.1 tt in
-    let end = after_walk s i (live_of before) walk.0 new.descriptors.items walk.2 in
-    (Walks i walk.0 new.descriptors.items walk.2 ∷ [], end, (end, walk.4, refl), walk.5)
+    let end = after_pop s i (live_of before) walk.0 new.descriptors.items walk.2 in
+    (EndsPop i walk.0 new.descriptors.items walk.2 ∷ [], end, (end, walk.4, refl), walk.5)
 
 pub returns-clause-declined : goal.returns-clause-declined
 returns-clause-declined g c =

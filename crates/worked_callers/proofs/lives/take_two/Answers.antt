@@ -4,7 +4,7 @@ use Rattle.fs_regions.specs.declared.step.CourseStep as comes
 use Rattle.fs_regions.specs.declared.step.CourseStep.TheVariants as step
 use Rattle.fs_chain.specs.declared.popping.PopOutcome.TheVariants as says
 use Rattle.fs_live.specs.Handles.{live_of}
-use Rattle.fs_live.specs.Live.{Happens, LiveEvent, LiveRun, OutChain, Walks, after_walk}
+use Rattle.fs_live.specs.Live.{Happens, LiveEvent, LiveRun, OutChain, EndsPop, after_pop}
 use Rattle.fs_live.specs.Runs.{events_on, tickets_on}
 use Rattle.fs_live.specs.Several.{InFlightId, heads_taken}
 use Rattle.worked_callers.proofs.TakenTwo.{goes_still, took_so, two_takes}
@@ -26,7 +26,7 @@ returns g c =
           let one = c.law_handles.ensures.walks s i first.walked.0 c.args.first.now c.walk_chain.new.handle before mid
           (says.Chain head c.in_ok-head.field-0-1 c.in_ok-head.field-0-2)
           there places limit c.requires.goes tt first.walked.1 tt in
-          let s₁ = after_walk s i (live_of before) one.0 ds one.2 in
+          let s₁ = after_pop s i (live_of before) one.0 ds one.2 in
           let took = took_so may s s₁ i one.0 ds one.2 head c.in_ok-head.field-0-1 c.in_ok-head.field-0-2 one.3 one.4 in
           let goes = goes_still c.args.first.now c.walk_chain.new.handle before mid head c.in_ok-head.field-0-1 c.in_ok-head.field-0-2
           c.requires.goes first.walked in
@@ -34,13 +34,13 @@ returns g c =
           c.walk_chain-2.new.queue
           (says.Chain other c.in_ok-other.field-0-1 c.in_ok-other.field-0-2) one.5 (took.1 ∙ places') (took.2 ∙ limit') goes tt
           second.walked.1 tt in
-          let s₂ = after_walk s₁ i (live_of mid) two.0 more two.2 in
+          let s₂ = after_pop s₁ i (live_of mid) two.0 more two.2 in
           let took' = took_so may s₁ s₂ i two.0 more two.2 other c.in_ok-other.field-0-1 c.in_ok-other.field-0-2 two.3 two.4 in
-          let es : List LiveEvent = Walks i one.0 ds (step.Chain head None) ∷ Walks i two.0 more (step.Chain other None) ∷ [] in
+          let es : List LiveEvent = EndsPop i one.0 ds (step.Chain head None) ∷ EndsPop i two.0 more (step.Chain other None) ∷ [] in
           let run : LiveRun may s es s₂ = (
             s₁,
-            subst (λ (k : comes.CourseStep). Happens may s (Walks i one.0 ds k) s₁) took.0 one.4,
-            (s₂, subst (λ (k : comes.CourseStep). Happens may s₁ (Walks i two.0 more k) s₂) took'.0 two.4, refl),
+            subst (λ (k : comes.CourseStep). Happens may s (EndsPop i one.0 ds k) s₁) took.0 one.4,
+            (s₂, subst (λ (k : comes.CourseStep). Happens may s₁ (EndsPop i two.0 more k) s₂) took'.0 two.4, refl),
           ) in
           let once = c.law_runs.ensures.once s s₂ es i (live_of before) there (ap (λ (l : List OutChain). tickets_on i l) none)
           (tt, (tt, tt)) run in

@@ -22,7 +22,7 @@ use Rattle.fs_live.specs.InitBeside.{
   second_used,
   starts,
 }
-use Rattle.fs_live.specs.Live.{DecodesRequest, LiveEvent, LiveRun, PushesChain, ReceivesAnswer, Walks}
+use Rattle.fs_live.specs.Live.{DecodesRequest, LiveEvent, LiveRun, PushesChain, ReceivesAnswer, EndsPop}
 use Rattle.fs_live.specs.Overlap.{at_positions, state}
 use Rattle.worked_callers.proofs.worked_runs.asked_before.Goals as goal
 
@@ -39,8 +39,8 @@ returns g c before between after starting looking =
     let eight = seven.2 in
     let start = state before (at_positions 0 0) 0 [] in
     let es : List LiveEvent =
-    Walks 0 first_loads first_table (step.Chain 0 None) ∷ DecodesRequest first lookup (looks ∷ [])
-    ∷ Walks 0 second_loads second_table (step.Chain 2 None) ∷ DecodesRequest second init (starts ∷ [])
+    EndsPop 0 first_loads first_table (step.Chain 0 None) ∷ DecodesRequest first lookup (looks ∷ [])
+    ∷ EndsPop 0 second_loads second_table (step.Chain 2 None) ∷ DecodesRequest second init (starts ∷ [])
     ∷ ReceivesAnswer second_asked starts (Wants 0) ∷ PushesChain second_answered second_exchange true 0 second_used (le16 0)
     ∷ ReceivesAnswer first_asked looks (Failed 2) ∷ [] in
     let run : LiveRun may start es seven.0 =

@@ -3,7 +3,7 @@ use Rattle.fs_queue.specs.declared.fault.QueueError.TheVariants.{HeadOutOfTable}
 use Rattle.fs_regions.specs.declared.step.CourseStep.TheVariants as step
 use Rattle.fuse_fs.specs.Calls.{Done}
 use Rattle.virtiofsd_fuse.specs.Examples.{le16}
-use Rattle.fs_live.specs.Live.{DecodesRequest, LiveEvent, LiveRun, ReceivesAnswer, Walks}
+use Rattle.fs_live.specs.Live.{DecodesRequest, LiveEvent, LiveRun, ReceivesAnswer, EndsPop}
 use Rattle.fs_live.specs.Overlap.{state}
 use Rattle.fs_live.specs.Rewritten.{at_positions, exchange, first, first_answered, first_asked, first_loads, forget, second_loads, table}
 use Rattle.fs_live.specs.Rewritten.{told, used}
@@ -19,7 +19,7 @@ returns g c before after so =
     let five = four.2 in
     let start = state before (at_positions 0 0) 0 [] in
     let es : List LiveEvent =
-    Walks 0 first_loads table (step.Chain 0 None) ∷ Walks 0 second_loads [] (step.Refused HeadOutOfTable)
+    EndsPop 0 first_loads table (step.Chain 0 None) ∷ EndsPop 0 second_loads [] (step.Refused HeadOutOfTable)
     ∷ DecodesRequest first forget (told ∷ [])
     ∷ ReceivesAnswer first_asked told Done ∷ [] in
     let run : LiveRun may start es four.0 = (one.0, one.1, (two.0, two.1, (three.0, three.1, (four.0, four.1, refl)))) in (

@@ -3,7 +3,7 @@ use Rattle.fs_regions.specs.declared.step.CourseStep.TheVariants as step
 use Rattle.fuse_fs.specs.Calls.{Destroy, Done}
 use Rattle.virtiofsd_fuse.specs.Examples.{le16}
 use Rattle.plain_machine.specs.Examples.{blank}
-use Rattle.fs_live.specs.Live.{DecodesRequest, Happens, LiveEvent, LiveRun, MovesDevice, PushesChain, ReceivesAnswer, Walks}
+use Rattle.fs_live.specs.Live.{DecodesRequest, Happens, LiveEvent, LiveRun, MovesDevice, PushesChain, ReceivesAnswer, EndsPop}
 use Rattle.fs_live.specs.Overlap.{at_positions, destroy, first, first_answered, first_asked, first_exchange, first_loads, first_table}
 use Rattle.fs_live.specs.Overlap.{first_used}
 use Rattle.fs_live.specs.Overlap.{second, second_asked, second_exchange, second_loads, second_table, second_used, state, unknown}
@@ -16,8 +16,8 @@ returns g c before after so later end more =
     let start = state before (at_positions 0 0) 1 [] in
     let now = state after (at_positions 2 2) 0 [] in
     let es : List LiveEvent =
-    Walks 0 first_loads first_table (step.Chain 0 None) ∷ DecodesRequest first destroy (Destroy ∷ [])
-    ∷ Walks 0 second_loads second_table (step.Chain 2 None) ∷ DecodesRequest second unknown []
+    EndsPop 0 first_loads first_table (step.Chain 0 None) ∷ DecodesRequest first destroy (Destroy ∷ [])
+    ∷ EndsPop 0 second_loads second_table (step.Chain 2 None) ∷ DecodesRequest second unknown []
     ∷ PushesChain second_asked second_exchange true 0 second_used (le16 0) ∷ ReceivesAnswer first_asked Destroy Done
     ∷ PushesChain first_answered first_exchange true 0 first_used (le16 0) ∷ [] in
     let run : LiveRun may start es now = c.law_examples.ensures.overlap before after so in

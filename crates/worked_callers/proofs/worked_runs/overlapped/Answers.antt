@@ -2,7 +2,7 @@ use Rattle.std.proofs.Common.{[], ◌∷◌, List, true, None, refl}
 use Rattle.fs_regions.specs.declared.step.CourseStep.TheVariants as step
 use Rattle.fuse_fs.specs.Calls.{Destroy, Done}
 use Rattle.virtiofsd_fuse.specs.Examples.{le16}
-use Rattle.fs_live.specs.Live.{DecodesRequest, LiveEvent, LiveRun, PushesChain, ReceivesAnswer, Walks}
+use Rattle.fs_live.specs.Live.{DecodesRequest, LiveEvent, LiveRun, PushesChain, ReceivesAnswer, EndsPop}
 use Rattle.fs_live.specs.Overlap.{at_positions, destroy, first, first_answered, first_asked, first_exchange, first_loads, first_table}
 use Rattle.fs_live.specs.Overlap.{first_used}
 use Rattle.fs_live.specs.Overlap.{second, second_asked, second_exchange, second_loads, second_table, second_used, state, unknown}
@@ -20,8 +20,8 @@ returns g c before after so =
     let seven = six.2 in
     let start = state before (at_positions 0 0) 1 [] in
     let es : List LiveEvent =
-    Walks 0 first_loads first_table (step.Chain 0 None) ∷ DecodesRequest first destroy (Destroy ∷ [])
-    ∷ Walks 0 second_loads second_table (step.Chain 2 None) ∷ DecodesRequest second unknown []
+    EndsPop 0 first_loads first_table (step.Chain 0 None) ∷ DecodesRequest first destroy (Destroy ∷ [])
+    ∷ EndsPop 0 second_loads second_table (step.Chain 2 None) ∷ DecodesRequest second unknown []
     ∷ PushesChain second_asked second_exchange true 0 second_used (le16 0) ∷ ReceivesAnswer first_asked Destroy Done ∷ [] in
     let run : LiveRun may start es six.0 =
     (one.0, one.1, (two.0, two.1, (three.0, three.1, (four.0, four.1, (five.0, five.1, (six.0, six.1, refl)))))) in (

@@ -1,6 +1,6 @@
 use Rattle.fuse_fs.specs.Answers.{context_of}
 use Rattle.fs_chain.proofs.chain_handle.ChainHandle.keep_front.Goals as goal
 
-pub returns-in-Told-clause-asker : goal.returns-in-Told-clause-asker
-returns-in-Told-clause-asker c =
-    λ request has h more reads. c.keep_asked.ensures.asker (context_of h) ((rw c.in-Told.is at has) h more reads)
+pub returns-in-Decoded-clause-asker : goal.returns-in-Decoded-clause-asker
+returns-in-Decoded-clause-asker c =
+    λ request has h more reads. c.keep_asked.ensures.asker (context_of h) ((rw c.in-Decoded.is at has) h more reads)

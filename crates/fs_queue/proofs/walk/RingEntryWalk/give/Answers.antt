@@ -8,7 +8,7 @@ use Rattle.fs_queue.specs.declared.fault.QueueError.TheVariants.{HeadOutOfTable}
 use Rattle.fs_queue.specs.NextAvail.{Head, Refused, next_avail}
 use Rattle.fs_queue.specs.Queue.{ring_entry_at, avail_index_at}
 use Rattle.fs_queue.specs.Loads.{asks_entry, holding, index_load, entry_load}
-use Rattle.fs_queue.specs.RingingView.{Told}
+use Rattle.fs_queue.specs.RingingView.{HasResult}
 use Rattle.fs_queue.specs.WalkingView.{at_position}
 use Rattle.fs_queue.proofs.RingLemmas.{entry_tells, entry_read, entry_says}
 use Rattle.fs_queue.proofs.walk.RingEntryWalk.give.Goals as goal
@@ -22,8 +22,8 @@ begins l position = omega (arith, l.available)
 pub returns-in_default-clause-tells : goal.returns-in_default-clause-tells
 returns-in_default-clause-tells c = λ index len asks.
     let q = at_position c.args.self.layout c.args.self.position in
-    sym (ap (λ (o : Option (List ℕ)). Told (next_avail (holding (index_load q (Some index) ∷ entry_load q o ∷ [])) q)) c.in_default.is
-    ∙ ap Told (entry_tells q index None len (begins c.args.self.layout c.args.self.position) tt asks))
+    sym (ap (λ (o : Option (List ℕ)). HasResult (next_avail (holding (index_load q (Some index) ∷ entry_load q o ∷ [])) q)) c.in_default.is
+    ∙ ap HasResult (entry_tells q index None len (begins c.args.self.layout c.args.self.position) tt asks))
 
 told : (l : QueueLayout) (position : ℕ) (index bs : List ℕ) (came : Option (List ℕ)) (n : ℕ) → came ≡ Some bs → length bs ≡ 2 →
     n ≡ from_le_bytes w16 bs → length index ≡ 2 →
@@ -39,13 +39,13 @@ told l position index bs came n is two read len asks =
 pub returns-then-head-size-clause-tells : goal.returns-then-head-size-clause-tells
 returns-then-head-size-clause-tells c = λ index len asks.
     let past : nat_le c.args.self.layout.size c.le16_number-head.result ≡ true = le-leb _ _ (omega arith) in
-    ap (λ b. Told (if b then Refused HeadOutOfTable else Head c.le16_number-head.result)) (sym past)
-    ∙ ap Told (told c.args.self.layout c.args.self.position index c.in-Some.bytes c.args.came c.le16_number-head.result c.in-Some.is
+    ap (λ b. HasResult (if b then Refused HeadOutOfTable else Head c.le16_number-head.result)) (sym past)
+    ∙ ap HasResult (told c.args.self.layout c.args.self.position index c.in-Some.bytes c.args.came c.le16_number-head.result c.in-Some.is
     (omega arith) c.le16_number-head.ensures len asks)
 
 pub returns-else-head-size-clause-tells : goal.returns-else-head-size-clause-tells
 returns-else-head-size-clause-tells c = λ index len asks.
     let inside : nat_le c.args.self.layout.size c.le16_number-head.result ≡ false = lt-leb _ _ (omega arith) in
-    ap (λ b. Told (if b then Refused HeadOutOfTable else Head c.le16_number-head.result)) (sym inside)
-    ∙ ap Told (told c.args.self.layout c.args.self.position index c.in-Some.bytes c.args.came c.le16_number-head.result c.in-Some.is
+    ap (λ b. HasResult (if b then Refused HeadOutOfTable else Head c.le16_number-head.result)) (sym inside)
+    ∙ ap HasResult (told c.args.self.layout c.args.self.position index c.in-Some.bytes c.args.came c.le16_number-head.result c.in-Some.is
     (omega arith) c.le16_number-head.ensures len asks)

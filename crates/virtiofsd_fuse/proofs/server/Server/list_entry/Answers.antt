@@ -4,7 +4,7 @@ use Rattle.fuse_fs.specs.declared.answers.Entry.{Entry}
 use Rattle.fuse_fs.specs.Answers.{listed, context_of}
 use Rattle.fuse_fs.specs.Calls.{Done}
 use Rattle.server_replies.specs.Entries.{no_node}
-use Rattle.virtiofsd_fuse.specs.Listings.{undo_call, listing_of}
+use Rattle.virtiofsd_fuse.specs.Listings.{forget_lookup, listing_of}
 use Rattle.virtiofsd_fuse.proofs.ListingLemmas.{nodeless_run, dot_run, placed_one, on_error, nothing_done, nothing_undone}
 use Rattle.virtiofsd_fuse.proofs.server.Server.list_entry.Goals as goal
 
@@ -23,7 +23,7 @@ returns-then-not-with_nodes-clause-run g c = λ request.
 pub returns-then-is_dot-clause-run : goal.returns-then-is_dot-clause-run
 returns-then-is_dot-clause-run g c = λ request.
     let d = listed c.args.entry.now in
-    let undo = undo_call (context_of c.args.head.now) 0 in
+    let undo = forget_lookup (context_of c.args.head.now) 0 in
     let put = c.put_node.ensures in
     let none = ap (λ (e : Entry _). e.inode) c.no_node.ensures in
     dot_run g.F.FileSystemBase.may (listing_of c.args.with_nodes c.args.head.now request) d _ _ _ _ _ _ _ c.put_node.result

@@ -2,14 +2,14 @@ use Rattle.std.proofs.Common.{true, [], ◌∷◌, refl, ap, rules}
 use Rattle.server_segments.specs.ReaderAndWriterView.{WriterView}
 use Rattle.fuse_fs.specs.Answers.{listed, numbered, context_of}
 use Rattle.fuse_fs.specs.Calls.{Done}
-use Rattle.virtiofsd_fuse.specs.Listings.{undo_call, listing_of}
+use Rattle.virtiofsd_fuse.specs.Listings.{forget_lookup, listing_of}
 use Rattle.virtiofsd_fuse.proofs.ListingLemmas.{found_run, unfound_run, placed_one, on_error}
 use Rattle.virtiofsd_fuse.proofs.server.Server.look_up.Goals as goal
 
 pub returns-in-Ok-clause-run : goal.returns-in-Ok-clause-run
 returns-in-Ok-clause-run g c = λ request.
     let node = numbered g.F.Inode.FileNumber.number c.in-Ok.node in
-    let undo = undo_call (context_of c.args.head.now) node.inode in
+    let undo = forget_lookup (context_of c.args.head.now) node.inode in
     let put = c.put_node.ensures in
     found_run g.F.FileSystemBase.may (listing_of true c.args.head.now request) (listed c.args.entry.now) node _ _ _ _ _ _ _ _
     c.put_node.result refl c.requires
