@@ -14,7 +14,7 @@ read 0x2000 16
 # Block 1, page 0 is the room, block 0, page 0 the used ring.
 harvest
 
-# Without its region the room can't be reached: the chain goes back for its fault, with no reply.
+# Without its region the reply buffer can't be written: the chain is returned with no reply.
 unregion 0x2000 0x1000
 write 0x102 0200
 kick 0 1

@@ -77,7 +77,7 @@
  *     barrier, and one more pop. That pop uses no earlier load of the available index (taker_waits,
  *     late). Sleep if it returns PK_IDLE, or if `max_in_flight` are in flight.
  *   - A thread that calls pk_pop or pk_set_notification while another thread of the queue sleeps
- *     does the same before it releases the lock (asks_again). It does so after any result, and
+ *     does the same before it releases the lock (rearms_again). It does so after any result, and
  *     without EVENT_IDX too, but may then omit the store if the queue's last one was the same. If
  *     its handle holds a chain, it can't pop: then it loads the available index again and compares
  *     it with `next_avail`. If a chain is available, it pops it or wakes a thread, since the driver

@@ -19,7 +19,7 @@ use Rattle.server_phases.specs.declared.listing.NotAdded as reason
 use Rattle.server_phases.specs.declared.listing.NotAdded.TheVariants as not_added
 use Rattle.server_phases.specs.Gathering.{Brought, EndsList, FailsList, Holds, IsListingFor, StaysBut, added_found, added_plain, all_bytes}
 use Rattle.server_phases.specs.Gathering.{all_found, bytes_of}
-use Rattle.server_phases.specs.Gathering.{entries_of, found_of, is_looked_up, look_up, look_ups, node_given_back, node_of}
+use Rattle.server_phases.specs.Gathering.{entries_of, found_of, is_looked_up, look_up, look_ups, forget_listed, node_of}
 use Rattle.server_phases.proofs.Gathered.{length_entry, listed_all}
 use Rattle.fs_chain.specs.declared.error.ChainError.{ChainError}
 use Rattle.fs_chain.specs.declared.listing.Added.{Added}
@@ -197,7 +197,7 @@ module _ (unique : ℕ) (a : asked.ListRequest) where
   out_steps e = looked_up call a.with_nodes e.0 (HasEntry e.1) ++ node_back call a.with_nodes e
 
   out_calls : (e : Brought) → calls_alone (looked_up call a.with_nodes e.0 (HasEntry e.1) ++ node_back call a.with_nodes e)
-      ≡ look_up (Lists unique a) e.0 ++ node_given_back (Lists unique a) e
+      ≡ look_up (Lists unique a) e.0 ++ forget_listed (Lists unique a) e
   out_calls e =
       calls_both (looked_up call a.with_nodes e.0 (HasEntry e.1)) (node_back call a.with_nodes e)
       ∙ ap (λ (x : List FileCall). x ++ calls_alone (node_back call a.with_nodes e)) (found_call e.0 (HasEntry e.1))
@@ -299,18 +299,18 @@ module _ (s : Setting) (l : Listing) (unique : ℕ) (a : asked.ListRequest) (lis
   out_at : (e : Brought) (behind : List Listed) (reply : List ℕ)
       → (let answers = answers_alone (node_back (readdir_call a) a.with_nodes e) in
       commanded s command (Entries (entries_of es ++ e.0 ∷ behind) ∷ (all_found l.with_nodes es ++ (found_of l.with_nodes e ++ answers)))
-      ≡ by_reply (readdir_call a ∷ (look_ups command es ++ (look_up command e.0 ++ node_given_back command e))) s.options reply)
+      ≡ by_reply (readdir_call a ∷ (look_ups command es ++ (look_up command e.0 ++ forget_listed command e))) s.options reply)
       → ServedBy s command (listing_calls (readdir_call a) a.with_nodes es (FullAt e behind)) reply
   out_at e behind reply comes =
       let steps = out_steps unique a e in
       let answers = answers_alone (node_back (readdir_call a) a.with_nodes e) in
       served_so s command (listing_calls (readdir_call a) a.with_nodes es (FullAt e behind))
       (Entries (entries_of es ++ e.0 ∷ behind) ∷ (all_found a.with_nodes es ++ (found_of a.with_nodes e ++ answers)))
-      (readdir_call a ∷ (look_ups command es ++ (look_up command e.0 ++ node_given_back command e))) reply
+      (readdir_call a ∷ (look_ups command es ++ (look_up command e.0 ++ forget_listed command e))) reply
       (ap (λ (x : List FileAnswer). Entries (entries_of es ++ e.0 ∷ behind) ∷ x)
       (behind_answers unique a es steps (found_of a.with_nodes e ++ answers) (out_answers unique a e)))
       (ap (λ (x : List FileCall). readdir_call a ∷ x)
-      (behind_calls unique a es steps (look_up command e.0 ++ node_given_back command e) (out_calls unique a e)))
+      (behind_calls unique a es steps (look_up command e.0 ++ forget_listed command e) (out_calls unique a e)))
       (ap (λ (b : Bool). commanded s command (Entries (entries_of es ++ e.0 ∷ behind) ∷ (all_found b es ++ (found_of b e ++ answers))))
       (sym is.1) ∙ comes)
 
@@ -319,14 +319,14 @@ module _ (s : Setting) (l : Listing) (unique : ℕ) (a : asked.ListRequest) (lis
   full_at e behind reply replies full =
       out_at e behind (reply.front ++ take reply.len list)
       (full s command es behind (answers_alone (node_back (readdir_call a) a.with_nodes e)) is holds
-      ∙ ap (λ (x : ServedMessage). record x { calls = x.calls ++ (look_up command e.0 ++ node_given_back command e) })
+      ∙ ap (λ (x : ServedMessage). record x { calls = x.calls ++ (look_up command e.0 ++ forget_listed command e) })
       (replies s command list es is holds))
 
   pub fails_at :
       (e : Brought) (behind : List Listed) (errno : ℕ) (reply : ListingReply) → IsFailedReply l errno reply → FailsList l list e errno
       → ServedBy s command (listing_calls (readdir_call a) a.with_nodes es (FailsAt e behind errno)) (reply.front ++ take reply.len list)
   fails_at e behind errno reply failed fails =
-      let calls = readdir_call a ∷ (look_ups command es ++ (look_up command e.0 ++ node_given_back command e)) in
+      let calls = readdir_call a ∷ (look_ups command es ++ (look_up command e.0 ++ forget_listed command e)) in
       out_at e behind (reply.front ++ take reply.len list)
       (fails s command es behind (answers_alone (node_back (readdir_call a) a.with_nodes e)) is holds
       ∙ ap (λ (x : List ℕ). by_reply calls s.options x) (sym (failed.bytes list es holds)))

@@ -18,8 +18,8 @@ use Rattle.virtiofsd_fuse.specs.Serving.{May, Setting, ServedMessage, served, co
 use Rattle.server_phases.specs.declared.answering.Answered.{Answered}
 use Rattle.server_phases.specs.declared.answering.Sent.{Sent}
 use Rattle.server_phases.specs.declared.answering.Sent.TheVariants as sent
-use Rattle.server_phases.specs.Answering.{Gives, TellsBytes, forget_calls, served_by}
-use Rattle.server_phases.specs.Gathering.{lists_entries}
+use Rattle.server_phases.specs.Answering.{Gives, TellsBytes, forget_if_any, served_by}
+use Rattle.server_phases.specs.Gathering.{is_list_command}
 use Rattle.server_phases.specs.Waiting.{first_call}
 use Rattle.fs_chain.specs.declared.decoding.Decoded.TheVariants as asks
 use Rattle.fs_chain.specs.declared.pushing.PushStores.{PushStores}
@@ -33,28 +33,29 @@ use Rattle.plain_machine.specs.StepBy as act
 use Rattle.fs_chain.specs.Whole.{OneAnswer, file_calls, front_if, push_acts, after_chain}
 
 -- one answer is enough, unless a directory is listed
-first_is_enough : (s : Setting) (command : FileCommand) (a : file.FileAnswer) (more : List file.FileAnswer) → lists_entries command ≡ false
+first_is_enough : (s : Setting) (command : FileCommand) (a : file.FileAnswer) (more : List file.FileAnswer)
+    → is_list_command command ≡ false
     → commanded s command (a ∷ more) ≡ commanded s command (a ∷ [])
 first_is_enough s (One unique call) a more not_list = refl
 first_is_enough s (Starts unique capable readahead) a more not_list = refl
 first_is_enough s (Lists unique l) a more not_list = absurd (true≢false not_list)
 
-forgets : (f : Option (Context × ℕ)) → calls_alone (map (λ c. (c, file.Done)) (forget_calls f)) ≡ forget_calls f
+forgets : (f : Option (Context × ℕ)) → calls_alone (map (λ c. (c, file.Done)) (forget_if_any f)) ≡ forget_if_any f
 forgets None = refl
 forgets (Some node) = refl
 
 pub serves_call : (s : Setting) (m : Meaning) (command : FileCommand) (made : made_call.FileCall) (bytes behind : List ℕ) (a : FileAnswer)
     (given : Answered) (options : ℕ)
-    → m ≡ Asks command → call_of behind made ≡ first_call command → lists_entries command ≡ false → Gives s command bytes a given options
+    → m ≡ Asks command → call_of behind made ≡ first_call command → is_list_command command ≡ false → Gives s command bytes a given options
     → served s m (answers_alone (file_calls behind (asks.Call made) (OneAnswer a bytes (replied_of given))))
     ≡ served_by (calls_alone (file_calls behind (asks.Call made) (OneAnswer a bytes (replied_of given)))) options given.sent bytes
 serves_call s m command made bytes behind a given options is call_is not_list gives =
     let calls = file_calls behind (asks.Call made) (OneAnswer a bytes (replied_of given)) in
     ap (λ (x : Meaning). served s x (answers_alone calls)) is
-    ∙ first_is_enough s command (answer_of bytes a) (answers_alone (map (λ c. (c, file.Done)) (forget_calls given.forget))) not_list
+    ∙ first_is_enough s command (answer_of bytes a) (answers_alone (map (λ c. (c, file.Done)) (forget_if_any given.forget))) not_list
     ∙ gives
     ∙ ap (λ (cs : List FileCall). served_by cs options given.sent bytes)
-    (ap (λ (c : FileCall). c ∷ forget_calls given.forget) (sym call_is)
+    (ap (λ (c : FileCall). c ∷ forget_if_any given.forget) (sym call_is)
     ∙ ap (λ (cs : List FileCall). call_of behind made ∷ cs) (sym (forgets given.forget)))
 
 pub by_calls : (cs : List FileCall) (o : ℕ) (x : Sent) (bytes : List ℕ) → (served_by cs o x bytes).calls ≡ cs

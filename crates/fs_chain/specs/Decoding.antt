@@ -10,7 +10,7 @@ use Rattle.server_phases.specs.declared.asking.DecodedRequest.TheVariants as ask
 use Rattle.server_phases.specs.declared.listing.Listing.{Listing}
 use Rattle.server_phases.specs.declared.waiting.Waiting.{Waiting}
 use Rattle.server_phases.specs.Asking.{AsksCall, TellsData, IsDecoded, front_tells}
-use Rattle.server_phases.specs.Gathering.{IsListingFor, lists_entries}
+use Rattle.server_phases.specs.Gathering.{IsListingFor, is_list_command}
 use Rattle.server_phases.specs.Waiting.{WaitsFor, first_call}
 use Rattle.fs_chain.specs.declared.decoding.Decoded as told
 use Rattle.fs_chain.specs.declared.decoding.Decoded.TheVariants as tells
@@ -31,7 +31,7 @@ AsksListing s m bytes made l =
 
 -- no command that the call may belong to is a listing
 abbrev pub WaitsForNoListing : Waiting → Type 0
-WaitsForNoListing w = (command : FileCommand) → WaitsFor w command → lists_entries command ≡ false
+WaitsForNoListing w = (command : FileCommand) → WaitsFor w command → is_list_command command ≡ false
 
 -- the returned call is the command's first one; the handle keeps it, or its listing, until it is answered
 abbrev pub KeepsCall : Setting → Meaning → (bytes : List ℕ) → FileCall → InFlight → state.ChainState → Type 0

@@ -30,7 +30,7 @@ use Rattle.virtiofsd_fuse.specs.Grammar.{meaning}
 use Rattle.virtiofsd_fuse.specs.Serving.{May, setting}
 use Rattle.server_phases.specs.declared.session.Session.{Session}
 use Rattle.server_phases.specs.Asking.{IsRequestFront}
-use Rattle.server_phases.specs.Answering.{TellsBytes, forget_calls}
+use Rattle.server_phases.specs.Answering.{TellsBytes, forget_if_any}
 use Rattle.server_phases.specs.Gathering.{Brought}
 use Rattle.fs_chain.specs.declared.answering.Replied.{Replied}
 use Rattle.fs_chain.specs.declared.decoding.Decoded as told
@@ -154,7 +154,7 @@ pub data ChainAnswer : Type 0 where
 -- doesn't fit; or a listing and its look-ups
 abbrev pub file_calls : (behind : List ℕ) → told.Decoded → ChainAnswer → Calls
 file_calls behind (asks.Call made) (OneAnswer answer bytes replied) =
-    (call_of behind made, answer_of bytes answer) ∷ map (λ c. (c, file.Done)) (forget_calls replied.forget)
+    (call_of behind made, answer_of bytes answer) ∷ map (λ c. (c, file.Done)) (forget_if_any replied.forget)
 file_calls behind (asks.Call made) (ByEntries with_nodes es ending bytes) =
     listing_calls (call_of behind made) with_nodes es ending
 file_calls behind made given = []
@@ -187,7 +187,7 @@ abbrev pub front_if : Option (List ℕ) → (behind : List ℕ) → List ℕ
 front_if None behind = []
 front_if (Some front) behind = front ++ behind
 
--- the bytes of a reply: none, if there is no front
+-- the bytes of a reply that the library encoded: none, if there is no front
 abbrev pub stored_reply : ChainReply → (behind : List ℕ) → List ℕ
 stored_reply reply behind = front_if reply.front behind
 

@@ -11,7 +11,8 @@ use Rattle.fs_chain.specs.declared.error.ChainError.TheVariants.{ChainInFlight}
 use Rattle.fs_chain.specs.declared.queue.QueueState.{QueueState}
 use Rattle.fs_chain.specs.declared.state.ChainState as state
 use Rattle.fs_chain.specs.declared.state.ChainState.TheVariants as at
-use Rattle.notify.specs.Threads.{Asker, DropsOne, ReturnsChains, Silences, SleepsNow, ThreadStep, ThreadedQueue, Walker, after_act, may_act}
+use Rattle.notify.specs.Threads.{Rearmer, DropsOne, ReturnsChains, Silences, SleepsNow, ThreadStep, ThreadedQueue, Walker, after_act}
+use Rattle.notify.specs.Threads.{may_act}
 use Rattle.fs_notify.specs.Takers.{IsCounted, IsOf, ways_of}
 use Rattle.fs_chain_c.specs.declared.notifications.FsStore.{FsStore}
 use Rattle.fs_chain_c.specs.declared.popping.FsPop.{FsPop}
@@ -143,7 +144,7 @@ sleeps_by : PopFindsFull → (b b' : ChainHandle) (q q' : FsQueue) (step : FsPop
     → PopsHandle b q [] step (chain_error_number ChainInFlight) b' q' → ActsAsSleep q q'
 sleeps_by law b b' q q' step small free (inl none) = absurd (apart 76 66 refl none.1)
 sleeps_by law b b' q q' step small free (inr is) =
-    acts_so SleepsNow (λ k. k) state_with_wish (λ k. q) (λ t. (t.holder ≡ Asker) × (t.hidden ≡ false)) q q' is.1 is.2
+    acts_so SleepsNow (λ k. k) state_with_wish (λ k. q) (λ t. (t.holder ≡ Rearmer) × (t.hidden ≡ false)) q q' is.1 is.2
     (counted q is.1 is.2 small.0 small.1 small.2) (λ s. (refl, refl)) (λ s. (refl, refl))
     (λ t. let made = law b b' q q' step t free (inr is) in (made.0, made.1, made.2, λ small of waits. made.3 of waits.0 waits.1))
 

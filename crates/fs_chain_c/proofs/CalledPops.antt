@@ -9,7 +9,7 @@ use Rattle.fs_chain.specs.Loads.{IsSame}
 use Rattle.fs_chain.specs.declared.chain_handle.ChainHandle.{ChainHandle}
 use Rattle.fs_chain.specs.declared.popping.PopOutcome.{PopOutcome}
 use Rattle.fs_chain.specs.declared.queue.QueueState.{QueueState}
-use Rattle.notify.specs.Threads.{Asker, SleepsNow, TakesOne, ThreadedQueue, Walker, after_act, may_act}
+use Rattle.notify.specs.Threads.{Rearmer, SleepsNow, TakesOne, ThreadedQueue, Walker, after_act, may_act}
 use Rattle.fs_notify.specs.Takers.{HasPopped, IsCounted, IsOf, ways_of}
 use Rattle.fs_chain_c.specs.declared.popping.FsPop.{FsPop}
 use Rattle.fs_chain_c.specs.declared.queue.FsQueue.{FsQueue}
@@ -120,7 +120,7 @@ finds_none_so law given before after q q' step status small zero_is so done =
           let asked : ThreadedQueue = state_with_wish k s in
           let made = law bytes b b' q q' step asked by in
           let same : made.0 ≡ k = state_same q made.0 k made.1 first.1 in
-          subst (λ (j : QueueState). IsCounted j → asked.index < 2 ^ 16 → j.stopped ≡ None → IsOf j asked → asked.holder ≡ Asker
+          subst (λ (j : QueueState). IsCounted j → asked.index < 2 ^ 16 → j.stopped ≡ None → IsOf j asked → asked.holder ≡ Rearmer
           → asked.hidden ≡ false → (k' : QueueState) × (q' ≡ put q k') × PopsByIndex bytes b b' j k' PopOutcome.Idle
           (λ index. asked.index ≡ index
           → IsTrue (may_act (ways_of j) asked SleepsNow) × IsOf k' (after_act (ways_of j) asked SleepsNow))) same made.2

@@ -266,7 +266,7 @@ pub front_read : (bytes : List ℕ) → IfRead (EndsIf bytes) (front_name bytes)
 unfolding front_name
 front_read bytes = front_by (length bytes == 0) bytes (name_by bytes (at_zero bytes)) (by_split bytes (at_zero bytes) (is_split bytes))
 
--- the end of a reading, if a test holds
+-- the end of a parser, if a test holds
 pub if_needed : {A : Type 0} (Q : A → Type 0) (test : Bool) (r : ReadFailure) (bytes : List ℕ) (a : A) → (test ≡ true → Q a)
     → IfRead (λ (a : A) (more : List ℕ). Q a) (and_then (needs test r bytes) (λ z. Ok (a, z.1)))
 if_needed Q true r bytes a h = h refl

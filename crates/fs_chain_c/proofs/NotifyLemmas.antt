@@ -41,7 +41,7 @@ wishes b q told s (inr is) = (
   is.1,
   is.2,
   λ counted of walker.
-      let asked = takers.asks is.1 s counted of walker in
+      let asked = takers.rearms is.1 s counted of walker in
       let store = asked.0 in
       let end : ThreadedQueue = after_act (ways_of is.1) (after_act (ways_of is.1) s Wishes) WishIsThere in
       let stored = told_store b.regions store told (subst (λ (x : Option Store). TellsStore b.regions x told 0) asked.1 is.3) in (

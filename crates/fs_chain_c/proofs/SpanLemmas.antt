@@ -336,7 +336,7 @@ by_opcode P g false o bytes rows = tt
 by_opcode P g true None bytes rows = tt
 by_opcode P g true (Some o) bytes rows = rows o
 
--- the reading of a header, by whether the request is too short
+-- the parser of a header, by whether the request is too short
 abbrev pub front_read : Bool → List ℕ → Parsed (List ℕ)
 front_read short bytes = if short then Err (Faults DecodeMessage) else Ok (take 40 bytes, drop 40 bytes)
 

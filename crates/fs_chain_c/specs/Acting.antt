@@ -14,7 +14,8 @@ use Rattle.fs_chain.specs.declared.loads.LoadOutcome.TheVariants as wents
 use Rattle.fs_chain.specs.declared.popping.PopOutcome.{PopOutcome}
 use Rattle.fs_chain.specs.declared.queue.QueueState.{QueueState}
 use Rattle.fs_chain.specs.declared.state.ChainState.TheVariants as at
-use Rattle.notify.specs.Threads.{ThreadedQueue, Asker, DropsOne, ReturnsChains, Silences, SleepsNow, TakesOne}
+use Rattle.notify.specs.Threads.{ThreadedQueue, Rearmer, DropsOne, ReturnsChains, Silences, SleepsNow}
+use Rattle.notify.specs.Threads.{TakesOne}
 use Rattle.notify.specs.Threads.{Walker, after_act, may_act}
 use Rattle.fs_notify.specs.Amid.{LoadsAmid, WalksAmid}
 use Rattle.fs_notify.specs.Takers.{HasPopped, IsCounted, IsIndex, IsOf, SaysWish, ways_of, wish_at}
@@ -119,7 +120,7 @@ PopFindsNone =
     → s.index < 2 ^ 16
     → k.stopped ≡ None
     → IsOf k s
-    → s.holder ≡ Asker
+    → s.holder ≡ Rearmer
     → s.hidden ≡ false
     → (k' : QueueState)
     × (q' ≡ put q k')
@@ -153,6 +154,6 @@ PopFindsFull =
     × IsQueueState q k
     × (q' ≡ q)
     × (IsOf k s
-    → s.holder ≡ Asker
+    → s.holder ≡ Rearmer
     → s.hidden ≡ false
     → IsTrue (may_act (ways_of k) s SleepsNow) × IsOf k (after_act (ways_of k) s SleepsNow))

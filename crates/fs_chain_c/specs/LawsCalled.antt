@@ -6,7 +6,7 @@ use Rattle.fs_chain.specs.declared.queue.QueueState.{QueueState}
 use Rattle.fs_chain.specs.declared.chain_handle.ChainHandle.{ChainHandle}
 use Rattle.fs_chain.specs.Queues.{gave, in_flight, untook}
 use Rattle.notify.specs.Kicks.{NotifyState, ChecksWish, after}
-use Rattle.notify.specs.Threads.{Asker, DropsOne, ReturnsChains, Silences, SleepsNow, ThreadStep}
+use Rattle.notify.specs.Threads.{Rearmer, DropsOne, ReturnsChains, Silences, SleepsNow, ThreadStep}
 use Rattle.notify.specs.Threads.{ThreadedQueue}
 use Rattle.notify.specs.Threads.{Walker, after_act, may_act}
 use Rattle.fs_notify.specs.Givers.{rules_of}
@@ -23,7 +23,8 @@ walked_by k s = record s { position = k.next_avail; out = in_flight k; holder = 
 
 -- the same of a thread whose wish is in memory, behind a barrier
 abbrev pub state_with_wish : QueueState → ThreadedQueue → ThreadedQueue
-state_with_wish k s = record s { position = k.next_avail; out = in_flight k; holder = Asker; hidden = false }
+state_with_wish k s =
+    record s { position = k.next_avail; out = in_flight k; holder = Rearmer; hidden = false }
 
 -- a giver that published this queue's next used chain and didn't check yet, while the driver's two bytes are
 -- these

@@ -86,8 +86,8 @@ statfs_said s = answer.Stats (record {
 })
 
 -- the answer of INIT: the options that the file system asks for
-abbrev pub wish_said : ℕ → FileAnswer
-wish_said wanted = answer.Wants (record { 0 = wanted; 1 = record {} })
+abbrev pub init_options_said : ℕ → FileAnswer
+init_options_said wanted = answer.Wants (record { 0 = wanted; 1 = record {} })
 
 -- a handle's call is answered by this, with a ticket; `BadArgument`, if C's numbers aren't an answer
 abbrev pub MayReply :
@@ -109,7 +109,7 @@ abbrev pub RepliesInit : (wanted ticket : ℕ) → Option ChainHandle → FsDevi
     Option ChainHandle → FsDevice → Type 0
 RepliesInit wanted ticket before d status after d' =
     OnHandle
-    (λ b b'. AnswersHandle b ticket (wish_said wanted) status b'
+    (λ b b'. AnswersHandle b ticket (init_options_said wanted) status b'
     × (d' ≡ (if status == 0 || status == 35 then record d { options = b'.session.options.0 } else d)))
     ((status ≡ chain_error_number WrongOrder) × (d' ≡ d)) before after
 

@@ -2,7 +2,7 @@
 
 ghost use Rattle.std.specs.Prelude.{◌≡◌};
 ghost use Rattle.fs_chain_c.specs.Replies.{attr_of, attr_said, create_said, entry_of, entry_said, open_said};
-ghost use Rattle.fs_chain_c.specs.Replies.{statfs_said, wish_said};
+ghost use Rattle.fs_chain_c.specs.Replies.{statfs_said, init_options_said};
 
 use crate::call::FsAttr;
 use bitflags::Flags;
@@ -155,8 +155,8 @@ pub fn statfs_said(statfs: &FsStatfs) -> FileAnswer
 }
 
 /// The answer of INIT: the options that the file system asks for.
-pub fn wish_said(wanted: u64) -> FileAnswer
-    ensures { result ≡ wish_said wanted }
+pub fn init_options_said(wanted: u64) -> FileAnswer
+    ensures { result ≡ init_options_said wanted }
 {
     FileAnswer::Wants(FsOptions::from_bits_retain(wanted))
 }

@@ -4,11 +4,11 @@ ghost use Rattle.std.specs.Prelude.{◌≡◌};
 ghost use Rattle.fuse_values.specs.declared.answer.FileAnswer.TheVariants as answer;
 ghost use Rattle.fs_chain_c.specs.Replies.{AsksChain, MayReply, RepliesWith, RepliesBytes, RepliesOwn};
 ghost use Rattle.fs_chain_c.specs.Replies.{RepliesInit, attr_said, create_said, entry_of, entry_said};
-ghost use Rattle.fs_chain_c.specs.Replies.{open_said, statfs_said, wish_said};
+ghost use Rattle.fs_chain_c.specs.Replies.{open_said, statfs_said, init_options_said};
 
 use crate::answers::{
-    FsEntry, FsStatfs, attr_said, create_said, entry_of, entry_said, open_said, statfs_said,
-    wish_said,
+    FsEntry, FsStatfs, attr_said, create_said, entry_of, entry_said, init_options_said, open_said,
+    statfs_said,
 };
 use crate::call::{FsAttr, FsCall};
 use crate::decoding::{NO_ROOM, answer_handle, decode_handle};
@@ -195,7 +195,7 @@ pub extern "C" fn pk_reply_init(
     let Some(mut handle) = chain.take(alloc) else {
         return wrong_order();
     };
-    let status = answer_handle(&mut handle, ticket, wish_said(wanted));
+    let status = answer_handle(&mut handle, ticket, init_options_said(wanted));
     if status == 0 || status == NO_ROOM {
         device.options = handle.session().options().bits();
     }

@@ -11,7 +11,7 @@ use Rattle.fuse_fs.specs.Calls as call
 use Rattle.server_segments.specs.declared.error.Error.{Error}
 use Rattle.server_segments.specs.declared.error.Error.TheVariants.{EncodeMessage}
 use Rattle.server_replies.specs.WholeReplies.{error_bytes, listing_bytes}
-use Rattle.server_calls.specs.Requests.{options_after, given_back}
+use Rattle.server_calls.specs.Requests.{options_after, forget_entry}
 use Rattle.fs_queue.specs.declared.fault.ChainFault.{ChainFault}
 use Rattle.fs_queue.specs.Queue.{Queue}
 use Rattle.fs_queue.specs.Taking.{Offer, IsRequest, CannotFetch, Refuses, Offers}
@@ -110,8 +110,8 @@ plus_nodes (b ∷ bytes) = let some = not_zero (length (b ∷ bytes)) (omega ari
 module _ (n : ℕ) (some : n ≢ 0) (s : Setting) (o : Option Opcode) where
   -- one call, by its answer, and the calls that give its entry back where the reply has no room
   one_given : (unique : ℕ) (c : FileCall) (a : FileAnswer) (more : Calls) (long : Bool) → CallFits n o c → EachSuits ((c, a) ∷ more) →
-      (if long then given_back c a else []) ≡ calls_alone more → Balanced n o ((c, a) ∷ more) (forget_count n c)
-      (in_room long (c ∷ (if long then given_back c a else [])) (options_after s.options c) (answer_bytes unique c a))
+      (if long then forget_entry c a else []) ≡ calls_alone more → Balanced n o ((c, a) ∷ more) (forget_count n c)
+      (in_room long (c ∷ (if long then forget_entry c a else [])) (options_after s.options c) (answer_bytes unique c a))
   one_given unique c a more true fits suit asks =
       let silence = silent n o in
       let back = gives_back n c a suit.0 more suit.1 asks in
@@ -131,13 +131,14 @@ module _ (n : ℕ) (some : n ≢ 0) (s : Setting) (o : Option Opcode) where
   -- the same of the call that was made
   one_made :
       (unique : ℕ) (c : FileCall) (step : FileCall × FileAnswer) (more : Calls) (long : Bool) → CallFits n o c → EachSuits (step ∷ more) →
-      (c ∷ (if long then given_back c step.1 else [])) ≡ step.0 ∷ calls_alone more → Balanced n o (step ∷ more) (forget_count n c)
-      (in_room long (c ∷ (if long then given_back c step.1 else [])) (options_after s.options c) (answer_bytes unique c step.1))
+      (c ∷ (if long then forget_entry c step.1 else [])) ≡ step.0 ∷ calls_alone more → Balanced n o (step ∷ more) (forget_count n c)
+      (in_room long (c ∷ (if long then forget_entry c step.1 else [])) (options_after s.options c) (answer_bytes unique c step.1))
   one_made unique c step more long fits suit asks =
       let same : step ≡ (c, step.1) = (let first : step.0 ≡ c = cc in ap (λ (x : FileCall). (x, step.1)) first) in
       let only : EachSuits ((c, step.1) ∷ more) = subst (λ (x : FileCall × FileAnswer). EachSuits (x ∷ more)) same suit in
       subst (λ (x : FileCall × FileAnswer). Balanced n o (x ∷ more) (forget_count n c)
-      (in_room long (c ∷ (if long then given_back c step.1 else [])) (options_after s.options c) (answer_bytes unique c step.1))) (sym same)
+      (in_room long (c ∷ (if long then forget_entry c step.1 else [])) (options_after s.options c) (answer_bytes unique c step.1)))
+      (sym same)
       (one_given unique c step.1 more long fits only (cc))
 
   one_balances : (unique : ℕ) (c : FileCall) (calls : Calls) → CallFits n o c → EachSuits calls →
@@ -147,7 +148,7 @@ module _ (n : ℕ) (some : n ≢ 0) (s : Setting) (o : Option Opcode) where
   one_balances unique c (step ∷ calls) fits suit asks =
       let bytes = answer_bytes unique c step.1 in
       let long = nat_lt s.room (length bytes) in
-      let made = c ∷ (if long then given_back c step.1 else []) in
+      let made = c ∷ (if long then forget_entry c step.1 else []) in
       subst (λ (k : ℕ). Balanced n o (step ∷ calls) k (served s (grammar.Asks (One unique c)) (step.1 ∷ answers_alone calls)))
       (sym (taken_made n step calls (grammar.Asks (One unique c))))
       (one_made unique c step calls long fits suit (sym (replied_asks long made (options_after s.options c) bytes) ∙ asks))

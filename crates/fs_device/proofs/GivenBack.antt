@@ -4,7 +4,7 @@ use Rattle.std.specs.Prelude.{IsTrue}
 use Rattle.fuse_fs.specs.declared.answers.Context.{Context}
 use Rattle.fuse_fs.specs.Calls.{FileCall, FileAnswer, suits, kind_of}
 use Rattle.fuse_fs.specs.Calls as call
-use Rattle.server_calls.specs.Requests.{entry_node, forget_node, given_back}
+use Rattle.server_calls.specs.Requests.{entry_node, forget_node, forget_entry}
 use Rattle.plain_machine.specs.Step.{Calls, EachSuits, calls_alone}
 use Rattle.fs_device.specs.Books.{entry_count, forget_count}
 use Rattle.fs_device.proofs.MeaningLemmas.{no_entry, has_entry}
@@ -50,7 +50,7 @@ other_back : (n : ℕ) (c : FileCall) (a : FileAnswer) → has_entry (kind_of c)
 other_back n c a without suit = nothing_back n a (no_entry n c a without suit)
 
 -- by the call
-pub gives_back : (n : ℕ) (c : FileCall) (a : FileAnswer) → IsTrue (suits c a) → GivesBack n a (given_back c a)
+pub gives_back : (n : ℕ) (c : FileCall) (a : FileAnswer) → IsTrue (suits c a) → GivesBack n a (forget_entry c a)
 gives_back n (call.Init capable) a suit = other_back n (call.Init capable) a refl suit
 gives_back n call.Destroy a suit = other_back n call.Destroy a refl suit
 gives_back n (call.Lookup who p q) a suit = entry_back n who a

@@ -494,7 +494,7 @@ opcode_there (a ∷ b ∷ c ∷ d ∷ e ∷ f ∷ []) l = absurd (omega arith)
 opcode_there (a ∷ b ∷ c ∷ d ∷ e ∷ f ∷ g ∷ []) l = absurd (omega arith)
 opcode_there (a ∷ b ∷ c ∷ d ∷ e ∷ f ∷ g ∷ h ∷ bs) l = refl
 
--- the reading of a header, by whether the request is too short
+-- the parser of a header, by whether the request is too short
 abbrev front_read : Bool → List ℕ → Result (List ℕ × List ℕ) ReadFailure
 front_read short bs = if short then Err (Faults DecodeMessage) else Ok (take 40 bs, drop 40 bs)
 

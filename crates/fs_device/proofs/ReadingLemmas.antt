@@ -50,7 +50,7 @@ use Rattle.fs_device.proofs.ServeLemmas.{replied_ok, served_chain}
 not_below : (a n : ℕ) → nat_lt a n ≡ false → n ≤ a
 not_below a n is = grind (arith, nat_tests)
 
--- if a reading that begins with n bytes gives something, there are as many, and what goes on gives something behind them
+-- if a parser that begins with n bytes gives something, there are as many, and what goes on gives something behind them
 begins_with :
     {A B : Type 0} (n : ℕ) (bytes : List ℕ) (make : List ℕ → A) (k : A × List ℕ → Parsed B) (test : Bool) → nat_lt (length bytes) n ≡ test →
     IsTrue (is_ok (and_then (and_then {A = List ℕ × List ℕ} (if test then Err (Faults DecodeMessage) else Ok (take n bytes, drop n bytes))

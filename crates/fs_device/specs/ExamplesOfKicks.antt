@@ -338,17 +338,17 @@ unheard_turn =
     }
 
 -- the chain was returned without a reply, and the file system counts nothing
-abbrev entry_given_back : State ℕ
-entry_given_back = after_return short_of_room 0 queue 0 (addresses 0x2000 143) [] 0 0
+abbrev entry_forgotten : State ℕ
+entry_forgotten = after_return short_of_room 0 queue 0 (addresses 0x2000 143) [] 0 0
 
 kick_gives_an_entry_back : Run finds short_of_room
     ((run.Kick 0 1, run.Served (record { exchanges = (unheard_exchange, true) ∷ []; refused = None })) ∷ [])
-    entry_given_back
+    entry_forgotten
 unfolding RunTold KickRun offer place addresses stored_all path found meaning record_parser meant row counted
     last_name reply_bytes fields.field_bytes
 kick_gives_an_entry_back =
     let step : Step finds short_of_room 0 unheard_turn.calls (Exchanged unheard_exchange true)
-    entry_given_back =
+    entry_forgotten =
     record {
       given = record {
         calls = files.Lookup nobody 1 (97 ∷ []) ∷ files.Forget nobody 2 1 ∷ [];
@@ -359,7 +359,7 @@ kick_gives_an_entry_back =
       serves = record { gives = refl; asks = refl; run = (1, refl, (refl, refl), (0, refl, refl, refl)) };
       returns = record { exchange = refl; state = refl; told = refl };
     } in
-    ((unheard_turn ∷ []) ∷ [], (entry_given_back, ((entry_given_back, step, refl), refl), refl))
+    ((unheard_turn ∷ []) ∷ [], (entry_forgotten, ((entry_forgotten, step, refl), refl), refl))
 
 -- the node was answered once and forgotten once, and the driver never saw it
 unheard_balances : accounts unheard_turn ≡ 1 ∷ 1 ∷ 0 ∷ 0 ∷ []
@@ -390,10 +390,10 @@ listed_turn =
     }
 
 -- the node was answered once and forgotten once
-given_back_once : accounts listed_turn ≡ 1 ∷ 1 ∷ 0 ∷ 0 ∷ []
+forgotten_once : accounts listed_turn ≡ 1 ∷ 1 ∷ 0 ∷ 0 ∷ []
 unfolding meaning record_parser meant row reply_bytes fields.field_bytes list_entries fit_of dirent_bytes
     node_bytes nodes_listed
-given_back_once = refl
+forgotten_once = refl
 
 -- a stopped queue is reset
 resets : (size desc avail used : ℕ) → effect (device far (with_stop queue))

@@ -30,7 +30,7 @@ pub enum MonitorError {
     /// The file system's error: an errno of Linux, negated (`fuse_out_header.error`).
     #[error("the file system answers error {0}")]
     Failed(i32),
-    #[error("a name has at most 255 bytes")]
+    #[error("a name is longer than 255 bytes")]
     LongName,
 }
 

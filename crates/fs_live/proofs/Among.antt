@@ -39,7 +39,7 @@ use Rattle.fs_chain.specs.declared.chain_handle.ChainHandle.{ChainHandle}
 use Rattle.fs_chain.proofs.WholeWalks.{ComesSo, walk_comes}
 use Rattle.fs_live.specs.Among.{HandleFindsStopped, HandleEndsPopAmong, LoadsAmong, WalksAmong}
 use Rattle.fs_live.specs.Handles.{IsPopDone, live_of}
-use Rattle.fs_live.specs.Live.{why_declined, with_live}
+use Rattle.fs_live.specs.Live.{pop_refusal, with_live}
 use Rattle.fs_live.specs.Several.{LiveQueue, avail_event_at, used_event_at}
 use Rattle.fs_live.proofs.Declined.{goes_there}
 use Rattle.fs_live.proofs.Popped.{IsUnrefused, begins_whole, begun_room, event_of, held_by, walked_events}
@@ -366,8 +366,8 @@ handle_walks_among {F} may s i given old new before now after told there places 
     let events : event_fault m now ≡ None =
     ap (λ (b : Bool). fault_of m b (queue_of (course_of now old.limit))) same ∙ ap (λ (q : Queue). fault_of m before.event_index q) c.there
     ∙ among_events given old new before now after (wents.On told) goes refusal walks in
-    let clear : why_declined s.places (live_of now) ≡ None =
-    subst (λ (k : Memory). why_declined k (live_of now) ≡ None) (sym places) (goes_there m now still events) in
+    let clear : pop_refusal s.places (live_of now) ≡ None =
+    subst (λ (k : Memory). pop_refusal k (live_of now) ≡ None) (sym places) (goes_there m now still events) in
     let event = event_of s i now after loaded ds came there c.queue (subst IsPopDone c.told_is done) plain comes_so in (
       loaded,
       so.1,
@@ -402,7 +402,7 @@ pub handle_finds_stopped : {F : Type 0} (may : May F) → HandleFindsStopped may
 handle_finds_stopped {F} may s i bs w new now after told why there walking stopped call =
     let ended = ended_at w.state (whole w bs) w new now after told why walking stopped call.4 in
     let v : LiveQueue = record (live_of now) { queue = after_refusal (live_of now).queue stop.Stopped } in
-    let declined : why_declined s.places (live_of now) ≡ Some stop.Stopped =
+    let declined : pop_refusal s.places (live_of now) ≡ Some stop.Stopped =
     ap (λ (x : Option QueueError). if is_some x then Some stop.Stopped else event_fault s.places now) stopped in (
       ended.0,
       ended.1,

@@ -8,7 +8,7 @@ use Rattle.fuse_values.specs.Answers.{answer_of}
 use Rattle.fuse_values.specs.Values.{call_of}
 use Rattle.fuse_values.specs.declared.answer.FileAnswer as made_answer
 use Rattle.fuse_values.specs.declared.call.FileCall as made_call
-use Rattle.server_phases.specs.Answering.{Gives, TellsBytes, forget_calls, served_by}
+use Rattle.server_phases.specs.Answering.{Gives, TellsBytes, forget_if_any, served_by}
 use Rattle.server_phases.specs.Asking.{IsDecoded as TellsFront, IsRequestFront}
 use Rattle.server_phases.specs.Waiting.{first_call}
 use Rattle.server_phases.specs.declared.answering.Sent.{Sent}
@@ -136,7 +136,7 @@ answered_by page_size options n left request bytes made a told out (at.Waits kep
       subst (λ (k : FileCall). IsTrue (suits k (answer_of bytes a))) (sym calls.2) (can command bytes calls.4 data_told).0,
       ap (λ (k : Meaning). (served (setting page_size options n) k (answer_of bytes a ∷ [])).options) calls.1
           ∙ ap (λ (k : ServedMessage). k.options) gives
-          ∙ left_by (first_call command ∷ forget_calls given.0.forget) left given.0.sent bytes,
+          ∙ left_by (first_call command ∷ forget_if_any given.0.forget) left given.0.sent bytes,
     )
 answered_by page_size options n left request bytes made a told out st after keeps waits data_told given can = absurd waits
 

@@ -1,4 +1,4 @@
--- What a queue has that isn't declined.
+-- What a queue has whose pops aren't refused.
 use Rattle.std.proofs.Common.{◌≡◌, ℕ, Bool, Option, Some, None, refl, sym, ap, ◌∙◌}
 use Rattle.std.specs.Prelude.{true, false, is_some, not, if◌then◌else◌}
 use Rattle.std.proofs.lemmas.Bool.{true≢false}
@@ -9,7 +9,7 @@ use Rattle.fs_queue.specs.declared.fault.QueueError.TheVariants as stop
 use Rattle.fs_chain.specs.Events.{event_fault}
 use Rattle.fs_chain.specs.declared.queue.QueueState.{QueueState}
 use Rattle.fs_live.specs.Several.{LiveQueue, avail_event_at, seen_at, used_event_at}
-use Rattle.fs_live.specs.Live.{why_declined}
+use Rattle.fs_live.specs.Live.{pop_refusal}
 use Rattle.fs_live.specs.Handles.{live_of}
 use Rattle.fs_live.specs.Runs.{HasUsedEvent}
 use Rattle.fs_live.proofs.Queues.{none_some}
@@ -24,7 +24,7 @@ declined_tests false true true false is event = absurd (none_some stop.UsedUnrea
 declined_tests false true true true is event = (refl, refl)
 
 -- with the event index used_event and avail_event have places
-pub has_events : (m : Memory) (w : LiveQueue) → why_declined m w ≡ None → w.event_index ≡ true
+pub has_events : (m : Memory) (w : LiveQueue) → pop_refusal m w ≡ None → w.event_index ≡ true
     → (reach m Read (used_event_at w.queue) 2 ≡ true) × (reach m Write (avail_event_at w.queue) 2 ≡ true)
 has_events m w goes event =
     declined_tests w.queue.stopped w.event_index (reach m Read (used_event_at w.queue) 2)
@@ -40,6 +40,6 @@ pub seen_has_a_place :
     (m : Memory) (w : LiveQueue) → reach m Read w.queue.avail 2 ≡ true → HasUsedEvent m w → reach m Read (seen_at w) 2 ≡ true
 seen_has_a_place m w flags event = seen_tests m w.event_index w.queue.avail (used_event_at w.queue) flags event
 
--- a kept queue that isn't stopped, and whose event index has its places, isn't declined
-pub goes_there : (m : Memory) (q : QueueState) → q.stopped ≡ None → event_fault m q ≡ None → why_declined m (live_of q) ≡ None
+-- pops of a queue aren't refused if it isn't stopped, and its event index has its places
+pub goes_there : (m : Memory) (q : QueueState) → q.stopped ≡ None → event_fault m q ≡ None → pop_refusal m (live_of q) ≡ None
 goes_there m q goes events = ap (λ (x : Option QueueError). if is_some x then Some stop.Stopped else event_fault m q) goes ∙ events

@@ -6,7 +6,7 @@ use Rattle.fuse_fs.specs.declared.answers.Context.{Context}
 use Rattle.fuse_fs.specs.declared.answers.Entry.{Entry}
 use Rattle.fuse_fs.specs.Calls.{FileCall, FileAnswer, Init, Listed, Lookup}
 use Rattle.fuse_fs.specs.Calls as file
-use Rattle.server_calls.specs.Requests.{entry_node, forget_node, given_back, options_after}
+use Rattle.server_calls.specs.Requests.{entry_node, forget_node, forget_entry, options_after}
 use Rattle.server_replies.specs.Entries.{Fit, GoesIn, IsFull, IsWrong, entry_bytes, entry_len, fit_of, is_dot, no_node}
 use Rattle.server_replies.specs.WholeReplies.{error_bytes, listing_bytes}
 use Rattle.virtiofsd_fuse.specs.Grammar.{Meaning, IsFault, Replies, IsSilent, Asks, One, Starts, Lists}
@@ -135,7 +135,7 @@ give_short : (who : Context) (node : Option ℕ) (n : ℕ) → forget_node who n
 give_short who None n = refl
 give_short who (Some node) n = one_undo who node n
 
-back_short : (call : FileCall) (answer : FileAnswer) (n : ℕ) → given_back call answer ≡ take (suc n) (given_back call answer)
+back_short : (call : FileCall) (answer : FileAnswer) (n : ℕ) → forget_entry call answer ≡ take (suc n) (forget_entry call answer)
 back_short (file.Lookup a b c) answer n = give_short a (entry_node answer) n
 back_short (file.Symlink a b c d e) answer n = give_short a (entry_node answer) n
 back_short (file.Mknod a b c d e f g) answer n = give_short a (entry_node answer) n
@@ -160,12 +160,12 @@ served_leads s IsSilent few more = refl
 served_leads s (Asks (One unique call)) [] [] = refl
 served_leads s (Asks (One unique call)) [] (a ∷ more) =
     let bytes = answer_bytes unique call a in
-    same_first s.room call (undone s.room bytes (given_back call a)) (options_after s.options call) bytes
+    same_first s.room call (undone s.room bytes (forget_entry call a)) (options_after s.options call) bytes
 served_leads s (Asks (One unique call)) (a ∷ few) more =
     let bytes = answer_bytes unique call a in
-    same_reply s.room (call ∷ undone s.room bytes (given_back call a)) (options_after s.options call) bytes (suc (suc (length few)))
+    same_reply s.room (call ∷ undone s.room bytes (forget_entry call a)) (options_after s.options call) bytes (suc (suc (length few)))
     (ap (λ (cs : List FileCall). call ∷ cs)
-    (undone_short (nat_lt s.room (length bytes)) (given_back call a) (length few) (back_short call a (length few))))
+    (undone_short (nat_lt s.room (length bytes)) (forget_entry call a) (length few) (back_short call a (length few))))
 served_leads s (Asks (Starts unique capable readahead)) [] [] = refl
 served_leads s (Asks (Starts unique capable readahead)) [] (a ∷ more) =
     same_first s.room (Init capable) [] (start_options s.options capable a) (start_answered s.page_size unique capable readahead a)

@@ -1,4 +1,4 @@
--- The calls of a walk make few loads.
+-- The calls of a pop make few loads.
 use Rattle.std.proofs.Common.{◌≡◌, ◌+◌, ◌<◌, ◌≤◌, ℕ, suc, Bool, List, [], ◌∷◌, ◌++◌, length, map, length-append, Option, Some, None, refl}
 use Rattle.std.proofs.Common.{subst, sym, ap, ◌∙◌, arith}
 use Rattle.std.specs.Prelude.{true, false, ◌==◌, ◌&&◌, option_map, if◌then◌else◌}

@@ -19,10 +19,10 @@ use Rattle.fs_live.specs.Live.{ReceivesAnswer}
 use Rattle.fs_live.specs.Live.{PushesChain, StoresNotification, ResetsQueue, FillsBuffer, GivesUpChain, Abandons, RepliesOwnBytes, Remaps}
 use Rattle.fs_live.specs.Live.{MovesDevice, Happens}
 use Rattle.fs_live.specs.Live.{LiveRun}
-use Rattle.fs_live.specs.Live.{IfKeepsReturns, KeepsQueue, KeepsReturns, EndsPopIn, after_answer, after_asking, after_beginning}
+use Rattle.fs_live.specs.Live.{IfKeepsReturns, KeepsQueue, KeepsReturns, EndsPopIn, after_answer, after_decoding, after_reset}
 use Rattle.fs_live.specs.Live.{after_giving_up}
-use Rattle.fs_live.specs.Live.{abandoned_chain, after_abandoning, after_giving, after_own, asked_chain, fault_of, new_chain}
-use Rattle.fs_live.specs.Live.{room_in, why_declined}
+use Rattle.fs_live.specs.Live.{abandoned_chain, after_abandoning, after_push, after_own, asked_chain, fault_of, new_chain}
+use Rattle.fs_live.specs.Live.{room_in, pop_refusal}
 use Rattle.fs_live.specs.Runs.{HasNoneInFlight, HasUsedEvent, ReturnHasPlaces, ReturnsHavePlaces, has_places, tickets_on}
 use Rattle.fs_live.proofs.Alone.{Walked, all_both, all_left, all_right, walked_there}
 use Rattle.fs_live.proofs.Declined.{has_events, seen_has_a_place}
@@ -209,7 +209,7 @@ module _ (i : ℕ) where
 
   walks : {F : Type 0} (s mid : LiveState F) (j : ℕ) (v : LiveQueue) (loaded : Loaded) (ds : List Descriptor) (came : comes.CourseStep)
       → slice_get s.queues j ≡ Some v
-      → why_declined s.places v ≡ None → EndsPopIn s j v loaded ds came mid → Kept s → Kept mid
+      → pop_refusal s.places v ≡ None → EndsPopIn s j v loaded ds came mid → Kept s → Kept mid
   walks s mid j v loaded ds (step.Load walk) at clear h kept = absurd h
   walks s mid j v loaded ds (step.Missing range access) at clear h kept = absurd h
   walks {F} s mid j v loaded ds step.Idle at clear h kept = subst (λ (k : LiveState F). Kept k) (sym h.1) kept
@@ -249,7 +249,7 @@ module _ (i : ℕ) where
       (refuses s j h.w (stops_queue e) h.there kept)
   keeps {F} may s mid (DecodesRequest c request told) h kept =
       subst (λ (k : LiveState F). Kept k) (sym h.state)
-      (stays s (after_asking s h.before h.behind c request) refl refl
+      (stays s (after_decoding s h.before h.behind c request) refl refl
       (goes_on i h.before h.behind c (asked_chain c request s.options []) (c.queue == i) refl refl refl
       ∙ sym (ap (λ (l : List OutChain). tickets_on i l) h.out)) kept)
   keeps {F} may s mid (ReceivesAnswer c call answer) h kept =
@@ -259,7 +259,7 @@ module _ (i : ℕ) where
       (goes_on i h.before h.behind c (asked_chain c h.request h.options calls) (c.queue == i) refl refl refl
       ∙ sym (ap (λ (l : List OutChain). tickets_on i l) h.out)) kept)
   keeps {F} may s mid (PushesChain c x notice last used seen) h kept =
-      let mid' = after_giving s h.before h.behind c h.w in
+      let mid' = after_push s h.before h.behind c h.w in
       let out : out_on i s.outs ≡ out_on i (h.before ++ c ∷ h.behind) = ap (λ (cs : List OutChain). out_on i cs) h.out in
       subst (λ (k : LiveState F). Kept k) (sym h.state)
       (changes s mid' c.queue h.w (gave h.w) (c.queue == i) refl refl refl h.there
@@ -268,7 +268,7 @@ module _ (i : ℕ) where
   keeps {F} may s mid (StoresNotification j store) h kept = subst (λ (k : LiveState F). Kept k) (sym h.state) kept
   keeps {F} may s mid (ResetsQueue j v) h kept =
       subst (λ (k : LiveState F). Kept k) (sym h.state)
-      (changes s (after_beginning s j v) j h.old v (j == i) refl refl refl h.there
+      (changes s (after_reset s j v) j h.old v (j == i) refl refl refl h.there
       (λ is ahead. subst (λ (l : List InFlightId). Ahead s.places v (length l)) (sym (none_left i j s.outs is)) h.both)
       (λ is. ap (λ (l : List InFlightId). length l) (dropped i j s.outs (apart_of j i is))) kept)
   keeps {F} may s mid (FillsBuffer c stores) h kept = subst (λ (k : LiveState F). Kept k) (sym h.state) kept

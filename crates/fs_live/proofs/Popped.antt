@@ -35,7 +35,7 @@ use Rattle.fs_chain.proofs.WholeWalks.{event_fault_refuses, event_miss_is_no_ste
 use Rattle.fs_chain.specs.Queues.{pop_id_of}
 use Rattle.fs_live.specs.Several.{LiveQueue, may_take}
 use Rattle.fs_live.specs.Several as several
-use Rattle.fs_live.specs.Live.{LiveState, EndsPopIn, after_pop, why_declined, with_live}
+use Rattle.fs_live.specs.Live.{LiveState, EndsPopIn, after_pop, pop_refusal, with_live}
 use Rattle.fs_live.specs.Handles.{HandleRefusesPop, IsPopDone, IsHeld, live_of}
 use Rattle.fs_live.proofs.Queues.{none_some, same_some, there_same}
 use Rattle.fs_live.proofs.Refusals.{refusal_stops}
@@ -157,11 +157,11 @@ lacks_stop true false avail e is = ap (λ (x : Option QueueError). stops_queue (
 lacks_stop true true false e is = ap (λ (x : Option QueueError). stops_queue (unwrap_or x stop.UsedUnreachable)) (sym is)
 lacks_stop true true true e is = absurd (none_some e is)
 
-declined_there : (old new : ChainHandle) (before after : QueueState) (told : walked.PopOutcome) (e : QueueError) (fault : Option QueueError)
+refused_there : (old new : ChainHandle) (before after : QueueState) (told : walked.PopOutcome) (e : QueueError) (fault : Option QueueError)
     → fault ≡ Some e → stops_queue e ≡ true → event_miss (places_in old.regions) before ≡ None
     → BeginsWhere fault old new before after told → IsDeclined (wents.On told) e before after
-declined_there old new before after told e None is stops none begins = absurd (none_some e is)
-declined_there old new before after told e (Some d) is stops none begins =
+refused_there old new before after told e None is stops none begins = absurd (none_some e is)
+refused_there old new before after told e (Some d) is stops none begins =
     let same : d ≡ e = same_some d e is in
     let lacks : LacksEvents d None old new before after told =
     subst (λ (r : Option (IovaRange × Permissions)). LacksEvents d r old new before after told) none begins in (
@@ -169,35 +169,35 @@ declined_there old new before after told e (Some d) is stops none begins =
       stopped_by before after e stops (lacks.2 ∙ ap (λ (k : QueueError). record before { stopped = Some k }) same),
     )
 
-declined_by : (old new : ChainHandle) (before after : QueueState) (told : walked.PopOutcome) (e : QueueError) (stopped : Option QueueError)
+refused_by : (old new : ChainHandle) (before after : QueueState) (told : walked.PopOutcome) (e : QueueError) (stopped : Option QueueError)
     → before.stopped ≡ stopped
     → (if is_some stopped then Some stop.Stopped else event_fault (places_in old.regions) before) ≡ Some e
     → (before.stopped ≡ None → event_miss (places_in old.regions) before ≡ None)
     → BeginsUnless stopped old new before after told → IsDeclined (wents.On told) e before after
-declined_by old new before after told e (Some why) is lacks none begins =
+refused_by old new before after told e (Some why) is lacks none begins =
     let same : stop.Stopped ≡ e = same_some stop.Stopped e lacks in (
       begins.0 ∙ ap (λ (k : QueueError). says.Refused k) same,
       ap (λ (k : QueueError). Some (record (live_of before) { queue = after_refusal (live_of before).queue k })) (sym same)
           ∙ ap (λ (q : QueueState). Some (live_of q)) (sym begins.2),
     )
-declined_by old new before after told e None is lacks none begins =
+refused_by old new before after told e None is lacks none begins =
     let m = places_in old.regions in
     let stops = lacks_stop before.event_index (reach m Read (chain_events.used_event_at before.layout) 2)
     (reach m Write (chain_events.avail_event_at before.layout) 2) e lacks in
-    declined_there old new before after told e (event_fault m before) lacks stops (none is) begins
+    refused_there old new before after told e (event_fault m before) lacks stops (none is) begins
 
 -- and one more chain may be out
 abbrev IsDeclinedThere : went.LoadOutcome → (e : QueueError) → (before after : QueueState) → Type 0
 IsDeclinedThere wents.Part e before after = ⊥
 IsDeclinedThere (wents.On told) e before after = IsDeclined (wents.On told) e before after × IsTrue (may_take (live_of before))
 
-declined_first : (old new : ChainHandle) (before after : QueueState) (told : went.LoadOutcome) (e : QueueError)
-    → why_declined (places_in old.regions) (live_of before) ≡ Some e
+refused_first : (old new : ChainHandle) (before after : QueueState) (told : went.LoadOutcome) (e : QueueError)
+    → pop_refusal (places_in old.regions) (live_of before) ≡ Some e
     → (before.stopped ≡ None → event_miss (places_in old.regions) before ≡ None)
     → BeginsPopBy old new before after told → IsDeclinedThere told e before after
-declined_first old new before after wents.Part e why none by = begins_whole old before new after by.0 by.1
-declined_first old new before after (wents.On told) e why none by = (
-  declined_by old new before after told e before.stopped refl why none (begun old new before after told by),
+refused_first old new before after wents.Part e why none by = begins_whole old before new after by.0 by.1
+refused_first old new before after (wents.On told) e why none by = (
+  refused_by old new before after told e before.stopped refl why none (begun old new before after told by),
   begun_room old new before after told by,
 )
 
@@ -207,20 +207,20 @@ wants_none wents.Part e before after declined wants = declined
 wants_none (wents.On told) e before after declined wants = subst (λ (k : walked.PopOutcome). WantsBytes (wents.On k)) declined.0.0 wants
 
 -- so no call is behind the first one
-declined_walk : (given : List (List ℕ)) (old new : ChainHandle) (before after : QueueState) (told : went.LoadOutcome) (e : QueueError)
-    → why_declined (places_in old.regions) (live_of before) ≡ Some e
+refused_walk : (given : List (List ℕ)) (old new : ChainHandle) (before after : QueueState) (told : went.LoadOutcome) (e : QueueError)
+    → pop_refusal (places_in old.regions) (live_of before) ≡ Some e
     → (before.stopped ≡ None → event_miss (places_in old.regions) before ≡ None)
     → WalksBy given old new before after told → (given ≡ []) × IsDeclinedThere told e before after
-declined_walk [] old new before after told e why none walks = (refl, declined_first old new before after told e why none walks)
-declined_walk (bs ∷ given) old new before after told e why none walks =
-    let earlier = declined_walk given old walks.0 before walks.1 walks.2 e why none walks.3 in
+refused_walk [] old new before after told e why none walks = (refl, refused_first old new before after told e why none walks)
+refused_walk (bs ∷ given) old new before after told e why none walks =
+    let earlier = refused_walk given old walks.0 before walks.1 walks.2 e why none walks.3 in
     absurd (wants_none walks.2 e before walks.1 earlier.1 walks.4)
 
-pub handle_declines : {F : Type 0} (may : May F) → HandleRefusesPop may
-handle_declines {F} may s i given old new before after told e there places why none walks =
-    let there_why : why_declined (places_in old.regions) (live_of before) ≡ Some e =
-    subst (λ (m : Memory). why_declined m (live_of before) ≡ Some e) places why in
-    let so = declined_walk given old new before after (wents.On told) e there_why none walks in
+pub handle_refuses_pop : {F : Type 0} (may : May F) → HandleRefusesPop may
+handle_refuses_pop {F} may s i given old new before after told e there places why none walks =
+    let there_why : pop_refusal (places_in old.regions) (live_of before) ≡ Some e =
+    subst (λ (m : Memory). pop_refusal m (live_of before) ≡ Some e) places why in
+    let so = refused_walk given old new before after (wents.On told) e there_why none walks in
     let w = record (live_of before) { queue = after_refusal (live_of before).queue e } in (
       so.1.0.0,
       so.0,

@@ -20,7 +20,7 @@ use Rattle.fs_live.specs.Live.{OutChain, LiveState, LiveEvent, EndsPop, RefusesP
 use Rattle.fs_live.specs.Live.{StoresNotification, ResetsQueue}
 use Rattle.fs_live.specs.Live.{FillsBuffer, GivesUpChain}
 use Rattle.fs_live.specs.Live.{Abandons, RepliesOwnBytes, Remaps, MovesDevice, Happens, LiveRun, EndsPopIn}
-use Rattle.fs_live.specs.Live.{Own, abandoned_chain, after_abandoning, after_answer, after_asking, after_beginning, after_giving_up}
+use Rattle.fs_live.specs.Live.{Own, abandoned_chain, after_abandoning, after_answer, after_decoding, after_reset, after_giving_up}
 use Rattle.fs_live.specs.Live.{after_own}
 use Rattle.fs_live.specs.Live.{asked_chain}
 use Rattle.fs_live.specs.Live.{new_chain}
@@ -278,7 +278,7 @@ module _ (i : ℕ) where
       subst (λ (k : LiveState F). Carries s k w []) (sym h.state) (refuses s j w h.w (j == i) (stops_queue e) refl there h.there)
   carries {F} may s mid w (DecodesRequest c request told) there anew h =
       subst (λ (k : LiveState F). Carries s k w []) (sym h.state)
-      (stays s (after_asking s h.before h.behind c request) w w there refl
+      (stays s (after_decoding s h.before h.behind c request) w w there refl
       (goes_on h.before h.behind c (asked_chain c request s.options []) (c.queue == i) refl refl refl
       ∙ sym (ap (λ (l : List OutChain). tickets_on i l) h.out)))
   carries {F} may s mid w (ReceivesAnswer c call answer) there anew h =
@@ -294,7 +294,7 @@ module _ (i : ℕ) where
       subst (λ (k : LiveState F). Carries s k w []) (sym h.state) (stays s s w w there refl refl)
   carries {F} may s mid w (ResetsQueue j v) there anew h =
       let apart = apart_of j i (not_true (j == i) anew) in
-      subst (λ (k : LiveState F). Carries s k w []) (sym h.state) (stays s (after_beginning s j v) w w
+      subst (λ (k : LiveState F). Carries s k w []) (sym h.state) (stays s (after_reset s j v) w w
       (there_other s.queues j i (λ _. v) apart ∙ there) refl (dropped j s.outs apart))
   carries {F} may s mid w (FillsBuffer c stores) there anew h =
       subst (λ (k : LiveState F). Carries s k w []) (sym h.state) (stays s s w w there refl refl)

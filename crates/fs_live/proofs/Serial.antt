@@ -28,7 +28,7 @@ use Rattle.plain_machine.specs.StepBy.{after_stores, stores_among, offered_by, r
 use Rattle.plain_machine.proofs.StepByLemmas.{step_by_is_step}
 use Rattle.fs_live.specs.Live.{Phase, PoppedFaulty, Fetched, Asked, OutChain, LiveState, LiveEvent, DecodesRequest, ReceivesAnswer}
 use Rattle.fs_live.specs.Live.{Happens, LiveRun}
-use Rattle.fs_live.specs.Live.{EndsPopSo, DecodesRequestSo, ReceivesAnswerSo, PushesChainSo, calls_in, fault_of, new_chain, after_take}
+use Rattle.fs_live.specs.Live.{EndsPopSo, DecodesRequestSo, ReceivesAnswerSo, PushesChainSo, calls_in, fault_of, new_chain, with_popped}
 use Rattle.fs_live.specs.Live.{room_of, serving, event_acts}
 use Rattle.fs_live.specs.Live.{GoesBackWith}
 use Rattle.fs_live.specs.Runs.{IsAskedIn, IsServedPhase, options_left, after_alone, chain_loads, request_in}
@@ -178,7 +178,7 @@ between_alone may s queues c k after es back of a run = absurd of.0
 
 start_alone : {F : Type 0} (may : May F) (s mid : LiveState F) (i : ℕ) (v : LiveQueue) (loaded : Loaded) (ds : List Descriptor) (head : ℕ)
     (fault : Option ChainFault)
-    → s.outs ≡ [] → FetchesBy s.places s.limit v.queue loaded ds head fault → mid ≡ after_take s i v (new_chain s i v loaded ds head fault)
+    → s.outs ≡ [] → FetchesBy s.places s.limit v.queue loaded ds head fault → mid ≡ with_popped s i v (new_chain s i v loaded ds head fault)
     → Alone may s (changed_at s.queues i (λ _. took v)) (new_chain s i v loaded ds head fault) mid
 start_alone {F} may s mid i v loaded ds head None none fetches is = record {
   phase = Fetched;

@@ -48,9 +48,9 @@ use Rattle.fs_live.specs.Live.{Asked, RefusesPop, DecodesRequest, Fetched, LiveE
 use Rattle.fs_live.specs.Live.{ResetsQueue}
 use Rattle.fs_live.specs.Live.{PoppedFaulty}
 use Rattle.fs_live.specs.Live.{LiveState, OutChain, PushesChain, StoresNotification, EndsPop}
-use Rattle.fs_live.specs.Live.{Happens, HasPlace, NoneWaits, after_answer, after_asking, event_acts}
-use Rattle.fs_live.specs.Live.{after_beginning, after_giving, after_pop, asked_chain, new_chain, room_of}
-use Rattle.fs_live.specs.Live.{serving, why_declined}
+use Rattle.fs_live.specs.Live.{Happens, HasPlace, NoneWaits, after_answer, after_decoding, event_acts}
+use Rattle.fs_live.specs.Live.{after_reset, after_push, after_pop, asked_chain, new_chain, room_of}
+use Rattle.fs_live.specs.Live.{serving, pop_refusal}
 
 -- a `QueueState` as a queue of a run
 abbrev pub live_of : QueueState → LiveQueue
@@ -146,7 +146,7 @@ HandleRefusesPop {F} may =
     (told : walked.PopOutcome) (e : QueueError) →
     slice_get s.queues i ≡ Some (live_of before) →
     s.places ≡ places_in old.regions →
-    why_declined s.places (live_of before) ≡ Some e →
+    pop_refusal s.places (live_of before) ≡ Some e →
     (before.stopped ≡ None → event_miss (places_in old.regions) before ≡ None) →
     WalksBy given old new before after (wents.On told) →
     (told ≡ says.Refused e)
@@ -203,7 +203,7 @@ HandleDecodesRequest {F} may =
     IsDecodedBy w session request front made w' →
     IsDecodedWhole made →
     Happens may s (DecodesRequest c request (calls_told (drop 80 request) made))
-    (after_asking s before behind c request)
+    (after_decoding s before behind c request)
     × IsKept s.page_size s.options request (asked_chain c request s.options []) made w'
 
 -- an answer by a handle is the event `ReceivesAnswer`; the handle's session then has the options that the
@@ -284,8 +284,8 @@ abbrev pub IsReturn : {F : Type 0} → May F → LiveState F → (before behind 
 IsReturn {F} may s before behind c kept acts last notice stores =
     (x : Exchange) × (used : List Store) × (seen : List ℕ)
     × (acts ≡ event_acts (PushesChain c x notice last used seen))
-    × Happens may s (PushesChain c x notice last used seen) (after_giving s before behind c (live_of kept))
-    × (slice_get (after_giving s before behind c (live_of kept)).queues c.queue ≡ Some (live_of (gave kept)))
+    × Happens may s (PushesChain c x notice last used seen) (after_push s before behind c (live_of kept))
+    × (slice_get (after_push s before behind c (live_of kept)).queues c.queue ≡ Some (live_of (gave kept)))
     × (stores.seen_at ≡ seen_at (live_of kept))
 
 -- the return by a handle of a chain whose calls were answered is the event `PushesChain`. Any chains of its
@@ -321,14 +321,14 @@ HandleFaulty {F} may =
 -- ---- queues
 
 -- the store that enables or disables notifications is the event before a sleep, if its address is mapped.
--- With the event index it is mapped, unless the queue is declined. There is no store only with the event
--- index, when notifications are to be disabled
+-- With the event index it is mapped, unless pops of the queue are refused. There is no store only with the
+-- event index, when notifications are to be disabled
 abbrev pub IsNotificationStore : {F : Type 0} → May F → LiveState F → (i : ℕ) → QueueState → (wanted : Bool) →
     Option NotificationStore → Type 0
 IsNotificationStore may s i kept wanted (Some store) =
     (HasPlace s.places store.address → Happens may s (StoresNotification i (store_of store)) s)
     × (kept.event_index ≡ true →
-    why_declined s.places (live_of kept) ≡ None →
+    pop_refusal s.places (live_of kept) ≡ None →
     HasPlace s.places store.address)
 IsNotificationStore may s i kept wanted None = (kept.event_index ≡ true) × (wanted ≡ false)
 
@@ -356,5 +356,5 @@ HandleResetsQueue {F} may =
     max_in_flight ≤ layout.size →
     position < 2 ^ 16 →
     AllByRecursion (λ c. NoneWaits s.page_size i c c.phase) s.outs →
-    Happens may s (ResetsQueue i (live_of after)) (after_beginning s i (live_of after))
-    × (slice_get (after_beginning s i (live_of after)).queues i ≡ Some (live_of after))
+    Happens may s (ResetsQueue i (live_of after)) (after_reset s i (live_of after))
+    × (slice_get (after_reset s i (live_of after)).queues i ≡ Some (live_of after))

@@ -72,7 +72,7 @@ asked_chain c request options calls = record c { phase = Asked request options c
 abbrev pub room_of : OutChain → List ℕ
 room_of c = room_in c.phase c.descriptors
 
--- the calls of a chain that were answered so far
+-- the calls of a chain that were answered so far, while the server is to reply; of any other phase none
 abbrev pub calls_in : Phase → Calls
 calls_in (Asked request options calls) = calls
 calls_in _ = []
@@ -93,7 +93,7 @@ pub record LiveState (F : Type 0) : Type 0 where
 
 -- an event of the device
 pub data LiveEvent : Type 0 where
-  -- a pop of queue i ended with this result after these loads, with these descriptors
+  -- a pop of queue i ended with this result after these loads. A chain that it found has these descriptors
   EndsPop : (i : ℕ) → Loaded → List Descriptor → comes.CourseStep → LiveEvent
   -- a pop of queue i was refused with this error, before any load, or because the queue was stopped meanwhile
   RefusesPop : (i : ℕ) → QueueError → LiveEvent
@@ -102,7 +102,7 @@ pub data LiveEvent : Type 0 where
   -- the pending call of the chain was answered
   ReceivesAnswer : OutChain → FileCall → FileAnswer → LiveEvent
   -- a chain was pushed. `last` bytes of the reply were stored last, and the stores `used` after the reply.
-  -- By the two bytes at `seen_at` the driver enables or disables the notification
+  -- `seen` are the two bytes that were loaded last; `notice`: whether the driver is to be notified by them
   PushesChain :
       OutChain → Exchange → (notice : Bool) → (last : ℕ) → (used : List Store) → (seen : List ℕ) → LiveEvent
   -- before the device sleeps, and when it wakes, it enables or disables the notifications of queue i
@@ -157,8 +157,8 @@ new_chain s i w loaded ds head fault =
     }
 
 -- the chain is in flight, and the queue's next chain is popped from the next position
-abbrev pub after_take : {F : Type 0} → LiveState F → ℕ → LiveQueue → OutChain → LiveState F
-after_take s i w c = record s { queues = changed_at s.queues i (λ _. took w); outs = s.outs ++ c ∷ [] }
+abbrev pub with_popped : {F : Type 0} → LiveState F → ℕ → LiveQueue → OutChain → LiveState F
+with_popped s i w c = record s { queues = changed_at s.queues i (λ _. took w); outs = s.outs ++ c ∷ [] }
 
 -- how a pop of a queue ends. A pop that misses addresses is no event: it changes nothing
 abbrev pub EndsPopIn : {F : Type 0} → LiveState F → ℕ → LiveQueue → Loaded → List Descriptor →
@@ -171,32 +171,32 @@ EndsPopIn s i w loaded ds (step.Refused e) after =
     × (after ≡ with_live s i (record w { queue = after_refusal w.queue e }))
 EndsPopIn s i w loaded ds (step.Chain head fault) after =
     FetchesBy s.places s.limit w.queue loaded ds head fault
-    × (after ≡ after_take s i w (new_chain s i w loaded ds head fault))
+    × (after ≡ with_popped s i w (new_chain s i w loaded ds head fault))
 
 abbrev pub after_pop :
     {F : Type 0} → LiveState F → ℕ → LiveQueue → Loaded → List Descriptor → comes.CourseStep → LiveState F
 after_pop s i w loaded ds (step.Refused e) = with_live s i (record w { queue = after_refusal w.queue e })
-after_pop s i w loaded ds (step.Chain head fault) = after_take s i w (new_chain s i w loaded ds head fault)
+after_pop s i w loaded ds (step.Chain head fault) = with_popped s i w (new_chain s i w loaded ds head fault)
 after_pop s i w loaded ds _ = s
 
 -- why a pop is refused before a load, or before its next one: the queue is stopped, or it has the event
 -- index, and used_event or avail_event isn't mapped
-abbrev pub why_declined : Memory → LiveQueue → Option QueueError
-why_declined m w =
+abbrev pub pop_refusal : Memory → LiveQueue → Option QueueError
+pop_refusal m w =
     if w.queue.stopped then Some Stopped
     else if not w.event_index then None
     else if not (reach m Read (used_event_at w.queue) 2) then Some AvailFlagsUnreachable
     else if not (reach m Write (avail_event_at w.queue) 2) then Some UsedUnreachable
     else None
 
--- a pop of a queue that exists and isn't declined, if one more of its chains may be in flight. The queue
--- isn't stopped, and with the event index used_event and avail_event are mapped
+-- a pop of a queue that isn't stopped, if one more of its chains may be in flight. With the event index
+-- used_event and avail_event are mapped
 pub record EndsPopSo {F : Type 0} (s : LiveState F) (i : ℕ) (loaded : Loaded) (ds : List Descriptor)
     (came : comes.CourseStep) (after : LiveState F) : Type 0 where
   pub w : LiveQueue
   pub there : slice_get s.queues i ≡ Some w
   pub room : IsTrue (may_take w)
-  pub goes : why_declined s.places w ≡ None
+  pub goes : pop_refusal s.places w ≡ None
   pub walks : EndsPopIn s i w loaded ds came after
 
 -- a pop of a queue is refused with this error, if one more of its chains may be in flight
@@ -205,12 +205,12 @@ pub record RefusesPopSo {F : Type 0} (s : LiveState F) (i : ℕ) (e : QueueError
   pub w : LiveQueue
   pub there : slice_get s.queues i ≡ Some w
   pub room : IsTrue (may_take w)
-  pub why : why_declined s.places w ≡ Some e
+  pub why : pop_refusal s.places w ≡ Some e
   pub state : after ≡ with_live s i (record w { queue = after_refusal w.queue e })
 
-abbrev pub after_asking :
+abbrev pub after_decoding :
     {F : Type 0} → LiveState F → (before behind : List OutChain) → OutChain → (request : List ℕ) → LiveState F
-after_asking s before behind c request =
+after_decoding s before behind c request =
     record s { outs = before ++ asked_chain c request s.options [] ∷ behind }
 
 -- a chain in flight is decoded, with the options of this moment
@@ -222,7 +222,7 @@ pub record DecodesRequestSo {F : Type 0} (s : LiveState F) (c : OutChain) (reque
   pub fresh : c.phase ≡ Fetched
   pub whole : length request ≡ total_len (readable c.descriptors)
   pub tells : told ≡ (serving s.page_size s.options s.options request (room_of c) []).calls
-  pub state : after ≡ after_asking s before behind c request
+  pub state : after ≡ after_decoding s before behind c request
 
 -- the state after the answers of these calls, the last of which was answered now
 abbrev pub after_answer : {F : Type 0} → LiveState F → (before behind : List OutChain) → OutChain →
@@ -266,9 +266,9 @@ GoesBackWith page_size c (Asked request options calls) x =
     let given = serving page_size options options request (room_of c) calls in
     (given.calls ≡ calls_alone calls) × (x ≡ served_exchange c.head request given)
 
-abbrev pub after_giving :
+abbrev pub after_push :
     {F : Type 0} → LiveState F → (before behind : List OutChain) → OutChain → LiveQueue → LiveState F
-after_giving s before behind c w =
+after_push s before behind c w =
     record s { queues = changed_at s.queues c.queue (λ _. gave w); outs = before ++ behind }
 
 -- a chain is returned at its queue's next used position, in any order of the pops
@@ -283,7 +283,7 @@ pub record PushesChainSo {F : Type 0} (s : LiveState F) (c : OutChain) (x : Exch
   pub used_is : used ≡ stores_after_reply (returning w) c.head (length x.reply)
   pub two : length seen ≡ 2
   pub told : notice ≡ wants w seen
-  pub state : after ≡ after_giving s before behind c w
+  pub state : after ≡ after_push s before behind c w
 
 -- two writable bytes are mapped at this address
 abbrev pub HasPlace : Memory → (address : ℕ) → Type 0
@@ -306,8 +306,8 @@ NoneWaits page_size i c (Asked request options calls) =
 NoneWaits page_size i c _ = Unit {0}
 
 -- the state after a reset: no chain of the queue is in flight
-abbrev pub after_beginning : {F : Type 0} → LiveState F → ℕ → LiveQueue → LiveState F
-after_beginning s i w =
+abbrev pub after_reset : {F : Type 0} → LiveState F → ℕ → LiveQueue → LiveState F
+after_reset s i w =
     record s { queues = changed_at s.queues i (λ _. w); outs = filter (λ c. not (c.queue == i)) s.outs }
 
 -- the next chain is popped and returned at the same position, of 16 bits
@@ -319,7 +319,7 @@ abbrev pub HasValidMaximum : LiveQueue → Type 0
 HasValidMaximum w = (1 ≤ w.max_in_flight) × (w.max_in_flight ≤ w.queue.size)
 
 -- a queue is reset once each call of its chains was answered: they are no longer in flight. It may be stopped
--- from then on, as a queue that is restored stopped
+-- from then on, as a queue that is restored stopped. Its new layout is any
 pub record ResetsQueueSo {F : Type 0} (s : LiveState F) (i : ℕ) (w : LiveQueue) (after : LiveState F) :
     Type 0 where
   pub old : LiveQueue
@@ -327,7 +327,7 @@ pub record ResetsQueueSo {F : Type 0} (s : LiveState F) (i : ℕ) (w : LiveQueue
   pub both : HasNoneInFlight w
   pub few : HasValidMaximum w
   pub none_waits : AllByRecursion (λ c. NoneWaits s.page_size i c c.phase) s.outs
-  pub state : after ≡ after_beginning s i w
+  pub state : after ≡ after_reset s i w
 
 -- each address of a store is in the reply buffer
 abbrev pub IsStoredIn : List ℕ → Store → Type 0
@@ -350,7 +350,7 @@ abbrev pub after_giving_up :
 after_giving_up s before behind c w =
     record s { queues = changed_at s.queues c.queue (λ _. untook w); outs = before ++ behind }
 
--- a chain that wasn't decoded, and after which none of its queue was popped, is no longer in flight
+-- a chain that wasn't decoded, and is the last one of its queue that is still popped, is no longer in flight
 pub record GivesUpChainSo {F : Type 0} (s : LiveState F) (c : OutChain) (after : LiveState F) : Type 0 where
   pub before : List OutChain
   pub behind : List OutChain
@@ -370,8 +370,8 @@ abbrev pub after_abandoning : {F : Type 0} → LiveState F → (before behind : 
     → LiveState F
 after_abandoning s before behind c = record s { outs = before ++ abandoned_chain c ∷ behind }
 
--- a chain's handle is freed, in any phase: the chain is never pushed. If the file system did its pending call
--- by then, the answer (`ReceivesAnswer`) is an event before this one
+-- a chain's handle is freed, in any phase, also again: the chain is never pushed. If the file system did its
+-- pending call by then, the answer (`ReceivesAnswer`) is an event before this one
 pub record AbandonsSo {F : Type 0} (s : LiveState F) (c : OutChain) (after : LiveState F) : Type 0 where
   pub before : List OutChain
   pub behind : List OutChain
@@ -379,7 +379,7 @@ pub record AbandonsSo {F : Type 0} (s : LiveState F) (c : OutChain) (after : Liv
   pub state : after ≡ after_abandoning s before behind c
 
 -- the request of a chain that its caller may reply to. The chain wasn't decoded, or it was from this request;
--- the file system may have answered some of its calls by then
+-- the file system may have answered some of its calls by then, or all
 abbrev pub IsUnreplied : OutChain → Phase → (request : List ℕ) → Type 0
 IsUnreplied c Fetched request = length request ≡ total_len (readable c.descriptors)
 IsUnreplied c (Asked asked options calls) request = request ≡ asked
@@ -404,18 +404,19 @@ pub record RepliesOwnBytesSo {F : Type 0} (s : LiveState F) (c : OutChain) (requ
 
 -- ---- other mappings, and another host
 
--- the addresses that a queue's returns need are mapped by another memory just if they are by this one: its
--- used ring, at any position, its used index, its available flags, and used_event
+-- at each position, a push has the same error in another memory as in this one, or none in both: its used
+-- element, used index and available flags are mapped. used_event is mapped by both or by neither
 pub record KeepsReturns (m m' : Memory) (w : LiveQueue) : Type 0 where
   pub returns : (p : ℕ) →
       return_fault m' (record (w.queue) { position = p }) ≡ return_fault m (record (w.queue) { position = p })
   pub event : reach m' Read (used_event_at w.queue) 2 ≡ reach m Read (used_event_at w.queue) 2
 
+-- the same, if there is such a queue
 abbrev pub IfKeepsReturns : (m m' : Memory) → Option LiveQueue → Type 0
 IfKeepsReturns m m' None = Unit {0}
 IfKeepsReturns m m' (Some w) = KeepsReturns m m' w
 
--- so it is for the queue of a chain in flight
+-- another memory keeps the mappings that the pushes of this chain's queue need
 abbrev pub KeepsQueue : {F : Type 0} → LiveState F → Memory → OutChain → Type 0
 KeepsQueue s m c = IfKeepsReturns s.places m (slice_get s.queues c.queue)
 
@@ -426,8 +427,9 @@ pub record RemapsSo {F : Type 0} (s : LiveState F) (m : Memory) (after : LiveSta
   pub keeps : AllByRecursion (KeepsQueue s m) s.outs
   pub state : after ≡ record s { places = m }
 
--- a device without chains in flight moves: each queue keeps its position, and whether it is stopped, in a
--- memory with other mappings. The record has neither the event index nor how many chains may be in flight
+-- a device without chains in flight moves: each queue keeps its layout, its position, and whether it is
+-- stopped, in a memory with other mappings. The record has neither the event index nor how many chains may be
+-- in flight
 pub record MovesDeviceSo {F : Type 0} (s : LiveState F) (m : Memory) (queues : List LiveQueue)
     (after : LiveState F) : Type 0 where
   pub none_out : s.outs ≡ []

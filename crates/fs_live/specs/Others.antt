@@ -51,8 +51,8 @@ HandleGivesUpChain {F} may =
     × (slice_get (after_giving_up s before behind c (live_of kept)).queues c.queue
     ≡ Some (live_of (untook kept)))
 
--- freeing a handle, in any phase of its chain, is the event `Abandons`: the chain stays in flight, and
--- no queue changes
+-- freeing a handle needs nothing of it: the event `Abandons` happens to a chain in any phase. The chain stays
+-- in flight, and no queue changes
 abbrev pub HandleAbandons : {F : Type 0} → May F → Type 0
 HandleAbandons {F} may =
     (s : LiveState F) (c : OutChain) (before behind : List OutChain) →

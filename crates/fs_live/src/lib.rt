@@ -84,7 +84,7 @@ pub fn law_examples<F: FileSystem>()
 ///   leaves the queue as the contract says, and makes few loads.
 /// - So is a pop between whose calls other handles changed the queue, or some calls of which were
 ///   refused. It makes as few loads, and each load that it asks for is mapped. If it finds its queue
-///   stopped meanwhile, it is declined.
+///   stopped meanwhile, it is refused.
 /// - So are a decoding and each answer: of the call, of a listing's look-ups, of a FORGET.
 /// - So are the return of a chain, also of a faulty one, and a store before a sleep, if its address is
 ///   mapped.
@@ -101,7 +101,7 @@ pub fn law_handles<F: FileSystem>()
     ensures stopped { HandleFindsStopped F.may }
     ensures loads { HandleLoads }
     ensures loads_among { HandleLoadsAmong }
-    ensures declines { HandleRefusesPop F.may }
+    ensures refuses_pop { HandleRefusesPop F.may }
     ensures asks { HandleDecodesRequest F.may }
     ensures answers { HandleReceivesAnswer F.may }
     ensures calls { HandleCalls F.may }

@@ -6,7 +6,7 @@ use Rattle.fs_queue.specs.Returning.{Store}
 use Rattle.fs_chain.specs.declared.queue.QueueState.{QueueState}
 use Rattle.fs_chain.specs.Events.{avail_event_at, notification_store}
 use Rattle.notify.specs.Threads.{ThreadedQueue, Walker, walks, may_act, after_act, Wishes, WishIsThere}
-use Rattle.fs_notify.specs.Takers.{AsksByStore, IsCounted, IsOf, MutesBy, MutesByStore, SaysWish, ways_of, wish_at}
+use Rattle.fs_notify.specs.Takers.{RearmsByStore, IsCounted, IsOf, MutesBy, MutesByStore, SaysWish, ways_of, wish_at}
 
 abbrev AsksSo : QueueState → ThreadedQueue → Type 0
 AsksSo q s =
@@ -20,8 +20,8 @@ AsksSo q s =
     × SaysWish q.event_index store.bytes asked.event asked.muted
     × IsOf q asked
 
-asks_so : (q : QueueState) (s : ThreadedQueue) (b : Bool) → q.event_index ≡ b → IsCounted q → IsOf q s → s.holder ≡ Walker → AsksSo q s
-asks_so q s true e counted is walker = (
+rearms_so : (q : QueueState) (s : ThreadedQueue) (b : Bool) → q.event_index ≡ b → IsCounted q → IsOf q s → s.holder ≡ Walker → AsksSo q s
+rearms_so q s true e counted is walker = (
   record { address = avail_event_at q.layout; bytes = to_le_bytes w16 q.next_avail },
   rw e refl,
   rw e refl,
@@ -30,7 +30,7 @@ asks_so q s true e counted is walker = (
   rw e (from_le_bytes-to_le_bytes_2 q.next_avail counted.0 ∙ sym is.0),
   is,
 )
-asks_so q s false e counted is walker = (
+rearms_so q s false e counted is walker = (
   record { address = q.layout.used; bytes = to_le_bytes w16 0 },
   rw e refl,
   rw e refl,
@@ -40,8 +40,8 @@ asks_so q s false e counted is walker = (
   is,
 )
 
-pub asks : AsksByStore
-asks q s counted is walker = asks_so q s q.event_index refl counted is walker
+pub rearms : RearmsByStore
+rearms q s counted is walker = rearms_so q s q.event_index refl counted is walker
 
 mutes_so : (q : QueueState) (s : ThreadedQueue) (b : Bool) → q.event_index ≡ b → IsOf q s → MutesBy b q s (notification_store q false)
 mutes_so q s true e is = rw e refl

@@ -10,7 +10,7 @@ use Rattle.fs_chain.specs.declared.queue.QueueState.{QueueState}
 use Rattle.fs_chain.specs.declared.chain_handle.ChainHandle.{ChainHandle}
 use Rattle.fs_chain.specs.Loads.{GoesSo, IsSame, whole}
 use Rattle.fs_chain.specs.Whole.{AddsSo, BeginsPopBy, WantsBytes}
-use Rattle.notify.specs.Threads.{Asker, SleepsNow, TakesOne, ThreadedQueue, Walker, after_act, may_act}
+use Rattle.notify.specs.Threads.{Rearmer, SleepsNow, TakesOne, ThreadedQueue, Walker, after_act, may_act}
 use Rattle.fs_notify.specs.Takers.{HasPopped, IsCounted, IsIndex, IsOf, ways_of}
 
 -- a pop by calls of the handle, the last one first. Between two of them, calls with other bytes were refused,
@@ -63,7 +63,7 @@ FindsNoneAmidRefusals =
     → before.stopped ≡ None
     → (walks : WalksAmid given old new before after (wents.On says.Idle))
     → IsOf before s
-    → s.holder ≡ Asker
+    → s.holder ≡ Rearmer
     → s.hidden ≡ false
     → (loaded : Loaded)
     × LoadsAmid given old new before after (wents.On says.Idle) walks loaded

@@ -22,7 +22,7 @@ use Rattle.fs_chain.specs.Events.{avail_event_at, notification_store}
 use Rattle.fs_chain.specs.Orders.{begin_error, end_error, give_up_error}
 use Rattle.fs_chain.specs.Queues.{gave, in_flight, untook}
 use Rattle.fs_chain.specs.Whole.{LoadsOf, WalksBy}
-use Rattle.notify.specs.Threads.{Ways, right_ways, ThreadedQueue, Walker, Asker, Nobody, may_act, after_act}
+use Rattle.notify.specs.Threads.{Ways, right_ways, ThreadedQueue, Walker, Rearmer, Nobody, may_act, after_act}
 use Rattle.notify.specs.Threads.{ActsOver}
 use Rattle.notify.specs.Threads.{Wishes, WishIsThere, Silences, TakesOne, DropsOne, SleepsNow, ReturnsChains}
 
@@ -50,8 +50,8 @@ SaysWish true bytes event muted = from_le_bytes w16 bytes ≡ event
 SaysWish false bytes event muted = has_bit (from_le_bytes w16 bytes) 0 ≡ muted
 
 -- the store that enables notifications is the wish for the next chain, once it has reached memory
-abbrev pub AsksByStore : Type 0
-AsksByStore =
+abbrev pub RearmsByStore : Type 0
+RearmsByStore =
     (q : QueueState) (s : ThreadedQueue)
     → IsCounted q
     → IsOf q s
@@ -124,7 +124,7 @@ FindsNoneByWalk =
     → before.stopped ≡ None
     → (walks : WalksBy given old new before after (wents.On says.Idle))
     → IsOf before s
-    → s.holder ≡ Asker
+    → s.holder ≡ Rearmer
     → s.hidden ≡ false
     → (loaded : Loaded)
     × LoadsOf given old new before after (wents.On says.Idle) walks loaded
@@ -140,7 +140,7 @@ FullIsAnAct =
     (q : QueueState) (s : ThreadedQueue)
     → begin_error q 0 ≡ Some ChainInFlight
     → IsOf q s
-    → s.holder ≡ Asker
+    → s.holder ≡ Rearmer
     → s.hidden ≡ false
     → IsTrue (may_act (ways_of q) s SleepsNow) × IsOf q (after_act (ways_of q) s SleepsNow)
 

@@ -20,7 +20,7 @@
 
 ghost use Rattle.fs_notify.specs.Givers.{ChecksBySeen, MachineChecks, PublishesByStore, ReturnsInOrder};
 ghost use Rattle.fs_notify.specs.Amid.{FindsNoneAmidRefusals, TakesAmidRefusals};
-ghost use Rattle.fs_notify.specs.Takers.{AsksByStore, DropIsAnAct, FindsNoneByWalk, FullIsAnAct};
+ghost use Rattle.fs_notify.specs.Takers.{RearmsByStore, DropIsAnAct, FindsNoneByWalk, FullIsAnAct};
 ghost use Rattle.fs_notify.specs.Takers.{MutesByStore, ReturnIsAnAct};
 ghost use Rattle.fs_notify.specs.Takers.{SleepsInOrder, TakesByWalk};
 
@@ -28,7 +28,7 @@ ghost use Rattle.fs_notify.specs.Takers.{SleepsInOrder, TakesByWalk};
 /// it. Calls of a pop may have been refused between its others. A wish and a later pop that finds no
 /// chain, in this order, are a run of the model after which the thread sleeps.
 pub fn law_takers()
-    ensures asks { AsksByStore }
+    ensures rearms { RearmsByStore }
     ensures mutes { MutesByStore }
     ensures takes { TakesByWalk }
     ensures none { FindsNoneByWalk }

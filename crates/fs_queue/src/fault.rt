@@ -18,19 +18,19 @@ pub enum ChainFault {
     NextOutOfTable = 2,
     #[error("a descriptor ends past the last address")]
     AddressOverflow = 3,
-    #[error("a descriptor that names a table names a next one too")]
+    #[error("an indirect descriptor has a next one")]
     IndirectWithNext = 4,
-    #[error("a table names another table")]
+    #[error("an indirect table has an indirect descriptor")]
     IndirectNested = 5,
-    #[error("a table is empty or no whole number of descriptors")]
+    #[error("an indirect table is empty, or no whole number of descriptors")]
     IndirectLength = 6,
-    #[error("a table can't be read")]
+    #[error("an indirect table can't be read")]
     TableUnreachable = 7,
-    #[error("the request or the room is too long")]
+    #[error("the request or the reply buffer is too long")]
     OverLimit = 8,
     #[error("the request can't be read")]
     RequestUnreachable = 9,
-    #[error("the room can't be written")]
+    #[error("the reply buffer can't be written")]
     RoomUnreachable = 10,
 }
 
@@ -53,7 +53,7 @@ pub enum QueueError {
     Stopped = 1,
     #[error("the available index can't be read")]
     AvailIndexUnreachable = 2,
-    #[error("more chains wait than the queue holds")]
+    #[error("more chains are available than the queue holds")]
     AvailTooFar = 3,
     #[error("the available ring's entry can't be read")]
     RingEntryUnreachable = 4,
@@ -61,7 +61,7 @@ pub enum QueueError {
     HeadOutOfTable = 5,
     #[error("the used ring can't be written")]
     UsedUnreachable = 6,
-    #[error("the available flags can't be read")]
+    #[error("the available flags, or used_event, can't be read")]
     AvailFlagsUnreachable = 7,
     #[error("a descriptor can't be read")]
     DescriptorUnreachable = 8,

@@ -23,7 +23,7 @@ pub enum RestoreError {
     #[error("the record's reserved number isn't 0")]
     BadReserved,
     /// The queue of this index, from 0, has a bad layout, or its `stopped` is neither 0 nor 1.
-    #[error("queue {0} of the record is no queue")]
+    #[error("queue {0} of the record is invalid")]
     BadQueue(usize),
     #[error("the record has options that aren't known")]
     BadOptions,
@@ -32,7 +32,7 @@ pub enum RestoreError {
     #[error("out of memory")]
     OutOfMemory,
     /// In version 2, the record's page size or limit isn't the one that the caller passed.
-    #[error("the record's page size or limit is another one")]
+    #[error("the record's page size or limit isn't the device's")]
     Mismatch,
 }
 

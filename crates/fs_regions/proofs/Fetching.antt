@@ -12,7 +12,7 @@ use Rattle.fs_queue.specs.Chain.{Descriptor, IsChain, HasFault}
 use Rattle.fs_queue.specs.OfferLoads.{with_request}
 use Rattle.fs_queue.specs.Taking.{readable, writable, total_len, all_reach, RequestAndRoom, IsRequest, CannotFetch, Offers, chain_fault}
 use Rattle.fs_queue.proofs.ReadLemmas.{length-bytes}
-use Rattle.fs_regions.specs.Walks.{Loaded, HeadIsAvailable, FindsBy, FetchesBy}
+use Rattle.fs_regions.specs.Walks.{Loaded, HeadMayBePushed, FindsBy, FetchesBy}
 use Rattle.fs_regions.proofs.Offering.{on_found}
 
 length-request : (m : Memory) (ds : List Descriptor) → length (flat_map (λ d. bytes m d.addr d.len) ds) ≡ total_len ds
@@ -53,7 +53,7 @@ whole head over lost_request lost_room loaded request room e long = absurd (cc)
 
 -- what is fetched of a chain that was found
 pub fetches : (m : Memory) (limit : ℕ) (q : Queue) (loaded : Loaded) (ds : List Descriptor) (head : ℕ) (o : Option ChainFault) →
-    q.stopped ≡ false → o ≡ chain_fault m limit ds → HeadIsAvailable m q loaded head →
+    q.stopped ≡ false → o ≡ chain_fault m limit ds → HeadMayBePushed m q loaded head →
     FindsBy m q loaded head (IsChain ds) → FetchesBy m limit q loaded ds head o
 fetches m limit q loaded ds head (Some fault) runs why waits finds =
     on_found m limit q loaded head (IsChain ds) [] (Offers head (CannotFetch fault)) runs waits
@@ -73,7 +73,7 @@ fetches m limit q loaded ds head None runs why waits finds = (
 
 -- a fault that the walk found
 pub fetches_fault : (m : Memory) (limit : ℕ) (q : Queue) (loaded : Loaded) (ds : List Descriptor) (head : ℕ) (fault : ChainFault) →
-    q.stopped ≡ false → HeadIsAvailable m q loaded head →
+    q.stopped ≡ false → HeadMayBePushed m q loaded head →
     FindsBy m q loaded head (HasFault fault) → FetchesBy m limit q loaded ds head (Some fault)
 fetches_fault m limit q loaded ds head fault runs waits finds =
     on_found m limit q loaded head (HasFault fault) [] (Offers head (CannotFetch fault)) runs waits refl finds

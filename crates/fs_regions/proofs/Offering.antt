@@ -13,7 +13,7 @@ use Rattle.fs_queue.specs.Chain.{Found}
 use Rattle.fs_queue.specs.Loads.{Load}
 use Rattle.fs_queue.specs.OfferLoads.{waits_by, on_waits, with_loaded, offer_by}
 use Rattle.fs_queue.specs.Taking.{Offer, Refuses, offer_of, return_fault}
-use Rattle.fs_regions.specs.Walks.{Loaded, RingIsAsked, IsLost, HeadWaits, HeadIsAvailable, FindsBy, OffersBy}
+use Rattle.fs_regions.specs.Walks.{Loaded, RingIsAsked, IsLost, HeadBeginsWalk, HeadMayBePushed, FindsBy, OffersBy}
 
 -- by what waits
 on_next : (m : Memory) (limit : ℕ) (q : Queue) (index entry : Option (List ℕ)) (ls : List Load) (request : List ℕ)
@@ -29,7 +29,7 @@ return_has false c e = absurd (cc)
 
 -- by what a walk from a head finds
 pub on_found : (m : Memory) (limit : ℕ) (q : Queue) (loaded : Loaded) (head : ℕ) (found : Found) (request : List ℕ) (o : Offer) →
-    q.stopped ≡ false → HeadIsAvailable m q loaded head →
+    q.stopped ≡ false → HeadMayBePushed m q loaded head →
     with_loaded request (offer_of m limit head found) ≡ Some o → FindsBy m q loaded head found → OffersBy m limit q loaded request o
 on_found m limit q loaded head found request o runs waits with_request finds =
     let has = return_has (reach m Write (element_at q) 8 && reach m Write (index_at q) 2) (reach m Read q.avail 2) waits.returns in
@@ -57,7 +57,7 @@ lacks true true e x is = absurd (cc)
 
 pub on_lacking :
     (m : Memory) (limit : ℕ) (q : Queue) (loaded : Loaded) (head : ℕ) (progress : Progress) (e : QueueError) → q.stopped ≡ false →
-    HeadWaits m q loaded head progress → return_fault m q ≡ Some e →
+    HeadBeginsWalk m q loaded head progress → return_fault m q ≡ Some e →
     OffersBy m limit q loaded [] (Refuses e)
 on_lacking m limit q loaded head progress e runs waits fault = (
   waits.asked,

@@ -26,7 +26,7 @@ use Rattle.fs_queue.specs.RingingView.{IfRingEntry}
 use Rattle.fs_queue.specs.WalkingView.{at_position, found_of}
 use Rattle.fs_queue.proofs.LoadLemmas.{step_at, step_lost, reach_none}
 use Rattle.fs_regions.specs.Walks.{Loaded, nothing, standing_before, Brings, BeginsAtHead, BeginsIfChain, TellsBy, StandsAfterIndex}
-use Rattle.fs_regions.specs.Walks.{HeadWaits, HeadIsAvailable, IsLost, FindsBy}
+use Rattle.fs_regions.specs.Walks.{HeadBeginsWalk, HeadMayBePushed, IsLost, FindsBy}
 use Rattle.fs_regions.specs.Misses.{OfIndex, OfRingEntry, first_miss, needed_at}
 use Rattle.fs_regions.proofs.Finding.{brings_end, before}
 
@@ -178,7 +178,7 @@ index_begins l position x begins = rw (begins.0, begins.1) refl
 
 -- a head waits, and nothing of its chain was loaded
 pub head_waits : (m : Memory) (q : Queue) (loaded : Loaded) (head : ℕ) (progress : Progress) →
-    TellsBy m q loaded (says.Chain head progress) → HeadWaits m q loaded head progress
+    TellsBy m q loaded (says.Chain head progress) → HeadBeginsWalk m q loaded head progress
 head_waits m q loaded head progress tells = record {
   by_loads = tells.by_loads ∙ ap Some (sym (untold (Head head) tells.next tells.tells));
   no_entries = tells.no_entries;
@@ -199,8 +199,8 @@ entry_told p q index entry bs w same is long asks_it tells =
     ∙ ap (λ (o : Option (List ℕ)). HasResult (by_entry q o entry)) (sym is)
 
 -- a chain goes on to wait, whatever entries were loaded
-pub waits_on : (m : Memory) (q : Queue) (loaded : Loaded) (entries : List Load) (head : ℕ) → HeadIsAvailable m q loaded head →
-    HeadIsAvailable m q (record loaded { entries = entries }) head
+pub waits_on : (m : Memory) (q : Queue) (loaded : Loaded) (entries : List Load) (head : ℕ) → HeadMayBePushed m q loaded head →
+    HeadMayBePushed m q (record loaded { entries = entries }) head
 waits_on m q loaded entries head waits = record { by_loads = waits.by_loads; asked = waits.asked; returns = waits.returns }
 
 ring_same : (l : QueueLayout) (position : ℕ) (q : Queue) (w : code.Walk) → at_position l position ≡ q →

@@ -28,7 +28,7 @@ use Rattle.fs_regions.specs.declared.entries.EntriesWalk.{EntriesWalk}
 use Rattle.fs_regions.specs.declared.walk.QueueWalk.TheVariants as at
 use Rattle.fs_regions.specs.Places.{Mapped, places_in}
 use Rattle.fs_regions.specs.Stretches.{AsksFor, ReadsStretch}
-use Rattle.fs_regions.specs.Walks.{is_in, Brings, ComesBy, IsCourseStep, IsReadOut, Loaded, ReadOutOf, IsWalkAt, UsesUp, HeadIsAvailable}
+use Rattle.fs_regions.specs.Walks.{is_in, Brings, ComesBy, IsCourseStep, IsReadOut, Loaded, ReadOutOf, IsWalkAt, UsesUp, HeadMayBePushed}
 use Rattle.fs_regions.proofs.Finding.{brings_on, with_joining}
 use Rattle.fs_regions.proofs.Steps.{waits_on}
 
@@ -252,7 +252,7 @@ same_size (says.Ends walked) a b h e = tt
 pub comes_by : (m : Memory) (limit : ℕ) (q : Queue) (loaded : Loaded) (stretch : EntriesWalk) (bs : List ℕ) (old new : List Descriptor)
     (after : code.Progress) (came : comes.CourseStep) →
     ReadsStretch stretch.walk bs old new after → AsksFor after came →
-    ((l : Loaded) → HeadIsAvailable m q l stretch.head → IfWants after (λ w. w.size ≡ q.size) →
+    ((l : Loaded) → HeadMayBePushed m q l stretch.head → IfWants after (λ w. w.size ≡ q.size) →
     Brings q.size l.entries (ahead_at q.size (first_visit q stretch.head)) new (ahead_of after) → IsCourseStep m limit q l new came) →
     IsWalkAt m q loaded old (at.Entries stretch) → ComesBy m limit q loaded (at.Entries stretch) bs new came
 comes_by m limit q loaded stretch bs old new after came r asks comes stands =

@@ -105,7 +105,7 @@ pub record StandsAfterIndex (m : Memory) (q : Queue) (index : Option (List ℕ))
   pub begins : BeginsIfChain q walk
 
 -- the chain of this head is available, and its walk begins
-pub record HeadWaits (m : Memory) (q : Queue) (loaded : Loaded) (head : ℕ) (progress : Progress) :
+pub record HeadBeginsWalk (m : Memory) (q : Queue) (loaded : Loaded) (head : ℕ) (progress : Progress) :
     Type 0 where
   pub by_loads : waits_by q loaded.index loaded.entry ≡ Some (Head head)
   pub no_entries : loaded.entries ≡ []
@@ -113,7 +113,7 @@ pub record HeadWaits (m : Memory) (q : Queue) (loaded : Loaded) (head : ℕ) (pr
   pub begins : BeginsAtHead q head progress
 
 -- the chain of this head is available, and the stores of its push are mapped
-pub record HeadIsAvailable (m : Memory) (q : Queue) (loaded : Loaded) (head : ℕ) : Type 0 where
+pub record HeadMayBePushed (m : Memory) (q : Queue) (loaded : Loaded) (head : ℕ) : Type 0 where
   pub by_loads : waits_by q loaded.index loaded.entry ≡ Some (Head head)
   pub asked : RingIsAsked m q loaded
   pub returns : return_fault m q ≡ None
@@ -153,7 +153,7 @@ IsWalkAt m q loaded ds (at.RingEntry w) =
     × (loaded.entries ≡ [])
     × (ds ≡ [])
 IsWalkAt m q loaded ds (at.Entries w) =
-    HeadIsAvailable m q loaded w.head
+    HeadMayBePushed m q loaded w.head
     × (w.walk.size ≡ q.size)
     × Brings q.size loaded.entries (ahead_at q.size (first_visit q w.head)) ds (Reads (visit_of w.walk))
 
@@ -267,12 +267,12 @@ LeadsTo m limit q loaded ds OfReturn =
     × (ds ≡ [])
 LeadsTo m limit q loaded ds (OfEntry v) =
     (head : ℕ)
-    × HeadIsAvailable m q loaded head
+    × HeadMayBePushed m q loaded head
     × (v.index < v.table.entries)
     × Brings q.size loaded.entries (ahead_at q.size (first_visit q head)) ds (Reads v)
 LeadsTo m limit q loaded ds (OfBuffers found) =
     (head : ℕ)
-    × HeadIsAvailable m q loaded head
+    × HeadMayBePushed m q loaded head
     × FindsBy m q loaded head (IsChain found)
     × (found ≡ ds)
     × (chain_fault m limit ds ≡ Some fault.OverLimit → ⊥)
@@ -292,7 +292,7 @@ MissesNothing m limit q loaded ds test =
 -- the walk finds this by the loads that were made
 abbrev pub FindsAlone : Memory → Queue → Loaded → Found → Type 0
 FindsAlone m q loaded found =
-    (head : ℕ) × HeadIsAvailable m q loaded head × (chain_exactly loaded.entries q head ≡ Some found)
+    (head : ℕ) × HeadMayBePushed m q loaded head × (chain_exactly loaded.entries q head ≡ Some found)
 
 -- the walk needs an entry that the table maps: it isn't mapped to memory, or can't be read
 abbrev pub EntryIsNoMiss : Memory → (limit : ℕ) → Queue → Loaded → Type 0

@@ -19,8 +19,8 @@ ghost use Rattle.fs_queue.specs.WalkingView.{at_position, found_of};
 ghost use Rattle.fs_regions.specs.Places.{places_in};
 ghost use Rattle.fs_regions.specs.Stretches.{AsksFor};
 ghost use Rattle.fs_regions.specs.Walks.{Loaded, nothing, asked_len, asked_entries, queue_of, IsCourseOf};
-ghost use Rattle.fs_regions.specs.Walks.{TellsBy, StandsAfterIndex, HeadWaits, IsWalkAt, ComesBy};
-ghost use Rattle.fs_regions.specs.Walks.{IsCourseStep, HeadIsAvailable, Brings, FindsBy};
+ghost use Rattle.fs_regions.specs.Walks.{TellsBy, StandsAfterIndex, HeadBeginsWalk, IsWalkAt, ComesBy};
+ghost use Rattle.fs_regions.specs.Walks.{IsCourseStep, HeadMayBePushed, Brings, FindsBy};
 
 use crate::entries::{ENTRY_LEN, EntriesWalk};
 use crate::map::GuestMap;
@@ -240,7 +240,7 @@ impl Course {
         descriptors: &[Descriptor],
     ) -> CourseStep
         ensures { (loaded : Loaded)
-            → HeadWaits (places_in regions.now) (queue_of self.now) loaded head progress
+            → HeadBeginsWalk (places_in regions.now) (queue_of self.now) loaded head progress
             → descriptors.now ≡ []
             → IsCourseStep (places_in regions.now) self.now.limit (queue_of self.now) loaded
             descriptors.now result }
@@ -257,7 +257,7 @@ impl Course {
     fn without_return(&self, regions: &GuestMap, error: QueueError) -> CourseStep
         requires { return_fault (places_in regions.now) (queue_of self.now) ≡ Some error }
         ensures { (loaded : Loaded) (head : ℕ) (progress : Progress)
-            → HeadWaits (places_in regions.now) (queue_of self.now) loaded head progress
+            → HeadBeginsWalk (places_in regions.now) (queue_of self.now) loaded head progress
             → IsCourseStep (places_in regions.now) self.now.limit (queue_of self.now) loaded [] result }
     {
         match return_miss(regions, self.layout, self.position) {
@@ -276,7 +276,7 @@ impl Course {
         descriptors: &[Descriptor],
     ) -> CourseStep
         ensures comes { (loaded : Loaded)
-            → HeadIsAvailable (places_in regions.now) (queue_of self.now) loaded head
+            → HeadMayBePushed (places_in regions.now) (queue_of self.now) loaded head
             → IfWants progress (λ w. w.size ≡ self.now.layout.size)
             → Brings self.now.layout.size loaded.entries (ahead_at self.now.layout.size
             (first_visit (queue_of self.now) head)) descriptors.now (ahead_of progress)
@@ -308,7 +308,7 @@ impl Course {
         descriptors: &[Descriptor],
     ) -> CourseStep
         ensures comes { (loaded : Loaded)
-            → HeadIsAvailable (places_in regions.now) (queue_of self.now) loaded head
+            → HeadMayBePushed (places_in regions.now) (queue_of self.now) loaded head
             → walk.size ≡ self.now.layout.size
             → Brings self.now.layout.size loaded.entries (ahead_at self.now.layout.size
             (first_visit (queue_of self.now) head)) descriptors.now (Reads (visit_of walk))
@@ -339,7 +339,7 @@ impl Course {
     ) -> CourseStep
         requires { reach (places_in regions.now) Read (entry_address (visit_of walk.now)) 16 ≡ false }
         ensures comes { (loaded : Loaded)
-            → HeadIsAvailable (places_in regions.now) (queue_of self.now) loaded head
+            → HeadMayBePushed (places_in regions.now) (queue_of self.now) loaded head
             → Brings self.now.layout.size loaded.entries (ahead_at self.now.layout.size
             (first_visit (queue_of self.now) head)) descriptors.now (Reads (visit_of walk.now))
             → IsCourseStep (places_in regions.now) self.now.limit (queue_of self.now) loaded
@@ -370,7 +370,7 @@ impl Course {
     ) -> CourseStep
         requires { chain_fault (places_in regions.now) self.now.limit descriptors.now ≡ Some fault }
         ensures comes { (loaded : Loaded)
-            → HeadIsAvailable (places_in regions.now) (queue_of self.now) loaded head
+            → HeadMayBePushed (places_in regions.now) (queue_of self.now) loaded head
             → FindsBy (places_in regions.now) (queue_of self.now) loaded head (IsChain descriptors.now)
             → IsCourseStep (places_in regions.now) self.now.limit (queue_of self.now) loaded
             descriptors.now result }
@@ -395,7 +395,7 @@ impl Course {
         descriptors: &[Descriptor],
     ) -> CourseStep
         ensures comes { (loaded : Loaded)
-            → HeadIsAvailable (places_in regions.now) (queue_of self.now) loaded head
+            → HeadMayBePushed (places_in regions.now) (queue_of self.now) loaded head
             → chain_exactly loaded.entries (queue_of self.now) head ≡ Some (found_of walked descriptors.now)
             → IsCourseStep (places_in regions.now) self.now.limit (queue_of self.now) loaded
             descriptors.now result }

@@ -157,5 +157,5 @@ Directory = Files OwnedTable ReadOnly
 
 -- the relation of the directory as a file system of all calls: the other calls have their defaults
 abbrev pub DirectoryAnswers : Directory → FileCall → FileAnswer → Directory → Type 0
-DirectoryAnswers before call answer after = files.AnswersByDefault false MayAnswer before.0 call answer
+DirectoryAnswers before call answer after = files.OwnOrDefault false MayAnswer before.0 call answer
     after.0

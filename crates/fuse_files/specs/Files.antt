@@ -32,8 +32,8 @@ MayOwn may before call answer after = may before call answer after
 
 -- the relation of all calls: each call that files don't serve themselves has its default answer and
 -- changes nothing
-abbrev pub AnswersByDefault : {T : Type 0} → (writes : Bool) → (T → FileCall → FileAnswer → T → Type 0) → T →
+abbrev pub OwnOrDefault : {T : Type 0} → (writes : Bool) → (T → FileCall → FileAnswer → T → Type 0) → T →
     FileCall → FileAnswer → T → Type 0
-AnswersByDefault writes may before call answer after =
+OwnOrDefault writes may before call answer after =
     ByOwn (is_own writes call) (MayOwn may before call answer after) ((answer ≡ default_answer call)
     × (after ≡ before))

@@ -3,12 +3,12 @@ use Rattle.std.proofs.Common.{◌≡◌, ℕ, List, [], ◌∷◌, Bool, true, f
 use Rattle.fuse_fs.specs.declared.answers.Context.{Context}
 use Rattle.fuse_fs.specs.Answers.{ForgetsEach}
 use Rattle.fuse_fs.specs.Calls.{FileCall, FileAnswer, Done, BatchForget}
-use Rattle.fuse_files.specs.Files.{ByOwn, MayOwn, AnswersByDefault, default_answer, is_own}
+use Rattle.fuse_files.specs.Files.{ByOwn, MayOwn, OwnOrDefault, default_answer, is_own}
 
 -- a call that files don't serve themselves may have its default answer
 pub by_default : {T : Type 0} (writes : Bool) (may : T → FileCall → FileAnswer → T → Type 0) (s : T)
     (c : FileCall) →
-    is_own writes c ≡ false → AnswersByDefault writes may s c (default_answer c) s
+    is_own writes c ≡ false → OwnOrDefault writes may s c (default_answer c) s
 by_default writes may s c other =
     subst (λ (own : Bool). ByOwn own (MayOwn may s c (default_answer c) s)
     ((default_answer c ≡ default_answer c)
@@ -17,7 +17,7 @@ by_default writes may s c other =
 -- FORGETs of pairs in a state are FORGETs in its files
 each_forgotten : {S T : Type 0} (may : T → FileCall → FileAnswer → T → Type 0) (part : S →
     T) (before : S) (who : Context) (counts : List (ℕ × ℕ)) (after : S) →
-    ForgetsEach (λ b call answer a. AnswersByDefault true may (part b) call answer (part a)) before who counts
+    ForgetsEach (λ b call answer a. OwnOrDefault true may (part b) call answer (part a)) before who counts
     after → ForgetsEach may (part before) who counts (part after)
 each_forgotten may part before who [] after same = ap part same
 each_forgotten may part before who (node ∷ counts) after (between, made, rest) =
@@ -26,7 +26,7 @@ each_forgotten may part before who (node ∷ counts) after (between, made, rest)
 -- FORGETs of pairs change nothing in read-only files
 none_forgotten : {S T : Type 0} (may : T → FileCall → FileAnswer → T → Type 0) (part : S →
     T) (before : S) (who : Context) (counts : List (ℕ × ℕ)) (after : S) →
-    ForgetsEach (λ b call answer a. AnswersByDefault false may (part b) call answer
+    ForgetsEach (λ b call answer a. OwnOrDefault false may (part b) call answer
     (part a)) before who counts
     after → part after ≡ part before
 none_forgotten may part before who [] after same = ap part same
@@ -36,9 +36,9 @@ none_forgotten may part before who (node ∷ counts) after (between, made, rest)
 -- BATCH_FORGET may forget its nodes one after another
 pub forgets_each : {S T : Type 0} (writes : Bool) (may : T → FileCall → FileAnswer → T → Type 0) (part : S →
     T) (before : S) (who : Context) (counts : List (ℕ × ℕ)) (after : S) →
-    ForgetsEach (λ b call answer a. AnswersByDefault writes may (part b) call answer (part a)) before who
+    ForgetsEach (λ b call answer a. OwnOrDefault writes may (part b) call answer (part a)) before who
     counts after →
-    AnswersByDefault writes may (part before) (BatchForget who counts) Done (part after)
+    OwnOrDefault writes may (part before) (BatchForget who counts) Done (part after)
 forgets_each true may part before who counts after each =
     (refl, each_forgotten may part before who counts after each)
 forgets_each false may part before who counts after each =

@@ -3,7 +3,7 @@
 ghost use Rattle.std.specs.Prelude.{◌≡◌, true, false, option_map};
 ghost use Rattle.fuse_fs.specs.Answers.{attr_answer};
 ghost use Rattle.fuse_fs.specs.Calls as call;
-ghost use Rattle.fuse_files.specs.Files.{AnswersByDefault};
+ghost use Rattle.fuse_files.specs.Files.{OwnOrDefault};
 
 use crate::adapter::{Files, Kind};
 use crate::readable::ReadableFileSystem;
@@ -97,7 +97,7 @@ impl<T: WritableFileSystem> ChangeCalls for Files<T, Writable> {
         handle: Option<u64>,
         valid: SetattrValid,
     ) -> Result<(Attr, Timeout), Errno>
-        ensures may { AnswersByDefault true T.may self.old.0 (call.Setattr ctx inode attr
+        ensures may { OwnOrDefault true T.may self.old.0 (call.Setattr ctx inode attr
             (option_map (λ n. n) handle) valid.0) (attr_answer result) self.new.0 }
     {
         self.0.setattr(ctx, inode, attr, handle, valid)

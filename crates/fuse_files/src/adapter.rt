@@ -3,7 +3,7 @@
 ghost use Rattle.std.specs.Prelude.{◌≡◌, Bool, option_map};
 ghost use Rattle.fuse_fs.specs.Answers.{attr_answer, written_answer};
 ghost use Rattle.fuse_fs.specs.Calls as call;
-ghost use Rattle.fuse_files.specs.Files.{AnswersByDefault};
+ghost use Rattle.fuse_files.specs.Files.{OwnOrDefault};
 
 use crate::readable::ReadableFileSystem;
 use fuse_base::{Attr, Errno, FsOptions, OpenOptions};
@@ -23,7 +23,7 @@ pub trait Kind<T: ReadableFileSystem> {
 
     /// FUSE_FORGET: calls the files' `forget` if they are writable.
     fn forget(files: &mut T, ctx: Context, inode: u64, count: u64)
-        ensures may { AnswersByDefault writes T.may files.old
+        ensures may { OwnOrDefault writes T.may files.old
             (call.Forget ctx inode count) call.Done files.new };
 
     /// FUSE_WRITE: calls the files' `write` if they are writable. ENOSYS otherwise.
@@ -40,7 +40,7 @@ pub trait Kind<T: ReadableFileSystem> {
         kill_priv: bool,
         flags: u32,
     ) -> Result<u32, Errno>
-        ensures may { AnswersByDefault writes T.may files.old (call.Write ctx inode handle (R.left r.old) size
+        ensures may { OwnOrDefault writes T.may files.old (call.Write ctx inode handle (R.left r.old) size
             offset lock_owner delayed_write kill_priv flags) (written_answer result) files.new };
 }
 
@@ -49,7 +49,7 @@ impl<T: ReadableFileSystem, K: Kind<T>> FileSystemBase for Files<T, K> {
 
     type Handle = u64;
 
-    ghost may = { λ before call answer after. AnswersByDefault K.writes T.may before.0 call answer after.0 };
+    ghost may = { λ before call answer after. OwnOrDefault K.writes T.may before.0 call answer after.0 };
 
     fn forget(&mut self, ctx: Context, inode: u64, count: u64) {
         K::forget(&mut self.0, ctx, inode, count);
@@ -79,7 +79,7 @@ impl<T: ReadableFileSystem, K: Kind<T>> FewCalls for Files<T, K> {
         inode: u64,
         handle: Option<u64>,
     ) -> Result<(Attr, Timeout), Errno>
-        ensures may { AnswersByDefault K.writes T.may self.old.0
+        ensures may { OwnOrDefault K.writes T.may self.old.0
             (call.Getattr ctx inode (option_map (λ n. n) handle)) (attr_answer result) self.new.0 }
     {
         self.0.getattr(ctx, inode, handle)

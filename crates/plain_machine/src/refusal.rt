@@ -7,19 +7,19 @@ use thiserror::Error;
 /// Why a command of a `Machine` was refused. A refused command changes nothing.
 #[derive(Clone, Copy, Debug, PartialEq, Eq, Error)]
 pub enum Refusal {
-    #[error("an address has no place")]
+    #[error("an address isn't mapped")]
     NoPlace,
-    #[error("a block has at least one byte")]
+    #[error("a block is empty")]
     EmptyBlock,
     #[error("there is no such block, or it has another length")]
     UnknownBlock,
-    #[error("a region's last address is past the greatest")]
+    #[error("a region ends past the last address")]
     BadRegion,
     #[error("two regions have an address in common")]
     Overlap,
     #[error("there is no such region")]
     NoRegion,
-    #[error("the end of a mapping, or of its target, is past the greatest address")]
+    #[error("the end of a mapping, or of its target, is past the last address")]
     BadMapping,
     #[error("there is no such queue")]
     NoSuchQueue,

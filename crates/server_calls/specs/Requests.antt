@@ -243,11 +243,11 @@ forget_node who None = []
 forget_node who (Some node) = Forget who node 1 ∷ []
 
 -- FORGET of the entry that a call answered, for node 0 too. A file that CREATE opened stays open
-abbrev pub given_back : FileCall → FileAnswer → List FileCall
-given_back (Lookup who n name) answer = forget_node who (entry_node answer)
-given_back (Symlink who l n name x) answer = forget_node who (entry_node answer)
-given_back (Mknod who n name m r u x) answer = forget_node who (entry_node answer)
-given_back (Mkdir who n name m u x) answer = forget_node who (entry_node answer)
-given_back (Link who o n name) answer = forget_node who (entry_node answer)
-given_back (Create who n name m k f u x) answer = forget_node who (entry_node answer)
-given_back _ answer = []
+abbrev pub forget_entry : FileCall → FileAnswer → List FileCall
+forget_entry (Lookup who n name) answer = forget_node who (entry_node answer)
+forget_entry (Symlink who l n name x) answer = forget_node who (entry_node answer)
+forget_entry (Mknod who n name m r u x) answer = forget_node who (entry_node answer)
+forget_entry (Mkdir who n name m u x) answer = forget_node who (entry_node answer)
+forget_entry (Link who o n name) answer = forget_node who (entry_node answer)
+forget_entry (Create who n name m k f u x) answer = forget_node who (entry_node answer)
+forget_entry _ answer = []

@@ -16,7 +16,7 @@ use Rattle.server_requests.specs.Reading.{Faults, and_then, record_parser}
 use Rattle.virtiofsd_fuse.specs.DataApart.{is_write}
 use Rattle.server_phases.specs.Asking.{IsRequestFront, BeginsRecord}
 
--- a reading that left something else
+-- a parser that left something else
 abbrev pub leaving : {R : Type 0} → reading.Parsed R → List ℕ → reading.Parsed R
 leaving (Ok x) left = Ok (x.0, left)
 leaving (Err e) left = Err e

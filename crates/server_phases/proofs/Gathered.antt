@@ -26,7 +26,7 @@ use Rattle.server_phases.specs.declared.listing.NotAdded.{NotAdded}
 use Rattle.server_phases.specs.declared.listing.NotAdded.TheVariants.{TooLong, Full, NoRoom, ShortList}
 use Rattle.server_phases.specs.Gathering.{Brought, EndsList, FailsList, Holds, IsListingFor, StaysBut, is_looked_up, node_of, bytes_of}
 use Rattle.server_phases.specs.Gathering.{all_bytes}
-use Rattle.server_phases.specs.Gathering.{all_found, found_of, entries_of, look_up, look_ups, node_given_back, placed, put_at, error_of}
+use Rattle.server_phases.specs.Gathering.{all_found, found_of, entries_of, look_up, look_ups, forget_listed, placed, put_at, error_of}
 use Rattle.server_phases.specs.Waiting.{first_call}
 
 if_err_map : {A E : Type 0} → (r : Result A E) (P Q : E → Type 0) → IfErr r P → ((e : E) → P e → Q e) → IfErr r Q
@@ -216,7 +216,7 @@ out_by : (b dot : Bool) (unique : ℕ) (l : asked.ListRequest) (e : Brought) (ne
     (error : Option ℕ)
     → l.with_nodes ≡ b → is_dot e.0.name ≡ dot → fit_of (length e.0.name) (entry_len b (length e.0.name)) left room ≡ out error
     → list_entry l e.0 next left room (found_of l.with_nodes e ++ answers)
-    ≡ went (look_up (Lists unique l) e.0 ++ node_given_back (Lists unique l) e) [] error
+    ≡ went (look_up (Lists unique l) e.0 ++ forget_listed (Lists unique l) e) [] error
 out_by false dot unique l e next left room answers error n t f = rw n (left_out false e.0 (no_node e.0) [] next left room answers error f)
 out_by true true unique l e next left room answers error n t f =
     rw (n, t) (left_out true e.0 (no_node e.0) (forget_lookup l.context 0 ∷ []) next left room answers error f)
@@ -228,7 +228,7 @@ out_first :
     (unique : ℕ) (l : asked.ListRequest) (e : Brought) (behind : List Listed) (left room : ℕ) (answers : List FileAnswer) (error : Option ℕ)
     → fit_of (length e.0.name) (entry_len l.with_nodes (length e.0.name)) left room ≡ out error
     → list_entries l (e.0 ∷ behind) left room (found_of l.with_nodes e ++ answers)
-    ≡ went (look_up (Lists unique l) e.0 ++ node_given_back (Lists unique l) e) [] error
+    ≡ went (look_up (Lists unique l) e.0 ++ forget_listed (Lists unique l) e) [] error
 unfolding list_entries
 out_first unique l e behind left room answers error f =
     out_by l.with_nodes (is_dot e.0.name) unique l e (list_entries l behind) left room answers error refl refl f
@@ -243,11 +243,11 @@ out_behind : (s : Setting) (l : Listing) (unique : ℕ) (a : asked.ListRequest) 
     (error : Option ℕ) → IsListingFor l s.room (Lists unique a) → Holds l list es → fit_in l (length e.0.name) ≡ out error
     → list_entries a (entries_of es ++ e.0 ∷ behind) a.size (s.room - 16)
     (all_found a.with_nodes es ++ (found_of a.with_nodes e ++ answers))
-    ≡ went (look_ups (Lists unique a) es ++ (look_up (Lists unique a) e.0 ++ node_given_back (Lists unique a) e))
+    ≡ went (look_ups (Lists unique a) es ++ (look_up (Lists unique a) e.0 ++ forget_listed (Lists unique a) e))
     (all_bytes a.with_nodes es) error
 out_behind s l unique a list es e behind answers error is holds fit =
     let b = a.with_nodes in
-    let calls = look_up (Lists unique a) e.0 ++ node_given_back (Lists unique a) e in
+    let calls = look_up (Lists unique a) e.0 ++ forget_listed (Lists unique a) e in
     let long : l.len ≡ length (all_bytes b es) = holds.long ∙ ap (λ b. length (all_bytes b es)) is.1 in
     let size : l.size ≡ a.size = is.2 in
     let room : l.room ≡ s.room - 16 = is.3 in
@@ -272,7 +272,7 @@ full_ends l list e full s (One unique call) es behind answers is holds = absurd 
 full_ends l list e full s (Starts unique capable readahead) es behind answers is holds = absurd is
 full_ends l list e full s (Lists unique a) es behind answers is holds =
     let command = Lists unique a in
-    let calls = look_ups command es ++ (look_up command e.0 ++ node_given_back command e) in
+    let calls = look_ups command es ++ (look_up command e.0 ++ forget_listed command e) in
     let long : l.len ≡ length (all_bytes a.with_nodes es) = holds.long ∙ ap (λ b. length (all_bytes b es)) is.1 in
     let stands : take l.len list ≡ all_bytes a.with_nodes es = holds.stands ∙ ap (λ b. all_bytes b es) is.1 in
     let room : l.room ≡ s.room - 16 = is.3 in
@@ -284,7 +284,7 @@ full_ends l list e full s (Lists unique a) es behind answers is holds =
     ∙ gives_list s.room s.options unique l.len (readdir_call a ∷ calls) list (all_bytes a.with_nodes es) long stands
     (omega (arith, room, fits, place))
     ∙ ap (λ u. by_reply (readdir_call a ∷ calls) s.options (data_header u (Ok l.len) ++ take l.len list)) (sym is.0)
-    ∙ sym (ap (λ (x : ServedMessage). record x { calls = x.calls ++ (look_up command e.0 ++ node_given_back command e) }) ended)
+    ∙ sym (ap (λ (x : ServedMessage). record x { calls = x.calls ++ (look_up command e.0 ++ forget_listed command e) }) ended)
 
 failed_fits : (t b : Bool) (unique errno room : ℕ) (bytes : List ℕ) → (b && nat_lt 0 (length bytes)) ≡ t → 16 + length bytes ≤ room
     → length (listing_bytes unique b bytes (Some errno)) ≤ room
@@ -316,7 +316,7 @@ wrong_fails l list e errno wrong s (Lists unique a) es behind answers is holds =
     let command = Lists unique a in
     ap (λ b. commanded s command (Entries (entries_of es ++ e.0 ∷ behind) ∷ (all_found b es ++ (found_of b e ++ answers)))) is.1
     ∙ ap (list_ended s unique a) (out_behind s l unique a list es e behind answers (Some errno) is holds wrong)
-    ∙ failed_told s l unique errno a (look_ups command es ++ (look_up command e.0 ++ node_given_back command e)) list es is holds
+    ∙ failed_told s l unique errno a (look_ups command es ++ (look_up command e.0 ++ forget_listed command e)) list es is holds
 
 abbrev outcome : Type 0
 outcome = Result (Unit {0}) NotAdded

@@ -10,7 +10,7 @@ use Rattle.fuse_fs.specs.Calls.{Failed}
 use Rattle.fuse_values.specs.declared.answer.FileAnswer as made
 use Rattle.fuse_values.specs.declared.answer.FileAnswer.TheVariants as value
 use Rattle.fuse_values.specs.Answers.{answer_of}
-use Rattle.server_calls.specs.Requests.{is_silent, options_after, given_back, forget_node, entry_node}
+use Rattle.server_calls.specs.Requests.{is_silent, options_after, forget_entry, forget_node, entry_node}
 use Rattle.server_replies.specs.WholeReplies.{reply_bytes, error_bytes, told_bytes}
 use Rattle.server_replies.proofs.ReplyLemmas.{length_reply}
 use Rattle.server_segments.specs.declared.error.Error.TheVariants.{EncodeMessage}
@@ -35,7 +35,7 @@ options_same options Destroy = refl
 options_same options _ = refl
 
 back_same : (who : Context) (call : FileCall) (answer : FileAnswer) → IsFor who call →
-    given_back call answer ≡ back_by (brings_entry (awaits_of call)) who answer
+    forget_entry call answer ≡ back_by (brings_entry (awaits_of call)) who answer
 back_same who (Lookup c n name) answer e = ap (λ (w : Context). forget_node w (entry_node answer)) e
 back_same who (Symlink c l n name x) answer e = ap (λ (w : Context). forget_node w (entry_node answer)) e
 back_same who (Mknod c n name m r u x) answer e = ap (λ (w : Context). forget_node w (entry_node answer)) e

@@ -56,10 +56,10 @@ look_ups command [] = []
 look_ups command (e ∷ es) = look_up command e.0 ++ look_ups command es
 
 -- the FORGET of an entry's node in READDIRPLUS: node 0 for `.` and `..`
-abbrev pub node_given_back : FileCommand → Brought → List FileCall
-node_given_back (Lists unique l) e = if l.with_nodes then forget_lookup l.context (node_of e).inode
+abbrev pub forget_listed : FileCommand → Brought → List FileCall
+forget_listed (Lists unique l) e = if l.with_nodes then forget_lookup l.context (node_of e).inode
     ∷ [] else []
-node_given_back command e = []
+forget_listed command e = []
 
 -- the entries without their nodes
 abbrev pub entries_of : List Brought → List Listed
@@ -76,9 +76,9 @@ IsListingFor l room (Lists unique asked) =
 IsListingFor l room command = ⊥
 
 -- a command is a listing
-abbrev pub lists_entries : FileCommand → Bool
-lists_entries (Lists unique l) = true
-lists_entries command = false
+abbrev pub is_list_command : FileCommand → Bool
+is_list_command (Lists unique l) = true
+is_list_command command = false
 
 -- the bytes of the entries so far are at the front of a list
 pub record Holds (l : Listing) (list : List ℕ) (es : List Brought) : Type 0 where
@@ -97,7 +97,7 @@ EndsList l list e =
     let before = commanded s command (Entries (entries_of es) ∷ all_found l.with_nodes es) in
     commanded s command (Entries (entries_of es ++ e.0 ∷ behind)
     ∷ (all_found l.with_nodes es ++ (found_of l.with_nodes e ++ answers)))
-    ≡ record before { calls = before.calls ++ (look_up command e.0 ++ node_given_back command e) }
+    ≡ record before { calls = before.calls ++ (look_up command e.0 ++ forget_listed command e) }
 
 -- an entry fails the list with this error. The reply is that of an error after the entries before
 -- it, and in READDIRPLUS its node is forgotten; the entries behind it don't matter
@@ -112,7 +112,7 @@ FailsList l list e errno =
     ∷ (all_found l.with_nodes es ++ (found_of l.with_nodes e ++ answers)))
     ≡ record {
       calls = first_call command
-          ∷ (look_ups command es ++ (look_up command e.0 ++ node_given_back command e));
+          ∷ (look_ups command es ++ (look_up command e.0 ++ forget_listed command e));
       options = s.options;
       reply = listing_bytes l.unique l.with_nodes (all_bytes l.with_nodes es) (Some errno);
       fault = None;

@@ -12,7 +12,7 @@ ghost use Rattle.virtiofsd_fuse.specs.Serving.{Setting, commanded};
 ghost use Rattle.server_phases.specs.Gathering.{Brought, EndsList, FailsList, Holds, IsListingFor, StaysBut};
 ghost use Rattle.server_phases.specs.Gathering.{placed, added_plain, added_found, error_of, put_at};
 ghost use Rattle.server_phases.specs.Gathering.{served_list};
-ghost use Rattle.server_phases.specs.Gathering.{lists_entries, bytes_of, all_bytes, all_found, entries_of};
+ghost use Rattle.server_phases.specs.Gathering.{is_list_command, bytes_of, all_bytes, all_found, entries_of};
 ghost use Rattle.server_phases.specs.Gathering.{look_up, look_ups};
 ghost use Rattle.server_phases.specs.Waiting.{WaitsFor, first_call};
 
@@ -70,10 +70,10 @@ impl Listing {
         ensures empty { IfOk result (λ l. l.len ≡ 0) }
         ensures taken { OnOk result ((command : FileCommand)
             → WaitsFor waiting command
-            → lists_entries command ≡ true) }
+            → is_list_command command ≡ true) }
         ensures refused { OnErr result ((command : FileCommand)
             → WaitsFor waiting command
-            → lists_entries command ≡ false) }
+            → is_list_command command ≡ false) }
         ensures given_back { IfErr result (λ r. (r.why ≡ AnswerRefusal.OtherKind) × (r.waiting ≡ waiting)) }
     {
         match waiting.awaits {

@@ -12,9 +12,9 @@ pub enum WrongLine {
     #[error("there is a word too many")]
     ExtraWord,
     /// An empty word: a blank at either end of the line, or two in a row.
-    #[error("a blank stands at an end of the line, or behind another")]
+    #[error("the line begins or ends with a blank, or has two in a row")]
     ExtraBlank,
-    #[error("a carriage return stands behind a word")]
+    #[error("a word ends with a carriage return")]
     CarriageReturn,
     #[error("a word that has to be a number isn't one")]
     NotANumber,
@@ -24,7 +24,7 @@ pub enum WrongLine {
     BigShort,
     #[error("a word isn't whole bytes in hexadecimal digits")]
     NotBytes,
-    #[error("what a mapping allows isn't none, r, w or rw")]
+    #[error("a mapping's permission isn't none, r, w or rw")]
     NotPermissions,
     #[error("a switch isn't on or off")]
     NotASwitch,

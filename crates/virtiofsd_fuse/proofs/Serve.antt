@@ -13,7 +13,7 @@ use Rattle.virtiofsd_fuse.specs.Listings.{ListRequest, readdir_call}
 use Rattle.virtiofsd_fuse.specs.ListingRuns.{ListRun}
 use Rattle.virtiofsd_fuse.specs.Serving.{ServedMessage, served, Setting, Serves, Handles, served_of, replied, no_reply, answer_bytes}
 use Rattle.virtiofsd_fuse.specs.Serving.{start_options, undone, all_done}
-use Rattle.server_calls.specs.Requests.{options_after, given_back}
+use Rattle.server_calls.specs.Requests.{options_after, forget_entry}
 use Rattle.virtiofsd_fuse.specs.Serving.{start_answered, lacks_memory, list_ended, list_answered}
 use Rattle.server_segments.specs.Errors.{is_memory}
 use Rattle.server_segments.specs.declared.error.Error.{Error}
@@ -93,21 +93,21 @@ module _ {F : Type 0} (may : F → FileCall → FileAnswer → F → Type 0) whe
   pub handles_entry : (s : Setting) (m : Meaning) (unique : ℕ) (call : FileCall) (answer : FileAnswer) (undo : List FileCall)
       (before between after : F) (result : Result ℕ Error)
       (written : List ℕ) (options : ℕ) → m ≡ Asks (One unique call) → IsTrue (suits call answer) → may before call answer between
-      → options ≡ options_after s.options call → given_back call answer ≡ undo
+      → options ≡ options_after s.options call → forget_entry call answer ≡ undo
       → FileRun may between (all_done (undone s.room (answer_bytes unique call answer) undo)) after
       → with_written result written ≡ whole_or_none s.room (answer_bytes unique call answer)
       → Handles may s m before result written options after
   handles_entry s m unique call answer undo before between after result written options e fits step o back more h =
       let bytes = answer_bytes unique call answer in
       let calls = undone s.room bytes undo in
-      let asked : (call ∷ map (λ step. step.0) (all_done calls)) ≡ call ∷ undone s.room bytes (given_back call answer) =
+      let asked : (call ∷ map (λ step. step.0) (all_done calls)) ≡ call ∷ undone s.room bytes (forget_entry call answer) =
       ap (λ (more : List FileCall). call ∷ more) (calls_done calls ∙ ap (undone s.room bytes) (sym back)) in
       rw (e, o) (handled s (Asks (One unique call)) before result written (options_after s.options call) after
       (told_memory s.room bytes result written h)
       (record {
         steps = (call, answer) ∷ all_done calls;
         run = (between, fits, step, more);
-        gives = rw asked (told_replied s.room (call ∷ undone s.room bytes (given_back call answer)) (options_after s.options call) bytes
+        gives = rw asked (told_replied s.room (call ∷ undone s.room bytes (forget_entry call answer)) (options_after s.options call) bytes
             result written h);
       }))
 
@@ -115,7 +115,7 @@ module _ {F : Type 0} (may : F → FileCall → FileAnswer → F → Type 0) whe
   pub handles_one :
       (s : Setting) (m : Meaning) (unique : ℕ) (call : FileCall) (answer : FileAnswer) (before after : F) (result : Result ℕ Error)
       (written : List ℕ) (options : ℕ) → m ≡ Asks (One unique call) → IsTrue (suits call answer) → may before call answer after
-      → options ≡ options_after s.options call → given_back call answer ≡ []
+      → options ≡ options_after s.options call → forget_entry call answer ≡ []
       → with_written result written ≡ whole_or_none s.room (answer_bytes unique call answer)
       → Handles may s m before result written options after
   handles_one s m unique call answer before after result written options e fits step o back h =

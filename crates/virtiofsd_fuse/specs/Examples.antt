@@ -193,7 +193,7 @@ unfolding meaning meant record_parser row reply_bytes field_bytes list_entries f
 plus_means = refl
 
 -- LOOKUP of `a` with a reply buffer of one byte too few: node 2 is forgotten
-lookup_given_back : serve (in_header_bytes 42 1 1 1 ++ 97 ∷ 0 ∷ []) 143 (HasEntry node_of_a ∷ Done ∷ [])
+lookup_forgotten : serve (in_header_bytes 42 1 1 1 ++ 97 ∷ 0 ∷ []) 143 (HasEntry node_of_a ∷ Done ∷ [])
     ≡ record {
       calls = Lookup nobody 1 (97 ∷ []) ∷ Forget nobody 2 1 ∷ [];
       options = 0;
@@ -201,7 +201,7 @@ lookup_given_back : serve (in_header_bytes 42 1 1 1 ++ 97 ∷ 0 ∷ []) 143 (Has
       fault = Some EncodeMessage;
     }
 unfolding meaning meant record_parser row counted last_name reply_bytes field_bytes
-lookup_given_back = refl
+lookup_forgotten = refl
 
 -- with that byte the reply fits, and no node is forgotten
 lookup_told : (serve (in_header_bytes 42 1 1 1 ++ 97 ∷ 0 ∷ []) 144 (HasEntry node_of_a ∷ [])).calls
@@ -214,12 +214,12 @@ abbrev create : List ℕ
 create = in_header_bytes 58 35 1 1 ++ le32 2 ++ le32 420 ++ le32 18 ++ zeros 4 ++ 99 ∷ 0 ∷ []
 
 -- with a reply buffer of one byte too few node 2 is forgotten, and the opened file stays open
-created_given_back : (serve create 159 (Created node_of_a (Some 9) 0 ∷ Done ∷ [])).calls
+created_forgotten : (serve create 159 (Created node_of_a (Some 9) 0 ∷ Done ∷ [])).calls
     ≡ Create nobody 1 (99 ∷ []) 420 false 2 18 (record { security = None; group = None })
     ∷ Forget nobody 2 1 ∷ []
 unfolding meaning meant record_parser row counted with_bytes front_name new_name extra_in reply_bytes
     field_bytes
-created_given_back = refl
+created_forgotten = refl
 
 -- a name of 2^32 bytes is the error 75, with any size and room
 long_name : fit_of (2 ^ 32) (entry_len false (2 ^ 32)) (2 ^ 33) (2 ^ 33) ≡ IsWrong 75

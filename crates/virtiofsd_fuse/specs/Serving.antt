@@ -15,7 +15,7 @@ use Rattle.virtiofsd_fuse.specs.Grammar.{Lists, Given, given, ended, row, defaul
 use Rattle.server_segments.specs.ReaderAndWriterView.{WriterView}
 use Rattle.server_replies.specs.WholeReplies.{reply_bytes, error_bytes, started_bytes, told_bytes}
 use Rattle.server_replies.specs.WholeReplies.{listing_bytes, LeavesWriter}
-use Rattle.server_calls.specs.Requests.{is_silent, options_after, given_back}
+use Rattle.server_calls.specs.Requests.{is_silent, options_after, forget_entry}
 pub use Rattle.server_segments.specs.Errors.{is_memory, lacks_memory}
 
 -- a result of serving: the calls so far, the last of which may still wait for its answer, the
@@ -87,7 +87,8 @@ undone room reply undo = if nat_lt room (length reply) then undo else []
 abbrev pub one_answered : Setting → ℕ → FileCall → FileAnswer → ServedMessage
 one_answered s unique call answer =
     let bytes = answer_bytes unique call answer in
-    replied s.room (call ∷ undone s.room bytes (given_back call answer)) (options_after s.options call) bytes
+    replied s.room (call ∷ undone s.room bytes (forget_entry call answer))
+    (options_after s.options call) bytes
 
 -- the result of a command by its answers so far; without an answer there is no reply yet
 abbrev pub commanded : Setting → FileCommand → List FileAnswer → ServedMessage

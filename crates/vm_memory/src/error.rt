@@ -10,7 +10,7 @@ use vm_values::GuestAddress;
 #[derive(Clone, Copy, Debug, PartialEq, Eq, Error)]
 pub enum MmapRegionError {
     /// The size is 0.
-    #[error("a region has at least one byte")]
+    #[error("a region is empty")]
     Mmap,
     #[error("out of memory")]
     OutOfMemory,
@@ -72,7 +72,7 @@ pub enum FromRangesError {
     #[error("{0}")]
     MmapRegion(MmapRegionError),
     /// A range ends past 2^64.
-    #[error("a region's last address is past the greatest")]
+    #[error("a region ends past the last address")]
     InvalidGuestRegion,
     #[error("out of memory")]
     OutOfMemory,
@@ -102,7 +102,7 @@ pub enum GuestMemoryError {
     InvalidGuestAddress(GuestAddress),
     /// Only the first `completed` of the `expected` bytes have a place. These, at least one, were read
     /// or written.
-    #[error("{completed} of {expected} bytes were there")]
+    #[error("only {completed} of {expected} bytes could be accessed")]
     PartialBuffer { expected: usize, completed: usize },
     /// The bytes of the access end past their region.
     #[error("past the end of the region")]

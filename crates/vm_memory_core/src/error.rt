@@ -22,7 +22,7 @@ pub enum VolatileMemoryError {
     #[error("misaligned")]
     Misaligned,
     /// Only `completed` of the buffer's `expected` bytes could be read or written.
-    #[error("{completed} of {expected} bytes were there")]
+    #[error("only {completed} of {expected} bytes could be accessed")]
     PartialBuffer { expected: usize, completed: usize },
 }
 

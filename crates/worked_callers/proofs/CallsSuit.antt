@@ -10,7 +10,7 @@ use Rattle.fuse_values.specs.declared.answer.FileAnswer as answered
 use Rattle.fuse_values.specs.declared.call.FileCall as called
 use Rattle.virtiofsd_fuse.specs.Grammar.{Meaning}
 use Rattle.virtiofsd_fuse.specs.Serving.{Setting}
-use Rattle.server_phases.specs.Answering.{TellsBytes, forget_calls}
+use Rattle.server_phases.specs.Answering.{TellsBytes, forget_if_any}
 use Rattle.plain_machine.specs.Step.{EachSuits}
 use Rattle.fs_chain.specs.Answers.{CanBeGiven, IfWaits, IsWaiting}
 use Rattle.fs_chain.specs.Decoding.{KeepsCall}
@@ -39,6 +39,6 @@ suits_by s m behind made a out (at.Waits kept w) keeps waits told can =
 suits_by s m behind made a out st keeps waits told can = absurd waits
 
 -- so does the FORGET of an entry that doesn't fit
-pub forget_suits : (node : Option (Context × ℕ)) → EachSuits (map (λ c. (c, file.Done)) (forget_calls node))
+pub forget_suits : (node : Option (Context × ℕ)) → EachSuits (map (λ c. (c, file.Done)) (forget_if_any node))
 forget_suits None = tt
 forget_suits (Some node) = (refl, tt)

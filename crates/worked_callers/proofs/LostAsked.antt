@@ -18,7 +18,7 @@ use Rattle.fs_chain.specs.declared.chain_handle.ChainHandle.{ChainHandle}
 use Rattle.fs_live.specs.Handles.{HandleDecodesRequest, HandleEndsPop, IsHeld, IsOut, IsReached, IsSessionOf, live_of}
 use Rattle.fs_live.specs.Live.{Abandons, DecodesRequest, Happens, LiveEvent, LiveRun, LiveState, OutChain, ReceivesAnswer, EndsPop}
 use Rattle.fs_live.specs.Live.{after_answer}
-use Rattle.fs_live.specs.Live.{after_asking}
+use Rattle.fs_live.specs.Live.{after_decoding}
 use Rattle.fs_live.specs.Live.{after_abandoning, after_pop, asked_chain, calls_among, new_chain}
 use Rattle.fs_live.specs.Others.{HandleAbandons}
 use Rattle.worked_callers.proofs.ServedBeside.{chain_is, reached_by}
@@ -56,7 +56,7 @@ module _ {F : Type 0} (may : May F) (walks_law : HandleEndsPop may) (asks_law : 
       let held : IsOut s.limit c one = subst (λ (k : comes.CourseStep). IsHeld s i q loaded k one) is walk.6 in
       let asking = asks_law s₁ c s.outs [] one two session request request (asks.Call made)
       (reached_by may s s₁ (EndsPop i loaded ds came) reached first) small refl refl held in_session asked tt in
-      let s₂ : LiveState F = after_asking s₁ s.outs [] c request in
+      let s₂ : LiveState F = after_decoding s₁ s.outs [] c request in
       let d : OutChain = asked_chain c request s.options [] in
       let end : LiveState F = after_abandoning s₂ s.outs [] d in
       let walked : LiveEvent = EndsPop i loaded ds came in

@@ -17,7 +17,7 @@ use Rattle.fs_chain.specs.declared.chain_handle.ChainHandle.{ChainHandle}
 use Rattle.plain_machine.specs.StepBy.{Act}
 use Rattle.fs_live.specs.Handles.{HandleEndsPop, IsHeld, IsOut, IsReached, live_of}
 use Rattle.fs_live.specs.Live.{Happens, IfKeepsReturns, KeepsQueue, KeepsReturns, LiveEvent, LiveRun, LiveState, OutChain, Own, Remaps}
-use Rattle.fs_live.specs.Live.{PushesChain, RepliesOwnBytes, EndsPop, after_giving, after_own, after_pop, calls_among, new_chain, room_of}
+use Rattle.fs_live.specs.Live.{PushesChain, RepliesOwnBytes, EndsPop, after_push, after_own, after_pop, calls_among, new_chain, room_of}
 use Rattle.fs_live.specs.Others.{GoesBackOwn, HandlePushesOwn, HandleRemaps, HandleRepliesOwnBytes, IsOwn}
 use Rattle.fs_live.specs.Several.{LiveQueue, took}
 use Rattle.fs_live.proofs.Queues.{same_some, there_same}
@@ -71,7 +71,7 @@ mapped_amid {F} may walks_law maps_law replies_law returns_law old one two other
     let goes_back = back (room_of d) reply 0 in
     let next_used = returns_law s₃ d s.outs [] two.state after request reply goes_back.0 0 notice refl there₁
     (taken_of before after goes taken_is) refl own goes_back.1 in
-    let s₄ : LiveState F = after_giving s₃ s.outs [] d (live_of after) in (
+    let s₄ : LiveState F = after_push s₃ s.outs [] d (live_of after) in (
       EndsPop i loaded ds came ∷ Remaps m ∷ RepliesOwnBytes c request reply s.options
           ∷ PushesChain d next_used.0 notice 0 next_used.1 next_used.2 ∷ [],
       s₄,

@@ -32,7 +32,7 @@ use Rattle.notify.specs.Kicks as kicks
 use Rattle.notify.specs.Kicks.{NotifyState}
 use Rattle.notify.specs.Threads.{DropsOne, Loads, SleepsNow, TakesOne, ThreadedQueue, Walker, WishIsThere, Wishes, after_act, walks}
 use Rattle.fs_notify.specs.Givers.{PublishesByStore, rules_of}
-use Rattle.fs_notify.specs.Takers.{AsksByStore, DropIsAnAct, FindsNoneByWalk, IsCounted, IsOf, SaysWish, TakesByWalk, ways_of}
+use Rattle.fs_notify.specs.Takers.{RearmsByStore, DropIsAnAct, FindsNoneByWalk, IsCounted, IsOf, SaysWish, TakesByWalk, ways_of}
 use Rattle.worked_callers.specs.Notified.{ActsTo, IsStoredWish, PopsWithIndex}
 
 -- ---- the wish
@@ -40,7 +40,7 @@ use Rattle.worked_callers.specs.Notified.{ActsTo, IsStoredWish, PopsWithIndex}
 none_some : (store : Store) → ◌≡◌ {A = Option Store} None (Some store) → ⊥
 none_some store is = cc
 
-pub wish_is : AsksByStore → (q : QueueState) (store : Option NotificationStore) → option_map store_of store ≡ notification_store q true
+pub wish_is : RearmsByStore → (q : QueueState) (store : Option NotificationStore) → option_map store_of store ≡ notification_store q true
     → IsCounted q → (s : ThreadedQueue) → IsOf q s → s.holder ≡ Walker → IsStoredWish q s store
 wish_is law q None is counted s of walker =
     let asked = law q s counted of walker in
@@ -57,7 +57,7 @@ wish_is law q (Some n) is counted s of walker =
 
 -- ---- a pop that finds no chain
 
-pub sleeps_so : AsksByStore → FindsNoneByWalk → (given : List (List ℕ)) (old new : ChainHandle) (before after : QueueState)
+pub sleeps_so : RearmsByStore → FindsNoneByWalk → (given : List (List ℕ)) (old new : ChainHandle) (before after : QueueState)
     → IsCounted before
     → before.stopped ≡ None → WalksBy given old new before after (wents.On says.Idle) → (s : ThreadedQueue) → IsOf before s
     → s.holder ≡ Walker → s.index < 2 ^ 16

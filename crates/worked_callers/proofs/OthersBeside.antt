@@ -34,7 +34,7 @@ use Rattle.fs_live.specs.Live.{Abandons, GivesUpChain, Happens, HasNoneInFlight,
 use Rattle.fs_live.specs.Live.{MovesDevice}
 use Rattle.fs_live.specs.Live.{OutChain, Own}
 use Rattle.fs_live.specs.Live.{RepliesOwnBytes}
-use Rattle.fs_live.specs.Live.{PushesChain, EndsPop, after_abandoning, after_giving_up, after_giving, after_own, after_pop, calls_among}
+use Rattle.fs_live.specs.Live.{PushesChain, EndsPop, after_abandoning, after_giving_up, after_push, after_own, after_pop, calls_among}
 use Rattle.fs_live.specs.Live.{new_chain}
 use Rattle.fs_live.specs.Live.{room_of}
 use Rattle.fs_live.specs.Others.{AreBegunBy, GoesBackOwn, HandleAbandons, HandleGivesUpChain, HandleMovesDevice, HandlePushesOwn}
@@ -176,7 +176,7 @@ replied_beside {F} may walks_law replies_law returns_law old one two before afte
     let goes_back = back (room_of d) reply 0 in
     let next_used = returns_law s₂ d s.outs [] two.state after request reply goes_back.0 0 notice refl there₁
     (taken_of before after goes taken_is) refl own goes_back.1 in
-    let s₃ : LiveState F = after_giving s₂ s.outs [] d (live_of after) in (
+    let s₃ : LiveState F = after_push s₂ s.outs [] d (live_of after) in (
       EndsPop i loaded ds came ∷ RepliesOwnBytes c request reply s.options ∷ PushesChain d next_used.0 notice 0 next_used.1 next_used.2
           ∷ [],
       s₃,

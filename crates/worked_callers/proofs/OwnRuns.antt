@@ -45,7 +45,7 @@ use Rattle.fs_live.specs.Guest.{DeviceEvent, PagesOfRun, Writes}
 use Rattle.fs_live.specs.Handles.{HandleDecodesRequest, HandleEndsPop, IsHeld, IsOut, IsReached, IsSessionOf, live_of}
 use Rattle.fs_live.specs.Live.{DecodesRequest, GoesBackWith, Happens, LiveEvent, LiveRun, LiveState, OutChain, Own, Phase, ReceivesAnswer}
 use Rattle.fs_live.specs.Live.{PushesChain, RepliesOwnBytes}
-use Rattle.fs_live.specs.Live.{EndsPop, after_answer, after_asking, after_giving, after_own, after_pop, asked_chain, calls_among, new_chain}
+use Rattle.fs_live.specs.Live.{EndsPop, after_answer, after_decoding, after_push, after_own, after_pop, asked_chain, calls_among, new_chain}
 use Rattle.fs_live.specs.Live.{room_of}
 use Rattle.fs_live.specs.Others.{AskedIsHeld, GoesBackOwn, HandlePushesOwn, HandleRepliesInstead, HandleRepliesOwnBytes, IfOut, IsHeldAsked}
 use Rattle.fs_live.specs.Others.{IsOwn}
@@ -113,7 +113,7 @@ module _ {F : Type 0} (may : May F) (returns_law : HandlePushesOwn may) (before 
       subst (λ (k : Queue). k ≡ queue_of (course_of (record after { next_avail = k.position }) 0)) (sym taken)
       (taken_of before after goes taken_is) in
       let returned = returns_law s₂ d s.outs [] st after request reply goes_back.0 0 notice refl there₁ laid refl own goes_back.1 in
-      let s₃ : LiveState F = after_giving s₂ s.outs [] d (live_of after) in
+      let s₃ : LiveState F = after_push s₂ s.outs [] d (live_of after) in
       record {
         earlier = earlier ++ replied ∷ [];
         now = s₂;
@@ -314,7 +314,7 @@ module _ {F : Type 0} (may : May F) (walks_law : HandleEndsPop may) (asks_law : 
       let told : LiveEvent = DecodesRequest c request (call ∷ []) in
       let asking = asks_law s₁ c s.outs [] one two session request request (asks.Call made)
       (reached_by may s s₁ walked here.reached pop.happens) here.small refl refl pop.held in_session asked tt in
-      let s₂ : LiveState F = after_asking s₁ s.outs [] c request in
+      let s₂ : LiveState F = after_decoding s₁ s.outs [] c request in
       let d : OutChain = asked_chain c request s.options [] in
       let held = held_law s.page_size s.options request d made two asking.1 in
       let held' : IsHeldAsked d three = record {
@@ -342,7 +342,7 @@ module _ {F : Type 0} (may : May F) (walks_law : HandleEndsPop may) (asks_law : 
       let told : LiveEvent = DecodesRequest c request (call ∷ []) in
       let asking = asks_law s₁ c s.outs [] one two session request request (asks.Call made)
       (reached_by may s s₁ walked here.reached pop.happens) here.small refl refl pop.held in_session asked tt in
-      let s₂ : LiveState F = after_asking s₁ s.outs [] c request in
+      let s₂ : LiveState F = after_decoding s₁ s.outs [] c request in
       let d : OutChain = asked_chain c request s.options [] in
       let held = held_law s.page_size s.options request d made two asking.1 in
       let calls : Calls = (call, answer) ∷ [] in

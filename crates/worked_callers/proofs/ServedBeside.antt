@@ -53,8 +53,8 @@ use Rattle.fs_live.specs.Live.{
   StoresNotification,
   EndsPop,
   after_answer,
-  after_asking,
-  after_giving,
+  after_decoding,
+  after_push,
   after_pop,
   asked_chain,
   calls_among,
@@ -256,7 +256,7 @@ module _ {F : Type 0} (may : May F) (walks_law : HandleEndsPop may) (asks_law : 
       (reached_by may s s₁ (EndsPop i loaded ds (step.Chain head None)) reached first) small refl refl
       (held_later s.limit c one later same held) in_session asked
       (told_with_reply made two three given has) in
-      let s₂ : LiveState F = after_asking s₁ s.outs [] c request in
+      let s₂ : LiveState F = after_decoding s₁ s.outs [] c request in
       let kept : IsKept s₂.page_size s.options request (asked_chain c request s.options []) made two = asking.1 in
       let ans = answered_all may calls_law two three request s.options made given has s₂ c s.outs [] [] calls files refl kept refl run in
       let d : OutChain = asked_chain c request s.options calls in
@@ -271,7 +271,7 @@ module _ {F : Type 0} (may : May F) (walks_law : HandleEndsPop may) (asks_law : 
       there₃ (taken_of before after goes taken_is) refl
       (each_suits may s.files files calls run) kept₃ has goes_back.2 in
       let last = PushesChain d next_used.0 notice goes_back.1 next_used.1 next_used.2 in
-      let s₄ : LiveState F = after_giving ans.end s.outs [] d (live_of after) in
+      let s₄ : LiveState F = after_push ans.end s.outs [] d (live_of after) in
       record {
         es = EndsPop i loaded ds (step.Chain head None) ∷ DecodesRequest c request (calls_told (drop 80 request) made)
             ∷ (ans.es ++ last ∷ []);
@@ -348,7 +348,7 @@ faulty_beside {F} may walks_law faulty_law old one later before after head fault
     let goes_back = back [] [] in
     let next_used = faulty_law s₁ c s.outs [] later after fault goes_back.0 goes_back.1 notice refl there₁
     (taken_of before after goes taken_is) refl (faulty_later s.limit c one later same held) goes_back.2 in
-    let s₂ : LiveState F = after_giving s₁ s.outs [] c (live_of after) in (
+    let s₂ : LiveState F = after_push s₁ s.outs [] c (live_of after) in (
       EndsPop i loaded ds came ∷ PushesChain c next_used.0 notice goes_back.1 next_used.1 next_used.2 ∷ [],
       s₂,
       (s₁, first, (s₂, next_used.4, refl)),

@@ -22,8 +22,8 @@ use Rattle.plain_machine.specs.StepBy.{Act}
 use Rattle.fs_live.specs.Handles.{HandleCalls, HandleDecodesRequest, HandlePushesChain, HandleEndsPop, IsHeld, IsKept, IsOut, IsReached}
 use Rattle.fs_live.specs.Handles.{IsSessionOf}
 use Rattle.fs_live.specs.Handles.{calls_told, live_of}
-use Rattle.fs_live.specs.Live.{DecodesRequest, Happens, LiveEvent, LiveRun, LiveState, OutChain, PushesChain, EndsPop, after_asking}
-use Rattle.fs_live.specs.Live.{after_giving}
+use Rattle.fs_live.specs.Live.{DecodesRequest, Happens, LiveEvent, LiveRun, LiveState, OutChain, PushesChain, EndsPop, after_decoding}
+use Rattle.fs_live.specs.Live.{after_push}
 use Rattle.fs_live.specs.Live.{after_pop, asked_chain, calls_among, new_chain, room_of}
 use Rattle.fs_live.specs.Several.{LiveQueue, took}
 use Rattle.fs_live.proofs.Queues.{same_some, there_same}
@@ -95,14 +95,14 @@ module _ {F : Type 0} (may : May F) (walks_law : HandleEndsPop may) (asks_law : 
       (append_assoc s.outs (c ∷ []) (c' ∷ [])) refl held in_session asked
       (told_with_reply made one₂ one₃ given has) in
       let asks = DecodesRequest c request (calls_told (drop 80 request) made) in
-      let s₃ : LiveState F = after_asking s₂ s.outs (c' ∷ []) c request in
+      let s₃ : LiveState F = after_decoding s₂ s.outs (c' ∷ []) c request in
       let d : OutChain = asked_chain c request s.options [] in
       let others : List OutChain = s.outs ++ d ∷ [] in
       let asking' = asks_law s₃ c' others [] two two₂ session' request' request' made' (reached_by may s₂ s₃ asks reached₂ asking.0) small
       (sym (append_assoc s.outs (d ∷ []) (c' ∷ []))) refl held'
       in_session' asked' (told_with_reply made' two₂ two₃ given' has') in
       let asks' = DecodesRequest c' request' (calls_told (drop 80 request') made') in
-      let s₄ : LiveState F = after_asking s₃ others [] c' request' in
+      let s₄ : LiveState F = after_decoding s₃ others [] c' request' in
       let kept : IsKept s.page_size s.options request d made one₂ = asking.1 in
       let kept' : IsKept s.page_size s.options request' (asked_chain c' request' s.options []) made' two₂ = asking'.1 in
       let ans' = answered_all may calls_law two₂ two₃ request' s.options made' given' has' s₄ c' others [] [] early between refl kept'
@@ -119,7 +119,7 @@ module _ {F : Type 0} (may : May F) (walks_law : HandleEndsPop may) (asks_law : 
       notice' ans'.outs
       (ap (λ (l : List LiveQueue). slice_get l i) ans'.queues_are ∙ there₂) (taken_of mid after goes' taken') refl
       (each_suits may s.files between early run') kept₄ has' goes_back'.2 in
-      let s₅ : LiveState F = after_giving ans'.end others [] e' (live_of after) in
+      let s₅ : LiveState F = after_push ans'.end others [] e' (live_of after) in
       let kept₅ : IsKept s₅.page_size s.options request d made one₂ =
       subst (λ (p : ℕ). IsKept p s.options request d made one₂) (sym ans'.page_size) kept in
       let ans = answered_all may calls_law one₂ one₃ request s.options made given has s₅ c s.outs [] [] late files
@@ -134,7 +134,7 @@ module _ {F : Type 0} (may : May F) (walks_law : HandleEndsPop may) (asks_law : 
       notice ans.outs
       (ap (λ (l : List LiveQueue). slice_get l i) ans.queues_are ∙ returned'.5) (late_of before mid after goes taken taken') refl
       (each_suits may between files late run) kept₆ has goes_back.2 in
-      let s₆ : LiveState F = after_giving ans.end s.outs [] e (live_of (gave after)) in
+      let s₆ : LiveState F = after_push ans.end s.outs [] e (live_of (gave after)) in
       let last' = PushesChain e' returned'.0 notice' goes_back'.1 returned'.1 returned'.2 in
       let last = PushesChain e next_used.0 notice goes_back.1 next_used.1 next_used.2 in
       let ends : List LiveEvent = ans.es ++ last ∷ [] in (

@@ -50,7 +50,7 @@ first_exchange =
 abbrev pub second_exchange : Exchange
 second_exchange = record { head = 2; request = destroy; reply = []; fault = None }
 
--- head, length and index in the used ring's first element, and in its second one
+-- the first used element's head and length, and the used index; then those of the second one
 abbrev pub first_used : List Store
 first_used =
     record { address = 0x204; bytes = le32 0 } ∷ record { address = 0x208; bytes = le32 16 }

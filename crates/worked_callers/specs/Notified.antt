@@ -46,12 +46,13 @@ PopsWithIndex given old new before after told P =
     × IsIndex loaded index
     × P index
 
--- the same of a pop some calls of which were refused
+-- a pop, some calls of which were refused, that was given the first of these bytes has this result
 abbrev pub IsWalkedAmid : List (Bor (List ℕ)) → (old new : ChainHandle) → (before after : QueueState) →
     went.LoadOutcome → Type 0
 IsWalkedAmid bytes old new before after told =
     (n : ℕ) × WalksAmid (calls_of n bytes) old new before after told
 
+-- such a pop has a result whose loaded index satisfies P
 abbrev pub PopsAmid : (given : List (List ℕ)) → (old new : ChainHandle) → (before after : QueueState) →
     PopOutcome → (ℕ → Type 0) → Type 0
 PopsAmid given old new before after told P =
@@ -62,7 +63,7 @@ PopsAmid given old new before after told P =
     × IsIndex loaded index
     × P index
 
--- if that is the index in memory, these acts of the model's thread are a run, and its queue is this one then
+-- if memory has this index, the model's thread may do these acts, and the model's queue afterwards is `after`
 abbrev pub ActsTo : QueueState → ThreadedQueue → List ThreadStep → ThreadedQueue → QueueState → (index : ℕ) →
     Type 0
 ActsTo q s acts end after index = s.index ≡ index → ActsOver (ways_of q) s acts end × IsOf after end

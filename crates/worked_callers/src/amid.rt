@@ -5,7 +5,8 @@ ghost use Rattle.std.specs.Prelude.{◌≡◌, ◌<◌, ◌^◌, ℕ, false, IfO
 ghost use Rattle.fs_chain.specs.Loads.{IsSame};
 ghost use Rattle.fs_chain.specs.declared.popping.PopOutcome.{PopOutcome};
 ghost use Rattle.fs_chain.specs.declared.state.ChainState.TheVariants as at;
-ghost use Rattle.notify.specs.Threads.{Asker, SleepsNow, TakesOne, ThreadedQueue, Walker, after_act, may_act};
+ghost use Rattle.notify.specs.Threads.{Rearmer, SleepsNow, TakesOne, ThreadedQueue, Walker, after_act};
+ghost use Rattle.notify.specs.Threads.{may_act};
 ghost use Rattle.fs_notify.specs.Takers.{IsOf, ways_of};
 ghost use Rattle.worked_callers.specs.Notified.{IsWalkedAmid, PopsAmid, calls_of};
 
@@ -65,7 +66,7 @@ pub fn sleep_amid(
     ensures { OnOk result ((n : ℕ)
         × ((s : ThreadedQueue)
         → IsOf queue.old s
-        → s.holder ≡ Asker
+        → s.holder ≡ Rearmer
         → s.hidden ≡ false
         → s.index < 2 ^ 16
         → PopsAmid (calls_of n given.now) handle.old handle.new queue.old queue.new PopOutcome.Idle

@@ -85,7 +85,7 @@ pub fn look_amid_return<F: FileSystem>(
     handle.pop(queue, index)
 }
 
-/// A pop that finds its queue stopped meanwhile is declined. It leaves the run's queue as it leaves the
+/// A pop that finds its queue stopped meanwhile is refused. It leaves the run's queue as it leaves the
 /// `QueueState`.
 pub fn find_stopped<F: FileSystem>(
     handle: &mut ChainHandle,

@@ -23,7 +23,7 @@ ghost use Rattle.fs_live.specs.Live.{ResetsQueue};
 ghost use Rattle.fs_live.specs.Live.{LiveRun};
 ghost use Rattle.fs_live.specs.Live.{LiveState, NoneWaits, OutChain, StoresNotification, calls_among};
 ghost use Rattle.fs_live.specs.Live.{room_of};
-ghost use Rattle.fs_live.specs.Live.{why_declined};
+ghost use Rattle.fs_live.specs.Live.{pop_refusal};
 ghost use Rattle.fs_live.specs.Runs.{EachStoresThere, events_on, going, tickets_on};
 ghost use Rattle.fs_live.specs.Several.{LiveQueue, RunsOver, UsedFrom, returns_among};
 ghost use Rattle.worked_callers.specs.Notified.{IsWalkedBy};
@@ -163,10 +163,10 @@ pub fn refuse_beside<F: FileSystem>(
         → (es : List LiveEvent) × (end : LiveState F)
         × LiveRun F.may s es end
         × (slice_get end.queues i ≡ Some (live_of queue.new)) }
-    ensures declined { IfOk result (λ told. (s : LiveState F) (i : ℕ) (e : QueueError)
+    ensures refused { IfOk result (λ told. (s : LiveState F) (i : ℕ) (e : QueueError)
         → slice_get s.queues i ≡ Some (live_of queue.old)
         → s.places ≡ places_in handle.old.regions
-        → why_declined s.places (live_of queue.old) ≡ Some e
+        → pop_refusal s.places (live_of queue.old) ≡ Some e
         → event_miss (places_in handle.old.regions) queue.old ≡ None
         → (told ≡ PopOutcome.Refused e)
         × (next : LiveState F)

@@ -9,7 +9,7 @@ ghost use Rattle.fs_chain.specs.declared.popping.PopOutcome.{PopOutcome};
 ghost use Rattle.fs_chain.specs.declared.chain_handle.ChainHandle.{ChainHandle};
 ghost use Rattle.fs_chain.specs.declared.queue.QueueState.{QueueState};
 ghost use Rattle.fs_chain.specs.declared.state.ChainState.TheVariants as at;
-ghost use Rattle.notify.specs.Threads.{ActsOver, Asker, DropsOne, Loads, Nobody, Silences, SleepsNow};
+ghost use Rattle.notify.specs.Threads.{ActsOver, Rearmer, DropsOne, Loads, Nobody, Silences, SleepsNow};
 ghost use Rattle.notify.specs.Threads.{TakesOne, ThreadedQueue, Walker, WishIsThere, Wishes, after_act};
 ghost use Rattle.notify.specs.Threads.{may_act};
 ghost use Rattle.fs_notify.specs.Takers.{IsCounted, IsOf, MutesBy, ways_of};
@@ -162,7 +162,7 @@ pub fn find_full(
     ensures full { result ≡ Err ChainError.ChainInFlight
         → (s : ThreadedQueue)
         → IsOf queue.old s
-        → s.holder ≡ Asker
+        → s.holder ≡ Rearmer
         → s.hidden ≡ false
         → IsTrue (may_act (ways_of queue.old) s SleepsNow)
         × IsOf queue.new (after_act (ways_of queue.old) s SleepsNow) }

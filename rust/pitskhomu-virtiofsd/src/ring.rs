@@ -133,7 +133,7 @@ impl State {
         let Numbers { next_avail, has_event_index, .. } = self.numbers;
         let telling = Some((wanted, if wanted && has_event_index { next_avail } else { 0 }));
         if !self.is_live() || self.is_new || self.told == telling {
-            return Ok(false); // [HasWished], if it is wanted
+            return Ok(false); // [OmitsWish], if it is wanted
         }
         // [Wishes, WishIsThere], or [Silences]: a store of avail_event or of the used ring's flags,
         // and a full barrier

@@ -61,7 +61,7 @@ numbered! {
         /// The available index lies in no region. It stops the queue.
         AvailIndexUnreachable = 2, "the available index is unreachable";
         /// More chains are available than the queue holds (VIRTIO 1.2, 2.7.6). It stops the queue.
-        AvailTooFar = 3, "more chains wait than the queue holds";
+        AvailTooFar = 3, "more chains are available than the queue holds";
         /// An entry of the available ring lies in no region. It stops the queue.
         RingEntryUnreachable = 4, "an entry of the available ring is unreachable";
         /// The available ring names a descriptor that the table doesn't have. It stops the queue.

@@ -6,7 +6,7 @@ use Rattle.fs_live.proofs.NoneAmid.{handle_loads, handle_walks}
 use Rattle.fs_live.proofs.Options.{options_stay}
 use Rattle.fs_live.proofs.Others.{asked_is_held, handle_abandons, handle_drops, handle_maps, handle_moves, handle_replies}
 use Rattle.fs_live.proofs.Others.{handle_replies_instead, handle_returns_own}
-use Rattle.fs_live.proofs.Popped.{handle_declines}
+use Rattle.fs_live.proofs.Popped.{handle_refuses_pop}
 use Rattle.fs_live.proofs.Pushed.{handle_faulty, handle_returns}
 use Rattle.fs_live.proofs.Sleeping.{handle_begins, handle_sleeps}
 use Rattle.fs_live.proofs.WantedAmong.{wanted_among_has_a_place}
@@ -21,8 +21,8 @@ returns-clause-loads g c = handle_loads
 pub returns-clause-loads_among : goal.returns-clause-loads_among
 returns-clause-loads_among g c = handle_loads_among
 
-pub returns-clause-declines : goal.returns-clause-declines
-returns-clause-declines g c = handle_declines g.F.FileSystemBase.may
+pub returns-clause-refuses_pop : goal.returns-clause-refuses_pop
+returns-clause-refuses_pop g c = handle_refuses_pop g.F.FileSystemBase.may
 
 pub returns-clause-asks : goal.returns-clause-asks
 returns-clause-asks g c = handle_asks g.F.FileSystemBase.may

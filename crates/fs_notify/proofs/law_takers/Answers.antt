@@ -1,12 +1,12 @@
 use Rattle.fs_notify.proofs.Amid.{finds_none_amid, takes_amid}
 use Rattle.fs_notify.proofs.Drops.{drops, ends_return, full}
 use Rattle.fs_notify.proofs.Walks.{finds_none, sleeps, takes}
-use Rattle.fs_notify.proofs.Wishes.{asks, mutes}
+use Rattle.fs_notify.proofs.Wishes.{mutes, rearms}
 use Rattle.fs_notify.proofs.law_takers.Goals as goal
 
 pub returns : goal.returns
 returns c = record {
-  asks = asks;
+  rearms = rearms;
   mutes = mutes;
   takes = takes;
   none = finds_none;

@@ -97,7 +97,7 @@ impl Ring {
     /// others are `GoesBusy` without a call of their own.)
     fn hand_on(state: &mut State, server: &mut impl Server, memory: &Arc<Table>) -> bool {
         let is_for_another = state.sleeping > 0;
-        // [Wishes] or [HasWished]; with nobody asleep [Silences]
+        // [Wishes] or [OmitsWish]; with nobody asleep [Silences]
         let told = state.want_kicks(is_for_another, server, memory);
         // [GoesBusy] if no chain is left, or a thread is woken already. Else [Signals], and then
         // [GoesBusy]. With nobody asleep [Unlocks].
@@ -174,7 +174,7 @@ impl Ring {
             }
             send(&mut owed);
             // [Wishes], and one more round, whose pop is the look once more: [SleepsNow] or
-            // [KeepsWalking]. Or [HasWished] before this round, whose pop was that look
+            // [KeepsWalking]. Or [OmitsWish] before this round, whose pop was that look
             let is_for_kicks = looked != Looked::Missing;
             let looked = match looked {
                 Looked::Missing => looked,

@@ -3,7 +3,7 @@ use Rattle.std.specs.Prelude.{drop, map}
 use Rattle.std.proofs.lemmas.Bool.Decides.{nat_tests}
 use Rattle.fuse_fs.specs.Calls.{Done, FileCall}
 use Rattle.fuse_values.specs.declared.answer.FileAnswer.TheVariants as value
-use Rattle.server_phases.specs.Answering.{forget_calls}
+use Rattle.server_phases.specs.Answering.{forget_if_any}
 use Rattle.fs_chain.specs.Whole.{OneAnswer}
 use Rattle.fs_chain.specs.declared.decoding.Decoded.TheVariants as asks
 use Rattle.worked_callers.proofs.Served.{if_ok, more_taken, taken_so}
@@ -34,7 +34,7 @@ returns g c =
       run = if_ok c.give_back.result _ _
           (λ notice back s i files reached there places limit small session. (
             asked.0,
-            map (λ (call : FileCall). (call, Done)) (forget_calls told.0.forget),
+            map (λ (call : FileCall). (call, Done)) (forget_if_any told.0.forget),
             λ files_run.
                 let so = served_beside may handles.walks handles.asks handles.calls handles.returns c.args.handle.now
                 c.walk_chain.new.handle c.walk_chain.new.handle c.ask_call.new.handle

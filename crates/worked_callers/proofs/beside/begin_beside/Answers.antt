@@ -1,6 +1,6 @@
 use Rattle.std.proofs.Common.{None}
 use Rattle.fs_live.specs.Handles.{live_of}
-use Rattle.fs_live.specs.Live.{after_beginning}
+use Rattle.fs_live.specs.Live.{after_reset}
 use Rattle.worked_callers.proofs.beside.begin_beside.Goals as goal
 
 pub returns : goal.returns
@@ -11,5 +11,5 @@ returns g c =
       begins = λ s i there some few none.
           let law = c.law_handles.ensures.begins s i before after c.args.layout c.args.position before.max_in_flight before.event_index None
           there c.reset.ensures some few c.ranges.position.fits none in
-          (after_beginning s i (live_of after), law.0, law.1);
+          (after_reset s i (live_of after), law.0, law.1);
     }

@@ -23,14 +23,14 @@ returns-clause-loaded g c e is s i there places limit events =
     let end = after_pop s i (live_of before) walk.0 new.descriptors.items walk.2 in
     (EndsPop i walk.0 new.descriptors.items walk.2 ∷ [], end, (end, walk.4, refl), walk.5)
 
-pub returns-clause-declined : goal.returns-clause-declined
-returns-clause-declined g c =
+pub returns-clause-refused : goal.returns-clause-refused
+returns-clause-refused g c =
     let old = c.args.handle.now in
     let new = c.walk_to_end.new.handle in
     let before = c.args.queue.now in
     let after = c.walk_to_end.new.queue in
     if_ok c.walk_to_end.result _ _
     (λ told walks s i e there places why none.
-    let declined = c.law_handles.ensures.declines s i walks.0 old new before after told e there places why (λ _. none) walks.1 in
+    let declined = c.law_handles.ensures.refuses_pop s i walks.0 old new before after told e there places why (λ _. none) walks.1 in
     (declined.0, declined.2, declined.3, declined.4))
     c.walk_to_end.ensures.walked

@@ -3,7 +3,7 @@ use Rattle.std.specs.Prelude.{map}
 use Rattle.std.proofs.lemmas.Bool.Decides.{nat_tests}
 use Rattle.fuse_fs.specs.Calls.{Done, FileCall}
 use Rattle.fuse_values.specs.declared.answer.FileAnswer.TheVariants as value
-use Rattle.server_phases.specs.Answering.{forget_calls}
+use Rattle.server_phases.specs.Answering.{forget_if_any}
 use Rattle.plain_machine.specs.StepBy.{Act}
 use Rattle.fs_chain.specs.Whole.{GoesBackBy, OneAnswer}
 use Rattle.fs_chain.specs.declared.decoding.Decoded.TheVariants as asks
@@ -56,8 +56,8 @@ returns g c =
       run = λ s i reached there places places' limit limit' small session session'. (
         asked.0,
         asked'.0,
-        map (λ (call : FileCall). (call, Done)) (forget_calls told.0.forget),
-        map (λ (call : FileCall). (call, Done)) (forget_calls told'.0.forget),
+        map (λ (call : FileCall). (call, Done)) (forget_if_any told.0.forget),
+        map (λ (call : FileCall). (call, Done)) (forget_if_any told'.0.forget),
         λ between files early late.
             served_crossed may handles.walks handles.asks handles.calls handles.returns c.args.first.now c.walk_chain.new.handle
             c.ask_call.new.handle c.give_data-2.new.handle

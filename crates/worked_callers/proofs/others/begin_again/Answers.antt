@@ -1,7 +1,7 @@
 use Rattle.std.proofs.Common.{◌≡◌, None, subst, sym, ap, ◌∙◌}
 use Rattle.fs_chain.specs.declared.queue.QueueState.{QueueState}
 use Rattle.fs_live.specs.Handles.{live_of}
-use Rattle.fs_live.specs.Live.{Happens, LiveState, ResetsQueue, after_beginning}
+use Rattle.fs_live.specs.Live.{Happens, LiveState, ResetsQueue, after_reset}
 use Rattle.fs_live.specs.Several.{LiveQueue}
 use Rattle.worked_callers.proofs.OthersBeside.{begun_same}
 use Rattle.worked_callers.proofs.others.begin_again.Goals as goal
@@ -18,9 +18,9 @@ returns g c =
           None there c.reset.ensures some few stood.0.1 waits in
           let same : live_of after ≡ live_of before =
           ap (λ (q : QueueState). live_of q) c.reset.ensures ∙ begun_same before c.requires.goes stood.0.0 in
-          let begins : Happens may now (ResetsQueue i (live_of before)) (after_beginning now i (live_of before)) =
-          subst (λ (w : LiveQueue). Happens may now (ResetsQueue i w) (after_beginning now i w)) same law.0 in
-          let back = stood.1 (after_beginning now i (live_of before)) begins in
+          let begins : Happens may now (ResetsQueue i (live_of before)) (after_reset now i (live_of before)) =
+          subst (λ (w : LiveQueue). Happens may now (ResetsQueue i w) (after_reset now i w)) same law.0 in
+          let back = stood.1 (after_reset now i (live_of before)) begins in
           subst (λ (w : LiveQueue). Happens may now (ResetsQueue i w) now) (sym same)
           (subst (λ k. Happens may now (ResetsQueue i (live_of before)) k) back begins);
     }

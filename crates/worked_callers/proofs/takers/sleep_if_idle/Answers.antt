@@ -10,7 +10,7 @@ returns c =
       wish = c.store_wish-store.ensures;
       sleeps = (
         by.0,
-        sleeps_so c.law_takers.ensures.asks c.law_takers.ensures.none _ c.args.handle.now c.walk_idle.new.handle q
+        sleeps_so c.law_takers.ensures.rearms c.law_takers.ensures.none _ c.args.handle.now c.walk_idle.new.handle q
             c.walk_idle.new.queue counted c.requires.goes by.1,
       );
       order = λ s of walker at.

@@ -5,4 +5,4 @@ pub returns : goal.returns
 returns c =
     let q = c.args.queue.now in
     let counted = c.are_counted.ensures in
-    wish_is c.law_takers.ensures.asks q c.notification_store.result c.notification_store.ensures counted
+    wish_is c.law_takers.ensures.rearms q c.notification_store.result c.notification_store.ensures counted
