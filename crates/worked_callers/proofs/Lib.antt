@@ -1,3 +1,4 @@
+pub mod CalledBy
 pub mod CallsSuit
 pub mod Ended
 pub mod FilledRuns

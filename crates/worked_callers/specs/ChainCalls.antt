@@ -1,15 +1,54 @@
 -- The calls of a chain that is served, and the loads of its pop.
-use Rattle.std.specs.Prelude.{◌≡◌, ℕ, List, [], drop}
+use Rattle.std.specs.Prelude.{◌≡◌, ℕ, List, [], ◌∷◌, drop, length}
 use Rattle.std.specs.Borrow.{Bor}
+use Rattle.fuse_fs.specs.Answers.{listed}
+use Rattle.fuse_fs.specs.declared.answers.Entry.{Entry}
+use Rattle.fuse_fs.specs.declared.directory.DirEntry.{DirEntry}
 use Rattle.fuse_values.specs.declared.answer.FileAnswer.{FileAnswer}
+use Rattle.fuse_values.specs.declared.answer.FileAnswer.TheVariants as value
+use Rattle.server_phases.specs.declared.session.Session.{Session}
+use Rattle.server_phases.specs.Gathering.{Brought}
 use Rattle.plain_machine.specs.Step.{Calls, EachSuits}
 use Rattle.fs_regions.specs.Walks.{Loaded}
-use Rattle.fs_chain.specs.Whole.{ByEntries, ChainAnswer, LoadsOf, NoAnswer, OneAnswer, WalksBy, file_calls}
+use Rattle.fs_chain.specs.Whole.{ByEntries, ChainAnswer, HasReply, IsDecodedBy, LoadsOf, NoAnswer, OneAnswer}
+use Rattle.fs_chain.specs.Whole.{WalksBy, file_calls}
+use Rattle.fs_chain.specs.declared.answering.Replied.{Replied}
 use Rattle.fs_chain.specs.declared.chain_handle.ChainHandle.{ChainHandle}
 use Rattle.fs_chain.specs.declared.decoding.Decoded as told
 use Rattle.fs_chain.specs.declared.loads.LoadOutcome as went
+use Rattle.fs_chain.specs.declared.loads.LoadOutcome.TheVariants as wents
+use Rattle.fs_chain.specs.declared.popping.PopOutcome.TheVariants as says
 use Rattle.fs_chain.specs.declared.queue.QueueState.{QueueState}
-use Rattle.worked_callers.specs.Notified.{calls_of}
+use Rattle.worked_callers.specs.Notified.{IsWalkedBy, calls_of}
+
+-- a pop that is given the first of these bytes ends with a chain, whose request is decoded with this result
+pub record DecodesPopped (bytes : List (Bor (List ℕ))) (old : ChainHandle) (before : QueueState)
+    (session : Session) (request : List ℕ) (made : told.Decoded) (asked : ChainHandle) : Type 0 where
+  pub popped : ChainHandle
+  pub after : QueueState
+  pub head : ℕ
+  pub lens : ℕ × ℕ
+  pub walks : IsWalkedBy bytes old popped before after (wents.On (says.Chain head lens.0 lens.1))
+  pub decodes : IsDecodedBy popped session request request made asked
+
+-- these are the file calls of such a request, for its chain's answer. Each answer suits its call
+pub record AreCallsBy (bytes : List (Bor (List ℕ))) (old : ChainHandle) (before : QueueState)
+    (session : Session) (request : List ℕ) (given : ChainAnswer) (calls : Calls) : Type 0 where
+  pub made : told.Decoded
+  pub asked : ChainHandle
+  pub decoded : DecodesPopped bytes old before session request made asked
+  pub replied : ChainHandle
+  pub replies : HasReply made asked given replied
+  pub calls_are : calls ≡ file_calls (drop 80 request) made given
+  pub suit : EachSuits calls
+
+-- a chain's answer that is these bytes of data
+abbrev pub with_data : (bytes : List ℕ) → Replied → ChainAnswer
+with_data bytes replied = OneAnswer (value.Bytes (length bytes)) bytes replied
+
+-- two entries of a directory, with the answers of their look-ups
+abbrev pub both_entries : (first second : DirEntry) → Entry ℕ × Entry ℕ → List Brought
+both_entries first second nodes = (listed first, nodes.0) ∷ (listed second, nodes.1) ∷ []
 
 -- a chain is answered by this answer without data, or makes no call
 abbrev pub HasThisAnswer : FileAnswer → ChainAnswer → Type 0

@@ -1,19 +1,20 @@
 //! A chain whose answer has data, and one that lists a directory, beside other chains in flight.
 
-ghost use Rattle.std.specs.Prelude.{◌≡◌, ◌≤◌, ◌^◌, ℕ, [], ◌∷◌, drop, IfOk, length, List, None, OnOk, Some};
-ghost use Rattle.std.specs.Prelude.{slice_get, true};
+ghost use Rattle.std.specs.Prelude.{◌≡◌, ◌≤◌, ◌^◌, ℕ, ◌∷◌, drop, IfOk, length, List, None, OnOk, Some};
+ghost use Rattle.std.specs.Prelude.{slice_get, take, true};
 ghost use Rattle.fs_regions.specs.Places.{places_in};
-ghost use Rattle.fuse_fs.specs.Answers.{listed};
 ghost use Rattle.fuse_fs.specs.Calls.{Bytes, FileRun};
 ghost use Rattle.fuse_values.specs.Values.{call_of};
 ghost use Rattle.fuse_values.specs.declared.call.FileCall as value;
-ghost use Rattle.fs_chain.specs.Whole.{IsAnsweredBy};
+ghost use Rattle.fs_chain.specs.Answers.{CanBeGiven, IfWaits};
+ghost use Rattle.fs_chain.specs.Whole.{ByEntries, IsAnsweredBy};
 ghost use Rattle.fs_chain.specs.WholeListings.{EndsThere, listing_calls};
 ghost use Rattle.fs_chain.specs.declared.answering.Replied.{Replied};
 ghost use Rattle.fs_chain.specs.declared.state.ChainState.TheVariants as at;
 ghost use Rattle.plain_machine.specs.Step.{Calls};
 ghost use Rattle.fs_live.specs.Handles.{IsReached, IsSessionOf, live_of};
 ghost use Rattle.fs_live.specs.Live.{LiveEvent, LiveRun, LiveState, calls_among};
+ghost use Rattle.worked_callers.specs.ChainCalls.{AreCallsBy, both_entries, with_data};
 
 use crate::listings::{Pair, ask_call, list_two};
 use crate::wholes::{give_back, walk_chain};
@@ -26,8 +27,10 @@ use server_phases::Session;
 /// Answers the pending call with data. The caller stores the data in the reply buffer, after the reply's
 /// front.
 pub fn give_data(handle: &mut ChainHandle, bytes: &[u8]) -> Result<(), ChainError>
-    ensures { OnOk result ((told : Replied)
+    ensures given { OnOk result ((told : Replied)
         × IsAnsweredBy handle.old (FileAnswer.Bytes (length bytes.now)) bytes.now told handle.new) }
+    ensures taken { OnOk result (IfWaits handle.old.state
+        (λ out w. CanBeGiven w (FileAnswer.Bytes (length bytes.now)))) }
 {
     let serial = handle.serial();
     let answer = FileAnswer::Bytes { len: bytes.len() };
@@ -38,7 +41,7 @@ pub fn give_data(handle: &mut ChainHandle, bytes: &[u8]) -> Result<(), ChainErro
 }
 
 /// A chain whose answer has data, from its pop to its return, beside any other chains in flight. The run's
-/// call has this data for its answer.
+/// call is the request's, and has this data for its answer.
 pub fn read_beside<F: FileSystem>(
     handle: &mut ChainHandle,
     queue: &mut QueueState,
@@ -56,12 +59,14 @@ pub fn read_beside<F: FileSystem>(
         → s.limit ≡ handle.old.limit
         → s.limit ≤ 2 ^ 31
         → IsSessionOf s session
-        → (made : value.FileCall) × (more : Calls)
-        × (FileRun F.may s.files ((call_of (drop 80 request.now) made, Bytes bytes.now) ∷ more) files
+        → (made : value.FileCall) × (told : Replied) × (more : Calls)
+        × (let calls = (call_of (drop 80 request.now) made, Bytes bytes.now) ∷ more in
+        AreCallsBy given.now handle.old queue.old session request.now (with_data bytes.now told) calls
+        × (FileRun F.may s.files calls files
         → (es : List LiveEvent) × (end : LiveState F)
         × LiveRun F.may s es end
-        × (calls_among es ≡ (call_of (drop 80 request.now) made, Bytes bytes.now) ∷ more)
-        × (end.outs ≡ s.outs))) }
+        × (calls_among es ≡ calls)
+        × (end.outs ≡ s.outs)))) }
 {
     law_handles::<F>();
     let (_, request_len, _) = walk_chain(handle, queue, given)?;
@@ -74,7 +79,7 @@ pub fn read_beside<F: FileSystem>(
 }
 
 /// A chain that lists two entries with their nodes, from its pop to its return, beside any other chains in
-/// flight. The run's calls are the listing and its look-ups.
+/// flight. The run's calls are the request's listing and its look-ups.
 pub fn list_beside<F: FileSystem>(
     handle: &mut ChainHandle,
     queue: &mut QueueState,
@@ -94,13 +99,16 @@ pub fn list_beside<F: FileSystem>(
         → s.limit ≡ handle.old.limit
         → s.limit ≤ 2 ^ 31
         → IsSessionOf s session
-        → (made : value.FileCall) × (let calls = listing_calls (call_of (drop 80 request.now) made) true
-        ((listed entries.now.first, nodes.0) ∷ (listed entries.now.second, nodes.1) ∷ []) EndsThere in
-        FileRun F.may s.files calls files
+        → (made : value.FileCall) × (len : ℕ)
+        × (let calls = listing_calls (call_of (drop 80 request.now) made) true
+        (both_entries entries.now.first entries.now.second nodes) EndsThere in
+        AreCallsBy given.now handle.old queue.old session request.now (ByEntries true
+        (both_entries entries.now.first entries.now.second nodes) EndsThere (take len list.new)) calls
+        × (FileRun F.may s.files calls files
         → (es : List LiveEvent) × (end : LiveState F)
         × LiveRun F.may s es end
         × (calls_among es ≡ calls)
-        × (end.outs ≡ s.outs))) }
+        × (end.outs ≡ s.outs)))) }
 {
     law_handles::<F>();
     let (_, request_len, _) = walk_chain(handle, queue, given)?;

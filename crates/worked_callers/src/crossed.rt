@@ -6,10 +6,12 @@ ghost use Rattle.fs_regions.specs.Places.{places_in};
 ghost use Rattle.fuse_fs.specs.Calls.{Bytes, FileRun};
 ghost use Rattle.fuse_values.specs.Values.{call_of};
 ghost use Rattle.fuse_values.specs.declared.call.FileCall as value;
+ghost use Rattle.fs_chain.specs.declared.answering.Replied.{Replied};
 ghost use Rattle.fs_chain.specs.declared.state.ChainState.TheVariants as at;
 ghost use Rattle.plain_machine.specs.Step.{Calls};
 ghost use Rattle.fs_live.specs.Handles.{IsReached, IsSessionOf, live_of};
 ghost use Rattle.fs_live.specs.Live.{LiveEvent, LiveRun, LiveState, calls_among};
+ghost use Rattle.worked_callers.specs.ChainCalls.{AreCallsBy, with_data};
 
 use crate::answers::give_data;
 use crate::listings::ask_call;
@@ -31,7 +33,7 @@ pub struct ChainBytes<'a> {
 }
 
 /// Two handles pop a chain each and decode its request. The second one's chain is answered and returned, and
-/// then the first one's. That is a run, in which the calls are in the order of their answers.
+/// then the first one's. That is a run, in which the requests' calls are in the order of their answers.
 pub fn serve_crossed<F: FileSystem>(
     first: &mut ChainHandle,
     second: &mut ChainHandle,
@@ -53,16 +55,21 @@ pub fn serve_crossed<F: FileSystem>(
         → s.limit ≤ 2 ^ 31
         → IsSessionOf s sessions.0
         → IsSessionOf s sessions.1
-        → (made : value.FileCall) × (other : value.FileCall) × (more : Calls) × (rest : Calls)
+        → (made : value.FileCall) × (told : Replied) × (more : Calls)
+        × (other : value.FileCall) × (said : Replied) × (rest : Calls)
         × (let early = (call_of (drop 80 two.now.request.now) other, Bytes two.now.bytes.now) ∷ rest in
         let late = (call_of (drop 80 one.now.request.now) made, Bytes one.now.bytes.now) ∷ more in
-        (between files : F)
+        (of_one : AreCallsBy one.now.given.now first.old queue.old sessions.0 one.now.request.now
+        (with_data one.now.bytes.now told) late)
+        × AreCallsBy two.now.given.now second.old of_one.decoded.after sessions.1 two.now.request.now
+        (with_data two.now.bytes.now said) early
+        × ((between files : F)
         → FileRun F.may s.files early between
         → FileRun F.may between late files
         → (es : List LiveEvent) × (end : LiveState F)
         × LiveRun F.may s es end
         × (calls_among es ≡ early ++ late)
-        × (end.outs ≡ s.outs))) }
+        × (end.outs ≡ s.outs)))) }
 {
     law_handles::<F>();
     let (of_first, of_second) = sessions;

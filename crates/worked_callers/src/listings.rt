@@ -1,20 +1,25 @@
 //! A directory that is listed entry by entry, from a chain's pop to its return, is a step of the plain
 //! machine.
 
-ghost use Rattle.std.specs.Prelude.{◌≡◌, ℕ, List, [], ◌∷◌, length, take, drop, None, Ok, IfOk, OnOk, false};
+ghost use Rattle.std.specs.Prelude.{◌≡◌, ◌<◌, ◌^◌, ℕ, List, length, take, drop, None, Ok, IfOk, OnOk, false};
 ghost use Rattle.std.specs.Prelude.{true};
 ghost use Rattle.fuse_fs.specs.Answers.{listed};
 ghost use Rattle.fuse_fs.specs.Calls.{FileRun};
 ghost use Rattle.fuse_values.specs.Values.{call_of};
 ghost use Rattle.fuse_values.specs.declared.call.FileCall as value;
 ghost use Rattle.plain_machine.specs.Step.{Exchange, Exchanged, State};
-ghost use Rattle.plain_machine.specs.StepBy.{Effects, StepBy, StepLoads};
-ghost use Rattle.fs_regions.specs.Walks.{queue_of};
+ghost use Rattle.plain_machine.specs.StepBy.{Effects, StepBy};
+ghost use Rattle.fs_queue.specs.Loads.{Load};
+ghost use Rattle.fs_regions.specs.Walks.{Loaded, queue_of};
 ghost use Rattle.fs_chain.specs.Walks.{course_of};
-ghost use Rattle.fs_chain.specs.Whole.{FromTaken, IsDecodedBy, IsMachineBefore, IsSession, after_chain};
+ghost use Rattle.fs_chain.specs.Whole.{ByEntries, FromTaken, IsDecodedBy, IsMachineBefore, IsSession};
+ghost use Rattle.fs_chain.specs.Whole.{LackPlaces, after_chain, step_loads};
 ghost use Rattle.fs_chain.specs.WholeListings.{BringsEntry, EndsThere, FromLists, IsListedBy, listing_calls};
 ghost use Rattle.fs_chain.specs.declared.decoding.Decoded.TheVariants as asks;
+ghost use Rattle.fs_chain.specs.declared.loads.LoadOutcome.TheVariants as wents;
+ghost use Rattle.fs_chain.specs.declared.popping.PopOutcome.TheVariants as says;
 ghost use Rattle.fs_chain.specs.declared.state.ChainState.TheVariants as at;
+ghost use Rattle.worked_callers.specs.ChainCalls.{AreCallsBy, ArePopLoads, both_entries};
 
 use crate::wholes::{give_back, walk_chain};
 use fs_chain::laws::law_chains;
@@ -57,7 +62,10 @@ pub fn bring(
     ensures brought { OnOk result
         (BringsEntry handle.old list.old (listed entry.now, node) (Ok Added.In) handle.new list.new) }
     ensures kind { OnOk result (FromLists handle.old.state (λ l. l.with_nodes ≡ true)) }
+    ensures number { node.inode < 2 ^ 64 }
 {
+    // for the proof: a node number fits 64 bits.
+    let _number = node.inode;
     let serial = handle.serial();
     match handle.add_with_node(serial, list, entry, node)? {
         Added::In => Ok(()),
@@ -72,9 +80,9 @@ pub fn list_two(
     entries: &Pair<'_>,
     nodes: (Entry<u64>, Entry<u64>),
 ) -> Result<usize, ChainError>
-    ensures { IfOk result (λ n. IsListedBy handle.old true
-        ((listed entries.now.first, nodes.0) ∷ (listed entries.now.second, nodes.1) ∷ []) EndsThere
-        (take n list.new) handle.new) }
+    ensures lists { IfOk result (λ n. IsListedBy handle.old true
+        (both_entries entries.now.first entries.now.second nodes) EndsThere (take n list.new) handle.new) }
+    ensures numbers { OnOk result ((nodes.0.inode < 2 ^ 64) × (nodes.1.inode < 2 ^ 64)) }
 {
     let (first, second) = nodes;
     bring(handle, list, &entries.first, first)?;
@@ -83,8 +91,8 @@ pub fn list_two(
     handle.end(serial)
 }
 
-/// A chain that is in flight alone and lists two entries with their nodes is a step by the listing and its
-/// look-ups.
+/// A chain that is in flight alone and lists two entries with their nodes is a step by the request's listing
+/// and its look-ups.
 pub fn serve_two<F: FileSystem>(
     handle: &mut ChainHandle,
     queue: &mut QueueState,
@@ -102,13 +110,21 @@ pub fn serve_two<F: FileSystem>(
     ensures step { IfOk result (λ notice. (i : ℕ) (m : State F) (files : F)
         → IsMachineBefore handle.old queue.old i m
         → IsSession session m
-        → (made : value.FileCall) × (let calls = listing_calls (call_of (drop 80 request.now) made) true
-        ((listed entries.now.first, nodes.0) ∷ (listed entries.now.second, nodes.1) ∷ []) EndsThere in
-        FileRun F.may m.files calls files
-        → (l : StepLoads) × (x : Exchange) × (e : Effects)
+        → (made : value.FileCall) × (len : ℕ)
+        × (let calls = listing_calls (call_of (drop 80 request.now) made) true
+        (both_entries entries.now.first entries.now.second nodes) EndsThere in
+        AreCallsBy given.now handle.old queue.old session request.now (ByEntries true
+        (both_entries entries.now.first entries.now.second nodes) EndsThere (take len list.new)) calls
+        × (FileRun F.may m.files calls files
+        → (head : ℕ) × (lens : ℕ × ℕ) × (loaded : Loaded) × (lost : List Load)
+        × ArePopLoads given.now handle.old queue.old (wents.On (says.Chain head lens.0 lens.1)) loaded
+        × LackPlaces handle.old queue.old loaded lost
+        × (x : Exchange) × (e : Effects)
+        × (x.head ≡ head)
         × (x.request ≡ request.now)
-        × StepBy F.may m i l calls (Exchanged x notice) e (after_chain m i
-        (queue_of (course_of queue.old handle.old.limit)) handle.new.session.options.0 files))) }
+        × StepBy F.may m i (step_loads loaded lost request.now) calls (Exchanged x notice) e
+        (after_chain m i (queue_of (course_of queue.old handle.old.limit)) handle.new.session.options.0
+        files)))) }
 {
     law_chains::<F>();
     let (_, request_len, _) = walk_chain(handle, queue, given)?;

@@ -1,10 +1,12 @@
-use Rattle.std.proofs.Common.{◌≡◌, List, [], ◌∷◌, true, length, take, refl, ◌∙◌, arith}
+use Rattle.std.proofs.Common.{◌≡◌, List, true, length, take, refl, ◌∙◌, arith}
 use Rattle.std.proofs.lemmas.Bool.Decides.{nat_tests}
-use Rattle.fuse_fs.specs.Answers.{listed}
 use Rattle.server_phases.specs.Gathering.{Brought}
-use Rattle.fs_chain.specs.Whole.{ByEntries}
+use Rattle.fs_chain.specs.Whole.{ByEntries, ChainAnswer}
 use Rattle.fs_chain.specs.WholeListings.{EndsThere}
 use Rattle.fs_chain.specs.declared.decoding.Decoded.TheVariants as asks
+use Rattle.worked_callers.specs.ChainCalls.{both_entries}
+use Rattle.worked_callers.proofs.CalledBy.{calls_by}
+use Rattle.worked_callers.proofs.CallsSuit.{listed_suits}
 use Rattle.worked_callers.proofs.Served.{if_ok, more_taken, taken_so}
 use Rattle.worked_callers.proofs.ServedBeside.{served_beside}
 use Rattle.worked_callers.proofs.answers.list_beside.Goals as goal
@@ -25,21 +27,34 @@ pub returns : goal.returns
 returns g c =
     let may = g.F.FileSystemBase.may in
     let handles = c.law_handles.ensures in
-    let asked = c.in_ok-ask_call.ensures.asked in
-    let es : List Brought = (listed c.args.entries.now.first, c.args.nodes.0) ∷ (listed c.args.entries.now.second, c.args.nodes.1) ∷ [] in
+    let old = c.args.handle.now in
+    let one = c.walk_chain.new.handle in
+    let two = c.ask_call.new.handle in
+    let three = c.list_two.new.handle in
+    let request = c.args.request.now in
+    let call = c.in_ok-ask_call.ensures.asked in
+    let told = c.in_ok-_len.ensures in
+    let es : List Brought = both_entries c.args.entries.now.first c.args.entries.now.second c.args.nodes in
     let bytes = take c.in_ok-_len._len c.list_two.new.list in
+    let answer : ChainAnswer = ByEntries true es EndsThere bytes in
+    let suit = listed_suits one two three c.args.session request bytes call.0 true es call.1 told.lists
+    (told.numbers.0, (told.numbers.1, tt)) in
+    let are_calls = calls_by c.args.given.now old one two three c.args.queue.now c.walk_chain.new.queue c.in_ok-request_len.field-0-0
+    c.in_ok-request_len.request_len c.in_ok-request_len.field-0-2 c.args.session request (asks.Call call.0) answer
+    c.in_ok-request_len.ensures.given call.1 told.lists suit in
     record {
       run = if_ok c.give_back.result _ _
           (λ notice back s i files reached there places limit small session. (
-            asked.0,
+            call.0,
+            c.in_ok-_len._len,
+            are_calls,
             λ files_run.
-                let so = served_beside may handles.walks handles.asks handles.calls handles.returns c.args.handle.now
-                c.walk_chain.new.handle c.walk_chain.new.handle c.ask_call.new.handle
-                c.list_two.new.handle c.args.queue.now c.walk_chain.new.queue c.in_ok-request_len.field-0-0 c.in_ok-request_len.request_len
+                let so = served_beside may handles.walks handles.asks handles.calls handles.returns old one one two three
+                c.args.queue.now c.walk_chain.new.queue c.in_ok-request_len.field-0-0 c.in_ok-request_len.request_len
                 c.in_ok-request_len.field-0-2
-                c.args.session c.args.request.now (asks.Call asked.0) (ByEntries true es EndsThere bytes) notice c.requires.goes
+                c.args.session request (asks.Call call.0) answer notice c.requires.goes
                 c.in_ok-request_len.ensures.walked refl
-                asked.1 c.in_ok-_len.ensures back s i files reached there places limit small session files_run in
+                call.1 told.lists back s i files reached there places limit small session files_run in
                 (so.es, so.end, so.run, so.calls_are, so.outs),
           ))
           c.give_back.ensures.back;

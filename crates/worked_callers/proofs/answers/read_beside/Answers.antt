@@ -1,11 +1,15 @@
-use Rattle.std.proofs.Common.{[], ◌∷◌, ◌≡◌, length, refl, ◌∙◌, arith}
-use Rattle.std.specs.Prelude.{drop, map}
+use Rattle.std.proofs.Common.{◌≡◌, length, refl, ◌∙◌, arith}
+use Rattle.std.specs.Prelude.{map}
 use Rattle.std.proofs.lemmas.Bool.Decides.{nat_tests}
 use Rattle.fuse_fs.specs.Calls.{Done, FileCall}
 use Rattle.fuse_values.specs.declared.answer.FileAnswer.TheVariants as value
 use Rattle.server_phases.specs.Answering.{forget_if_any}
-use Rattle.fs_chain.specs.Whole.{OneAnswer}
+use Rattle.plain_machine.specs.Step.{Calls}
+use Rattle.fs_chain.specs.Whole.{ChainAnswer}
 use Rattle.fs_chain.specs.declared.decoding.Decoded.TheVariants as asks
+use Rattle.worked_callers.specs.ChainCalls.{with_data}
+use Rattle.worked_callers.proofs.CalledBy.{calls_by}
+use Rattle.worked_callers.proofs.CallsSuit.{answered_suits}
 use Rattle.worked_callers.proofs.Served.{if_ok, more_taken, taken_so}
 use Rattle.worked_callers.proofs.ServedBeside.{served_beside}
 use Rattle.worked_callers.proofs.answers.read_beside.Goals as goal
@@ -26,23 +30,35 @@ pub returns : goal.returns
 returns g c =
     let may = g.F.FileSystemBase.may in
     let handles = c.law_handles.ensures in
+    let old = c.args.handle.now in
+    let one = c.walk_chain.new.handle in
+    let two = c.ask_call.new.handle in
+    let three = c.give_data.new.handle in
     let request = c.args.request.now in
     let bytes = c.args.bytes.now in
-    let asked = c.in_ok-ask_call.ensures.asked in
-    let told = c.in_ok-give_data.ensures in
+    let call = c.in_ok-ask_call.ensures.asked in
+    let told = c.in_ok-give_data.ensures.given in
+    let answer : ChainAnswer = with_data bytes told.0 in
+    let more : Calls = map (λ (call : FileCall). (call, Done)) (forget_if_any told.0.forget) in
+    let suit = answered_suits one two three c.args.session request bytes call.0 (value.Bytes (length bytes)) told.0 call.1 told.1
+    c.in_ok-give_data.ensures.taken in
+    let are_calls = calls_by c.args.given.now old one two three c.args.queue.now c.walk_chain.new.queue c.in_ok-request_len.field-0-0
+    c.in_ok-request_len.request_len c.in_ok-request_len.field-0-2 c.args.session request (asks.Call call.0) answer
+    c.in_ok-request_len.ensures.given call.1 told.1 suit in
     record {
       run = if_ok c.give_back.result _ _
           (λ notice back s i files reached there places limit small session. (
-            asked.0,
-            map (λ (call : FileCall). (call, Done)) (forget_if_any told.0.forget),
+            call.0,
+            told.0,
+            more,
+            are_calls,
             λ files_run.
-                let so = served_beside may handles.walks handles.asks handles.calls handles.returns c.args.handle.now
-                c.walk_chain.new.handle c.walk_chain.new.handle c.ask_call.new.handle
-                c.give_data.new.handle c.args.queue.now c.walk_chain.new.queue c.in_ok-request_len.field-0-0 c.in_ok-request_len.request_len
+                let so = served_beside may handles.walks handles.asks handles.calls handles.returns old one one two three
+                c.args.queue.now c.walk_chain.new.queue c.in_ok-request_len.field-0-0 c.in_ok-request_len.request_len
                 c.in_ok-request_len.field-0-2
-                c.args.session request (asks.Call asked.0) (OneAnswer (value.Bytes (length bytes)) bytes told.0) notice c.requires.goes
+                c.args.session request (asks.Call call.0) answer notice c.requires.goes
                 c.in_ok-request_len.ensures.walked refl
-                asked.1 told.1 back s i files reached there places limit small session files_run in
+                call.1 told.1 back s i files reached there places limit small session files_run in
                 (so.es, so.end, so.run, so.calls_are, so.outs),
           ))
           c.give_back.ensures.back;

@@ -4,10 +4,14 @@ use Rattle.std.proofs.lemmas.Bool.Decides.{nat_tests}
 use Rattle.fuse_fs.specs.Calls.{Done, FileCall}
 use Rattle.fuse_values.specs.declared.answer.FileAnswer.TheVariants as value
 use Rattle.server_phases.specs.Answering.{forget_if_any}
+use Rattle.plain_machine.specs.Step.{Calls}
 use Rattle.plain_machine.specs.StepBy.{Act}
-use Rattle.fs_chain.specs.Whole.{GoesBackBy, OneAnswer}
+use Rattle.fs_chain.specs.Whole.{ChainAnswer, GoesBackBy}
 use Rattle.fs_chain.specs.declared.decoding.Decoded.TheVariants as asks
 use Rattle.fs_chain.specs.declared.queue.QueueState.{QueueState}
+use Rattle.worked_callers.specs.ChainCalls.{with_data}
+use Rattle.worked_callers.proofs.CalledBy.{calls_by}
+use Rattle.worked_callers.proofs.CallsSuit.{answered_suits}
 use Rattle.worked_callers.proofs.Served.{more_taken, taken_so}
 use Rattle.worked_callers.proofs.ServedCrossed.{served_crossed}
 use Rattle.worked_callers.proofs.TakenTwo.{goes_still}
@@ -44,35 +48,64 @@ pub returns : goal.returns
 returns g c =
     let may = g.F.FileSystemBase.may in
     let handles = c.law_handles.ensures in
-    let one = c.args.one.now in
-    let two = c.args.two.now in
-    let asked = c.in_ok-ask_call.ensures.asked in
-    let asked' = c.in_ok-ask_call-2.ensures.asked in
-    let told' = c.in_ok-give_data.ensures in
-    let told = c.in_ok-give_data-2.ensures in
+    let old = c.args.first.now in
+    let old' = c.args.second.now in
+    let popped = c.walk_chain.new.handle in
+    let popped' = c.walk_chain-2.new.handle in
+    let asked = c.ask_call.new.handle in
+    let asked' = c.ask_call-2.new.handle in
+    let replied = c.give_data-2.new.handle in
+    let replied' = c.give_data.new.handle in
+    let before = c.args.queue.now in
+    let mid = c.walk_chain.new.queue in
     let after = c.walk_chain-2.new.queue in
-    let st = c.give_data-2.new.handle.state in
+    let session = c.args.sessions.0 in
+    let session' = c.args.sessions.1 in
+    let request = c.args.one.now.request.now in
+    let request' = c.args.two.now.request.now in
+    let bytes = c.args.one.now.bytes.now in
+    let bytes' = c.args.two.now.bytes.now in
+    let call = c.in_ok-ask_call.ensures.asked in
+    let call' = c.in_ok-ask_call-2.ensures.asked in
+    let told = c.in_ok-give_data-2.ensures.given in
+    let told' = c.in_ok-give_data.ensures.given in
+    let answer : ChainAnswer = with_data bytes told.0 in
+    let answer' : ChainAnswer = with_data bytes' told'.0 in
+    let more : Calls = map (λ (call : FileCall). (call, Done)) (forget_if_any told.0.forget) in
+    let more' : Calls = map (λ (call : FileCall). (call, Done)) (forget_if_any told'.0.forget) in
+    let suit = answered_suits popped asked replied session request bytes call.0 (value.Bytes (length bytes)) told.0 call.1 told.1
+    c.in_ok-give_data-2.ensures.taken in
+    let suit' = answered_suits popped' asked' replied' session' request' bytes' call'.0 (value.Bytes (length bytes')) told'.0 call'.1
+    told'.1 c.in_ok-give_data.ensures.taken in
+    let of_one = calls_by c.args.one.now.given.now old popped asked replied before mid c.in_ok-first_len.field-0-0
+    c.in_ok-first_len.first_len c.in_ok-first_len.field-0-2 session request (asks.Call call.0) answer c.in_ok-first_len.ensures.given
+    call.1 told.1 suit in
+    let of_two = calls_by c.args.two.now.given.now old' popped' asked' replied' mid after c.in_ok-second_len.field-0-0
+    c.in_ok-second_len.second_len c.in_ok-second_len.field-0-2 session' request' (asks.Call call'.0) answer'
+    c.in_ok-second_len.ensures.given call'.1 told'.1 suit' in
+    let st = replied.state in
     record {
-      run = λ s i reached there places places' limit limit' small session session'. (
-        asked.0,
-        asked'.0,
-        map (λ (call : FileCall). (call, Done)) (forget_if_any told.0.forget),
-        map (λ (call : FileCall). (call, Done)) (forget_if_any told'.0.forget),
-        λ between files early late.
-            served_crossed may handles.walks handles.asks handles.calls handles.returns c.args.first.now c.walk_chain.new.handle
-            c.ask_call.new.handle c.give_data-2.new.handle
-            c.args.second.now c.walk_chain-2.new.handle c.ask_call-2.new.handle c.give_data.new.handle c.args.queue.now
-            c.walk_chain.new.queue after
+      run = λ s i reached there places places' limit limit' small in_session in_session'. (
+        call.0,
+        told.0,
+        more,
+        call'.0,
+        told'.0,
+        more',
+        of_one,
+        of_two,
+        λ between files early_run late_run.
+            served_crossed may handles.walks handles.asks handles.calls handles.returns old popped asked replied
+            old' popped' asked' replied' before mid after
             c.in_ok-first_len.field-0-0 c.in_ok-first_len.first_len c.in_ok-first_len.field-0-2 c.in_ok-second_len.field-0-0
             c.in_ok-second_len.second_len c.in_ok-second_len.field-0-2
-            c.args.sessions.0 c.args.sessions.1 one.request.now two.request.now (asks.Call asked.0) (asks.Call asked'.0)
-            (OneAnswer (value.Bytes (length one.bytes.now)) one.bytes.now told.0)
-            (OneAnswer (value.Bytes (length two.bytes.now)) two.bytes.now told'.0) c.in_ok-late.late c.in_ok-early.early c.requires.goes
+            session session' request request' (asks.Call call.0) (asks.Call call'.0)
+            answer answer' c.in_ok-late.late c.in_ok-early.early c.requires.goes
             c.in_ok-first_len.ensures.walked
-            c.in_ok-second_len.ensures.walked asked.1 asked'.1 told.1 told'.1
+            c.in_ok-second_len.ensures.walked call.1 call'.1 told.1 told'.1
             (subst (λ (k : QueueState). (room behind : List ℕ) →
             (acts : List Act) × (last : ℕ) × GoesBackBy k room behind st acts last c.in_ok-late.late) c.in_ok-early.ensures.queue
-            c.in_ok-late.ensures.back) c.in_ok-early.ensures.back s i between files reached there places places' limit limit' small session
-            session' early late,
+            c.in_ok-late.ensures.back) c.in_ok-early.ensures.back s i between files reached there places places' limit limit' small
+            in_session in_session' early_run late_run,
       );
     }

@@ -1,6 +1,6 @@
 use Rattle.std.proofs.Common.{refl}
 use Rattle.worked_callers.proofs.Ended.{ended_ok}
-use Rattle.worked_callers.proofs.Served.{if_ok}
+use Rattle.worked_callers.proofs.Served.{if_ok, on_ok}
 use Rattle.worked_callers.proofs.listings.list_two.Goals as goal
 
 pub returns : goal.returns
@@ -9,15 +9,18 @@ returns c =
     let second = c.in_ok-bring-2.ensures in
     let gathered = c.bring-2.new.handle in
     let list = c.bring-2.new.list in
-    if_ok c.end.result _ _
-    (λ n ended. record {
-      kind = first.kind;
-      first = c.args.list.now;
-      list = list;
-      gathered = gathered;
-      gathers = (c.bring.new.handle, c.bring.new.list, first.brought, (gathered, list, second.brought, (refl, refl)));
-      len = n;
-      ends = ended;
-      told = refl;
-    })
-    (ended_ok c.end.result gathered c.end.new.self c.end.ensures.ended c.end.ensures.stays)
+    record {
+      lists = if_ok c.end.result _ _
+          (λ n ended. record {
+            kind = first.kind;
+            first = c.args.list.now;
+            list = list;
+            gathered = gathered;
+            gathers = (c.bring.new.handle, c.bring.new.list, first.brought, (gathered, list, second.brought, (refl, refl)));
+            len = n;
+            ends = ended;
+            told = refl;
+          })
+          (ended_ok c.end.result gathered c.end.new.self c.end.ensures.ended c.end.ensures.stays);
+      numbers = on_ok c.end.result _ (first.number, second.number);
+    }

@@ -26,8 +26,8 @@ returns-in-Ok c =
     let suits : IsTrue (suits (call_of (drop 80 request) made) (answer_of [] c.args.answer)) =
     of_taken st _
     (more_taken st _ _
-    (λ out both. suits_by (setting s.page_size s.options.0 out.room_len) (meaning s.options.0 request out.room_len) (drop 80 request) made
-    c.args.answer out mid.state
+    (λ out both. suits_by (setting s.page_size s.options.0 out.room_len) (meaning s.options.0 request out.room_len) (drop 80 request) []
+    made c.args.answer out mid.state
     (subst (λ (t : told.Decoded). TellsMeaning (setting s.page_size s.options.0 out.room_len) (meaning s.options.0 request out.room_len)
     (drop 80 request) out t mid.state) c.in-Call.is (both.1 request both.0 front))
     c.in-Ok.ensures.taken.0 c.requires.data c.in-Ok.ensures.taken.1)

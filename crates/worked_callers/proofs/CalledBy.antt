@@ -1,0 +1,31 @@
+-- The file calls of a chain that was popped, decoded and replied to.
+use Rattle.std.proofs.Common.{ℕ, List, refl}
+use Rattle.std.specs.Borrow.{Bor}
+use Rattle.std.specs.Prelude.{drop}
+use Rattle.server_phases.specs.declared.session.Session.{Session}
+use Rattle.plain_machine.specs.Step.{EachSuits}
+use Rattle.fs_chain.specs.Whole.{ChainAnswer, HasReply, IsDecodedBy, file_calls}
+use Rattle.fs_chain.specs.declared.chain_handle.ChainHandle.{ChainHandle}
+use Rattle.fs_chain.specs.declared.decoding.Decoded as told
+use Rattle.fs_chain.specs.declared.loads.LoadOutcome.TheVariants as wents
+use Rattle.fs_chain.specs.declared.popping.PopOutcome.TheVariants as says
+use Rattle.fs_chain.specs.declared.queue.QueueState.{QueueState}
+use Rattle.worked_callers.specs.ChainCalls.{AreCallsBy}
+use Rattle.worked_callers.specs.Notified.{IsWalkedBy}
+
+-- it unfolds, so that a second pop may begin where the first one ended
+abbrev pub calls_by : (bytes : List (Bor (List ℕ))) (old popped asked replied : ChainHandle) (before after : QueueState) (head n r : ℕ)
+    (session : Session) (request : List ℕ) (made : told.Decoded) (given : ChainAnswer)
+    → IsWalkedBy bytes old popped before after (wents.On (says.Chain head n r))
+    → IsDecodedBy popped session request request made asked → HasReply made asked given replied
+    → EachSuits (file_calls (drop 80 request) made given)
+    → AreCallsBy bytes old before session request given (file_calls (drop 80 request) made given)
+calls_by bytes old popped asked replied before after head n r session request made given walks decodes replies suit = record {
+  made = made;
+  asked = asked;
+  decoded = record { popped = popped; after = after; head = head; lens = (n, r); walks = walks; decodes = decodes };
+  replied = replied;
+  replies = replies;
+  calls_are = refl;
+  suit = suit;
+}
