@@ -79,9 +79,10 @@ pub fn serve_by<F: FileSystem>(
         → (calls : Calls)
         × AreCallsOf request.now answer calls
         × (FileRun F.may m.files calls files
-        → (popped : LoadOutcome) × (loaded : Loaded)
-        × ArePopLoads given.now handle.old queue.old popped loaded
-        × (head : ℕ) × (room : List ℕ) × (x : Exchange) × (e : Effects)
+        → (head : ℕ) × (lens : ℕ × ℕ) × (loaded : Loaded)
+        × ArePopLoads given.now handle.old queue.old
+        (LoadOutcome.On (PopOutcome.Chain head lens.0 lens.1)) loaded
+        × (room : List ℕ) × (x : Exchange) × (e : Effects)
         × OffersBy (places_in handle.old.regions) handle.old.limit
         (queue_of (course_of queue.old handle.old.limit)) loaded request.now
         (Offers head (IsRequest request.now room))
@@ -95,10 +96,12 @@ pub fn serve_by<F: FileSystem>(
         → (calls : Calls)
         × AreCallsOf request.now answer calls
         × (FileRun F.may m.files calls files
-        → (popped : LoadOutcome) × (loaded : Loaded) × (lost : List Load)
-        × ArePopLoads given.now handle.old queue.old popped loaded
+        → (head : ℕ) × (lens : ℕ × ℕ) × (loaded : Loaded) × (lost : List Load)
+        × ArePopLoads given.now handle.old queue.old
+        (LoadOutcome.On (PopOutcome.Chain head lens.0 lens.1)) loaded
         × LackPlaces handle.old queue.old loaded lost
         × (x : Exchange) × (e : Effects)
+        × (x.head ≡ head)
         × (x.request ≡ request.now)
         × StepBy F.may m i (step_loads loaded lost request.now) calls (Exchanged x (tells seen)) e
         (after_chain m i (queue_of (course_of queue.old handle.old.limit)) handle.new.session.options.0
@@ -174,10 +177,11 @@ pub fn serve_faulty<F: FileSystem>(
     ensures step { IfOk result (λ told. (i : ℕ) (m : State F)
         → queue.old.next_used ≡ queue.old.next_avail
         → IsMachineBefore handle.old queue.old i m
-        → (popped : LoadOutcome) × (loaded : Loaded) × (lost : List Load)
-        × ArePopLoads given.now handle.old queue.old popped loaded
+        → (head : ℕ) × (fault : ChainFault) × (loaded : Loaded) × (lost : List Load)
+        × ArePopLoads given.now handle.old queue.old (LoadOutcome.On (PopOutcome.Faulty head fault)) loaded
         × LackPlaces handle.old queue.old loaded lost
         × (x : Exchange) × (e : Effects)
+        × (x.head ≡ head)
         × StepBy F.may m i (step_loads loaded lost []) [] (Exchanged x (tells seen)) e
         (after_chain m i (queue_of (course_of queue.old handle.old.limit)) m.options m.files)) }
 {

@@ -86,10 +86,10 @@ returns g c =
                 let e : Effects = record { acts = goes.0; last = goes.1 } in
                 let law = c.law_chains.ensures.answered given request calls goes.0 goes.1 head i told.0 old new before session m files
                 (by goes.0 goes.1 told.0 goes.2) c.requires.goes limit is files_run in (
-                  wents.On popped,
+                  head,
+                  lens,
                   law.0,
                   (walked.0, popped_handle, back_queue, walked.1, law.1),
-                  head,
                   room,
                   law.3,
                   e,
@@ -113,13 +113,15 @@ returns g c =
                 let e : Effects = record { acts = goes.0; last = goes.1 } in
                 let law = c.law_chains.ensures.served given request calls goes.0 goes.1 head i told.0 old new before session m files
                 (by goes.0 goes.1 told.0 goes.2) first (keeps.0 ∙ alone) is files_run in (
-                  wents.On popped,
+                  head,
+                  lens,
                   law.0,
                   law.2,
                   (walked.0, popped_handle, back_queue, walked.1, law.1),
                   law.3,
                   law.4,
                   e,
+                  law.5,
                   law.6,
                   subst (λ (s : Session). StepBy may m i (step_loads law.0 law.2 request) calls (Exchanged law.4 (tells seen)) e
                       (after_chain m i q s.options.0 files)) (sym session_is)

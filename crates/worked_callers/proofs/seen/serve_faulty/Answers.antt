@@ -8,7 +8,6 @@ use Rattle.fs_chain.specs.Events.{tells_of}
 use Rattle.fs_chain.specs.Walks.{course_of}
 use Rattle.fs_chain.specs.Whole.{FaultyChainBy, after_chain, step_loads}
 use Rattle.fs_chain.specs.declared.popping.PopOutcome.TheVariants as says
-use Rattle.fs_chain.specs.declared.loads.LoadOutcome.TheVariants as wents
 use Rattle.worked_callers.specs.Notified.{calls_of}
 use Rattle.worked_callers.proofs.Served.{if_ok, queue_keeps, told_before}
 use Rattle.worked_callers.proofs.seen.serve_faulty.Goals as goal
@@ -63,13 +62,15 @@ returns g c =
           let run : FaultyChainBy given fault goes.0 goes.1 head told.0 old before =
           record { popped_handle = popped_handle; taken = back_queue; walks = walked.1; back = back_queue; returns = goes.2 } in
           let law = c.law_chains.ensures.faulty given fault goes.0 goes.1 head i told.0 old before m first run (keeps.0 ∙ alone) in (
-            wents.On (says.Faulty head fault),
+            head,
+            fault,
             law.0,
             law.2,
             (walked.0, popped_handle, back_queue, walked.1, law.1),
             law.3,
             law.4,
             record { acts = goes.0; last = goes.1 },
+            law.5,
             subst (λ (bs : List ℕ). StepBy g.F.FileSystemBase.may m i (step_loads law.0 law.2 []) [] (Exchanged law.4 (tells bs))
                 (record { acts = goes.0; last = goes.1 })
                 (after_chain m i q m.options m.files)) goes.3 law.6,
