@@ -2,6 +2,7 @@
 use Rattle.std.proofs.Common.{ℕ, List, refl}
 use Rattle.std.specs.Borrow.{Bor}
 use Rattle.std.specs.Prelude.{drop}
+use Rattle.fuse_values.specs.declared.answer.FileAnswer.{FileAnswer}
 use Rattle.server_phases.specs.declared.session.Session.{Session}
 use Rattle.plain_machine.specs.Step.{EachSuits}
 use Rattle.fs_chain.specs.Whole.{ChainAnswer, HasReply, IsDecodedBy, file_calls}
@@ -10,7 +11,7 @@ use Rattle.fs_chain.specs.declared.decoding.Decoded as told
 use Rattle.fs_chain.specs.declared.loads.LoadOutcome.TheVariants as wents
 use Rattle.fs_chain.specs.declared.popping.PopOutcome.TheVariants as says
 use Rattle.fs_chain.specs.declared.queue.QueueState.{QueueState}
-use Rattle.worked_callers.specs.ChainCalls.{AreCallsBy}
+use Rattle.worked_callers.specs.ChainCalls.{AreCallsBy, AreCallsOf, HasThisAnswer}
 use Rattle.worked_callers.specs.Notified.{IsWalkedBy}
 
 -- it unfolds, so that a second pop may begin where the first one ended
@@ -29,3 +30,13 @@ calls_by bytes old popped asked replied before after head n r session request ma
   calls_are = refl;
   suit = suit;
 }
+
+-- with this answer, or without a call
+pub calls_of_answer : (bytes : List (Bor (List ℕ))) (old popped asked replied : ChainHandle) (before after : QueueState) (head n r : ℕ)
+    (session : Session) (request : List ℕ) (answer : FileAnswer) (made : told.Decoded) (given : ChainAnswer)
+    → IsWalkedBy bytes old popped before after (wents.On (says.Chain head n r))
+    → IsDecodedBy popped session request request made asked → HasReply made asked given replied → HasThisAnswer answer given
+    → EachSuits (file_calls (drop 80 request) made given)
+    → AreCallsOf bytes old before session request answer (file_calls (drop 80 request) made given)
+calls_of_answer bytes old popped asked replied before after head n r session request answer made given walks decodes replies is suit =
+    (given, is, calls_by bytes old popped asked replied before after head n r session request made given walks decodes replies suit)

@@ -56,13 +56,13 @@ HasThisAnswer answer NoAnswer = Unit {0}
 HasThisAnswer answer (OneAnswer given bytes replied) = (given ≡ answer) × (bytes ≡ [])
 HasThisAnswer answer (ByEntries with_nodes es ending bytes) = ⊥
 
--- these are the file calls of a decoded request that has this answer. Each answer suits its call
-abbrev pub AreCallsOf : (request : List ℕ) → FileAnswer → Calls → Type 0
-AreCallsOf request answer calls =
-    (made : told.Decoded) × (given : ChainAnswer)
+-- these are the file calls of such a request, whose chain has this answer or makes no call
+abbrev pub AreCallsOf : (bytes : List (Bor (List ℕ))) → (old : ChainHandle) → (before : QueueState) →
+    Session → (request : List ℕ) → FileAnswer → Calls → Type 0
+AreCallsOf bytes old before session request answer calls =
+    (given : ChainAnswer)
     × HasThisAnswer answer given
-    × (calls ≡ file_calls (drop 80 request) made given)
-    × EachSuits calls
+    × AreCallsBy bytes old before session request given calls
 
 -- these loads are those of a pop by the first of these bytes, which has this result
 abbrev pub ArePopLoads :

@@ -58,7 +58,7 @@ pub fn serve_beside<F: FileSystem>(
         → s.limit ≤ 2 ^ 31
         → IsSessionOf s session
         → (calls : Calls)
-        × AreCallsOf request.now answer calls
+        × AreCallsOf given.now handle.old queue.old session request.now answer calls
         × (FileRun F.may s.files calls files
         → (es : List LiveEvent) × (end : LiveState F) × (run : LiveRun F.may s es end)
         × (calls_among es ≡ calls)

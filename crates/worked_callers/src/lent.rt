@@ -63,7 +63,7 @@ pub fn serve_lent<F: FileSystem>(
         → s.limit ≤ 2 ^ 31
         → IsSessionOf s session
         → (calls : Calls)
-        × AreCallsOf request.now answer calls
+        × AreCallsOf given.now handle.old queue.old session request.now answer calls
         × (FileRun F.may s.files calls files
         → (es : List LiveEvent) × (end : LiveState F)
         × LiveRun F.may s es end

@@ -81,7 +81,7 @@ pub fn serve_single<F: FileSystem>(
         → s.outs ≡ []
         → IsSessionOf s session
         → (calls : Calls)
-        × AreCallsOf request.now answer calls
+        × AreCallsOf given.now handle.old queue.old session request.now answer calls
         × (FileRun F.may s.files calls files
         → (r : Single) × (end : LiveState F)
         × LiveRun F.may s (events_in r) end

@@ -77,7 +77,7 @@ pub fn serve_by<F: FileSystem>(
         → handle.old.limit ≤ 2 ^ 31
         → IsSession session m
         → (calls : Calls)
-        × AreCallsOf request.now answer calls
+        × AreCallsOf given.now handle.old queue.old session request.now answer calls
         × (FileRun F.may m.files calls files
         → (head : ℕ) × (lens : ℕ × ℕ) × (loaded : Loaded)
         × ArePopLoads given.now handle.old queue.old
@@ -94,7 +94,7 @@ pub fn serve_by<F: FileSystem>(
         → IsMachineBefore handle.old queue.old i m
         → IsSession session m
         → (calls : Calls)
-        × AreCallsOf request.now answer calls
+        × AreCallsOf given.now handle.old queue.old session request.now answer calls
         × (FileRun F.may m.files calls files
         → (head : ℕ) × (lens : ℕ × ℕ) × (loaded : Loaded) × (lost : List Load)
         × ArePopLoads given.now handle.old queue.old
@@ -113,7 +113,7 @@ pub fn serve_by<F: FileSystem>(
         → HasEachLoad (memory_over h handle.old.regions) handle.old queue.old given.now request.now
         → KeepsBuffersApart (memory_over h handle.old.regions) handle.old queue.old given.now
         → (calls : Calls)
-        × AreCallsOf request.now answer calls
+        × AreCallsOf given.now handle.old queue.old session request.now answer calls
         × (FileRun F.may m.files calls files
         → (x : Exchange) × (acts : List Act) × (back : QueueState)
         × (x.request ≡ request.now)

@@ -1,10 +1,11 @@
-use Rattle.std.proofs.Common.{[], ◌≡◌, ℕ, List, length, ap, subst, sym, ◌∙◌, arith, refl}
+use Rattle.std.proofs.Common.{[], ◌≡◌, ℕ, List, length, ap, subst, sym, ◌∙◌, arith}
 use Rattle.std.specs.Prelude.{drop}
 use Rattle.std.proofs.lemmas.Bool.Decides.{nat_tests}
 use Rattle.plain_machine.specs.StepBy.{Act}
-use Rattle.fs_chain.specs.Whole.{FromTaken, GoesBackBy, file_calls}
+use Rattle.fs_chain.specs.Whole.{FromTaken, GoesBackBy, IsDecodedBy, file_calls}
 use Rattle.fs_chain.specs.declared.chain_handle.ChainHandle.{ChainHandle}
 use Rattle.fs_chain.specs.declared.state.ChainState as state
+use Rattle.worked_callers.proofs.CalledBy.{calls_of_answer}
 use Rattle.worked_callers.proofs.Served.{if_ok, more_taken, taken_so}
 use Rattle.worked_callers.proofs.ServedBeside.{served_beside}
 use Rattle.worked_callers.proofs.lent.serve_lent.Goals as goal
@@ -34,7 +35,12 @@ returns g c =
       run = if_ok c.give_back.result _ _
           (λ notice back s i files reached there places limit small session. (
             file_calls (drop 80 request) replied.0 replied.2,
-            (replied.0, replied.2, replied.6, refl, replied.7),
+            calls_of_answer c.args.given.now old one replied.1 c.reply.new.handle before after c.in_ok-request_len.field-0-0
+                c.in_ok-request_len.request_len c.in_ok-request_len.field-0-2 c.args.session request c.args.answer replied.0 replied.2
+                c.in_ok-request_len.ensures.given
+                (subst (λ (w : ChainHandle). IsDecodedBy w c.args.session request request replied.0 replied.1) c.in_ok-table.ensures.taken
+                replied.3)
+                replied.4 replied.6 replied.7,
             λ files_run.
                 let so = served_beside may handles.walks handles.asks handles.calls handles.returns old one c.take_table.new.handle
                 replied.1 c.reply.new.handle before after

@@ -7,6 +7,7 @@ use Rattle.plain_machine.specs.StepBy.{after_stores, stores_among}
 use Rattle.fs_live.specs.Handles.{live_of}
 use Rattle.fs_live.specs.Live.{calls_in, event_acts}
 use Rattle.fs_live.specs.Serial.{IsAtRest, plain, return_in}
+use Rattle.worked_callers.proofs.CalledBy.{calls_of_answer}
 use Rattle.worked_callers.proofs.Served.{if_ok, more_taken, taken_so}
 use Rattle.worked_callers.proofs.ServedBeside.{served_beside}
 use Rattle.worked_callers.proofs.live_queues.serve_single.Goals as goal
@@ -36,7 +37,9 @@ returns g c =
       step = if_ok c.give_back.result _ _
           (λ notice back s i files here none session. (
             calls,
-            (replied.0, replied.2, replied.6, refl, replied.7),
+            calls_of_answer c.args.given.now old one replied.1 c.reply.new.handle before after c.in_ok-request_len.field-0-0
+                c.in_ok-request_len.request_len c.in_ok-request_len.field-0-2 c.args.session request c.args.answer replied.0 replied.2
+                c.in_ok-request_len.ensures.given replied.3 replied.4 replied.6 replied.7,
             λ files_run.
                 let so = served_beside may handles.walks handles.asks handles.calls handles.returns old one one replied.1
                 c.reply.new.handle before after

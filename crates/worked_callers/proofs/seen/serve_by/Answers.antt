@@ -14,8 +14,8 @@ use Rattle.fs_chain.specs.Walks.{course_of}
 use Rattle.fs_chain.specs.Whole.{ChainBy, GoesBackBy, WalksBy, after_chain, data_behind, file_calls, step_loads}
 use Rattle.fs_chain.specs.declared.loads.LoadOutcome.TheVariants as wents
 use Rattle.fs_chain.specs.declared.popping.PopOutcome.TheVariants as says
-use Rattle.worked_callers.specs.ChainCalls.{AreCallsOf}
 use Rattle.worked_callers.specs.Notified.{calls_of}
+use Rattle.worked_callers.proofs.CalledBy.{calls_of_answer}
 use Rattle.worked_callers.proofs.Served.{if_ok, if_ok_so, more_taken, queue_keeps, taken_so, told_before}
 use Rattle.worked_callers.proofs.seen.serve_by.Goals as goal
 
@@ -47,9 +47,10 @@ returns g c =
     let popped = says.Chain head lens.0 lens.1 in
     let room = addresses_of (writable popped_handle.descriptors.items) in
     let calls = file_calls (drop 80 request) replied.0 replied.2 in
-    let are_calls : AreCallsOf request c.args.answer calls = (replied.0, replied.2, replied.6, refl, replied.7) in
     let q = queue_of (course_of before old.limit) in
     let back_queue = c.walk_chain.new.queue in
+    let are_calls = calls_of_answer c.args.given.now old popped_handle replied.1 new before back_queue head lens.0 lens.1 session request
+    c.args.answer replied.0 replied.2 walked replied.3 replied.4 replied.6 replied.7 in
     let there = at_position before.layout before.next_used in
     let keeps = queue_keeps old popped_handle before back_queue popped c.requires.goes tt c.in_ok-request_len.ensures.walked in
     let by : (acts : List Act) (last : ℕ) (notice : Bool) → GoesBackBy back_queue room (data_behind replied.2) new.state acts last notice →
