@@ -11,10 +11,17 @@ use Rattle.fs_chain.specs.declared.decoding.Decoded as told
 use Rattle.fs_chain.specs.declared.loads.LoadOutcome.TheVariants as wents
 use Rattle.fs_chain.specs.declared.popping.PopOutcome.TheVariants as says
 use Rattle.fs_chain.specs.declared.queue.QueueState.{QueueState}
-use Rattle.worked_callers.specs.ChainCalls.{AreCallsBy, AreCallsOf, HasThisAnswer}
+use Rattle.worked_callers.specs.ChainCalls.{AreCallsBy, AreCallsOf, DecodesPopped, HasThisAnswer}
 use Rattle.worked_callers.specs.Notified.{IsWalkedBy}
 
--- it unfolds, so that a second pop may begin where the first one ended
+-- both unfold, so that a second pop may begin where the first one ended
+abbrev pub decodes_by : (bytes : List (Bor (List ℕ))) (old popped asked : ChainHandle) (before after : QueueState) (head n r : ℕ)
+    (session : Session) (request : List ℕ) (made : told.Decoded)
+    → IsWalkedBy bytes old popped before after (wents.On (says.Chain head n r))
+    → IsDecodedBy popped session request request made asked → DecodesPopped bytes old before session request made asked
+decodes_by bytes old popped asked before after head n r session request made walks decodes =
+    record { popped = popped; after = after; head = head; lens = (n, r); walks = walks; decodes = decodes }
+
 abbrev pub calls_by : (bytes : List (Bor (List ℕ))) (old popped asked replied : ChainHandle) (before after : QueueState) (head n r : ℕ)
     (session : Session) (request : List ℕ) (made : told.Decoded) (given : ChainAnswer)
     → IsWalkedBy bytes old popped before after (wents.On (says.Chain head n r))
@@ -24,7 +31,7 @@ abbrev pub calls_by : (bytes : List (Bor (List ℕ))) (old popped asked replied 
 calls_by bytes old popped asked replied before after head n r session request made given walks decodes replies suit = record {
   made = made;
   asked = asked;
-  decoded = record { popped = popped; after = after; head = head; lens = (n, r); walks = walks; decodes = decodes };
+  decoded = decodes_by bytes old popped asked before after head n r session request made walks decodes;
   replied = replied;
   replies = replies;
   calls_are = refl;

@@ -6,9 +6,11 @@ ghost use Rattle.fs_regions.specs.Places.{places_in};
 ghost use Rattle.fuse_fs.specs.Calls as file;
 ghost use Rattle.fuse_values.specs.Values.{call_of};
 ghost use Rattle.fuse_values.specs.declared.call.FileCall as value;
+ghost use Rattle.fs_chain.specs.declared.decoding.Decoded.TheVariants as asks;
 ghost use Rattle.fs_chain.specs.declared.state.ChainState.TheVariants as at;
 ghost use Rattle.fs_live.specs.Handles.{IsReached, IsSessionOf, live_of};
 ghost use Rattle.fs_live.specs.Live.{LiveEvent, LiveRun, LiveState, calls_among};
+ghost use Rattle.worked_callers.specs.ChainCalls.{DecodesPopped};
 
 use crate::listings::ask_call;
 use crate::wholes::walk_chain;
@@ -38,7 +40,8 @@ pub fn lose_asked<F: FileSystem>(
         → s.limit ≡ handle.old.limit
         → s.limit ≤ 2 ^ 31
         → IsSessionOf s session
-        → (made : value.FileCall)
+        → (made : value.FileCall) × (asked : ChainHandle)
+        × DecodesPopped given.now handle.old queue.old session request.now (asks.Call made) asked
         × ((es : List LiveEvent) × (end : LiveState F)
         × LiveRun F.may s es end
         × (calls_among es ≡ [])

@@ -2,6 +2,7 @@
 //! call, and amid a listing. Each is returned as the plain machine's step returns a reply.
 
 ghost use Rattle.std.specs.Prelude.{ℕ, [], ◌∷◌, drop, IfOk, IsTrue};
+ghost use Rattle.fs_chain.specs.declared.decoding.Decoded.TheVariants as asks;
 ghost use Rattle.fs_chain.specs.declared.state.ChainState.TheVariants as at;
 ghost use Rattle.fuse_fs.specs.Calls as file;
 ghost use Rattle.fuse_values.specs.Values.{call_of};
@@ -9,6 +10,7 @@ ghost use Rattle.fuse_values.specs.declared.call.FileCall as value;
 ghost use Rattle.fs_live.specs.Handles.{IsSessionOf};
 ghost use Rattle.fs_live.specs.Live.{LiveState};
 ghost use Rattle.fs_live.specs.Runs.{tickets_on};
+ghost use Rattle.worked_callers.specs.ChainCalls.{DecodesPopped};
 ghost use Rattle.worked_callers.specs.OwnReplies.{EndsAlone, IsAt, LogsOwn, ReportsOwn, ReturnsAsStep};
 ghost use Rattle.std.specs.Prelude.{◌≡◌, None};
 
@@ -128,7 +130,8 @@ pub fn reply_amid_listing<F: FileSystem, G: FileSystem>(
     ensures step { IfOk result (λ notice. (s : LiveState F) (i : ℕ)
         → IsAt F.may s i handle.old queue.old
         → IsSessionOf s session
-        → (made : value.FileCall)
+        → (made : value.FileCall) × (asked : ChainHandle)
+        × DecodesPopped given.now handle.old queue.old session request.now (asks.Call made) asked
         × ((answer : file.FileAnswer) (files : F)
         → IsTrue (file.suits (call_of (drop 80 request.now) made) answer)
         → F.may s.files (call_of (drop 80 request.now) made) answer files

@@ -1,6 +1,8 @@
 use Rattle.std.proofs.Common.{◌≡◌, ap, length, ◌∙◌, arith}
 use Rattle.std.proofs.lemmas.Bool.Decides.{nat_tests}
 use Rattle.fs_chain.specs.declared.chain_handle.ChainHandle.{ChainHandle}
+use Rattle.fs_chain.specs.declared.decoding.Decoded.TheVariants as asks
+use Rattle.worked_callers.proofs.CalledBy.{decodes_by}
 use Rattle.worked_callers.proofs.LostAsked.{lost_asked}
 use Rattle.worked_callers.proofs.Served.{more_taken, taken_so}
 use Rattle.worked_callers.proofs.losses.lose_asked.Goals as goal
@@ -22,6 +24,9 @@ returns-in-Err g c =
     let may = g.F.FileSystemBase.may in
     let handles = c.law_handles.ensures in
     let asked = c.in_ok-ask_call.ensures.asked in
+    let decoded = decodes_by c.args.given.now c.args.handle.now c.walk_chain.new.handle c.ask_call.new.handle c.args.queue.now
+    c.walk_chain.new.queue c.in_ok-request_len.field-0-0 c.in_ok-request_len.request_len c.in_ok-request_len.field-0-2 c.args.session
+    c.args.request.now (asks.Call asked.0) c.in_ok-request_len.ensures.given asked.1 in
     record {
       again = ap (λ (w : ChainHandle). w.state) c.in-Err.ensures.same ∙ c.abandon.ensures.0.3;
       run = λ s i reached there places limit small session.
@@ -30,5 +35,5 @@ returns-in-Err g c =
           c.walk_chain.new.queue c.in_ok-request_len.field-0-0 c.in_ok-request_len.request_len c.in_ok-request_len.field-0-2 c.args.session
           c.args.request.now asked.0
           c.requires.goes c.in_ok-request_len.ensures.walked asked.1 s i reached there places limit small session in
-          (asked.0, so.0, so.1);
+          (asked.0, c.ask_call.new.handle, decoded, so.0, so.1);
     }

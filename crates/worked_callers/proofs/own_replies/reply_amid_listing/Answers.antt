@@ -3,8 +3,10 @@ use Rattle.std.specs.Prelude.{drop}
 use Rattle.std.proofs.lemmas.Bool.Decides.{nat_tests}
 use Rattle.fuse_values.specs.Values.{call_of}
 use Rattle.fs_chain.specs.Queues.{gave}
+use Rattle.fs_chain.specs.declared.decoding.Decoded.TheVariants as asks
 use Rattle.fs_chain.specs.declared.queue.QueueState.{QueueState}
 use Rattle.worked_callers.specs.OwnReplies.{ReturnsAsStep}
+use Rattle.worked_callers.proofs.CalledBy.{decodes_by}
 use Rattle.worked_callers.proofs.OwnRuns.{as_step, entry_keeps, replied_answered}
 use Rattle.worked_callers.proofs.Served.{if_ok_so, more_taken, taken_so}
 use Rattle.worked_callers.proofs.own_replies.reply_amid_listing.Goals as goal
@@ -41,6 +43,9 @@ returns g c =
       step = if_ok_so c.give_own_back.result _ _ _
           (λ notice back final_is s i here session. (
             asked.0,
+            two,
+            decodes_by c.args.given.now old one two before after c.in_ok-request_len.field-0-0 c.in_ok-request_len.request_len
+                c.in_ok-request_len.field-0-2 c.args.session request (asks.Call asked.0) c.in_ok-request_len.ensures.given asked.1,
             λ answer files fits so.
                 subst (λ (q : QueueState). ReturnsAsStep g.row.G.Denot may s i before q request bytes
                 ((call_of (drop 80 request) asked.0, answer) ∷ []) notice) (sym final_is)
