@@ -3,21 +3,22 @@
 ghost use Rattle.std.specs.Prelude.{◌≡◌, ℕ, List, [], drop, length, None, Some, Ok, IfOk, OnOk, true};
 ghost use Rattle.server_phases.specs.Answering.{TellsBytes};
 ghost use Rattle.plain_machine.specs.Step.{EachSuits, Idle, Refused, State, with_queue};
-ghost use Rattle.plain_machine.specs.StepBy.{Act, StepBy, StepLoads};
+ghost use Rattle.plain_machine.specs.StepBy.{Act, StepBy};
 ghost use Rattle.plain_machine.specs.declared.error.DeviceError.TheVariants as device;
+ghost use Rattle.fs_queue.specs.Loads.{Load};
 ghost use Rattle.fs_queue.specs.Taking.{after_refusal};
 ghost use Rattle.fs_queue.specs.declared.fault.QueueError.{QueueError};
 ghost use Rattle.fs_regions.specs.Places.{places_in};
-ghost use Rattle.fs_regions.specs.Walks.{queue_of};
+ghost use Rattle.fs_regions.specs.Walks.{Loaded, queue_of};
 ghost use Rattle.fs_chain.specs.Events.{event_fault, event_miss};
 ghost use Rattle.fs_chain.specs.Queues.{gave};
 ghost use Rattle.fs_chain.specs.Walks.{HasEvents, course_of};
 ghost use Rattle.fs_chain.specs.Whole.{FromTaken, ChainAnswer, GoesBackBy, HasReply, IsDecodedBy};
-ghost use Rattle.fs_chain.specs.Whole.{IsMachineBefore, IsWalked, WantsBytes, data_behind, file_calls};
-ghost use Rattle.fs_chain.specs.Whole.{no_effects};
+ghost use Rattle.fs_chain.specs.Whole.{IsMachineBefore, IsWalked, LackPlaces, WantsBytes, data_behind};
+ghost use Rattle.fs_chain.specs.Whole.{file_calls, no_effects, step_loads};
 ghost use Rattle.fs_chain.specs.declared.decoding.Decoded as told;
 ghost use Rattle.fs_chain.specs.declared.state.ChainState.TheVariants as at;
-ghost use Rattle.worked_callers.specs.ChainCalls.{HasThisAnswer};
+ghost use Rattle.worked_callers.specs.ChainCalls.{ArePopLoads, HasThisAnswer};
 ghost use Rattle.worked_callers.specs.Notified.{IsWalkedBy};
 
 use fs_chain::laws::law_chains;
@@ -70,13 +71,18 @@ pub fn look<F: FileSystem>(
     ensures idle { result ≡ Ok (LoadOutcome.On PopOutcome.Idle)
         → (i : ℕ) (m : State F)
         → IsMachineBefore handle.old queue.old i m
-        → (l : StepLoads) × StepBy F.may m i l [] Idle no_effects m }
+        → (loaded : Loaded) × (lost : List Load)
+        × ArePopLoads given.now handle.old queue.old (LoadOutcome.On PopOutcome.Idle) loaded
+        × LackPlaces handle.old queue.old loaded lost
+        × StepBy F.may m i (step_loads loaded lost []) [] Idle no_effects m }
     ensures refused { (e : QueueError) (i : ℕ) (m : State F)
         → result ≡ Ok (LoadOutcome.On (PopOutcome.Refused e))
         → IsMachineBefore handle.old queue.old i m
         → HasEvents handle.old queue.old
-        → (l : StepLoads)
-        × StepBy F.may m i l [] (Refused (device.Queue e)) no_effects
+        → (loaded : Loaded) × (lost : List Load)
+        × ArePopLoads given.now handle.old queue.old (LoadOutcome.On (PopOutcome.Refused e)) loaded
+        × LackPlaces handle.old queue.old loaded lost
+        × StepBy F.may m i (step_loads loaded lost []) [] (Refused (device.Queue e)) no_effects
         (with_queue m i (after_refusal (queue_of (course_of queue.old handle.old.limit)) e)) }
     ensures unplaced { IfOk result (λ told. (e : QueueError)
         → queue.old.stopped ≡ None

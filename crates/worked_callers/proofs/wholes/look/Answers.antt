@@ -1,9 +1,9 @@
-use Rattle.std.proofs.Common.{[], Result, IfOk, subst}
+use Rattle.std.proofs.Common.{Result, IfOk, subst}
 use Rattle.fs_chain.specs.declared.error.ChainError.{ChainError}
 use Rattle.fs_chain.specs.declared.loads.LoadOutcome.{LoadOutcome}
 use Rattle.fs_chain.specs.declared.loads.LoadOutcome.TheVariants as wents
 use Rattle.fs_chain.specs.declared.popping.PopOutcome.TheVariants as says
-use Rattle.fs_chain.specs.Whole.{IsWalked, step_loads}
+use Rattle.worked_callers.specs.Notified.{IsWalkedBy, calls_of}
 use Rattle.worked_callers.proofs.Served.{if_ok}
 use Rattle.worked_callers.proofs.wholes.look.Goals as goal
 
@@ -13,10 +13,12 @@ returns-clause-idle g c is i m first =
     let new = c.walk_by.new.handle in
     let before = c.args.queue.now in
     let after = c.walk_by.new.queue in
-    let walked : IsWalked old new before after (wents.On says.Idle) =
-    subst (λ (r : Result LoadOutcome ChainError). IfOk r (λ told. IsWalked old new before after told)) is c.walk_by.ensures.walks in
-    let idle = c.law_chains.ensures.idle walked.0 i old new before after m first walked.1 in
-    (step_loads idle.0 idle.2 [], idle.4)
+    let given = c.args.given.now in
+    let walked : IsWalkedBy given old new before after (wents.On says.Idle) =
+    subst (λ (r : Result LoadOutcome ChainError). IfOk r (λ told. IsWalkedBy given old new before after told)) is
+    c.walk_by.ensures.given in
+    let idle = c.law_chains.ensures.idle (calls_of walked.0 given) i old new before after m first walked.1 in
+    (idle.0, idle.2, (walked.0, new, after, walked.1, idle.1), idle.3, idle.4)
 
 pub returns-clause-refused : goal.returns-clause-refused
 returns-clause-refused g c e i m is first events =
@@ -24,10 +26,12 @@ returns-clause-refused g c e i m is first events =
     let new = c.walk_by.new.handle in
     let before = c.args.queue.now in
     let after = c.walk_by.new.queue in
-    let walked : IsWalked old new before after (wents.On (says.Refused e)) =
-    subst (λ (r : Result LoadOutcome ChainError). IfOk r (λ told. IsWalked old new before after told)) is c.walk_by.ensures.walks in
-    let refused = c.law_chains.ensures.refused walked.0 e i old new before after m first events walked.1 in
-    (step_loads refused.0 refused.2 [], refused.4)
+    let given = c.args.given.now in
+    let walked : IsWalkedBy given old new before after (wents.On (says.Refused e)) =
+    subst (λ (r : Result LoadOutcome ChainError). IfOk r (λ told. IsWalkedBy given old new before after told)) is
+    c.walk_by.ensures.given in
+    let refused = c.law_chains.ensures.refused (calls_of walked.0 given) e i old new before after m first events walked.1 in
+    (refused.0, refused.2, (walked.0, new, after, walked.1, refused.1), refused.3, refused.4)
 
 pub returns-clause-unplaced : goal.returns-clause-unplaced
 returns-clause-unplaced g c =
