@@ -47,15 +47,17 @@ returns g c =
           (λ notice back s i files reached there places limit small session. (
             call.0,
             c.in_ok-_len._len,
-            are_calls,
-            λ files_run.
-                let so = served_beside may handles.walks handles.asks handles.calls handles.returns old one one two three
-                c.args.queue.now c.walk_chain.new.queue c.in_ok-request_len.field-0-0 c.in_ok-request_len.request_len
-                c.in_ok-request_len.field-0-2
-                c.args.session request (asks.Call call.0) answer notice c.requires.goes
-                c.in_ok-request_len.ensures.walked refl
-                call.1 told.lists back s i files reached there places limit small session files_run in
-                (so.es, so.end, so.run, so.calls_are, so.outs),
+            (
+              are_calls,
+              λ files_run.
+                  let so = served_beside may handles.walks handles.asks handles.calls handles.returns old one one two three
+                  c.args.queue.now c.walk_chain.new.queue c.in_ok-request_len.field-0-0 c.in_ok-request_len.request_len
+                  c.in_ok-request_len.field-0-2
+                  c.args.session request (asks.Call call.0) answer notice c.requires.goes
+                  c.in_ok-request_len.ensures.walked refl
+                  call.1 told.lists back s i files reached there places limit small session files_run in
+                  (so.es, so.end, so.run, so.calls_are, so.outs),
+            ),
           ))
           c.give_back.ensures.back;
     }

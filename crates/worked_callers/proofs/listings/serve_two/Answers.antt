@@ -65,45 +65,47 @@ returns g c =
           (λ notice back session_is i m files first in_session. (
             call.0,
             c.in_ok-_len._len,
-            are_calls,
-            λ files_run.
-                let goes = back room bytes in
-                let run : ChainBy given request calls goes.0 goes.1 head notice old new before session = record {
-                  popped_handle = one;
-                  taken = back_queue;
-                  lens = lens;
-                  walks = walked.1;
-                  front = request;
-                  made = asks.Call call.0;
-                  decoded_handle = two;
-                  is_asked = call.1;
-                  given = answer;
-                  replies = told.lists;
-                  calls_are = refl;
-                  back = back_queue;
-                  returns = goes.2;
-                } in
-                let law = c.law_chains.ensures.served given request calls goes.0 goes.1 head i notice old new before session m
-                files run first in_order in_session files_run in
-                let notified = c.law_chains.ensures.told.of_chain given request calls goes.0 goes.1 head notice old new before session
-                c.requires.goes run in (
-                  head,
-                  lens,
-                  law.0,
-                  law.2,
-                  (walked.0, one, back_queue, walked.1, law.1),
-                  law.3,
-                  law.4,
-                  record { acts = goes.0; last = goes.1 },
-                  law.5,
-                  law.6,
-                  subst (λ (s : Session). StepBy may m i (step_loads law.0 law.2 request) calls (Exchanged law.4 notice)
-                      (record { acts = goes.0; last = goes.1 })
-                      (after_chain m i q s.options.0 files)) (sym session_is)
-                      (subst (λ (n : Bool). StepBy may m i (step_loads law.0 law.2 request) calls (Exchanged law.4 n)
-                      (record { acts = goes.0; last = goes.1 })
-                      (after_chain m i q new.session.options.0 files)) (sym (notified.by_flags stays.1)) law.7),
-                ),
+            (
+              are_calls,
+              λ files_run.
+                  let goes = back room bytes in
+                  let run : ChainBy given request calls goes.0 goes.1 head notice old new before session = record {
+                    popped_handle = one;
+                    taken = back_queue;
+                    lens = lens;
+                    walks = walked.1;
+                    front = request;
+                    made = asks.Call call.0;
+                    decoded_handle = two;
+                    is_asked = call.1;
+                    given = answer;
+                    replies = told.lists;
+                    calls_are = refl;
+                    back = back_queue;
+                    returns = goes.2;
+                  } in
+                  let law = c.law_chains.ensures.served given request calls goes.0 goes.1 head i notice old new before session m
+                  files run first in_order in_session files_run in
+                  let notified = c.law_chains.ensures.told.of_chain given request calls goes.0 goes.1 head notice old new before session
+                  c.requires.goes run in (
+                    head,
+                    lens,
+                    law.0,
+                    law.2,
+                    (walked.0, one, back_queue, walked.1, law.1),
+                    law.3,
+                    law.4,
+                    record { acts = goes.0; last = goes.1 },
+                    law.5,
+                    law.6,
+                    subst (λ (s : Session). StepBy may m i (step_loads law.0 law.2 request) calls (Exchanged law.4 notice)
+                        (record { acts = goes.0; last = goes.1 })
+                        (after_chain m i q s.options.0 files)) (sym session_is)
+                        (subst (λ (n : Bool). StepBy may m i (step_loads law.0 law.2 request) calls (Exchanged law.4 n)
+                        (record { acts = goes.0; last = goes.1 })
+                        (after_chain m i q new.session.options.0 files)) (sym (notified.by_flags stays.1)) law.7),
+                  ),
+            ),
           ))
           c.give_back.ensures.back c.give_back.ensures.session;
     }
