@@ -9,6 +9,7 @@ pub mod LostAsked
 pub mod MappedAmid
 pub mod ModelActs
 pub mod MovedAmid
+pub mod NamedEvents
 pub mod OthersBeside
 pub mod OwnRuns
 pub mod Served

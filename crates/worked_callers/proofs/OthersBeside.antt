@@ -1,6 +1,7 @@
 -- A chain that is walked and given up, or replied by bytes of its caller's own, as a run beside whatever other chains are out.
 use Rattle.std.proofs.Common.{◌≡◌, ℕ, zero, suc, ◌≤◌, ◌<◌, ◌^◌, Bool, List, [], ◌∷◌, ◌++◌, append-nil, length, Some, None, Result, Ok, Err}
 use Rattle.std.proofs.Common.{OnOk, slice_get, refl, subst, sym, ap, ◌∙◌}
+use Rattle.std.specs.Borrow.{Bor}
 use Rattle.std.specs.Prelude.{if◌then◌else◌, false, is_some, Option, true}
 use Rattle.std.proofs.lemmas.List.Elements.{All-head}
 use Rattle.vm_memory.specs.Memory.{Memory}
@@ -20,7 +21,7 @@ use Rattle.fs_chain.specs.Orders.{give_up_error, is_out, return_error}
 use Rattle.fs_chain.specs.OwnReplies.{IfUnanswered, own_error, own_reply}
 use Rattle.fs_chain.specs.Queues.{reset_to, gave, untook}
 use Rattle.fs_chain.specs.Pushes.{IfHasReply, PushesBy}
-use Rattle.fs_chain.specs.Whole.{FromTaken, IsWalked}
+use Rattle.fs_chain.specs.Whole.{FromTaken}
 use Rattle.fs_chain.specs.declared.loads.LoadOutcome.TheVariants as wents
 use Rattle.fs_chain.specs.declared.queue.QueueState.{QueueState}
 use Rattle.fs_chain.specs.declared.pushing.PushStores.{PushStores}
@@ -42,20 +43,27 @@ use Rattle.fs_live.specs.Others.{HandleRepliesOwnBytes, IfOut}
 use Rattle.fs_live.specs.Others.{IsOwn, recorded}
 use Rattle.fs_live.specs.Several.{took}
 use Rattle.fs_live.proofs.Queues.{same_some, there_same}
+use Rattle.worked_callers.specs.Events.{IsAbandonedChain, IsGivenUpChain, IsRepliedChain}
+use Rattle.worked_callers.specs.Notified.{IsWalkedBy, calls_of}
+use Rattle.worked_callers.proofs.NamedEvents.{popped_by, told_so}
 use Rattle.worked_callers.proofs.ServedBeside.{chain_is, held_later, reached_by, taken_of}
 
 pub dropped_beside : {F : Type 0} (may : May F) (walks_law : HandleEndsPop may) (drops_law : HandleGivesUpChain may)
-    (old one later : ChainHandle)
+    (given : List (Bor (List ℕ))) (old one later : ChainHandle)
     (before after last : QueueState) (head n r : ℕ) → before.stopped ≡ None
-    → IsWalked old one before after (wents.On (says.Chain head n r)) → later.state ≡ one.state → give_up_error later.state after ≡ None
+    → IsWalkedBy given old one before after (wents.On (says.Chain head n r)) → later.state ≡ one.state
+    → give_up_error later.state after ≡ None
     → last ≡ (if is_out later.state then untook after else after) → (s : LiveState F) (i : ℕ)
     → slice_get s.queues i ≡ Some (live_of before) → s.places ≡ places_in old.regions → s.limit ≡ old.limit
-    → (es : List LiveEvent) × (end : LiveState F) × LiveRun may s es end × (end.outs ≡ s.outs)
+    → (es : List LiveEvent) × (end : LiveState F) × LiveRun may s es end × IsGivenUpChain s i given old before es
+    × (end.outs ≡ s.outs)
     × (slice_get end.queues i ≡ Some (live_of last))
-dropped_beside {F} may walks_law drops_law old one later before after last head n r goes walks same clear left s i there places limit =
+dropped_beside {F} may walks_law drops_law given old one later before after last head n r goes walks same clear left s i there places
+    limit =
     let q = live_of before in
     let ds = one.descriptors.items in
-    let walk = walks_law s i walks.0 old one before after (says.Chain head n r) there places limit goes tt walks.1 tt in
+    let called = calls_of walks.0 given in
+    let walk = walks_law s i called old one before after (says.Chain head n r) there places limit goes tt walks.1 tt in
     let loaded = walk.0 in
     let is = chain_is ds walk.2 head n r walk.3 in
     let came = step.Chain head None in
@@ -73,19 +81,27 @@ dropped_beside {F} may walks_law drops_law old one later before after last head 
       EndsPop i loaded ds came ∷ GivesUpChain c ∷ [],
       s₂,
       (s₁, first, (s₂, dropped.0, refl)),
+      (
+        c,
+        popped_by s i given old one before after head n r ds loaded walks walk.1 (told_so ds (says.Chain head n r) walk.2 came walk.3 is),
+        refl,
+      ),
       append-nil s.outs,
       dropped.1 ∙ ap (λ (k : QueueState). Some (live_of k)) left_is,
     )
 
-pub lost_beside : {F : Type 0} (may : May F) (walks_law : HandleEndsPop may) (abandons_law : HandleAbandons may) (old one : ChainHandle)
+pub lost_beside : {F : Type 0} (may : May F) (walks_law : HandleEndsPop may) (abandons_law : HandleAbandons may)
+    (given : List (Bor (List ℕ))) (old one : ChainHandle)
     (before after : QueueState) (head n r : ℕ) → before.stopped ≡ None
-    → IsWalked old one before after (wents.On (says.Chain head n r)) → (s : LiveState F) (i : ℕ)
+    → IsWalkedBy given old one before after (wents.On (says.Chain head n r)) → (s : LiveState F) (i : ℕ)
     → slice_get s.queues i ≡ Some (live_of before) → s.places ≡ places_in old.regions → s.limit ≡ old.limit
-    → (es : List LiveEvent) × (end : LiveState F) × LiveRun may s es end × (slice_get end.queues i ≡ Some (live_of after))
-lost_beside {F} may walks_law abandons_law old one before after head n r goes walks s i there places limit =
+    → (es : List LiveEvent) × (end : LiveState F) × LiveRun may s es end × IsAbandonedChain s i given old before es
+    × (slice_get end.queues i ≡ Some (live_of after))
+lost_beside {F} may walks_law abandons_law given old one before after head n r goes walks s i there places limit =
     let q = live_of before in
     let ds = one.descriptors.items in
-    let walk = walks_law s i walks.0 old one before after (says.Chain head n r) there places limit goes tt walks.1 tt in
+    let called = calls_of walks.0 given in
+    let walk = walks_law s i called old one before after (says.Chain head n r) there places limit goes tt walks.1 tt in
     let loaded = walk.0 in
     let is = chain_is ds walk.2 head n r walk.3 in
     let came = step.Chain head None in
@@ -100,6 +116,11 @@ lost_beside {F} may walks_law abandons_law old one before after head n r goes wa
           ∷ [],
       after_abandoning s₁ s.outs [] c,
       (s₁, first, (after_abandoning s₁ s.outs [] c, lost.0, refl)),
+      (
+        c,
+        popped_by s i given old one before after head n r ds loaded walks walk.1 (told_so ds (says.Chain head n r) walk.2 came walk.3 is),
+        refl,
+      ),
       there₁,
     )
 
@@ -138,9 +159,9 @@ changed_twice (z ∷ zs) zero x y = refl
 changed_twice {A} (z ∷ zs) (suc i) x y = ap (λ (l : List A). z ∷ l) (changed_twice zs i x y)
 
 pub replied_beside : {F : Type 0} (may : May F) (walks_law : HandleEndsPop may) (replies_law : HandleRepliesOwnBytes may)
-    (returns_law : HandlePushesOwn may) (old one two : ChainHandle)
+    (returns_law : HandlePushesOwn may) (given : List (Bor (List ℕ))) (old one two : ChainHandle)
     (before after final : QueueState) (head n r serial : ℕ) (request reply : List ℕ) (notice : Bool) → before.stopped ≡ None
-    → IsWalked old one before after (wents.On (says.Chain head n r))
+    → IsWalkedBy given old one before after (wents.On (says.Chain head n r))
     → FromTaken one.state (λ out. out.request_len ≡ length request) → own_error one.state one.serial serial (length reply) ≡ None
     → IfUnanswered one.state (λ out. two ≡ record one { state = at.HasReply out (own_reply (length reply)) })
     → ((room bytes : List ℕ) (last : ℕ) → (acts : List Act) × GoesBackOwn after room bytes two.state acts last notice) → final ≡ gave after
@@ -149,12 +170,13 @@ pub replied_beside : {F : Type 0} (may : May F) (walks_law : HandleEndsPop may) 
     → s.limit ≤ 2 ^ 31
     → (es : List LiveEvent) × (end : LiveState F) × LiveRun may s es end × (calls_among es ≡ []) × (end.outs ≡ s.outs)
     × (end.queues ≡ changed_at s.queues i (λ _. live_of final)) × (end.options ≡ s.options) × (end.limit ≡ s.limit)
-    × (end.places ≡ s.places)
-replied_beside {F} may walks_law replies_law returns_law old one two before after final head n r serial request reply notice goes walks len
-    clear is_kept back final_is s i reached there places limit small =
+    × (end.places ≡ s.places) × IsRepliedChain s i given old before [] request reply notice es
+replied_beside {F} may walks_law replies_law returns_law given old one two before after final head n r serial request reply notice goes
+    walks len clear is_kept back final_is s i reached there places limit small =
     let q = live_of before in
     let ds = one.descriptors.items in
-    let walk = walks_law s i walks.0 old one before after (says.Chain head n r) there places limit goes tt walks.1 tt in
+    let called = calls_of walks.0 given in
+    let walk = walks_law s i called old one before after (says.Chain head n r) there places limit goes tt walks.1 tt in
     let loaded = walk.0 in
     let is = chain_is ds walk.2 head n r walk.3 in
     let came = step.Chain head None in
@@ -188,6 +210,15 @@ replied_beside {F} may walks_law replies_law returns_law old one two before afte
       refl,
       refl,
       refl,
+      (
+        c,
+        s.options,
+        next_used.0,
+        next_used.1,
+        next_used.2,
+        popped_by s i given old one before after head n r ds loaded walks walk.1 (told_so ds (says.Chain head n r) walk.2 came walk.3 is),
+        refl,
+      ),
     )
 
 -- a queue that is begun where it stands is as it was

@@ -1,23 +1,25 @@
 -- A chain that is walked, asked, answered and returned by a handle, as a run beside whatever other chains are out.
 use Rattle.std.proofs.Common.{◌≡◌, ℕ, ◌≤◌, ◌^◌, Bool, List, [], ◌∷◌, ◌++◌, append-nil, append_assoc, Some, None, slice_get, refl}
 use Rattle.std.proofs.Common.{subst, sym, ap, ◌∙◌}
+use Rattle.std.specs.Borrow.{Bor}
 use Rattle.std.specs.Prelude.{drop, false, true, IfSome, is_some, Option, option_map}
 use Rattle.std.specs.List.{AllByRecursion}
 use Rattle.fs_queue.specs.Chain.{Descriptor}
 use Rattle.fs_queue.specs.declared.fault.ChainFault.{ChainFault}
 use Rattle.fs_queue.specs.declared.fault.QueueError.{QueueError}
 use Rattle.fs_queue.specs.WalkingView.{at_position}
+use Rattle.fs_queue.specs.Returning.{Store}
 use Rattle.fs_regions.specs.Places.{places_in}
-use Rattle.fs_regions.specs.Walks.{queue_of}
+use Rattle.fs_regions.specs.Walks.{Loaded, queue_of}
 use Rattle.fs_regions.specs.declared.step.CourseStep as comes
 use Rattle.fs_regions.specs.declared.step.CourseStep.TheVariants as step
-use Rattle.fuse_fs.specs.Calls.{FileRun}
+use Rattle.fuse_fs.specs.Calls.{FileCall, FileRun}
 use Rattle.virtiofsd_fuse.specs.Serving.{May}
 use Rattle.server_phases.specs.declared.session.Session.{Session}
 use Rattle.fs_chain.specs.Events.{notification_store, store_of}
 use Rattle.fs_chain.specs.Queues.{gave}
 use Rattle.fs_chain.specs.Walks.{course_of, told_of}
-use Rattle.fs_chain.specs.Whole.{ChainAnswer, GoesBackBy, HasReply, IsDecodedBy, IsWalked, data_behind, file_calls}
+use Rattle.fs_chain.specs.Whole.{ChainAnswer, GoesBackBy, HasReply, IsDecodedBy, IsWalked, LoadsOf, data_behind, file_calls}
 use Rattle.fs_chain.specs.declared.decoding.Decoded as told
 use Rattle.fs_chain.specs.declared.decoding.Decoded.TheVariants as asks
 use Rattle.fs_chain.specs.declared.event_index.NotificationStore.{NotificationStore}
@@ -26,7 +28,7 @@ use Rattle.fs_chain.specs.declared.queue.QueueState.{QueueState}
 use Rattle.fs_chain.specs.declared.popping.PopOutcome.TheVariants as says
 use Rattle.fs_chain.specs.declared.chain_handle.ChainHandle.{ChainHandle}
 use Rattle.fs_chain.proofs.WholeChains.{came_is, faulty_is}
-use Rattle.plain_machine.specs.Step.{Calls, EachSuits}
+use Rattle.plain_machine.specs.Step.{Calls, EachSuits, Exchange, faulty}
 use Rattle.plain_machine.specs.StepBy.{Act}
 use Rattle.fs_live.specs.Handles.{HandleCalls, HandleDecodesRequest, HandleFaulty, HandlePushesChain, HandleStoresNotification}
 use Rattle.fs_live.specs.Handles.{HandleEndsPop}
@@ -67,6 +69,8 @@ use Rattle.fs_live.specs.Serial.{IsOfChain, Single, events_in}
 use Rattle.fs_live.specs.Several.{LiveQueue, took}
 use Rattle.fs_live.proofs.Alone.{all_both}
 use Rattle.fs_live.proofs.Queues.{same_some, there_same}
+use Rattle.worked_callers.specs.Events.{IsFaultyChain, answer_events}
+use Rattle.worked_callers.specs.Notified.{IsWalkedBy, calls_of}
 
 -- ---- runs
 
@@ -141,8 +145,8 @@ kept_on page_size options request c earlier more made w kept =
     }
 
 -- the calls of a chain are answered one after another
-pub record AllAnswered {F : Type 0} (may : May F) (s : LiveState F) (before behind : List OutChain) (c : OutChain) (later : Calls)
-    (files : F) : Type 0 where
+pub record AllAnswered {F : Type 0} (may : May F) (s : LiveState F) (before behind : List OutChain) (c popped : OutChain)
+    (request : List ℕ) (options : ℕ) (earlier later : Calls) (files : F) : Type 0 where
   pub es : List LiveEvent
   pub end : LiveState F
   pub run : LiveRun may s es end
@@ -153,6 +157,7 @@ pub record AllAnswered {F : Type 0} (may : May F) (s : LiveState F) (before behi
   pub anew : (i : ℕ) → AllByRecursion (NotAnew i) es
   pub of_chain : AllByRecursion IsOfChain es
   pub files_are : end.files ≡ files
+  pub es_are : es ≡ answer_events popped request options earlier later
 
 module _ {F : Type 0} (may : May F) (law : HandleCalls may) (w w' : ChainHandle) (request : List ℕ) (options : ℕ) (made : told.Decoded)
     (given : ChainAnswer) (has : HasReply made w given w') where
@@ -163,7 +168,7 @@ module _ {F : Type 0} (may : May F) (law : HandleCalls may) (w w' : ChainHandle)
       → s.outs ≡ before ++ asked_chain c request options earlier ∷ behind
       → IsKept s.page_size options request (asked_chain c request options earlier) made w → all ≡ earlier ++ later
       → FileRun may s.files later files
-      → AllAnswered may s before behind (asked_chain c request options all) later files
+      → AllAnswered may s before behind (asked_chain c request options all) c request options earlier later files
   answered_all s c before behind earlier [] files out kept calls_are run = record {
     es = [];
     end = s;
@@ -175,6 +180,7 @@ module _ {F : Type 0} (may : May F) (law : HandleCalls may) (w w' : ChainHandle)
     anew = λ i. tt;
     of_chain = tt;
     files_are = sym run;
+    es_are = refl;
   }
   answered_all s c before behind earlier ((call, answer) ∷ later) files out kept calls_are run =
       let d = asked_chain c request options earlier in
@@ -195,6 +201,7 @@ module _ {F : Type 0} (may : May F) (law : HandleCalls may) (w w' : ChainHandle)
         anew = λ i. (tt, rest.anew i);
         of_chain = (tt, rest.of_chain);
         files_are = rest.files_are;
+        es_are = ap (λ (es : List LiveEvent). ReceivesAnswer d call answer ∷ es) rest.es_are;
       }
 
 -- ---- another table
@@ -212,7 +219,9 @@ faulty_later limit c one later same held =
 -- ---- the whole chain
 
 -- these calls are answered and the chain goes back, whatever other chains are out: a run, which begins no queue anew
-pub record IsServed {F : Type 0} (may : May F) (s : LiveState F) (i : ℕ) (after : QueueState) (calls : Calls) : Type 0 where
+pub record ServedRun {F : Type 0} (may : May F) (s : LiveState F) (i : ℕ) (old one : ChainHandle) (before after : QueueState)
+    (head n r : ℕ) (walks : IsWalked old one before after (wents.On (says.Chain head n r))) (request : List ℕ) (calls : Calls)
+    (notice : Bool) : Type 0 where
   pub es : List LiveEvent
   pub end : LiveState F
   pub run : LiveRun may s es end
@@ -223,8 +232,23 @@ pub record IsServed {F : Type 0} (may : May F) (s : LiveState F) (i : ℕ) (afte
   pub single : Single
   pub queue_is : single.queue ≡ i
   pub of_chain : AllByRecursion IsOfChain single.between
-  pub calls_of : calls_in single.chain.phase ≡ calls
+  pub single_calls : calls_in single.chain.phase ≡ calls
   pub single_run : LiveRun may s (events_in single) end
+  pub single_is : events_in single ≡ es
+  pub loaded : Loaded
+  pub loads : LoadsOf walks.0 old one before after (wents.On (says.Chain head n r)) walks.1 loaded
+  pub told_is : says.Chain head n r ≡ told_of one.descriptors.items (step.Chain head None)
+  pub told_calls : List FileCall
+  pub exchange : Exchange
+  pub stored_last : ℕ
+  pub used : List Store
+  pub seen : List ℕ
+  pub es_are : es ≡ EndsPop i loaded one.descriptors.items (step.Chain head None)
+      ∷ DecodesRequest (new_chain s i (live_of before) loaded one.descriptors.items head None) request told_calls
+      ∷ (answer_events (new_chain s i (live_of before) loaded one.descriptors.items head None) request s.options [] calls
+      ++ PushesChain
+      (asked_chain (new_chain s i (live_of before) loaded one.descriptors.items head None) request s.options calls) exchange notice
+      stored_last used seen ∷ [])
 
 module _ {F : Type 0} (may : May F) (walks_law : HandleEndsPop may) (asks_law : HandleDecodesRequest may) (calls_law : HandleCalls may)
     (returns_law : HandlePushesChain may) (old one later two three : ChainHandle)
@@ -237,7 +261,7 @@ module _ {F : Type 0} (may : May F) (walks_law : HandleEndsPop may) (asks_law : 
   pub served_beside : (s : LiveState F) (i : ℕ) (files : F) → IsReached may s → slice_get s.queues i ≡ Some (live_of before)
       → s.places ≡ places_in old.regions → s.limit ≡ old.limit
       → s.limit ≤ 2 ^ 31 → IsSessionOf s session → FileRun may s.files (file_calls (drop 80 request) made given) files
-      → IsServed may s i after (file_calls (drop 80 request) made given)
+      → ServedRun may s i old one before after head n r walks request (file_calls (drop 80 request) made given) notice
   served_beside s i files reached there places limit small in_session run =
       let q = live_of before in
       let calls = file_calls (drop 80 request) made given in
@@ -297,8 +321,20 @@ module _ {F : Type 0} (may : May F) (walks_law : HandleEndsPop may) (asks_law : 
         };
         queue_is = refl;
         of_chain = (tt, ans.of_chain);
-        calls_of = refl;
+        single_calls = refl;
         single_run = (s₁, first, (s₂, asking.0, run_more may s₂ ans.end s₄ ans.es last ans.run next_used.4));
+        single_is = refl;
+        loaded = loaded;
+        loads = walk.1;
+        told_is = walk.3 ∙ ap (λ (k : comes.CourseStep). told_of ds k) is;
+        told_calls = calls_told (drop 80 request) made;
+        exchange = next_used.0;
+        stored_last = goes_back.1;
+        used = next_used.1;
+        seen = next_used.2;
+        es_are = ap
+            (λ (es : List LiveEvent). EndsPop i loaded ds (step.Chain head None)
+            ∷ DecodesRequest c request (calls_told (drop 80 request) made) ∷ (es ++ last ∷ [])) ans.es_are;
       }
 
 -- ---- one event
@@ -321,18 +357,21 @@ sleep_is {F} may q wanted (Some store) law stores is = λ s i there place.
     (run, stores s s (StoresNotification i (store_of store) ∷ []) run)
 
 -- a faulty chain that is walked and goes back
-pub faulty_beside : {F : Type 0} (may : May F) (walks_law : HandleEndsPop may) (faulty_law : HandleFaulty may) (old one later : ChainHandle)
+pub faulty_beside : {F : Type 0} (may : May F) (walks_law : HandleEndsPop may) (faulty_law : HandleFaulty may)
+    (given : List (Bor (List ℕ))) (old one later : ChainHandle)
     (before after : QueueState) (head : ℕ) (fault : ChainFault)
-    (notice : Bool) → before.stopped ≡ None → IsWalked old one before after (wents.On (says.Faulty head fault))
+    (notice : Bool) → before.stopped ≡ None → IsWalkedBy given old one before after (wents.On (says.Faulty head fault))
     → later.state ≡ one.state
     → ((room behind : List ℕ) → (acts : List Act) × (last : ℕ) × GoesBackBy after room behind later.state acts last notice)
     → (s : LiveState F) (i : ℕ) → slice_get s.queues i ≡ Some (live_of before)
     → s.places ≡ places_in old.regions → s.limit ≡ old.limit
-    → (es : List LiveEvent) × (end : LiveState F) × LiveRun may s es end × (calls_among es ≡ []) × (end.outs ≡ s.outs)
-faulty_beside {F} may walks_law faulty_law old one later before after head fault notice goes walks same back s i there places limit =
+    → (es : List LiveEvent) × (end : LiveState F) × LiveRun may s es end × IsFaultyChain s i given old before notice es
+    × (calls_among es ≡ []) × (end.outs ≡ s.outs)
+faulty_beside {F} may walks_law faulty_law given old one later before after head fault notice goes walks same back s i there places limit =
     let q = live_of before in
     let ds = one.descriptors.items in
-    let walk = walks_law s i walks.0 old one before after (says.Faulty head fault) there places limit goes tt walks.1 tt in
+    let called = calls_of walks.0 given in
+    let walk = walks_law s i called old one before after (says.Faulty head fault) there places limit goes tt walks.1 tt in
     let loaded = walk.0 in
     let is = faulty_is ds walk.2 head fault walk.3 in
     let came = step.Chain head (Some fault) in
@@ -348,10 +387,20 @@ faulty_beside {F} may walks_law faulty_law old one later before after head fault
     let goes_back = back [] [] in
     let next_used = faulty_law s₁ c s.outs [] later after fault goes_back.0 goes_back.1 notice refl there₁
     (taken_of before after goes taken_is) refl (faulty_later s.limit c one later same held) goes_back.2 in
-    let s₂ : LiveState F = after_push s₁ s.outs [] c (live_of after) in (
+    let s₂ : LiveState F = after_push s₁ s.outs [] c (live_of after) in
+    let exchange_is : next_used.0 ≡ faulty head fault = next_used.4.goes in (
       EndsPop i loaded ds came ∷ PushesChain c next_used.0 notice goes_back.1 next_used.1 next_used.2 ∷ [],
       s₂,
       (s₁, first, (s₂, next_used.4, refl)),
+      (
+        c,
+        fault,
+        goes_back.1,
+        next_used.1,
+        next_used.2,
+        ((walks.0, one, after, walks.1, walk.1), refl),
+        ap (λ (x : Exchange). EndsPop i loaded ds came ∷ PushesChain c x notice goes_back.1 next_used.1 next_used.2 ∷ []) exchange_is,
+      ),
       refl,
       append-nil s.outs,
     )

@@ -1,4 +1,5 @@
 pub mod ChainCalls
+pub mod Events
 pub mod InARow
 pub mod Notified
 pub mod OverMemory

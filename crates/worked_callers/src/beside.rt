@@ -28,6 +28,7 @@ ghost use Rattle.fs_live.specs.Runs.{EachStoresThere, events_on, going, tickets_
 ghost use Rattle.fs_live.specs.Several.{LiveQueue, RunsOver, UsedFrom, returns_among};
 ghost use Rattle.worked_callers.specs.Notified.{IsWalkedBy};
 ghost use Rattle.worked_callers.specs.ChainCalls.{AreCallsOf};
+ghost use Rattle.worked_callers.specs.Events.{IsFaultyChain, IsRefusedPop, IsServedChain};
 
 use crate::wholes::{give_back, reply, walk_by, walk_chain};
 use fs_chain::{ChainError, ChainHandle, LoadOutcome, NotificationStore, PopOutcome, QueueState};
@@ -61,6 +62,7 @@ pub fn serve_beside<F: FileSystem>(
         × AreCallsOf given.now handle.old queue.old session request.now answer calls
         × (FileRun F.may s.files calls files
         → (es : List LiveEvent) × (end : LiveState F) × (run : LiveRun F.may s es end)
+        × IsServedChain s i given.now handle.old queue.old request.now calls notice es
         × (calls_among es ≡ calls)
         × (end.outs ≡ s.outs)
         × FileRun F.may s.files (calls_among es) end.files
@@ -162,6 +164,7 @@ pub fn refuse_beside<F: FileSystem>(
         → HasEvents handle.old queue.old
         → (es : List LiveEvent) × (end : LiveState F)
         × LiveRun F.may s es end
+        × IsRefusedPop i given.now handle.old queue.old e es
         × (slice_get end.queues i ≡ Some (live_of queue.new)) }
     ensures refused { IfOk result (λ told. (s : LiveState F) (i : ℕ) (e : QueueError)
         → slice_get s.queues i ≡ Some (live_of queue.old)
@@ -186,6 +189,8 @@ pub fn take_faulty(
     requires free { handle.old.state ≡ at.Free }
     ensures walked { IfOk result (λ c. IsWalked handle.old handle.new queue.old queue.new
         (LoadOutcome.On (PopOutcome.Faulty c.0 c.1))) }
+    ensures given { IfOk result (λ c. IsWalkedBy given.now handle.old handle.new queue.old queue.new
+        (LoadOutcome.On (PopOutcome.Faulty c.0 c.1))) }
 {
     match walk_to_end(handle, queue, given)? {
         PopOutcome::Faulty { head, fault } => Ok((head, fault)),
@@ -207,6 +212,7 @@ pub fn give_faulty_beside<F: FileSystem>(
         → s.limit ≡ handle.old.limit
         → (es : List LiveEvent) × (end : LiveState F)
         × LiveRun F.may s es end
+        × IsFaultyChain s i given.now handle.old queue.old notice es
         × (calls_among es ≡ [])
         × (end.outs ≡ s.outs)) }
 {

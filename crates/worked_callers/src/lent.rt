@@ -11,6 +11,7 @@ ghost use Rattle.plain_machine.specs.Step.{Calls};
 ghost use Rattle.fs_live.specs.Handles.{IsReached, IsSessionOf, live_of};
 ghost use Rattle.fs_live.specs.Live.{LiveEvent, LiveRun, LiveState, calls_among};
 ghost use Rattle.worked_callers.specs.ChainCalls.{AreCallsOf};
+ghost use Rattle.worked_callers.specs.Events.{IsFaultyChain, IsGivenUpChain, IsServedChain};
 
 use crate::beside::take_faulty;
 use crate::wholes::{give_back, reply, walk_chain};
@@ -67,6 +68,7 @@ pub fn serve_lent<F: FileSystem>(
         × (FileRun F.may s.files calls files
         → (es : List LiveEvent) × (end : LiveState F)
         × LiveRun F.may s es end
+        × IsServedChain s i given.now handle.old queue.old request.now calls notice es
         × (calls_among es ≡ calls)
         × (end.outs ≡ s.outs))) }
 {
@@ -95,6 +97,7 @@ pub fn drop_lent<F: FileSystem>(
         → s.limit ≡ handle.old.limit
         → (es : List LiveEvent) × (end : LiveState F)
         × LiveRun F.may s es end
+        × IsGivenUpChain s i given.now handle.old queue.old es
         × (end.outs ≡ s.outs)
         × (slice_get end.queues i ≡ Some (live_of queue.new))) }
 {
@@ -118,6 +121,7 @@ pub fn give_faulty_lent<F: FileSystem>(
         → s.limit ≡ handle.old.limit
         → (es : List LiveEvent) × (end : LiveState F)
         × LiveRun F.may s es end
+        × IsFaultyChain s i given.now handle.old queue.old notice es
         × (calls_among es ≡ [])
         × (end.outs ≡ s.outs)) }
 {

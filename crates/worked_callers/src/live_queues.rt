@@ -18,6 +18,7 @@ ghost use Rattle.fuse_fs.specs.Calls.{Destroy, Done, FileRun};
 ghost use Rattle.worked_callers.specs.InARow.{after_both, one, two, with_both};
 ghost use Rattle.worked_callers.specs.OwnReplies.{IsAt};
 ghost use Rattle.worked_callers.specs.ChainCalls.{AreCallsOf};
+ghost use Rattle.worked_callers.specs.Events.{IsServedChain};
 
 use crate::wholes::{give_back, reply, walk_chain};
 use fs_chain::{ChainError, ChainHandle, QueueState};
@@ -85,6 +86,7 @@ pub fn serve_single<F: FileSystem>(
         × (FileRun F.may s.files calls files
         → (r : Single) × (end : LiveState F)
         × LiveRun F.may s (events_in r) end
+        × IsServedChain s i given.now handle.old queue.old request.now calls notice (events_in r)
         × ((m : Memory)
         → FoundIn m s r
         → Step F.may (plain s m) i calls (Exchanged r.exchange r.notice)

@@ -18,6 +18,7 @@ ghost use Rattle.fs_live.specs.Live.{Remaps};
 ghost use Rattle.fs_live.specs.Live.{calls_among};
 ghost use Rattle.fs_live.specs.Others.{GoesBackOwn, recorded};
 ghost use Rattle.fs_live.specs.Runs.{HasNoneInFlight, tickets_on};
+ghost use Rattle.worked_callers.specs.Events.{IsAbandonedChain, IsGivenUpChain, IsRepliedChain};
 
 use crate::wholes::walk_chain;
 use fs_chain::{ChainError, ChainHandle, QueueState};
@@ -41,6 +42,7 @@ pub fn drop_beside<F: FileSystem>(
         → s.limit ≡ handle.old.limit
         → (es : List LiveEvent) × (end : LiveState F)
         × LiveRun F.may s es end
+        × IsGivenUpChain s i given.now handle.old queue.old es
         × (end.outs ≡ s.outs)
         × (slice_get end.queues i ≡ Some (live_of queue.new))) }
 {
@@ -63,6 +65,7 @@ pub fn lose_beside<F: FileSystem>(
         → s.limit ≡ handle.old.limit
         → (es : List LiveEvent) × (end : LiveState F)
         × LiveRun F.may s es end
+        × IsAbandonedChain s i given.now handle.old queue.old es
         × (slice_get end.queues i ≡ Some (live_of queue.new))) }
     ensures again { OnOk result (handle.new.state ≡ at.Free) }
 {
@@ -108,7 +111,8 @@ pub fn reply_beside<F: FileSystem>(
         × (end.queues ≡ changed_at s.queues i (λ _. live_of queue.new))
         × (end.options ≡ s.options)
         × (end.limit ≡ s.limit)
-        × (end.places ≡ s.places)) }
+        × (end.places ≡ s.places)
+        × IsRepliedChain s i given.now handle.old queue.old [] request.now bytes.now notice es) }
 {
     law_handles::<F>();
     let (_, request_len, _) = walk_chain(handle, queue, given)?;

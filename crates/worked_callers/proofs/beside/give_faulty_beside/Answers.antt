@@ -10,8 +10,8 @@ returns g c =
     record {
       run = if_ok c.give_back.result _ _
           (λ notice back.
-          faulty_beside g.F.FileSystemBase.may handles.walks handles.faulty c.args.handle.now c.take_faulty.new.handle
+          faulty_beside g.F.FileSystemBase.may handles.walks handles.faulty c.args.given.now c.args.handle.now c.take_faulty.new.handle
           c.take_faulty.new.handle c.args.queue.now c.take_faulty.new.queue
-          c.in_ok-_fault.field-0-0 c.in_ok-_fault._fault notice c.requires.goes walked.walked refl back)
+          c.in_ok-_fault.field-0-0 c.in_ok-_fault._fault notice c.requires.goes walked.given refl back)
           c.give_back.ensures.back;
     }

@@ -1,11 +1,13 @@
-use Rattle.std.proofs.Common.{[], ◌∷◌, Result, IfOk, subst, refl}
-use Rattle.fs_chain.specs.Whole.{IsWalked}
+use Rattle.std.proofs.Common.{[], ◌∷◌, Result, IfOk, subst, refl, ap}
+use Rattle.fs_regions.specs.declared.step.CourseStep as comes
 use Rattle.fs_chain.specs.declared.error.ChainError.{ChainError}
 use Rattle.fs_chain.specs.declared.loads.LoadOutcome.TheVariants as wents
 use Rattle.fs_chain.specs.declared.popping.PopOutcome as walked
 use Rattle.fs_chain.specs.declared.popping.PopOutcome.TheVariants as says
 use Rattle.fs_live.specs.Handles.{live_of}
 use Rattle.fs_live.specs.Live.{EndsPop, after_pop}
+use Rattle.worked_callers.specs.Notified.{IsWalkedBy, calls_of}
+use Rattle.worked_callers.proofs.NamedEvents.{refusal_is}
 use Rattle.worked_callers.proofs.Served.{if_ok}
 use Rattle.worked_callers.proofs.beside.refuse_beside.Goals as goal
 
@@ -15,13 +17,25 @@ returns-clause-loaded g c e is s i there places limit events =
     let new = c.walk_to_end.new.handle in
     let before = c.args.queue.now in
     let after = c.walk_to_end.new.queue in
-    let walks : IsWalked old new before after (wents.On (says.Refused e)) =
-    subst (λ (r : Result walked.PopOutcome ChainError). IfOk r (λ told. IsWalked old new before after (wents.On told))) is
-    c.walk_to_end.ensures.walked in
-    let walk = c.law_handles.ensures.walks s i walks.0 old new before after (says.Refused e) there places limit c.requires.goes events
-    walks.1 tt in
-    let end = after_pop s i (live_of before) walk.0 new.descriptors.items walk.2 in
-    (EndsPop i walk.0 new.descriptors.items walk.2 ∷ [], end, (end, walk.4, refl), walk.5)
+    let given = c.args.given.now in
+    let ds = new.descriptors.items in
+    let walks : IsWalkedBy given old new before after (wents.On (says.Refused e)) =
+    subst (λ (r : Result walked.PopOutcome ChainError). IfOk r (λ told. IsWalkedBy given old new before after (wents.On told))) is
+    c.walk_to_end.ensures.given in
+    let walk = c.law_handles.ensures.walks s i (calls_of walks.0 given) old new before after (says.Refused e) there places limit
+    c.requires.goes events walks.1 tt in
+    let end = after_pop s i (live_of before) walk.0 ds walk.2 in (
+      EndsPop i walk.0 ds walk.2 ∷ [],
+      end,
+      (end, walk.4, refl),
+      (
+        walk.0,
+        ds,
+        (walks.0, new, after, walks.1, walk.1),
+        ap (λ (came : comes.CourseStep). EndsPop i walk.0 ds came ∷ []) (refusal_is ds walk.2 e walk.3),
+      ),
+      walk.5,
+    )
 
 pub returns-clause-refused : goal.returns-clause-refused
 returns-clause-refused g c =

@@ -3,7 +3,9 @@ use Rattle.std.specs.Prelude.{drop}
 use Rattle.std.proofs.lemmas.Bool.Decides.{nat_tests}
 use Rattle.fs_chain.specs.Whole.{file_calls}
 use Rattle.fs_live.specs.Handles.{live_of}
+use Rattle.worked_callers.specs.Notified.{calls_of}
 use Rattle.worked_callers.proofs.CalledBy.{calls_of_answer}
+use Rattle.worked_callers.proofs.NamedEvents.{served_named}
 use Rattle.worked_callers.proofs.Served.{if_ok, more_taken, taken_so}
 use Rattle.worked_callers.proofs.ServedBeside.{served_beside}
 use Rattle.worked_callers.proofs.beside.serve_beside.Goals as goal
@@ -27,7 +29,7 @@ returns g c =
     let one = c.walk_chain.new.handle in
     let before = c.args.queue.now in
     let after = c.walk_chain.new.queue in
-    let walked = c.in_ok-request_len.ensures in
+    let walks = c.in_ok-request_len.ensures.given in
     let replied = c.in_ok-reply.ensures.replied in
     let request = c.args.request.now in
     let calls = file_calls (drop 80 request) replied.0 replied.2 in
@@ -37,16 +39,18 @@ returns g c =
             calls,
             calls_of_answer c.args.given.now old one replied.1 c.reply.new.handle before after c.in_ok-request_len.field-0-0
                 c.in_ok-request_len.request_len c.in_ok-request_len.field-0-2 c.args.session request c.args.answer replied.0 replied.2
-                walked.given replied.3 replied.4 replied.6 replied.7,
+                walks replied.3 replied.4 replied.6 replied.7,
             λ files_run.
                 let so = served_beside may handles.walks handles.asks handles.calls handles.returns old one one replied.1
                 c.reply.new.handle before after
                 c.in_ok-request_len.field-0-0 c.in_ok-request_len.request_len c.in_ok-request_len.field-0-2 c.args.session request replied.0
-                replied.2 notice c.requires.goes walked.walked refl
+                replied.2 notice c.requires.goes (calls_of walks.0 c.args.given.now, walks.1) refl
                 replied.3 replied.4 back s i files reached there places limit small session files_run in (
                   so.es,
                   so.end,
                   so.run,
+                  served_named may s i c.args.given.now old one before after c.in_ok-request_len.field-0-0 c.in_ok-request_len.request_len
+                      c.in_ok-request_len.field-0-2 walks request calls notice so,
                   so.calls_are,
                   so.outs,
                   runs.calls s so.end so.es so.run,

@@ -10,9 +10,9 @@ returns g c =
     record {
       run = if_ok c.give_back.result _ _
           (λ notice back.
-          faulty_beside g.F.FileSystemBase.may handles.walks handles.faulty c.args.handle.now c.take_faulty.new.handle
+          faulty_beside g.F.FileSystemBase.may handles.walks handles.faulty c.args.given.now c.args.handle.now c.take_faulty.new.handle
           c.take_table.new.handle c.args.queue.now c.take_faulty.new.queue
-          c.in_ok-_fault.field-0-0 c.in_ok-_fault._fault notice c.requires.goes c.in_ok-_fault.ensures.walked
+          c.in_ok-_fault.field-0-0 c.in_ok-_fault._fault notice c.requires.goes c.in_ok-_fault.ensures.given
           (ap (λ (w : ChainHandle). w.state) c.in_ok-_table.ensures.taken) back)
           c.give_back.ensures.back;
     }

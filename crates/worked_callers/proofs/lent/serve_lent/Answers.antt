@@ -5,7 +5,9 @@ use Rattle.plain_machine.specs.StepBy.{Act}
 use Rattle.fs_chain.specs.Whole.{FromTaken, GoesBackBy, IsDecodedBy, file_calls}
 use Rattle.fs_chain.specs.declared.chain_handle.ChainHandle.{ChainHandle}
 use Rattle.fs_chain.specs.declared.state.ChainState as state
+use Rattle.worked_callers.specs.Notified.{calls_of}
 use Rattle.worked_callers.proofs.CalledBy.{calls_of_answer}
+use Rattle.worked_callers.proofs.NamedEvents.{served_named}
 use Rattle.worked_callers.proofs.Served.{if_ok, more_taken, taken_so}
 use Rattle.worked_callers.proofs.ServedBeside.{served_beside}
 use Rattle.worked_callers.proofs.lent.serve_lent.Goals as goal
@@ -29,6 +31,7 @@ returns g c =
     let one = c.walk_chain.new.handle in
     let before = c.args.queue.now in
     let after = c.walk_chain.new.queue in
+    let walks = c.in_ok-request_len.ensures.given in
     let replied = c.in_ok-reply.ensures.replied in
     let request = c.args.request.now in
     record {
@@ -45,14 +48,21 @@ returns g c =
                 let so = served_beside may handles.walks handles.asks handles.calls handles.returns old one c.take_table.new.handle
                 replied.1 c.reply.new.handle before after
                 c.in_ok-request_len.field-0-0 c.in_ok-request_len.request_len c.in_ok-request_len.field-0-2 c.args.session request replied.0
-                replied.2 notice c.requires.goes c.in_ok-request_len.ensures.walked
+                replied.2 notice c.requires.goes (calls_of walks.0 c.args.given.now, walks.1)
                 (ap (λ (w : ChainHandle). w.state) c.in_ok-table.ensures.taken)
                 replied.3 replied.4
                 (subst (λ (st : state.ChainState). (room behind : List ℕ) → (acts : List Act) × (last : ℕ)
                 × GoesBackBy after room behind st acts last notice)
                 (ap (λ (w : ChainHandle). w.state) c.in_ok-lend_table.ensures.lent) back)
-                s i files reached there places limit small session files_run in
-                (so.es, so.end, so.run, so.calls_are, so.outs),
+                s i files reached there places limit small session files_run in (
+                  so.es,
+                  so.end,
+                  so.run,
+                  served_named may s i c.args.given.now old one before after c.in_ok-request_len.field-0-0 c.in_ok-request_len.request_len
+                      c.in_ok-request_len.field-0-2 walks request (file_calls (drop 80 request) replied.0 replied.2) notice so,
+                  so.calls_are,
+                  so.outs,
+                ),
           ))
           c.give_back.ensures.back;
     }

@@ -1,13 +1,16 @@
-use Rattle.std.proofs.Common.{◌≡◌, ℕ, length, Some, slice_get, subst, sym, refl, ◌∙◌, arith}
+use Rattle.std.proofs.Common.{◌≡◌, ℕ, List, length, Some, slice_get, subst, sym, refl, ◌∙◌, arith}
 use Rattle.std.specs.Prelude.{drop}
 use Rattle.std.proofs.lemmas.Bool.Decides.{nat_tests}
 use Rattle.fs_chain.specs.Whole.{file_calls}
 use Rattle.plain_machine.specs.Step.{Calls, Exchanged, Step}
 use Rattle.plain_machine.specs.StepBy.{after_stores, stores_among}
 use Rattle.fs_live.specs.Handles.{live_of}
-use Rattle.fs_live.specs.Live.{calls_in, event_acts}
+use Rattle.fs_live.specs.Live.{LiveEvent, calls_in, event_acts}
 use Rattle.fs_live.specs.Serial.{IsAtRest, plain, return_in}
+use Rattle.worked_callers.specs.Events.{IsServedChain}
+use Rattle.worked_callers.specs.Notified.{calls_of}
 use Rattle.worked_callers.proofs.CalledBy.{calls_of_answer}
+use Rattle.worked_callers.proofs.NamedEvents.{served_named}
 use Rattle.worked_callers.proofs.Served.{if_ok, more_taken, taken_so}
 use Rattle.worked_callers.proofs.ServedBeside.{served_beside}
 use Rattle.worked_callers.proofs.live_queues.serve_single.Goals as goal
@@ -30,6 +33,7 @@ returns g c =
     let one = c.walk_chain.new.handle in
     let before = c.args.queue.now in
     let after = c.walk_chain.new.queue in
+    let walks = c.in_ok-request_len.ensures.given in
     let replied = c.in_ok-reply.ensures.replied in
     let request = c.args.request.now in
     let calls = file_calls (drop 80 request) replied.0 replied.2 in
@@ -44,19 +48,23 @@ returns g c =
                 let so = served_beside may handles.walks handles.asks handles.calls handles.returns old one one replied.1
                 c.reply.new.handle before after
                 c.in_ok-request_len.field-0-0 c.in_ok-request_len.request_len c.in_ok-request_len.field-0-2 c.args.session request replied.0
-                replied.2 notice c.requires.goes c.in_ok-request_len.ensures.walked refl
+                replied.2 notice c.requires.goes (calls_of walks.0 c.args.given.now, walks.1) refl
                 replied.3 replied.4 back s i files here.reached here.there here.places here.limit here.small session files_run in
                 let r = so.single in
                 let rest : IsAtRest (live_of before) = (c.requires.by_flags, c.requires.none_out) in (
                   r,
                   so.end,
                   so.single_run,
+                  subst
+                      (λ (es : List LiveEvent). IsServedChain s i c.args.given.now old before request calls notice es) (sym so.single_is)
+                      (served_named may s i c.args.given.now old one before after c.in_ok-request_len.field-0-0
+                      c.in_ok-request_len.request_len c.in_ok-request_len.field-0-2 walks request calls notice so),
                   λ m found.
                       let law = c.law_serial.ensures.single s so.end r m (live_of before) none
                       (subst (λ (j : ℕ). slice_get s.queues j ≡ Some (live_of before)) (sym so.queue_is) here.there) rest so.of_chain
                       so.single_run found in
                       subst (λ (made : Calls). Step may (plain s m) i made (Exchanged r.exchange r.notice)
-                      (plain so.end (after_stores m (stores_among (event_acts (return_in r)))))) so.calls_of
+                      (plain so.end (after_stores m (stores_among (event_acts (return_in r)))))) so.single_calls
                       (subst (λ (j : ℕ). Step may (plain s m) j (calls_in r.chain.phase) (Exchanged r.exchange r.notice)
                       (plain so.end (after_stores m (stores_among (event_acts (return_in r)))))) so.queue_is law.0),
                 ),
