@@ -1,13 +1,14 @@
 //! A device that moves to another host between two chains: a record of it is made here and read there.
 
-ghost use Rattle.std.specs.Prelude.{◌≡◌, ◌≤◌, ◌^◌, ℕ, [], ◌∷◌, IfOk, IfSome, List, None, OnOk};
+ghost use Rattle.std.specs.Prelude.{◌≡◌, ◌≤◌, ◌^◌, ℕ, [], ◌∷◌, ◌++◌, Bool, IfOk, IfSome, List, None, OnOk};
 ghost use Rattle.std.specs.Io.KnownBytes.{Appends, Consumes};
 ghost use Rattle.fs_record.specs.Record.{HasKnownBits, IsRecord, Version};
 ghost use Rattle.fs_regions.specs.Places.{places_in};
 ghost use Rattle.fs_chain.specs.declared.state.ChainState.TheVariants as at;
 ghost use Rattle.fs_live.specs.Handles.{IsReached, live_of};
-ghost use Rattle.fs_live.specs.Live.{LiveEvent, LiveRun, LiveState};
+ghost use Rattle.fs_live.specs.Live.{LiveEvent, LiveRun, LiveState, MovesDevice};
 ghost use Rattle.fs_live.specs.Others.{recorded};
+ghost use Rattle.worked_callers.specs.Events.{IsRepliedChain};
 
 use crate::crossed::ChainBytes;
 use crate::others::{begin_by_record, reply_beside};
@@ -97,12 +98,20 @@ pub fn move_amid<F: FileSystem, S: RecordSink, T: RecordSource>(
         × (taken ≡ sent
         → (es : List LiveEvent) × (end : LiveState F)
         × LiveRun F.may s es end
+        × (early : List LiveEvent) × (late : List LiveEvent)
+        × (told : Bool) × (mid : LiveState F) × (begun : QueueState)
+        × (es ≡ early ++ MovesDevice (places_in there.old.regions) (live_of begun ∷ []) ∷ late)
+        × IsRepliedChain s 0 one.now.given.now here.old queue.old []
+        one.now.request.now one.now.bytes.now told early
+        × LiveRun F.may mid late end
+        × IsRepliedChain mid 0 two.now.given.now there.old begun []
+        two.now.request.now two.now.bytes.now notice late
         × (end.outs ≡ [])
         × (end.queues ≡ live_of moved.new ∷ [])
         × (end.options ≡ options.0)
         × (end.places ≡ places_in there.old.regions))) }
 {
-    reply_beside::<F>(here, queue, one.given, one.request, one.bytes)?;
+    let _told = reply_beside::<F>(here, queue, one.given, one.request, one.bytes)?;
     save_one(sink, options, queue)?;
     let (_, restored) = restore_one(alloc, source)?;
     let Some(read) = only(&restored) else {

@@ -1,4 +1,4 @@
-use Rattle.std.proofs.Common.{◌≡◌, ◌≤◌, ◌^◌, ℕ, List, [], ◌∷◌, ◌++◌, Some, slice_get, subst, sym, ap, ◌∙◌}
+use Rattle.std.proofs.Common.{◌≡◌, ◌≤◌, ◌^◌, ℕ, List, [], ◌∷◌, ◌++◌, Some, slice_get, refl, subst, sym, ap, ◌∙◌}
 use Rattle.vm_memory_core.specs.Host.{changed_at}
 use Rattle.fs_queue.specs.Queue.{Queue}
 use Rattle.fs_record.specs.Record.{IsRecord}
@@ -32,7 +32,7 @@ returns g c =
             saved.2,
             found.2,
             λ same.
-                let one = c.in_ok-reply_beside.ensures.run s 0 reached (ap (λ (l : List LiveQueue). slice_get l 0) queues) places
+                let one = c.in_ok-_told.ensures.run s 0 reached (ap (λ (l : List LiveQueue). slice_get l 0) queues) places
                 limit small in
                 let s₁ = one.1 in
                 let queues₁ : s₁.queues ≡ live_of left ∷ [] =
@@ -54,6 +54,15 @@ returns g c =
                   one.0 ++ event ∷ two.0,
                   two.1,
                   run_both may s s₁ two.1 one.0 (event ∷ two.0) one.2 (s₂, moved.2, two.2),
+                  one.0,
+                  two.0,
+                  c.in_ok-_told._told,
+                  s₂,
+                  begun,
+                  refl,
+                  one.9,
+                  two.2,
+                  two.9,
                   two.4 ∙ moved.5,
                   two.5 ∙ ap (λ (l : List LiveQueue). changed_at l 0 (λ _. live_of final)) moved.3,
                   two.6 ∙ moved.6 ∙ one.6 ∙ options,
