@@ -1,6 +1,6 @@
 //! Pops in a run between whose calls other handles changed the queue, or a call of which was refused.
 
-ghost use Rattle.std.specs.Prelude.{◌≡◌, ◌≤◌, ◌+◌, ℕ, IfOk, List, None, Ok, Some, slice_get};
+ghost use Rattle.std.specs.Prelude.{◌≡◌, ◌≤◌, ◌+◌, ℕ, [], ◌∷◌, IfOk, List, None, Ok, Some, slice_get};
 ghost use Rattle.fs_queue.specs.declared.fault.QueueError.{QueueError};
 ghost use Rattle.fs_regions.specs.Places.{places_in};
 ghost use Rattle.fs_chain.specs.Loads.{HasNoPlace, came};
@@ -11,6 +11,7 @@ ghost use Rattle.fs_chain.specs.declared.popping.PopOutcome.{PopOutcome};
 ghost use Rattle.fs_live.specs.Among.{WalksAmong, load_count_among};
 ghost use Rattle.fs_live.specs.Handles.{live_of};
 ghost use Rattle.fs_live.specs.Live.{RefusesPop, Happens, LiveEvent, LiveRun, LiveState};
+ghost use Rattle.worked_callers.specs.Events.{IsIdlePop};
 
 use crate::wholes::{give_back, wants_bytes};
 use fs_chain::{ChainError, ChainHandle, LoadOutcome, PopOutcome, QueueState};
@@ -36,6 +37,7 @@ pub fn look_after_refusal<F: FileSystem>(
         → s.limit ≡ handle.old.limit
         → (es : List LiveEvent) × (end : LiveState F)
         × LiveRun F.may s es end
+        × IsIdlePop i (index.now ∷ []) handle.old handle.new queue.old queue.new es
         × (slice_get end.queues i ≡ Some (live_of queue.new)) }
     ensures wants { (n : ℕ)
         → result ≡ Ok (LoadOutcome.On (PopOutcome.Load n))
@@ -74,6 +76,7 @@ pub fn look_amid_return<F: FileSystem>(
         → s.limit ≡ handle.old.limit
         → (es : List LiveEvent) × (end : LiveState F)
         × LiveRun F.may s es end
+        × IsIdlePop i (index.now ∷ []) handle.old handle.new queue.old queue.new es
         × (slice_get end.queues i ≡ Some (live_of queue.new)) }
 {
     law_handles::<F>();

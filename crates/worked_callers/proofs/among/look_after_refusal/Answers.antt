@@ -1,4 +1,5 @@
 use Rattle.std.proofs.Common.{◌≡◌, true, [], ◌∷◌, Some, Ok, Result, IfOk, refl, subst, sym, ap, ◌∙◌}
+use Rattle.fs_regions.specs.declared.step.CourseStep as comes
 use Rattle.fs_chain.specs.Loads.{GoesSo}
 use Rattle.fs_chain.specs.Whole.{BeginsPopBy, WantsBytes}
 use Rattle.fs_chain.specs.declared.error.ChainError.{ChainError}
@@ -12,6 +13,7 @@ use Rattle.fs_live.specs.Among.{WalksAmong}
 use Rattle.fs_live.specs.Handles.{live_of}
 use Rattle.fs_live.specs.Live.{EndsPop, after_pop}
 use Rattle.worked_callers.proofs.Looks.{keeps_queue}
+use Rattle.worked_callers.proofs.NamedEvents.{idle_is}
 use Rattle.worked_callers.proofs.among.look_after_refusal.Goals as goal
 
 pub returns-in-Err : goal.returns-in-Err
@@ -41,8 +43,19 @@ returns-in-Err g c =
           let law = c.law_handles.ensures.among s i (index ∷ []) old new before now after says.Idle
           (there ∙ ap (λ (q : QueueState). Some (live_of q)) (sym same)) places limit c.requires.goes
           (ap (λ (q : QueueState). q.stopped) same ∙ c.requires.goes) (ap (λ (q : QueueState). q.event_index) same) tt walks tt in
-          let end = after_pop s i (live_of now) law.0 new.descriptors.items law.2 in
-          (EndsPop i law.0 new.descriptors.items law.2 ∷ [], end, (end, law.4, refl), law.5);
+          let ds = new.descriptors.items in
+          let end = after_pop s i (live_of now) law.0 ds law.2 in (
+            EndsPop i law.0 ds law.2 ∷ [],
+            end,
+            (end, law.4, refl),
+            (
+              law.0,
+              ds,
+              (now, walks, law.1),
+              ap (λ (came : comes.CourseStep). EndsPop i law.0 ds came ∷ []) (idle_is ds law.2 law.3),
+            ),
+            law.5,
+          );
       wants = λ n is lacks. c.law_handles.ensures.wanted_among (index ∷ []) old new before now after (wents.On (says.Load n))
           c.requires.goes (walks_so (says.Load n) is) tt lacks;
     }

@@ -1,4 +1,5 @@
 use Rattle.std.proofs.Common.{◌≡◌, true, [], ◌∷◌, Some, Result, IfOk, refl, subst, sym, ap, ◌∙◌}
+use Rattle.fs_regions.specs.declared.step.CourseStep as comes
 use Rattle.fs_chain.specs.Loads.{GoesSo, IsSame}
 use Rattle.fs_chain.specs.Queues.{gave}
 use Rattle.fs_chain.specs.Whole.{BeginsPopBy, WantsBytes}
@@ -12,6 +13,7 @@ use Rattle.fs_live.specs.Among.{WalksAmong}
 use Rattle.fs_live.specs.Handles.{live_of}
 use Rattle.fs_live.specs.Live.{EndsPop, after_pop}
 use Rattle.worked_callers.proofs.Looks.{keeps_queue}
+use Rattle.worked_callers.proofs.NamedEvents.{idle_is}
 use Rattle.worked_callers.proofs.Served.{if_ok}
 use Rattle.worked_callers.proofs.among.look_amid_return.Goals as goal
 
@@ -43,10 +45,22 @@ returns g c =
       idle = λ is s i there places limit.
           let goes : GoesSo w now index (wents.On says.Idle) new after =
           subst (λ (r : Result LoadOutcome ChainError). IfOk r (λ out. GoesSo w now index out new after)) is c.pop-2.ensures.goes in
+          let walks = walks_so (wents.On says.Idle) goes in
           let law = c.law_handles.ensures.among s i (index ∷ []) old new before now after says.Idle
           (there ∙ ap (λ (q : QueueState). Some (live_of q)) (sym now_is)) places limit c.requires.goes
           (ap (λ (q : QueueState). q.stopped) now_is ∙ c.requires.goes) (ap (λ (q : QueueState). q.event_index) now_is) tt
-          (walks_so (wents.On says.Idle) goes) tt in
-          let end = after_pop s i (live_of now) law.0 new.descriptors.items law.2 in
-          (EndsPop i law.0 new.descriptors.items law.2 ∷ [], end, (end, law.4, refl), law.5);
+          walks tt in
+          let ds = new.descriptors.items in
+          let end = after_pop s i (live_of now) law.0 ds law.2 in (
+            EndsPop i law.0 ds law.2 ∷ [],
+            end,
+            (end, law.4, refl),
+            (
+              law.0,
+              ds,
+              (now, walks, law.1),
+              ap (λ (came : comes.CourseStep). EndsPop i law.0 ds came ∷ []) (idle_is ds law.2 law.3),
+            ),
+            law.5,
+          );
     }
