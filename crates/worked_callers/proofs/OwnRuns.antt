@@ -2,6 +2,7 @@
 use Rattle.std.proofs.Common.{◌≡◌, inl, inr, ℕ, Bool, List, [], ◌∷◌, ◌++◌, append-nil, length, Some, None, Result, Ok, Err, slice_get, refl}
 use Rattle.std.proofs.Common.{subst}
 use Rattle.std.proofs.Common.{sym, ap, ◌∙◌}
+use Rattle.std.specs.Borrow.{Bor}
 use Rattle.std.specs.Prelude.{IsTrue, drop, true, ◌==◌}
 use Rattle.std.proofs.lemmas.Bool.{eq-eqb}
 use Rattle.vm_memory_core.specs.Host.{changed_at}
@@ -23,8 +24,8 @@ use Rattle.server_phases.specs.declared.session.Session.{Session}
 use Rattle.fs_chain.specs.Listings.{AddsTo}
 use Rattle.fs_chain.specs.OwnReplies.{IfUnanswered, own_error, own_reply}
 use Rattle.fs_chain.specs.Queues.{gave}
-use Rattle.fs_chain.specs.Walks.{course_of}
-use Rattle.fs_chain.specs.Whole.{FromTaken, IsDecodedBy, IsWalked}
+use Rattle.fs_chain.specs.Walks.{course_of, told_of}
+use Rattle.fs_chain.specs.Whole.{FromTaken, IsDecodedBy, IsWalked, LoadsOf}
 use Rattle.fs_chain.specs.WholeListings.{BringsEntry}
 use Rattle.fs_chain.specs.declared.decoding.Decoded.TheVariants as asks
 use Rattle.fs_chain.specs.declared.error.ChainError.{ChainError}
@@ -55,25 +56,30 @@ use Rattle.fs_live.specs.Several.{heads_taken, returning, took}
 use Rattle.fs_live.specs.Several as several
 use Rattle.fs_live.proofs.Moved.{joined}
 use Rattle.fs_live.proofs.Queues.{same_some, there_same}
+use Rattle.worked_callers.specs.Events.{IsRepliedChain, IsRepliedInstead}
+use Rattle.worked_callers.specs.Notified.{IsWalkedBy, calls_of}
 use Rattle.worked_callers.specs.OwnReplies.{EndsAlone, IsAt, LogsOwn, ReturnsOwn, ReturnsAsStep}
+use Rattle.worked_callers.proofs.NamedEvents.{popped_by, told_so}
 use Rattle.worked_callers.proofs.OthersBeside.{changed_twice, own_kept}
 use Rattle.worked_callers.proofs.ServedBeside.{calls_of_both, chain_is, reached_by, run_more, taken_of}
 
 -- ---- the pop
 
 -- a chain that a handle popped, in a run
-pub record IsPopped {F : Type 0} (may : May F) (s : LiveState F) (i : ℕ) (before after : QueueState) (head : ℕ) (one : ChainHandle) :
-    Type 0 where
+pub record IsPopped {F : Type 0} (may : May F) (s : LiveState F) (i : ℕ) (old one : ChainHandle) (before after : QueueState)
+    (head n r : ℕ) (walks : IsWalked old one before after (wents.On (says.Chain head n r))) : Type 0 where
   pub loaded : Loaded
   pub happens : Happens may s (EndsPop i loaded one.descriptors.items (step.Chain head None))
       (after_pop s i (live_of before) loaded one.descriptors.items (step.Chain head None))
   pub there : slice_get (after_pop s i (live_of before) loaded one.descriptors.items (step.Chain head None)).queues i
       ≡ Some (live_of after)
   pub held : IsOut s.limit (new_chain s i (live_of before) loaded one.descriptors.items head None) one
+  pub loads : LoadsOf walks.0 old one before after (wents.On (says.Chain head n r)) walks.1 loaded
+  pub told_is : says.Chain head n r ≡ told_of one.descriptors.items (step.Chain head None)
 
 pub popped : {F : Type 0} (may : May F) (law : HandleEndsPop may) (old one : ChainHandle) (before after : QueueState) (head n r : ℕ)
-    → before.stopped ≡ None → IsWalked old one before after (wents.On (says.Chain head n r)) → (s : LiveState F) (i : ℕ)
-    → IsAt may s i old before → IsPopped may s i before after head one
+    → before.stopped ≡ None → (walks : IsWalked old one before after (wents.On (says.Chain head n r))) → (s : LiveState F) (i : ℕ)
+    → IsAt may s i old before → IsPopped may s i old one before after head n r walks
 popped {F} may law old one before after head n r goes walks s i here =
     let q = live_of before in
     let ds = one.descriptors.items in
@@ -84,6 +90,8 @@ popped {F} may law old one before after head n r goes walks s i here =
       happens = subst (λ (k : comes.CourseStep). Happens may s (EndsPop i walk.0 ds k) (after_pop s i q walk.0 ds k)) is walk.4;
       there = subst (λ (k : comes.CourseStep). slice_get (after_pop s i q walk.0 ds k).queues i ≡ Some (live_of after)) is walk.5;
       held = subst (λ (k : comes.CourseStep). IsHeld s i q walk.0 k one) is walk.6;
+      loads = walk.1;
+      told_is = told_so ds (says.Chain head n r) walk.2 (step.Chain head None) walk.3 is;
     }
 
 -- ---- from the reply on
@@ -140,9 +148,12 @@ module _ {F : Type 0} (may : May F) (returns_law : HandlePushesOwn may) (before 
 
 module _ {F : Type 0} (may : May F) (s : LiveState F) (i : ℕ) (before after : QueueState) (request reply : List ℕ) (calls : Calls)
     (notice : Bool) (r : ReturnsOwn may s i before after request reply calls notice) where
-  pub as_step : (G : Type 0) → OwnIsReturned G may → IsReached may s → ReturnsAsStep G may s i before after request reply calls notice
-  as_step G law reached = (
+  pub as_step : (G : Type 0) (named : List LiveEvent → Type 0)
+      → named (r.earlier ++ PushesChain r.chain r.exchange notice 0 r.used r.seen ∷ []) → OwnIsReturned G may → IsReached may s
+      → ReturnsAsStep G may s i before after request reply calls notice named
+  as_step G named is_named law reached = (
     r,
+    is_named,
     λ m places limit page_size queue.
         let is : IsBefore r.now r.chain m = record {
           places = places ∙ ap location (sym r.places_are);
@@ -178,9 +189,9 @@ both_events : (i head : ℕ) (loaded : Loaded) (ds : List Descriptor) (c d : Out
 both_events i head loaded ds c d request reply options x notice used seen same so = rw (same, so) refl
 
 module _ {F : Type 0} (may : May F) (walks_law : HandleEndsPop may) (replies_law : HandleRepliesOwnBytes may)
-    (returns_law : HandlePushesOwn may)
+    (returns_law : HandlePushesOwn may) (given : List (Bor (List ℕ)))
     (old one two : ChainHandle) (before after : QueueState) (head n r serial : ℕ) (request reply : List ℕ) (notice : Bool)
-    (goes : before.stopped ≡ None) (walks : IsWalked old one before after (wents.On (says.Chain head n r)))
+    (goes : before.stopped ≡ None) (walks : IsWalkedBy given old one before after (wents.On (says.Chain head n r)))
     (len : FromTaken one.state (λ out. out.request_len ≡ length request))
     (clear : own_error one.state one.serial serial (length reply) ≡ None)
     (kept : IfUnanswered one.state (λ out. two ≡ record one { state = at.HasReply out (own_reply (length reply)) }))
@@ -190,7 +201,7 @@ module _ {F : Type 0} (may : May F) (walks_law : HandleEndsPop may) (replies_law
   replied_fetched s i here =
       let q = live_of before in
       let ds = one.descriptors.items in
-      let pop = popped may walks_law old one before after head n r goes walks s i here in
+      let pop = popped may walks_law old one before after head n r goes (calls_of walks.0 given, walks.1) s i here in
       let c : OutChain = new_chain s i q pop.loaded ds head None in
       let s₁ : LiveState F = after_pop s i q pop.loaded ds (step.Chain head None) in
       let walked : LiveEvent = EndsPop i pop.loaded ds (step.Chain head None) in
@@ -200,12 +211,29 @@ module _ {F : Type 0} (may : May F) (walks_law : HandleEndsPop may) (replies_law
       replied_from may returns_law before after request reply notice goes s s₁ c two.state (walked ∷ []) [] s.options
       (s₁, pop.happens, refl) refl refl here.there pop.there refl refl refl refl refl replied.0 own back
 
+  pub fetched_named : (s : LiveState F) (i : ℕ) (here : IsAt may s i old before)
+      → IsRepliedChain s i given old before [] request reply notice
+      ((replied_fetched s i here).earlier ++ PushesChain (replied_fetched s i here).chain (replied_fetched s i here).exchange notice 0
+      (replied_fetched s i here).used (replied_fetched s i here).seen ∷ [])
+  fetched_named s i here =
+      let ds = one.descriptors.items in
+      let pop = popped may walks_law old one before after head n r goes (calls_of walks.0 given, walks.1) s i here in
+      let whole = replied_fetched s i here in (
+        new_chain s i (live_of before) pop.loaded ds head None,
+        s.options,
+        whole.exchange,
+        whole.used,
+        whole.seen,
+        popped_by s i given old one before after head n r ds pop.loaded walks pop.loads pop.told_is,
+        refl,
+      )
+
   pub logged : PagesOfRun may → (s : LiveState F) (i : ℕ) → IsAt may s i old before
-      → LogsOwn may s i before (gave after) request reply notice
+      → LogsOwn may s i given old before (gave after) request reply notice
   logged law s i here =
       let q = live_of before in
       let ds = one.descriptors.items in
-      let pop = popped may walks_law old one before after head n r goes walks s i here in
+      let pop = popped may walks_law old one before after head n r goes (calls_of walks.0 given, walks.1) s i here in
       let c : OutChain = new_chain s i q pop.loaded ds head None in
       let s₁ : LiveState F = after_pop s i q pop.loaded ds (step.Chain head None) in
       let walked : LiveEvent = EndsPop i pop.loaded ds (step.Chain head None) in
@@ -215,26 +243,31 @@ module _ {F : Type 0} (may : May F) (walks_law : HandleEndsPop may) (replies_law
       let whole = replied_fetched s i here in
       let returned : LiveEvent = PushesChain whole.chain whole.exchange notice 0 whole.used whole.seen in (
         whole,
-        walked,
-        told,
-        refl,
-        λ first second third last m.
-            law s whole.end
-            (
-            Writes first ∷ DeviceEvent walked
-            ∷ Writes second ∷ DeviceEvent told
-            ∷ Writes third ∷ DeviceEvent returned
-            ∷ Writes last ∷ []
-            )
-            m (s₁, pop.happens, (whole.now, replied.0, (whole.end, whole.returns, refl))) (tt, (tt, (tt, tt))),
+        c,
+        s.options,
+        popped_by s i given old one before after head n r ds pop.loaded walks pop.loads pop.told_is,
+        (
+          refl,
+          refl,
+          λ first second third last m.
+              law s whole.end
+              (
+              Writes first ∷ DeviceEvent walked
+              ∷ Writes second ∷ DeviceEvent told
+              ∷ Writes third ∷ DeviceEvent returned
+              ∷ Writes last ∷ []
+              )
+              m (s₁, pop.happens, (whole.now, replied.0, (whole.end, whole.returns, refl))) (tt, (tt, (tt, tt))),
+        ),
       )
 
   pub ended_alone : RunsOnQueue may → OncePerChain → UsedInOrder → OneAtATime → before.next_used ≡ before.next_avail
-      → (s : LiveState F) (i : ℕ) → IsAt may s i old before → tickets_on i s.outs ≡ [] → EndsAlone may s i before
+      → (s : LiveState F) (i : ℕ) → IsAt may s i old before → tickets_on i s.outs ≡ []
+      → EndsAlone may s i given old before (gave after) request reply notice
   ended_alone runs once used one_at none_out s i here none =
       let q = live_of before in
       let ds = one.descriptors.items in
-      let pop = popped may walks_law old one before after head n r goes walks s i here in
+      let pop = popped may walks_law old one before after head n r goes (calls_of walks.0 given, walks.1) s i here in
       let c : OutChain = new_chain s i q pop.loaded ds head None in
       let s₁ : LiveState F = after_pop s i q pop.loaded ds (step.Chain head None) in
       let walked : LiveEvent = EndsPop i pop.loaded ds (step.Chain head None) in
@@ -255,14 +288,15 @@ module _ {F : Type 0} (may : May F) (walks_law : HandleEndsPop may) (replies_law
       subst (λ (outs : List InFlightId). RunsOver (going q) outs (events_on i es) (going queue.0) (tickets_on i whole.end.outs)) none
       queue.2 in
       let serial_is : IsSerial (events_on i es) = subst IsSerial (sym are) (refl, tt) in (
-        es,
-        whole.end,
-        head,
-        run,
-        ap heads_taken are,
-        once (going q) (going queue.0) (tickets_on i whole.end.outs) (events_on i es) alone,
-        used (going q) (going queue.0) [] (tickets_on i whole.end.outs) (events_on i es) alone,
-        one_at (going q) (going queue.0) (tickets_on i whole.end.outs) (events_on i es) none_out serial_is alone,
+        whole,
+        (
+          fetched_named s i here,
+          run,
+          ap heads_taken are,
+          once (going q) (going queue.0) (tickets_on i whole.end.outs) (events_on i es) alone,
+          used (going q) (going queue.0) [] (tickets_on i whole.end.outs) (events_on i es) alone,
+          one_at (going q) (going queue.0) (tickets_on i whole.end.outs) (events_on i es) none_out serial_is alone,
+        ),
       )
 
 -- ---- a decoded request
@@ -290,10 +324,10 @@ entry_keeps w w' list list' e out brings is = elim brings.0 [
 ]
 
 module _ {F : Type 0} (may : May F) (walks_law : HandleEndsPop may) (asks_law : HandleDecodesRequest may) (held_law : AskedIsHeld)
-    (instead_law : HandleRepliesInstead may) (returns_law : HandlePushesOwn may)
+    (instead_law : HandleRepliesInstead may) (returns_law : HandlePushesOwn may) (given : List (Bor (List ℕ)))
     (old one two three four : ChainHandle) (before after : QueueState) (head n r serial : ℕ) (session : Session) (request reply : List ℕ)
     (made : made_call.FileCall) (notice : Bool) (goes : before.stopped ≡ None)
-    (walks : IsWalked old one before after (wents.On (says.Chain head n r)))
+    (walks : IsWalkedBy given old one before after (wents.On (says.Chain head n r)))
     (asked : IsDecodedBy one session request request (asks.Call made) two)
     (keeps : (out : InFlight) → IfOut two.state (λ o. o ≡ out) → IfOut three.state (λ o. o ≡ out))
     (clear : own_error three.state three.serial serial (length reply) ≡ None)
@@ -303,11 +337,13 @@ module _ {F : Type 0} (may : May F) (walks_law : HandleEndsPop may) (asks_law : 
   call = call_of (drop 80 request) made
 
   pub replied_asked : (s : LiveState F) (i : ℕ) → IsAt may s i old before → IsSessionOf s session
-      → ReturnsOwn may s i before (gave after) request reply [] notice
+      → (whole : ReturnsOwn may s i before (gave after) request reply [] notice)
+      × IsRepliedInstead s i given old before request reply [] notice
+      (whole.earlier ++ PushesChain whole.chain whole.exchange notice 0 whole.used whole.seen ∷ [])
   replied_asked s i here in_session =
       let q = live_of before in
       let ds = one.descriptors.items in
-      let pop = popped may walks_law old one before after head n r goes walks s i here in
+      let pop = popped may walks_law old one before after head n r goes (calls_of walks.0 given, walks.1) s i here in
       let c : OutChain = new_chain s i q pop.loaded ds head None in
       let s₁ : LiveState F = after_pop s i q pop.loaded ds (step.Chain head None) in
       let walked : LiveEvent = EndsPop i pop.loaded ds (step.Chain head None) in
@@ -326,16 +362,30 @@ module _ {F : Type 0} (may : May F) (walks_law : HandleEndsPop may) (asks_law : 
       } in
       let replied = instead_law s₂ d s.outs [] three serial s.options s.options request reply [] refl refl held' clear in
       let own = own_kept three.state three four (record d { phase = Own request reply }) reply replied.1 kept in
-      replied_from may returns_law before after request reply notice goes s s₂ d four.state (walked ∷ told ∷ []) [] s.options
-      (s₁, pop.happens, (s₂, asking.0, refl)) refl refl here.there pop.there refl refl refl refl refl replied.0 own back
+      let whole = replied_from may returns_law before after request reply notice goes s s₂ d four.state (walked ∷ told ∷ []) [] s.options
+      (s₁, pop.happens, (s₂, asking.0, refl)) refl refl here.there pop.there refl refl refl refl refl replied.0 own back in (
+        whole,
+        (
+          c,
+          call ∷ [],
+          s.options,
+          whole.exchange,
+          whole.used,
+          whole.seen,
+          popped_by s i given old one before after head n r ds pop.loaded walks pop.loads pop.told_is,
+          refl,
+        ),
+      )
 
   pub replied_answered : (s : LiveState F) (i : ℕ) → IsAt may s i old before → IsSessionOf s session → (answer : FileAnswer) (files : F)
       → IsTrue (suits call answer) → may s.files call answer files
-      → ReturnsOwn may s i before (gave after) request reply ((call, answer) ∷ []) notice
+      → (whole : ReturnsOwn may s i before (gave after) request reply ((call, answer) ∷ []) notice)
+      × IsRepliedInstead s i given old before request reply ((call, answer) ∷ []) notice
+      (whole.earlier ++ PushesChain whole.chain whole.exchange notice 0 whole.used whole.seen ∷ [])
   replied_answered s i here in_session answer files fits so =
       let q = live_of before in
       let ds = one.descriptors.items in
-      let pop = popped may walks_law old one before after head n r goes walks s i here in
+      let pop = popped may walks_law old one before after head n r goes (calls_of walks.0 given, walks.1) s i here in
       let c : OutChain = new_chain s i q pop.loaded ds head None in
       let s₁ : LiveState F = after_pop s i q pop.loaded ds (step.Chain head None) in
       let walked : LiveEvent = EndsPop i pop.loaded ds (step.Chain head None) in
@@ -371,6 +421,19 @@ module _ {F : Type 0} (may : May F) (walks_law : HandleEndsPop may) (asks_law : 
       } in
       let replied = instead_law s₃ e s.outs [] three serial s.options s₃.options request reply calls refl refl held' clear in
       let own = own_kept three.state three four (record e { phase = Own request reply }) reply replied.1 kept in
-      replied_from may returns_law before after request reply notice goes s s₃ e four.state
+      let whole = replied_from may returns_law before after request reply notice goes s s₃ e four.state
       (walked ∷ told ∷ ReceivesAnswer d call answer ∷ []) calls s₃.options
-      (s₁, pop.happens, (s₂, asking.0, (s₃, answered, refl))) refl refl here.there pop.there refl refl refl refl refl replied.0 own back
+      (s₁, pop.happens, (s₂, asking.0, (s₃, answered, refl))) refl refl here.there pop.there refl refl refl refl refl replied.0 own
+      back in (
+        whole,
+        (
+          c,
+          call ∷ [],
+          s₃.options,
+          whole.exchange,
+          whole.used,
+          whole.seen,
+          popped_by s i given old one before after head n r ds pop.loaded walks pop.loads pop.told_is,
+          refl,
+        ),
+      )

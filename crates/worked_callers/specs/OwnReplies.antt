@@ -1,6 +1,7 @@
 -- A chain with its caller's own bytes in a run, up to its return, and what theorems say of that return.
-use Rattle.std.specs.Prelude.{◌≡◌, ◌≤◌, ◌^◌, ℕ, Bool, List, [], ◌∷◌, ◌++◌, map, IsPermutation, Some}
+use Rattle.std.specs.Prelude.{◌≡◌, ◌≤◌, ◌^◌, ℕ, Bool, List, [], ◌∷◌, ◌++◌, map, IsPermutation, None, Some}
 use Rattle.std.specs.Prelude.{slice_get}
+use Rattle.std.specs.Borrow.{Bor}
 use Rattle.vm_memory_core.specs.Host.{changed_at}
 use Rattle.vm_memory.specs.Memory.{Memory, location}
 use Rattle.fs_queue.specs.Returning.{Store}
@@ -13,11 +14,12 @@ use Rattle.plain_machine.specs.Step.{Calls, Exchange, State}
 use Rattle.fs_live.specs.Guest.{DeviceEvent, Writes, after_moments}
 use Rattle.fs_live.specs.Handles.{IsReached, live_of}
 use Rattle.fs_live.specs.Live.{Happens, LiveEvent, LiveRun, LiveState, OutChain, Own, PushesChain}
-use Rattle.fs_live.specs.Live.{calls_among}
+use Rattle.fs_live.specs.Live.{RepliesOwnBytes, calls_among}
 use Rattle.fs_live.specs.Live.{room_of}
 use Rattle.fs_live.specs.Runs.{IsAReturn, events_on, going, tickets_on, told_by}
 use Rattle.fs_live.specs.Several.{LiveQueue, StoresAsTaken, UsedFrom, heads_ended, heads_taken, returning}
 use Rattle.fs_live.specs.Several.{returns_among}
+use Rattle.worked_callers.specs.Events.{IsPoppedChain, IsRepliedChain, pop_event}
 
 -- a state that a run reaches. Its queue i and its mappings are those of the caller's queue and handle
 pub record IsAt {F : Type 0} (may : May F) (s : LiveState F) (i : ℕ) (handle : ChainHandle)
@@ -51,12 +53,14 @@ pub record ReturnsOwn {F : Type 0} (may : May F) (s : LiveState F) (i : ℕ) (be
   pub outs_are : end.outs ≡ s.outs
   pub queues_are : end.queues ≡ changed_at s.queues i (λ _. live_of after)
 
--- each plain machine over these mappings, with the queue as it was before the pop, returns the chain with
--- these bytes
+-- the events of such a chain, its return too, are those that `named` says. Each plain machine over these
+-- mappings, with the queue as it was before the pop, returns the chain with these bytes
 abbrev pub ReturnsAsStep : {F : Type 0} → (G : Type 0) → (may : May F) → (s : LiveState F) → (i : ℕ) →
-    (before after : QueueState) → (request reply : List ℕ) → Calls → (notice : Bool) → Type 0
-ReturnsAsStep {F} G may s i before after request reply calls notice =
+    (before after : QueueState) → (request reply : List ℕ) → Calls → (notice : Bool) →
+    (named : List LiveEvent → Type 0) → Type 0
+ReturnsAsStep {F} G may s i before after request reply calls notice named =
     (r : ReturnsOwn may s i before after request reply calls notice)
+    × named (r.earlier ++ PushesChain r.chain r.exchange notice 0 r.used r.seen ∷ [])
     × ((m : State G) →
     location m.memory ≡ location s.places →
     m.limit ≡ s.limit →
@@ -68,9 +72,12 @@ ReturnsAsStep {F} G may s i before after request reply calls notice =
 
 -- the addresses that the return reports are those that the plain machine's step writes
 abbrev pub ReportsOwn : {F : Type 0} → (may : May F) → (s : LiveState F) → (i : ℕ) →
-    (before after : QueueState) → (request reply : List ℕ) → (notice : Bool) → Type 0
-ReportsOwn {F} may s i before after request reply notice =
+    (given : List (Bor (List ℕ))) → (old : ChainHandle) → (before after : QueueState) →
+    (request reply : List ℕ) → (notice : Bool) → Type 0
+ReportsOwn {F} may s i given old before after request reply notice =
     (r : ReturnsOwn may s i before after request reply [] notice)
+    × IsRepliedChain s i given old before [] request reply notice
+    (r.earlier ++ PushesChain r.chain r.exchange notice 0 r.used r.seen ∷ [])
     × (w : LiveQueue)
     × (slice_get r.now.queues r.chain.queue ≡ Some w)
     × (told_by r.now (PushesChain r.chain r.exchange notice 0 r.used r.seen)
@@ -80,16 +87,23 @@ ReportsOwn {F} may s i before after request reply notice =
 abbrev pub written : List (ℕ × ℕ) → List ℕ
 written ws = map (λ w. w.0) ws
 
--- the guest writes before, between and after the three events of such a chain. The pages that are marked in
--- the end are those marked before, those of the guest's writes, and those that the return reports
+-- such a chain is popped from queue i by the first of the given bytes. Its caller replies to the request with
+-- bytes of its own, and it is returned. The guest writes before, between and after these three events. The
+-- pages that are marked in the end are those marked before, those of the guest's writes, and those that the
+-- return reports
 abbrev pub LogsOwn : {F : Type 0} → (may : May F) → (s : LiveState F) → (i : ℕ) →
-    (before after : QueueState) → (request reply : List ℕ) → (notice : Bool) → Type 0
-LogsOwn {F} may s i before after request reply notice =
+    (given : List (Bor (List ℕ))) → (old : ChainHandle) → (before after : QueueState) →
+    (request reply : List ℕ) → (notice : Bool) → Type 0
+LogsOwn {F} may s i given old before after request reply notice =
     (r : ReturnsOwn may s i before after request reply [] notice)
-    × (popped : LiveEvent) × (replied : LiveEvent)
-    × (r.earlier ≡ popped ∷ replied ∷ [])
-    × ((first second third last : List (ℕ × ℕ)) (m : Memory) →
+    × (c : OutChain) × (options : ℕ)
+    × IsPoppedChain s i given old before None c
+    × (let popped = pop_event c None in
+    let replied = RepliesOwnBytes c request reply options in
     let returned = PushesChain r.chain r.exchange notice 0 r.used r.seen in
+    (r.earlier ≡ popped ∷ replied ∷ [])
+    × (r.chain ≡ record c { phase = Own request reply })
+    × ((first second third last : List (ℕ × ℕ)) (m : Memory) →
     Marks m (written first
     ++ (written second ++ (written third ++ (told_by r.now returned ++ (written last ++ [])))))
     (after_moments m
@@ -98,17 +112,21 @@ LogsOwn {F} may s i before after request reply notice =
     ∷ Writes second ∷ DeviceEvent replied
     ∷ Writes third ∷ DeviceEvent returned
     ∷ Writes last ∷ []
-    )).host)
+    )).host))
 
--- queue i, on which one chain is popped and returned, is a run in which each popped chain ends once, the used
--- ring is filled in order, and each return is at the position of its pop
-abbrev pub EndsAlone : {F : Type 0} → (may : May F) → (s : LiveState F) → (i : ℕ) → (before : QueueState) →
-    Type 0
-EndsAlone {F} may s i before =
-    (es : List LiveEvent) × (end : LiveState F) × (head : ℕ)
-    × LiveRun may s es end
-    × (heads_taken (events_on i es) ≡ head ∷ [])
-    × IsPermutation (heads_ended (events_on i es) ++ map (λ t. t.1) (tickets_on i end.outs))
+-- one chain is popped from queue i, its caller replies to the request with bytes of its own, and it is
+-- returned. In this run each popped chain ends once, the used ring is filled in order, and each return is at
+-- the position of its pop
+abbrev pub EndsAlone : {F : Type 0} → (may : May F) → (s : LiveState F) → (i : ℕ) →
+    (given : List (Bor (List ℕ))) → (old : ChainHandle) → (before after : QueueState) →
+    (request reply : List ℕ) → (notice : Bool) → Type 0
+EndsAlone {F} may s i given old before after request reply notice =
+    (r : ReturnsOwn may s i before after request reply [] notice)
+    × (let es = r.earlier ++ PushesChain r.chain r.exchange notice 0 r.used r.seen ∷ [] in
+    IsRepliedChain s i given old before [] request reply notice es
+    × LiveRun may s es r.end
+    × (heads_taken (events_on i es) ≡ r.chain.head ∷ [])
+    × IsPermutation (heads_ended (events_on i es) ++ map (λ t. t.1) (tickets_on i r.end.outs))
     (heads_taken (events_on i es))
     × UsedFrom (going (live_of before)) (returns_among (events_on i es))
-    × StoresAsTaken (going (live_of before)).queue (events_on i es)
+    × StoresAsTaken (going (live_of before)).queue (events_on i es))

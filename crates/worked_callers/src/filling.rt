@@ -7,8 +7,9 @@ ghost use Rattle.vm_memory.specs.Memory.{located, location};
 ghost use Rattle.fs_regions.specs.Places.{places_in};
 ghost use Rattle.fs_chain.specs.declared.state.ChainState.TheVariants as at;
 ghost use Rattle.fs_live.specs.Filling.{data_stores};
-ghost use Rattle.fs_live.specs.Live.{FillsBuffer, LiveEvent, LiveRun, LiveState, OutChain, room_of};
+ghost use Rattle.fs_live.specs.Live.{FillsBuffer, LiveRun, LiveState, OutChain, room_of};
 ghost use Rattle.fs_live.specs.Runs.{told_by};
+ghost use Rattle.worked_callers.specs.Events.{IsPoppedChain, pop_event};
 ghost use Rattle.worked_callers.specs.OwnReplies.{IsAt};
 
 use crate::wholes::walk_chain;
@@ -30,8 +31,10 @@ pub fn fill_window<F: FileSystem>(
     requires goes { queue.old.stopped ≡ None }
     ensures fills { IfOk result (λ v. (s : LiveState F) (i : ℕ)
         → IsAt F.may s i handle.old queue.old
-        → (popped : LiveEvent) × (c : OutChain) × (end : LiveState F)
-        × LiveRun F.may s (popped ∷ FillsBuffer c (data_stores (room_of c) from bytes.now) ∷ []) end
+        → (c : OutChain) × (end : LiveState F)
+        × IsPoppedChain s i given.now handle.old queue.old None c
+        × LiveRun F.may s
+        (pop_event c None ∷ FillsBuffer c (data_stores (room_of c) from bytes.now) ∷ []) end
         × (located (location (places_in handle.new.regions) Write)
         (take (length bytes.now) (drop from (room_of c)))
         ≡ Some (take (length bytes.now) (places_of v)))) }
@@ -60,10 +63,11 @@ pub fn fill_range<F: FileSystem>(
     requires goes { queue.old.stopped ≡ None }
     ensures fills { IfOk result (λ guest. (s : LiveState F) (i : ℕ)
         → IsAt F.may s i handle.old queue.old
-        → (popped : LiveEvent) × (c : OutChain) × (mid : LiveState F) × (address : ℕ)
+        → (c : OutChain) × (mid : LiveState F) × (address : ℕ)
+        × IsPoppedChain s i given.now handle.old queue.old None c
         × (guest ≡ address % 2 ^ 64)
         × (let fills = FillsBuffer c (record { address = address; bytes = bytes.now } ∷ []) in
-        LiveRun F.may s (popped ∷ fills ∷ []) mid
+        LiveRun F.may s (pop_event c None ∷ fills ∷ []) mid
         × (told_by mid fills ≡ take (length bytes.now) (drop from (room_of c))))) }
 {
     law_handles::<F>();

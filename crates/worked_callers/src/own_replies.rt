@@ -11,6 +11,7 @@ ghost use Rattle.fs_live.specs.Handles.{IsSessionOf};
 ghost use Rattle.fs_live.specs.Live.{LiveState};
 ghost use Rattle.fs_live.specs.Runs.{tickets_on};
 ghost use Rattle.worked_callers.specs.ChainCalls.{DecodesPopped};
+ghost use Rattle.worked_callers.specs.Events.{IsRepliedChain, IsRepliedInstead};
 ghost use Rattle.worked_callers.specs.OwnReplies.{EndsAlone, IsAt, LogsOwn, ReportsOwn, ReturnsAsStep};
 ghost use Rattle.std.specs.Prelude.{◌≡◌, None};
 
@@ -35,13 +36,14 @@ pub fn reply_logged<F: FileSystem, G: FileSystem>(
     requires goes { queue.old.stopped ≡ None }
     ensures step { IfOk result (λ notice. (s : LiveState F) (i : ℕ)
         → IsAt F.may s i handle.old queue.old
-        → ReturnsAsStep G F.may s i queue.old queue.new request.now bytes.now [] notice) }
+        → ReturnsAsStep G F.may s i queue.old queue.new request.now bytes.now [] notice
+        (IsRepliedChain s i given.now handle.old queue.old [] request.now bytes.now notice)) }
     ensures reports { IfOk result (λ notice. (s : LiveState F) (i : ℕ)
         → IsAt F.may s i handle.old queue.old
-        → ReportsOwn F.may s i queue.old queue.new request.now bytes.now notice) }
+        → ReportsOwn F.may s i given.now handle.old queue.old queue.new request.now bytes.now notice) }
     ensures log { IfOk result (λ notice. (s : LiveState F) (i : ℕ)
         → IsAt F.may s i handle.old queue.old
-        → LogsOwn F.may s i queue.old queue.new request.now bytes.now notice) }
+        → LogsOwn F.may s i given.now handle.old queue.old queue.new request.now bytes.now notice) }
 {
     law_handles::<F>();
     law_runs::<F, G>();
@@ -69,7 +71,7 @@ pub fn reply_alone<F: FileSystem>(
     ensures alone { IfOk result (λ notice. (s : LiveState F) (i : ℕ)
         → IsAt F.may s i handle.old queue.old
         → tickets_on i s.outs ≡ []
-        → EndsAlone F.may s i queue.old) }
+        → EndsAlone F.may s i given.now handle.old queue.old queue.new request.now bytes.now notice) }
 {
     law_handles::<F>();
     law_runs::<F, F>();
@@ -98,7 +100,8 @@ pub fn reply_instead<F: FileSystem, G: FileSystem>(
     ensures step { IfOk result (λ notice. (s : LiveState F) (i : ℕ)
         → IsAt F.may s i handle.old queue.old
         → IsSessionOf s session
-        → ReturnsAsStep G F.may s i queue.old queue.new request.now bytes.now [] notice) }
+        → ReturnsAsStep G F.may s i queue.old queue.new request.now bytes.now [] notice
+        (IsRepliedInstead s i given.now handle.old queue.old request.now bytes.now [] notice)) }
 {
     law_handles::<F>();
     law_runs::<F, G>();
@@ -136,7 +139,9 @@ pub fn reply_amid_listing<F: FileSystem, G: FileSystem>(
         → IsTrue (file.suits (call_of (drop 80 request.now) made) answer)
         → F.may s.files (call_of (drop 80 request.now) made) answer files
         → ReturnsAsStep G F.may s i queue.old queue.new request.now bytes.now
-        ((call_of (drop 80 request.now) made, answer) ∷ []) notice)) }
+        ((call_of (drop 80 request.now) made, answer) ∷ []) notice
+        (IsRepliedInstead s i given.now handle.old queue.old request.now bytes.now
+        ((call_of (drop 80 request.now) made, answer) ∷ []) notice))) }
 {
     law_handles::<F>();
     law_runs::<F, G>();

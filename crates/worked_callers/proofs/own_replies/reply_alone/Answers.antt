@@ -1,7 +1,9 @@
-use Rattle.std.proofs.Common.{◌≡◌, length, ◌∙◌, arith}
+use Rattle.std.proofs.Common.{◌≡◌, length, subst, sym, ◌∙◌, arith}
 use Rattle.std.proofs.lemmas.Bool.Decides.{nat_tests}
+use Rattle.fs_chain.specs.declared.queue.QueueState.{QueueState}
+use Rattle.worked_callers.specs.OwnReplies.{EndsAlone}
 use Rattle.worked_callers.proofs.OwnRuns.{ended_alone}
-use Rattle.worked_callers.proofs.Served.{if_ok, more_taken, taken_so}
+use Rattle.worked_callers.proofs.Served.{if_ok_so, more_taken, taken_so}
 use Rattle.worked_callers.proofs.own_replies.reply_alone.Goals as goal
 
 pub returns : goal.returns
@@ -17,15 +19,18 @@ returns g c =
     let n = c.in_ok-request_len.request_len in
     let r = c.in_ok-request_len.field-0-2 in
     let request = c.args.request.now in
+    let bytes = c.args.bytes.now in
+    let given = c.args.given.now in
     let walked = c.in_ok-request_len.ensures.walked in
     let test = c.if-request_len-request.false in
     let same : n ≡ length request = grind (arith, nat_tests, test) in
     let taken = more_taken one.state _ _ (λ out is. is ∙ same) (taken_so old one before after head n r c.requires.goes walked) in
     record {
-      alone = if_ok c.give_own_back.result _ _
-          (λ notice back.
-          ended_alone may handles.walks handles.replies handles.returns_own old one c.reply.new.self before after head n r _ request
-          c.args.bytes.now notice c.requires.goes walked taken c.in_ok-reply.ensures.ok c.in_ok-reply.ensures.kept back
-          c.law_runs.ensures.queue queues.once queues.used queues.one c.requires.none_out)
-          c.give_own_back.ensures.back;
+      alone = if_ok_so c.give_own_back.result _ _ _
+          (λ notice back final_is s i here none.
+          subst (λ (q : QueueState). EndsAlone may s i given old before q request bytes notice) (sym final_is)
+          (ended_alone may handles.walks handles.replies handles.returns_own given old one c.reply.new.self before after head n r _ request
+          bytes notice c.requires.goes c.in_ok-request_len.ensures.given taken c.in_ok-reply.ensures.ok c.in_ok-reply.ensures.kept back
+          c.law_runs.ensures.queue queues.once queues.used queues.one c.requires.none_out s i here none))
+          c.give_own_back.ensures.back c.give_own_back.ensures.queue;
     }

@@ -5,6 +5,8 @@ use Rattle.fuse_values.specs.Values.{call_of}
 use Rattle.fs_chain.specs.Queues.{gave}
 use Rattle.fs_chain.specs.declared.decoding.Decoded.TheVariants as asks
 use Rattle.fs_chain.specs.declared.queue.QueueState.{QueueState}
+use Rattle.plain_machine.specs.Step.{Calls}
+use Rattle.worked_callers.specs.Events.{IsRepliedInstead}
 use Rattle.worked_callers.specs.OwnReplies.{ReturnsAsStep}
 use Rattle.worked_callers.proofs.CalledBy.{decodes_by}
 use Rattle.worked_callers.proofs.OwnRuns.{as_step, entry_keeps, replied_answered}
@@ -35,7 +37,7 @@ returns g c =
     let before = c.args.queue.now in
     let after = c.walk_chain.new.queue in
     let final = c.give_own_back.new.queue in
-    let walked = c.in_ok-request_len.ensures.walked in
+    let given = c.args.given.now in
     let asked = c.in_ok-ask_call.ensures.asked in
     let request = c.args.request.now in
     let bytes = c.args.bytes.now in
@@ -47,15 +49,19 @@ returns g c =
             decodes_by c.args.given.now old one two before after c.in_ok-request_len.field-0-0 c.in_ok-request_len.request_len
                 c.in_ok-request_len.field-0-2 c.args.session request (asks.Call asked.0) c.in_ok-request_len.ensures.given asked.1,
             λ answer files fits so.
-                subst (λ (q : QueueState). ReturnsAsStep g.row.G.Denot may s i before q request bytes
-                ((call_of (drop 80 request) asked.0, answer) ∷ []) notice) (sym final_is)
-                (as_step may s i before (gave after) request bytes ((call_of (drop 80 request) asked.0, answer) ∷ []) notice
-                (replied_answered may handles.walks handles.asks handles.held handles.instead handles.returns_own old one two three four
+                let calls : Calls = (call_of (drop 80 request) asked.0, answer) ∷ [] in
+                let whole = replied_answered may handles.walks handles.asks handles.held handles.instead handles.returns_own given old one
+                two three four
                 before after c.in_ok-request_len.field-0-0 c.in_ok-request_len.request_len c.in_ok-request_len.field-0-2 _ c.args.session
-                request bytes asked.0 notice c.requires.goes walked asked.1
+                request bytes asked.0 notice c.requires.goes c.in_ok-request_len.ensures.given asked.1
                 (λ out is. entry_keeps two three _ _ _ out c.in_ok-bring.ensures.brought is)
-                c.in_ok-reply.ensures.ok c.in_ok-reply.ensures.kept back s i here session answer files fits so)
-                g.row.G.Denot c.law_runs.ensures.own here.reached),
+                c.in_ok-reply.ensures.ok c.in_ok-reply.ensures.kept back s i here session answer files fits so in
+                subst
+                (λ (q : QueueState). ReturnsAsStep g.row.G.Denot may s i before q request bytes calls notice
+                (IsRepliedInstead s i given old before request bytes calls notice)) (sym final_is)
+                (as_step may s i before (gave after) request bytes calls notice whole.0
+                g.row.G.Denot (IsRepliedInstead s i given old before request bytes calls notice) whole.1 c.law_runs.ensures.own
+                here.reached),
           ))
           c.give_own_back.ensures.back c.give_own_back.ensures.queue;
     }

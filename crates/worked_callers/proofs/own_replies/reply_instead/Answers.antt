@@ -2,6 +2,7 @@ use Rattle.std.proofs.Common.{◌≡◌, [], length, subst, sym, ◌∙◌, arit
 use Rattle.std.proofs.lemmas.Bool.Decides.{nat_tests}
 use Rattle.fs_chain.specs.Queues.{gave}
 use Rattle.fs_chain.specs.declared.queue.QueueState.{QueueState}
+use Rattle.worked_callers.specs.Events.{IsRepliedInstead}
 use Rattle.worked_callers.specs.OwnReplies.{ReturnsAsStep}
 use Rattle.worked_callers.proofs.OwnRuns.{as_step, replied_asked}
 use Rattle.worked_callers.proofs.Served.{if_ok_so, more_taken, taken_so}
@@ -31,19 +32,22 @@ returns g c =
     let before = c.args.queue.now in
     let after = c.walk_chain.new.queue in
     let final = c.give_own_back.new.queue in
-    let walked = c.in_ok-request_len.ensures.walked in
+    let given = c.args.given.now in
     let asked = c.in_ok-ask_call.ensures.asked in
     let request = c.args.request.now in
     let bytes = c.args.bytes.now in
     record {
       step = if_ok_so c.give_own_back.result _ _ _
           (λ notice back final_is s i here session.
-          subst (λ (q : QueueState). ReturnsAsStep g.row.G.Denot may s i before q request bytes [] notice) (sym final_is)
-          (as_step may s i before (gave after) request bytes [] notice
-          (replied_asked may handles.walks handles.asks handles.held handles.instead handles.returns_own old one two three four before after
+          let so = replied_asked may handles.walks handles.asks handles.held handles.instead handles.returns_own given old one two three
+          four before after
           c.in_ok-request_len.field-0-0 c.in_ok-request_len.request_len c.in_ok-request_len.field-0-2 _ c.args.session request bytes
-          asked.0 notice c.requires.goes walked asked.1 (λ out is. is) c.in_ok-reply.ensures.ok c.in_ok-reply.ensures.kept back
-          s i here session)
-          g.row.G.Denot c.law_runs.ensures.own here.reached))
+          asked.0 notice c.requires.goes c.in_ok-request_len.ensures.given asked.1 (λ out is. is) c.in_ok-reply.ensures.ok
+          c.in_ok-reply.ensures.kept back s i here session in
+          subst
+          (λ (q : QueueState). ReturnsAsStep g.row.G.Denot may s i before q request bytes [] notice
+          (IsRepliedInstead s i given old before request bytes [] notice)) (sym final_is)
+          (as_step may s i before (gave after) request bytes [] notice so.0
+          g.row.G.Denot (IsRepliedInstead s i given old before request bytes [] notice) so.1 c.law_runs.ensures.own here.reached))
           c.give_own_back.ensures.back c.give_own_back.ensures.queue;
     }

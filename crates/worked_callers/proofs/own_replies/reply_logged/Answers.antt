@@ -2,8 +2,9 @@ use Rattle.std.proofs.Common.{◌≡◌, [], length, subst, sym, ◌∙◌, arit
 use Rattle.std.proofs.lemmas.Bool.Decides.{nat_tests}
 use Rattle.fs_chain.specs.Queues.{gave}
 use Rattle.fs_chain.specs.declared.queue.QueueState.{QueueState}
+use Rattle.worked_callers.specs.Events.{IsRepliedChain}
 use Rattle.worked_callers.specs.OwnReplies.{LogsOwn, ReportsOwn, ReturnsAsStep}
-use Rattle.worked_callers.proofs.OwnRuns.{as_step, logged, replied_fetched, reports}
+use Rattle.worked_callers.proofs.OwnRuns.{as_step, fetched_named, logged, replied_fetched, reports}
 use Rattle.worked_callers.proofs.Served.{if_ok_so, more_taken, taken_so}
 use Rattle.worked_callers.proofs.own_replies.reply_logged.Goals as goal
 
@@ -24,7 +25,9 @@ returns g c =
     let request = c.args.request.now in
     let bytes = c.args.bytes.now in
     let goes = c.requires.goes in
+    let given = c.args.given.now in
     let walked = c.in_ok-request_len.ensures.walked in
+    let by = c.in_ok-request_len.ensures.given in
     let test = c.if-request_len-request.false in
     let same : n ≡ length request = grind (arith, nat_tests, test) in
     let taken = more_taken one.state _ _ (λ out is. is ∙ same) (taken_so old one before after head n r goes walked) in
@@ -33,24 +36,35 @@ returns g c =
     record {
       step = if_ok_so c.give_own_back.result _ _ _
           (λ notice back final_is s i here.
-          subst (λ (q : QueueState). ReturnsAsStep g.row.G.Denot may s i before q request bytes [] notice) (sym final_is)
+          subst
+          (λ (q : QueueState). ReturnsAsStep g.row.G.Denot may s i before q request bytes [] notice
+          (IsRepliedChain s i given old before [] request bytes notice)) (sym final_is)
           (as_step may s i before (gave after) request bytes [] notice
-          (replied_fetched may handles.walks handles.replies handles.returns_own old one two before after head n r _ request bytes notice
-          goes walked taken ok kept back s i here)
-          g.row.G.Denot runs.own here.reached))
+          (replied_fetched may handles.walks handles.replies handles.returns_own given old one two before after head n r _ request bytes
+          notice goes by taken ok kept back s i here)
+          g.row.G.Denot (IsRepliedChain s i given old before [] request bytes notice)
+          (fetched_named may handles.walks handles.replies handles.returns_own given old one two before after head n r _ request bytes
+          notice goes by taken ok kept back s i here)
+          runs.own here.reached))
           c.give_own_back.ensures.back c.give_own_back.ensures.queue;
       reports = if_ok_so c.give_own_back.result _ _ _
           (λ notice back final_is s i here.
-          let whole = replied_fetched may handles.walks handles.replies handles.returns_own old one two before after head n r _ request
-          bytes notice goes walked taken ok kept back s i here in
+          let whole = replied_fetched may handles.walks handles.replies handles.returns_own given old one two before after head n r _
+          request bytes notice goes by taken ok kept back s i here in
           let told = reports may s i before (gave after) request bytes [] notice whole runs.tell in
-          subst (λ (q : QueueState). ReportsOwn may s i before q request bytes notice) (sym final_is)
-          (whole, told.0, told.1, told.2))
+          subst (λ (q : QueueState). ReportsOwn may s i given old before q request bytes notice) (sym final_is) (
+            whole,
+            fetched_named may handles.walks handles.replies handles.returns_own given old one two before after head n r _ request bytes
+                notice goes by taken ok kept back s i here,
+            told.0,
+            told.1,
+            told.2,
+          ))
           c.give_own_back.ensures.back c.give_own_back.ensures.queue;
       log = if_ok_so c.give_own_back.result _ _ _
           (λ notice back final_is s i here.
-          subst (λ (q : QueueState). LogsOwn may s i before q request bytes notice) (sym final_is)
-          (logged may handles.walks handles.replies handles.returns_own old one two before after head n r _ request bytes notice goes
-          walked taken ok kept back runs.log s i here))
+          subst (λ (q : QueueState). LogsOwn may s i given old before q request bytes notice) (sym final_is)
+          (logged may handles.walks handles.replies handles.returns_own given old one two before after head n r _ request bytes notice goes
+          by taken ok kept back runs.log s i here))
           c.give_own_back.ensures.back c.give_own_back.ensures.queue;
     }
