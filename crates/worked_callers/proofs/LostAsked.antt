@@ -1,5 +1,6 @@
 -- A chain that is walked and asked, and lost while its call waits.
 use Rattle.std.proofs.Common.{◌≡◌, ℕ, ◌≤◌, ◌^◌, List, [], ◌∷◌, ◌++◌, Some, None, slice_get, refl, subst, sym, ap, ◌∙◌}
+use Rattle.std.specs.Borrow.{Bor}
 use Rattle.std.specs.Prelude.{drop, IsTrue}
 use Rattle.fs_regions.specs.Places.{places_in}
 use Rattle.fs_regions.specs.declared.step.CourseStep as comes
@@ -9,7 +10,7 @@ use Rattle.fuse_values.specs.Values.{call_of}
 use Rattle.fuse_values.specs.declared.call.FileCall as made_call
 use Rattle.virtiofsd_fuse.specs.Serving.{May}
 use Rattle.server_phases.specs.declared.session.Session.{Session}
-use Rattle.fs_chain.specs.Whole.{IsDecodedBy, IsWalked}
+use Rattle.fs_chain.specs.Whole.{IsDecodedBy}
 use Rattle.fs_chain.specs.declared.decoding.Decoded.TheVariants as asks
 use Rattle.fs_chain.specs.declared.loads.LoadOutcome.TheVariants as wents
 use Rattle.fs_chain.specs.declared.queue.QueueState.{QueueState}
@@ -21,13 +22,16 @@ use Rattle.fs_live.specs.Live.{after_answer}
 use Rattle.fs_live.specs.Live.{after_decoding}
 use Rattle.fs_live.specs.Live.{after_abandoning, after_pop, asked_chain, calls_among, new_chain}
 use Rattle.fs_live.specs.Others.{HandleAbandons}
+use Rattle.worked_callers.specs.Events.{IsLostChain}
+use Rattle.worked_callers.specs.Notified.{IsWalkedBy, calls_of}
+use Rattle.worked_callers.proofs.NamedEvents.{popped_by, told_so}
 use Rattle.worked_callers.proofs.ServedBeside.{chain_is, reached_by}
 
 module _ {F : Type 0} (may : May F) (walks_law : HandleEndsPop may) (asks_law : HandleDecodesRequest may)
-    (abandons_law : HandleAbandons may)
+    (abandons_law : HandleAbandons may) (given : List (Bor (List ℕ)))
     (old one two : ChainHandle) (before after : QueueState) (head n r : ℕ)
     (session : Session) (request : List ℕ) (made : made_call.FileCall) (goes : before.stopped ≡ None)
-    (walks : IsWalked old one before after (wents.On (says.Chain head n r)))
+    (walks : IsWalkedBy given old one before after (wents.On (says.Chain head n r)))
     (asked : IsDecodedBy one session request request (asks.Call made) two) where
   abbrev call : FileCall
   call = call_of (drop 80 request) made
@@ -35,15 +39,18 @@ module _ {F : Type 0} (may : May F) (walks_law : HandleEndsPop may) (asks_law : 
   pub lost_asked : (s : LiveState F) (i : ℕ) → IsReached may s → slice_get s.queues i ≡ Some (live_of before) →
       s.places ≡ places_in old.regions → s.limit ≡ old.limit → s.limit ≤ 2 ^ 31 →
       IsSessionOf s session →
-      ((es : List LiveEvent) × (end : LiveState F) × LiveRun may s es end × (calls_among es ≡ [])
+      ((es : List LiveEvent) × (end : LiveState F) × LiveRun may s es end × IsLostChain s i given old before request [] es
+      × (calls_among es ≡ [])
       × (slice_get end.queues i ≡ Some (live_of after)))
       × ((answer : FileAnswer) (files : F) → IsTrue (suits call answer) → may s.files call answer files →
-      (es : List LiveEvent) × (end : LiveState F) × LiveRun may s es end × (calls_among es ≡ (call, answer) ∷ []) × (end.files ≡ files)
+      (es : List LiveEvent) × (end : LiveState F) × LiveRun may s es end
+      × IsLostChain s i given old before request ((call, answer) ∷ []) es
+      × (calls_among es ≡ (call, answer) ∷ []) × (end.files ≡ files)
       × (slice_get end.queues i ≡ Some (live_of after)))
   lost_asked s i reached there places limit small in_session =
       let q = live_of before in
       let ds = one.descriptors.items in
-      let walk = walks_law s i walks.0 old one before after (says.Chain head n r) there places limit goes tt walks.1 tt in
+      let walk = walks_law s i (calls_of walks.0 given) old one before after (says.Chain head n r) there places limit goes tt walks.1 tt in
       let loaded = walk.0 in
       let is = chain_is ds walk.2 head n r walk.3 in
       let came = step.Chain head None in
@@ -60,11 +67,14 @@ module _ {F : Type 0} (may : May F) (walks_law : HandleEndsPop may) (asks_law : 
       let d : OutChain = asked_chain c request s.options [] in
       let end : LiveState F = after_abandoning s₂ s.outs [] d in
       let walked : LiveEvent = EndsPop i loaded ds came in
-      let told : LiveEvent = DecodesRequest c request (call ∷ []) in (
+      let told : LiveEvent = DecodesRequest c request (call ∷ []) in
+      let is_popped = popped_by s i given old one before after head n r ds loaded walks walk.1
+      (told_so ds (says.Chain head n r) walk.2 came walk.3 is) in (
         (
           walked ∷ told ∷ Abandons d ∷ [],
           end,
           (s₁, first, (s₂, asking.0, (end, (abandons_law s₂ d s.outs [] refl).0, refl))),
+          (c, call ∷ [], is_popped, refl),
           refl,
           there₁,
         ),
@@ -89,6 +99,7 @@ module _ {F : Type 0} (may : May F) (walks_law : HandleEndsPop may) (asks_law : 
               walked ∷ told ∷ ReceivesAnswer d call answer ∷ Abandons e ∷ [],
               last,
               (s₁, first, (s₂, asking.0, (s₃, answered, (last, (abandons_law s₃ e s.outs [] refl).0, refl)))),
+              (c, call ∷ [], is_popped, refl),
               refl,
               refl,
               there₁,

@@ -1,5 +1,6 @@
 -- A chain that is in flight as addresses get other places.
 use Rattle.std.proofs.Common.{◌≡◌, ℕ, ◌≤◌, ◌^◌, Bool, List, [], ◌∷◌, ◌++◌, length, Some, None, inr, slice_get, refl, subst, sym, ap, ◌∙◌}
+use Rattle.std.specs.Borrow.{Bor}
 use Rattle.std.specs.Prelude.{Option}
 use Rattle.std.specs.List.{AllByRecursion}
 use Rattle.fs_regions.specs.Places.{places_in}
@@ -8,7 +9,7 @@ use Rattle.fs_regions.specs.declared.step.CourseStep.TheVariants as step
 use Rattle.virtiofsd_fuse.specs.Serving.{May}
 use Rattle.vm_memory.specs.Memory.{Memory}
 use Rattle.fs_chain.specs.OwnReplies.{IfUnanswered, own_error, own_reply}
-use Rattle.fs_chain.specs.Whole.{FromTaken, IsWalked}
+use Rattle.fs_chain.specs.Whole.{FromTaken}
 use Rattle.fs_chain.specs.declared.loads.LoadOutcome.TheVariants as wents
 use Rattle.fs_chain.specs.declared.queue.QueueState.{QueueState}
 use Rattle.fs_chain.specs.declared.state.ChainState.TheVariants as at
@@ -21,29 +22,34 @@ use Rattle.fs_live.specs.Live.{PushesChain, RepliesOwnBytes, EndsPop, after_push
 use Rattle.fs_live.specs.Others.{GoesBackOwn, HandlePushesOwn, HandleRemaps, HandleRepliesOwnBytes, IsOwn}
 use Rattle.fs_live.specs.Several.{LiveQueue, took}
 use Rattle.fs_live.proofs.Queues.{same_some, there_same}
+use Rattle.worked_callers.specs.Events.{IsRepliedChain}
+use Rattle.worked_callers.specs.Notified.{IsWalkedBy, calls_of}
+use Rattle.worked_callers.proofs.NamedEvents.{popped_by, told_so}
 use Rattle.worked_callers.proofs.OthersBeside.{own_kept}
 use Rattle.worked_callers.proofs.ServedBeside.{chain_is, reached_by, taken_of}
 
 pub mapped_amid :
     {F : Type 0} (may : May F) (walks_law : HandleEndsPop may) (maps_law : HandleRemaps may) (replies_law : HandleRepliesOwnBytes may)
-    (returns_law : HandlePushesOwn may) (old one two other : ChainHandle)
+    (returns_law : HandlePushesOwn may) (given : List (Bor (List ℕ))) (old one two other : ChainHandle)
     (before after : QueueState) (head n r serial : ℕ) (request reply : List ℕ) (notice : Bool) → before.stopped ≡ None
-    → IsWalked old one before after (wents.On (says.Chain head n r))
+    → IsWalkedBy given old one before after (wents.On (says.Chain head n r))
     → FromTaken one.state (λ out. out.request_len ≡ length request) → own_error one.state one.serial serial (length reply) ≡ None
     → IfUnanswered one.state (λ out. two ≡ record one { state = at.HasReply out (own_reply (length reply)) })
     → ((room bytes : List ℕ) (last : ℕ) → (acts : List Act) × GoesBackOwn after room bytes two.state acts last notice)
     → (s : LiveState F) (i : ℕ) → IsReached may s → s.outs ≡ []
     → slice_get s.queues i ≡ Some (live_of before) → s.places ≡ places_in old.regions → s.limit ≡ old.limit → s.limit ≤ 2 ^ 31
     → KeepsReturns s.places (places_in other.regions) (live_of before)
-    → (es : List LiveEvent) × (end : LiveState F) × LiveRun may s es end × (calls_among es ≡ []) × (end.outs ≡ [])
+    → (es : List LiveEvent) × (end : LiveState F) × LiveRun may s es end
+    × IsRepliedChain s i given old before (Remaps (places_in other.regions) ∷ []) request reply notice es
+    × (calls_among es ≡ []) × (end.outs ≡ [])
     × (end.places ≡ places_in other.regions)
-mapped_amid {F} may walks_law maps_law replies_law returns_law old one two other before after head n r serial request reply notice goes
-    walks len clear is_kept back s i reached none there places limit small
+mapped_amid {F} may walks_law maps_law replies_law returns_law given old one two other before after head n r serial request reply notice
+    goes walks len clear is_kept back s i reached none there places limit small
     keeps =
     let q = live_of before in
     let m : Memory = places_in other.regions in
     let ds = one.descriptors.items in
-    let walk = walks_law s i walks.0 old one before after (says.Chain head n r) there places limit goes tt walks.1 tt in
+    let walk = walks_law s i (calls_of walks.0 given) old one before after (says.Chain head n r) there places limit goes tt walks.1 tt in
     let loaded = walk.0 in
     let is = chain_is ds walk.2 head n r walk.3 in
     let came = step.Chain head None in
@@ -76,6 +82,15 @@ mapped_amid {F} may walks_law maps_law replies_law returns_law old one two other
           ∷ PushesChain d next_used.0 notice 0 next_used.1 next_used.2 ∷ [],
       s₄,
       (s₁, first, (s₂, mapped, (s₃, replied.0, (s₄, next_used.4, refl)))),
+      (
+        c,
+        s.options,
+        next_used.0,
+        next_used.1,
+        next_used.2,
+        popped_by s i given old one before after head n r ds loaded walks walk.1 (told_so ds (says.Chain head n r) walk.2 came walk.3 is),
+        refl,
+      ),
       refl,
       ap (λ (outs : List OutChain). outs ++ []) none,
       refl,

@@ -1,11 +1,12 @@
 //! Chains in flight at once, each with its handle, are a run beside a guest that writes.
 
-ghost use Rattle.std.specs.Prelude.{◌≡◌, ℕ, List, [], ◌∷◌, map, IsPermutation, None, Some, IfOk, slice_get};
+ghost use Rattle.std.specs.Prelude.{◌≡◌, ℕ, [], ◌∷◌, map, IsPermutation, None, Some, IfOk, slice_get};
 ghost use Rattle.fs_regions.specs.Places.{places_in};
 ghost use Rattle.fs_chain.specs.declared.state.ChainState.TheVariants as at;
 ghost use Rattle.fs_live.specs.Handles.{live_of};
-ghost use Rattle.fs_live.specs.Live.{LiveEvent, LiveRun, LiveState};
+ghost use Rattle.fs_live.specs.Live.{LiveRun, LiveState, OutChain};
 ghost use Rattle.fs_live.specs.Runs.{tickets_on};
+ghost use Rattle.worked_callers.specs.Events.{IsPoppedChain, pop_event};
 
 use crate::wholes::walk_chain;
 use fs_chain::{ChainError, ChainHandle, QueueState};
@@ -30,8 +31,12 @@ pub fn take_two<F: FileSystem>(
         → s.places ≡ places_in second.old.regions
         → s.limit ≡ first.old.limit
         → s.limit ≡ second.old.limit
-        → (es : List LiveEvent) × (next : LiveState F)
-        × LiveRun F.may s es next
+        → (c : OutChain) × (c' : OutChain) × (left : QueueState) × (next : LiveState F)
+        × IsPoppedChain s i given.now first.old queue.old None c
+        × IsPoppedChain s i more.now second.old left None c'
+        × (c.head ≡ heads.0)
+        × (c'.head ≡ heads.1)
+        × LiveRun F.may s (pop_event c None ∷ pop_event c' None ∷ []) next
         × IsPermutation (map (λ t. t.1) (tickets_on i next.outs)) (heads.0 ∷ heads.1 ∷ [])) }
 {
     law_handles::<F>();

@@ -11,6 +11,7 @@ ghost use Rattle.fs_chain.specs.declared.state.ChainState.TheVariants as at;
 ghost use Rattle.fs_live.specs.Handles.{IsReached, IsSessionOf, live_of};
 ghost use Rattle.fs_live.specs.Live.{LiveEvent, LiveRun, LiveState, calls_among};
 ghost use Rattle.worked_callers.specs.ChainCalls.{DecodesPopped};
+ghost use Rattle.worked_callers.specs.Events.{IsLostChain};
 
 use crate::listings::ask_call;
 use crate::wholes::walk_chain;
@@ -44,6 +45,7 @@ pub fn lose_asked<F: FileSystem>(
         × DecodesPopped given.now handle.old queue.old session request.now (asks.Call made) asked
         × ((es : List LiveEvent) × (end : LiveState F)
         × LiveRun F.may s es end
+        × IsLostChain s i given.now handle.old queue.old request.now [] es
         × (calls_among es ≡ [])
         × (slice_get end.queues i ≡ Some (live_of queue.new)))
         × ((answer : file.FileAnswer) (files : F)
@@ -51,6 +53,8 @@ pub fn lose_asked<F: FileSystem>(
         → F.may s.files (call_of (drop 80 request.now) made) answer files
         → (es : List LiveEvent) × (end : LiveState F)
         × LiveRun F.may s es end
+        × IsLostChain s i given.now handle.old queue.old request.now
+        ((call_of (drop 80 request.now) made, answer) ∷ []) es
         × (calls_among es ≡ (call_of (drop 80 request.now) made, answer) ∷ [])
         × (end.files ≡ files)
         × (slice_get end.queues i ≡ Some (live_of queue.new)))) }

@@ -1,11 +1,12 @@
 //! Other regions while a chain is in flight: the chain keeps the mappings of its own pop, and the next pops
 //! use the new regions.
 
-ghost use Rattle.std.specs.Prelude.{◌≡◌, ◌≤◌, ◌^◌, ℕ, [], IfOk, List, None, Some, slice_get};
+ghost use Rattle.std.specs.Prelude.{◌≡◌, ◌≤◌, ◌^◌, ℕ, [], ◌∷◌, IfOk, List, None, Some, slice_get};
 ghost use Rattle.fs_regions.specs.Places.{places_in};
 ghost use Rattle.fs_chain.specs.declared.state.ChainState.TheVariants as at;
 ghost use Rattle.fs_live.specs.Handles.{IsReached, live_of};
-ghost use Rattle.fs_live.specs.Live.{KeepsReturns, LiveEvent, LiveRun, LiveState, calls_among};
+ghost use Rattle.fs_live.specs.Live.{KeepsReturns, LiveEvent, LiveRun, LiveState, Remaps, calls_among};
+ghost use Rattle.worked_callers.specs.Events.{IsRepliedChain};
 
 use crate::others::give_own_back;
 use crate::wholes::walk_chain;
@@ -38,6 +39,8 @@ pub fn map_amid<F: FileSystem>(
         → KeepsReturns s.places (places_in second.new.regions) (live_of queue.old)
         → (es : List LiveEvent) × (end : LiveState F)
         × LiveRun F.may s es end
+        × IsRepliedChain s i given.now first.old queue.old (Remaps (places_in second.new.regions) ∷ [])
+        request.now bytes.now notice es
         × (calls_among es ≡ [])
         × (end.outs ≡ [])
         × (end.places ≡ places_in second.new.regions)) }

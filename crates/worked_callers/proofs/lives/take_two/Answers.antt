@@ -4,9 +4,11 @@ use Rattle.fs_regions.specs.declared.step.CourseStep as comes
 use Rattle.fs_regions.specs.declared.step.CourseStep.TheVariants as step
 use Rattle.fs_chain.specs.declared.popping.PopOutcome.TheVariants as says
 use Rattle.fs_live.specs.Handles.{live_of}
-use Rattle.fs_live.specs.Live.{Happens, LiveEvent, LiveRun, OutChain, EndsPop, after_pop}
+use Rattle.fs_live.specs.Live.{Happens, LiveEvent, LiveRun, OutChain, EndsPop, after_pop, new_chain}
 use Rattle.fs_live.specs.Runs.{events_on, tickets_on}
 use Rattle.fs_live.specs.Several.{InFlightId, heads_taken}
+use Rattle.worked_callers.specs.Notified.{calls_of}
+use Rattle.worked_callers.proofs.NamedEvents.{popped_by, told_so}
 use Rattle.worked_callers.proofs.TakenTwo.{goes_still, took_so, two_takes}
 use Rattle.worked_callers.proofs.lives.take_two.Goals as goal
 
@@ -23,17 +25,19 @@ returns g c =
     let more = c.walk_chain-2.new.handle.descriptors.items in
     record {
       out = λ s i none there places places' limit limit'.
-          let one = c.law_handles.ensures.walks s i first.walked.0 c.args.first.now c.walk_chain.new.handle before mid
+          let one = c.law_handles.ensures.walks s i (calls_of first.given.0 c.args.given.now) c.args.first.now c.walk_chain.new.handle
+          before mid
           (says.Chain head c.in_ok-head.field-0-1 c.in_ok-head.field-0-2)
-          there places limit c.requires.goes tt first.walked.1 tt in
+          there places limit c.requires.goes tt first.given.1 tt in
           let s₁ = after_pop s i (live_of before) one.0 ds one.2 in
           let took = took_so may s s₁ i one.0 ds one.2 head c.in_ok-head.field-0-1 c.in_ok-head.field-0-2 one.3 one.4 in
           let goes = goes_still c.args.first.now c.walk_chain.new.handle before mid head c.in_ok-head.field-0-1 c.in_ok-head.field-0-2
           c.requires.goes first.walked in
-          let two = c.law_handles.ensures.walks s₁ i second.walked.0 c.args.second.now c.walk_chain-2.new.handle mid
+          let two = c.law_handles.ensures.walks s₁ i (calls_of second.given.0 c.args.more.now) c.args.second.now c.walk_chain-2.new.handle
+          mid
           c.walk_chain-2.new.queue
           (says.Chain other c.in_ok-other.field-0-1 c.in_ok-other.field-0-2) one.5 (took.1 ∙ places') (took.2 ∙ limit') goes tt
-          second.walked.1 tt in
+          second.given.1 tt in
           let s₂ = after_pop s₁ i (live_of mid) two.0 more two.2 in
           let took' = took_so may s₁ s₂ i two.0 more two.2 other c.in_ok-other.field-0-1 c.in_ok-other.field-0-2 two.3 two.4 in
           let es : List LiveEvent = EndsPop i one.0 ds (step.Chain head None) ∷ EndsPop i two.0 more (step.Chain other None) ∷ [] in
@@ -45,8 +49,19 @@ returns g c =
           let once = c.law_runs.ensures.once s s₂ es i (live_of before) there (ap (λ (l : List OutChain). tickets_on i l) none)
           (tt, (tt, tt)) run in
           let heads = two_takes i head other one.0 two.0 ds more in (
-            es,
+            new_chain s i (live_of before) one.0 ds head None,
+            new_chain s i (live_of mid) two.0 more other None,
+            mid,
             s₂,
+            popped_by s i c.args.given.now c.args.first.now c.walk_chain.new.handle before mid head c.in_ok-head.field-0-1
+                c.in_ok-head.field-0-2 ds one.0 first.given one.1
+                (told_so ds (says.Chain head c.in_ok-head.field-0-1 c.in_ok-head.field-0-2) one.2 (step.Chain head None) one.3 took.0),
+            popped_by s i c.args.more.now c.args.second.now c.walk_chain-2.new.handle mid c.walk_chain-2.new.queue other
+                c.in_ok-other.field-0-1 c.in_ok-other.field-0-2 more two.0 second.given two.1
+                (told_so more (says.Chain other c.in_ok-other.field-0-1 c.in_ok-other.field-0-2) two.2 (step.Chain other None) two.3
+                took'.0),
+            refl,
+            refl,
             run,
             subst (λ (taken : List ℕ). IsPermutation (map (λ (t : InFlightId). t.1) (tickets_on i s₂.outs)) taken) heads.0
                 (subst (λ (back : List ℕ). IsPermutation (back ++ map (λ (t : InFlightId). t.1) (tickets_on i s₂.outs))

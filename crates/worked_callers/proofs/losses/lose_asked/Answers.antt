@@ -30,10 +30,10 @@ returns-in-Err g c =
     record {
       again = ap (λ (w : ChainHandle). w.state) c.in-Err.ensures.same ∙ c.abandon.ensures.0.3;
       run = λ s i reached there places limit small session.
-          let so = lost_asked may handles.walks handles.asks handles.abandons c.args.handle.now c.walk_chain.new.handle
+          let so = lost_asked may handles.walks handles.asks handles.abandons c.args.given.now c.args.handle.now c.walk_chain.new.handle
           c.ask_call.new.handle c.args.queue.now
           c.walk_chain.new.queue c.in_ok-request_len.field-0-0 c.in_ok-request_len.request_len c.in_ok-request_len.field-0-2 c.args.session
           c.args.request.now asked.0
-          c.requires.goes c.in_ok-request_len.ensures.walked asked.1 s i reached there places limit small session in
+          c.requires.goes c.in_ok-request_len.ensures.given asked.1 s i reached there places limit small session in
           (asked.0, c.ask_call.new.handle, decoded, so.0, so.1);
     }

@@ -22,8 +22,8 @@ returns g c =
     record {
       run = if_ok c.give_own_back.result _ _
           (λ notice back.
-          mapped_amid may handles.walks handles.maps handles.replies handles.returns_own old one c.reply.new.self c.set_memory.new.self
-          before after head n r _ c.args.request.now c.args.bytes.now
-          notice c.requires.goes walked taken c.in_ok-reply.ensures.ok c.in_ok-reply.ensures.kept back)
+          mapped_amid may handles.walks handles.maps handles.replies handles.returns_own c.args.given.now old one c.reply.new.self
+          c.set_memory.new.self before after head n r _ c.args.request.now c.args.bytes.now
+          notice c.requires.goes c.in_ok-request_len.ensures.given taken c.in_ok-reply.ensures.ok c.in_ok-reply.ensures.kept back)
           c.give_own_back.ensures.back;
     }
