@@ -1,6 +1,7 @@
 -- Two chains of one queue that are asked by two handles, and of which the second one is answered and goes back first.
 use Rattle.std.proofs.Common.{◌≡◌, ℕ, ◌≤◌, ◌^◌, Bool, List, [], ◌∷◌, ◌++◌, append-nil, append_assoc, Some, None, slice_get, refl, subst}
 use Rattle.std.proofs.Common.{sym, ap, ◌∙◌}
+use Rattle.std.specs.Borrow.{Bor}
 use Rattle.std.specs.Prelude.{drop, false}
 use Rattle.fs_regions.specs.Places.{places_in}
 use Rattle.fs_regions.specs.Walks.{queue_of}
@@ -11,7 +12,7 @@ use Rattle.virtiofsd_fuse.specs.Serving.{May}
 use Rattle.server_phases.specs.declared.session.Session.{Session}
 use Rattle.fs_chain.specs.Queues.{gave}
 use Rattle.fs_chain.specs.Walks.{course_of}
-use Rattle.fs_chain.specs.Whole.{ChainAnswer, GoesBackBy, HasReply, IsDecodedBy, IsWalked, data_behind, file_calls}
+use Rattle.fs_chain.specs.Whole.{ChainAnswer, GoesBackBy, HasReply, IsDecodedBy, data_behind, file_calls}
 use Rattle.fs_chain.specs.declared.decoding.Decoded as told
 use Rattle.fs_chain.specs.declared.loads.LoadOutcome.TheVariants as wents
 use Rattle.fs_chain.specs.declared.queue.QueueState.{QueueState}
@@ -27,6 +28,9 @@ use Rattle.fs_live.specs.Live.{after_push}
 use Rattle.fs_live.specs.Live.{after_pop, asked_chain, calls_among, new_chain, room_of}
 use Rattle.fs_live.specs.Several.{LiveQueue, took}
 use Rattle.fs_live.proofs.Queues.{same_some, there_same}
+use Rattle.worked_callers.specs.Events.{AreCrossedChains, answer_events}
+use Rattle.worked_callers.specs.Notified.{IsWalkedBy, calls_of}
+use Rattle.worked_callers.proofs.NamedEvents.{popped_by, told_so}
 use Rattle.worked_callers.proofs.TakenTwo.{goes_still}
 use Rattle.worked_callers.proofs.ServedBeside.{answered_all, calls_of_both, chain_is, each_suits, kept_on, reached_by, taken_of}
 use Rattle.worked_callers.proofs.ServedBeside.{told_with_reply}
@@ -43,11 +47,11 @@ late_of before mid after goes one two =
     taken_of before mid goes one ∙ ap (λ (k : LiveQueue). record (k.queue) { position = before.next_avail; stopped = false }) two
 
 module _ {F : Type 0} (may : May F) (walks_law : HandleEndsPop may) (asks_law : HandleDecodesRequest may) (calls_law : HandleCalls may)
-    (returns_law : HandlePushesChain may) (old one one₂ one₃ old' two two₂ two₃ : ChainHandle)
+    (returns_law : HandlePushesChain may) (bytes bytes' : List (Bor (List ℕ))) (old one one₂ one₃ old' two two₂ two₃ : ChainHandle)
     (before mid after : QueueState) (head n r head' n' r' : ℕ) (session session' : Session) (request request' : List ℕ)
     (made made' : told.Decoded) (given given' : ChainAnswer) (notice notice' : Bool)
-    (goes : before.stopped ≡ None) (walks : IsWalked old one before mid (wents.On (says.Chain head n r)))
-    (walks' : IsWalked old' two mid after (wents.On (says.Chain head' n' r')))
+    (goes : before.stopped ≡ None) (walks : IsWalkedBy bytes old one before mid (wents.On (says.Chain head n r)))
+    (walks' : IsWalkedBy bytes' old' two mid after (wents.On (says.Chain head' n' r')))
     (asked : IsDecodedBy one session request request made one₂) (asked' : IsDecodedBy two session' request' request' made' two₂)
     (has : HasReply made one₂ given one₃) (has' : HasReply made' two₂ given' two₃)
     (back : (room behind : List ℕ) → (acts : List Act) × (last : ℕ) × GoesBackBy (gave after) room behind one₃.state acts last notice)
@@ -62,13 +66,15 @@ module _ {F : Type 0} (may : May F) (walks_law : HandleEndsPop may) (asks_law : 
       → s.places ≡ places_in old.regions → s.places ≡ places_in old'.regions
       → s.limit ≡ old.limit → s.limit ≡ old'.limit → s.limit ≤ 2 ^ 31 → IsSessionOf s session → IsSessionOf s session'
       → FileRun may s.files early between → FileRun may between late files
-      → (es : List LiveEvent) × (end : LiveState F) × LiveRun may s es end × (calls_among es ≡ early ++ late) × (end.outs ≡ s.outs)
+      → (es : List LiveEvent) × (end : LiveState F) × LiveRun may s es end
+      × AreCrossedChains s i bytes bytes' old old' before mid request request' late early notice notice' es
+      × (calls_among es ≡ early ++ late) × (end.outs ≡ s.outs)
   served_crossed s i between files reached there places places' limit limit' small in_session in_session' run' run =
       let q = live_of before in
       let q' = live_of mid in
       let ds = one.descriptors.items in
       let ds' = two.descriptors.items in
-      let walk = walks_law s i walks.0 old one before mid (says.Chain head n r) there places limit goes tt walks.1 tt in
+      let walk = walks_law s i (calls_of walks.0 bytes) old one before mid (says.Chain head n r) there places limit goes tt walks.1 tt in
       let is = chain_is ds walk.2 head n r walk.3 in
       let came = step.Chain head None in
       let c : OutChain = new_chain s i q walk.0 ds head None in
@@ -78,8 +84,9 @@ module _ {F : Type 0} (may : May F) (walks_law : HandleEndsPop may) (asks_law : 
       let there₁ : slice_get s₁.queues i ≡ Some q' =
       subst (λ (k : comes.CourseStep). slice_get (after_pop s i q walk.0 ds k).queues i ≡ Some q') is walk.5 in
       let held : IsOut s.limit c one = subst (λ (k : comes.CourseStep). IsHeld s i q walk.0 k one) is walk.6 in
-      let goes' : mid.stopped ≡ None = goes_still old one before mid head n r goes walks in
-      let walk' = walks_law s₁ i walks'.0 old' two mid after (says.Chain head' n' r') there₁ places' limit' goes' tt walks'.1 tt in
+      let goes' : mid.stopped ≡ None = goes_still old one before mid head n r goes (calls_of walks.0 bytes, walks.1) in
+      let walk' = walks_law s₁ i (calls_of walks'.0 bytes') old' two mid after (says.Chain head' n' r')
+      there₁ places' limit' goes' tt walks'.1 tt in
       let is' = chain_is ds' walk'.2 head' n' r' walk'.3 in
       let came' = step.Chain head' None in
       let c' : OutChain = new_chain s₁ i q' walk'.0 ds' head' None in
@@ -157,6 +164,29 @@ module _ {F : Type 0} (may : May F) (walks_law : HandleEndsPop may) (asks_law : 
               ),
             ),
           ),
+        ),
+        (
+          c,
+          calls_told (drop 80 request) made,
+          next_used.0,
+          goes_back.1,
+          next_used.1,
+          next_used.2,
+          c',
+          calls_told (drop 80 request') made',
+          returned'.0,
+          goes_back'.1,
+          returned'.1,
+          returned'.2,
+          popped_by s i bytes old one before mid head n r ds walk.0 walks walk.1 (told_so ds (says.Chain head n r) walk.2 came walk.3 is),
+          popped_by s i bytes' old' two mid after head' n' r' ds' walk'.0 walks' walk'.1
+              (told_so ds' (says.Chain head' n' r') walk'.2 came' walk'.3 is'),
+          ap
+              (λ (l : List LiveEvent). EndsPop i walk.0 ds came ∷ EndsPop i walk'.0 ds' came' ∷ asks ∷ asks' ∷ (l ++ last' ∷ ends))
+              ans'.es_are
+              ∙ ap
+              (λ (l : List LiveEvent). EndsPop i walk.0 ds came ∷ EndsPop i walk'.0 ds' came' ∷ asks ∷ asks'
+              ∷ (answer_events c' request' s.options [] early ++ last' ∷ (l ++ last ∷ []))) ans.es_are,
         ),
         calls_of_both ans'.es (last' ∷ ends) ∙ ap (λ (l : Calls). l ++ calls_among ends) ans'.calls
             ∙ ap (λ (l : Calls). early ++ l) (calls_of_both ans.es (last ∷ []) ∙ append-nil (calls_among ans.es) ∙ ans.calls),

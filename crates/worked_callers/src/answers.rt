@@ -15,6 +15,7 @@ ghost use Rattle.plain_machine.specs.Step.{Calls};
 ghost use Rattle.fs_live.specs.Handles.{IsReached, IsSessionOf, live_of};
 ghost use Rattle.fs_live.specs.Live.{LiveEvent, LiveRun, LiveState, calls_among};
 ghost use Rattle.worked_callers.specs.ChainCalls.{AreCallsBy, both_entries, with_data};
+ghost use Rattle.worked_callers.specs.Events.{IsServedChain};
 
 use crate::listings::{Pair, ask_call, list_two};
 use crate::wholes::{give_back, walk_chain};
@@ -65,6 +66,7 @@ pub fn read_beside<F: FileSystem>(
         × (FileRun F.may s.files calls files
         → (es : List LiveEvent) × (end : LiveState F)
         × LiveRun F.may s es end
+        × IsServedChain s i given.now handle.old queue.old request.now calls notice es
         × (calls_among es ≡ calls)
         × (end.outs ≡ s.outs)))) }
 {
@@ -107,6 +109,7 @@ pub fn list_beside<F: FileSystem>(
         × (FileRun F.may s.files calls files
         → (es : List LiveEvent) × (end : LiveState F)
         × LiveRun F.may s es end
+        × IsServedChain s i given.now handle.old queue.old request.now calls notice es
         × (calls_among es ≡ calls)
         × (end.outs ≡ s.outs)))) }
 {

@@ -12,6 +12,7 @@ ghost use Rattle.plain_machine.specs.Step.{Calls};
 ghost use Rattle.fs_live.specs.Handles.{IsReached, IsSessionOf, live_of};
 ghost use Rattle.fs_live.specs.Live.{LiveEvent, LiveRun, LiveState, calls_among};
 ghost use Rattle.worked_callers.specs.ChainCalls.{AreCallsBy, with_data};
+ghost use Rattle.worked_callers.specs.Events.{AreCrossedChains};
 
 use crate::answers::give_data;
 use crate::listings::ask_call;
@@ -68,6 +69,8 @@ pub fn serve_crossed<F: FileSystem>(
         → FileRun F.may between late files
         → (es : List LiveEvent) × (end : LiveState F)
         × LiveRun F.may s es end
+        × AreCrossedChains s i one.now.given.now two.now.given.now first.old second.old queue.old
+        of_one.decoded.after one.now.request.now two.now.request.now late early notices.1 notices.0 es
         × (calls_among es ≡ early ++ late)
         × (end.outs ≡ s.outs)))) }
 {

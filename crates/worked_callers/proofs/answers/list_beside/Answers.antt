@@ -1,12 +1,15 @@
 use Rattle.std.proofs.Common.{◌≡◌, List, true, length, take, refl, ◌∙◌, arith}
+use Rattle.std.specs.Prelude.{drop}
 use Rattle.std.proofs.lemmas.Bool.Decides.{nat_tests}
 use Rattle.server_phases.specs.Gathering.{Brought}
-use Rattle.fs_chain.specs.Whole.{ByEntries, ChainAnswer}
+use Rattle.fs_chain.specs.Whole.{ByEntries, ChainAnswer, file_calls}
 use Rattle.fs_chain.specs.WholeListings.{EndsThere}
 use Rattle.fs_chain.specs.declared.decoding.Decoded.TheVariants as asks
 use Rattle.worked_callers.specs.ChainCalls.{both_entries}
+use Rattle.worked_callers.specs.Notified.{calls_of}
 use Rattle.worked_callers.proofs.CalledBy.{calls_by}
 use Rattle.worked_callers.proofs.CallsSuit.{listed_suits}
+use Rattle.worked_callers.proofs.NamedEvents.{served_named}
 use Rattle.worked_callers.proofs.Served.{if_ok, more_taken, taken_so}
 use Rattle.worked_callers.proofs.ServedBeside.{served_beside}
 use Rattle.worked_callers.proofs.answers.list_beside.Goals as goal
@@ -31,6 +34,7 @@ returns g c =
     let one = c.walk_chain.new.handle in
     let two = c.ask_call.new.handle in
     let three = c.list_two.new.handle in
+    let walks = c.in_ok-request_len.ensures.given in
     let request = c.args.request.now in
     let call = c.in_ok-ask_call.ensures.asked in
     let told = c.in_ok-_len.ensures in
@@ -54,9 +58,17 @@ returns g c =
                   c.args.queue.now c.walk_chain.new.queue c.in_ok-request_len.field-0-0 c.in_ok-request_len.request_len
                   c.in_ok-request_len.field-0-2
                   c.args.session request (asks.Call call.0) answer notice c.requires.goes
-                  c.in_ok-request_len.ensures.walked refl
-                  call.1 told.lists back s i files reached there places limit small session files_run in
-                  (so.es, so.end, so.run, so.calls_are, so.outs),
+                  (calls_of walks.0 c.args.given.now, walks.1) refl
+                  call.1 told.lists back s i files reached there places limit small session files_run in (
+                    so.es,
+                    so.end,
+                    so.run,
+                    served_named may s i c.args.given.now old one c.args.queue.now c.walk_chain.new.queue c.in_ok-request_len.field-0-0
+                        c.in_ok-request_len.request_len c.in_ok-request_len.field-0-2 walks request
+                        (file_calls (drop 80 request) (asks.Call call.0) answer) notice so,
+                    so.calls_are,
+                    so.outs,
+                  ),
             ),
           ))
           c.give_back.ensures.back;

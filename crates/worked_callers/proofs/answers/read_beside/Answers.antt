@@ -1,15 +1,17 @@
 use Rattle.std.proofs.Common.{◌≡◌, length, refl, ◌∙◌, arith}
-use Rattle.std.specs.Prelude.{map}
+use Rattle.std.specs.Prelude.{drop, map}
 use Rattle.std.proofs.lemmas.Bool.Decides.{nat_tests}
 use Rattle.fuse_fs.specs.Calls.{Done, FileCall}
 use Rattle.fuse_values.specs.declared.answer.FileAnswer.TheVariants as value
 use Rattle.server_phases.specs.Answering.{forget_if_any}
 use Rattle.plain_machine.specs.Step.{Calls}
-use Rattle.fs_chain.specs.Whole.{ChainAnswer}
+use Rattle.fs_chain.specs.Whole.{ChainAnswer, file_calls}
 use Rattle.fs_chain.specs.declared.decoding.Decoded.TheVariants as asks
 use Rattle.worked_callers.specs.ChainCalls.{with_data}
+use Rattle.worked_callers.specs.Notified.{calls_of}
 use Rattle.worked_callers.proofs.CalledBy.{calls_by}
 use Rattle.worked_callers.proofs.CallsSuit.{answered_suits}
+use Rattle.worked_callers.proofs.NamedEvents.{served_named}
 use Rattle.worked_callers.proofs.Served.{if_ok, more_taken, taken_so}
 use Rattle.worked_callers.proofs.ServedBeside.{served_beside}
 use Rattle.worked_callers.proofs.answers.read_beside.Goals as goal
@@ -34,6 +36,7 @@ returns g c =
     let one = c.walk_chain.new.handle in
     let two = c.ask_call.new.handle in
     let three = c.give_data.new.handle in
+    let walks = c.in_ok-request_len.ensures.given in
     let request = c.args.request.now in
     let bytes = c.args.bytes.now in
     let call = c.in_ok-ask_call.ensures.asked in
@@ -58,9 +61,17 @@ returns g c =
                   c.args.queue.now c.walk_chain.new.queue c.in_ok-request_len.field-0-0 c.in_ok-request_len.request_len
                   c.in_ok-request_len.field-0-2
                   c.args.session request (asks.Call call.0) answer notice c.requires.goes
-                  c.in_ok-request_len.ensures.walked refl
-                  call.1 told.1 back s i files reached there places limit small session files_run in
-                  (so.es, so.end, so.run, so.calls_are, so.outs),
+                  (calls_of walks.0 c.args.given.now, walks.1) refl
+                  call.1 told.1 back s i files reached there places limit small session files_run in (
+                    so.es,
+                    so.end,
+                    so.run,
+                    served_named may s i c.args.given.now old one c.args.queue.now c.walk_chain.new.queue c.in_ok-request_len.field-0-0
+                        c.in_ok-request_len.request_len c.in_ok-request_len.field-0-2 walks request
+                        (file_calls (drop 80 request) (asks.Call call.0) answer) notice so,
+                    so.calls_are,
+                    so.outs,
+                  ),
             ),
           ))
           c.give_back.ensures.back;

@@ -96,14 +96,15 @@ returns g c =
           of_one,
           of_two,
           λ between files early_run late_run.
-              served_crossed may handles.walks handles.asks handles.calls handles.returns old popped asked replied
+              served_crossed may handles.walks handles.asks handles.calls handles.returns c.args.one.now.given.now
+              c.args.two.now.given.now old popped asked replied
               old' popped' asked' replied' before mid after
               c.in_ok-first_len.field-0-0 c.in_ok-first_len.first_len c.in_ok-first_len.field-0-2 c.in_ok-second_len.field-0-0
               c.in_ok-second_len.second_len c.in_ok-second_len.field-0-2
               session session' request request' (asks.Call call.0) (asks.Call call'.0)
               answer answer' c.in_ok-late.late c.in_ok-early.early c.requires.goes
-              c.in_ok-first_len.ensures.walked
-              c.in_ok-second_len.ensures.walked call.1 call'.1 told.1 told'.1
+              c.in_ok-first_len.ensures.given
+              c.in_ok-second_len.ensures.given call.1 call'.1 told.1 told'.1
               (subst (λ (k : QueueState). (room behind : List ℕ) →
               (acts : List Act) × (last : ℕ) × GoesBackBy k room behind st acts last c.in_ok-late.late) c.in_ok-early.ensures.queue
               c.in_ok-late.ensures.back) c.in_ok-early.ensures.back s i between files reached there places places' limit limit' small
