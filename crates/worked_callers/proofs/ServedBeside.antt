@@ -359,15 +359,16 @@ sleep_is {F} may q wanted (Some store) law stores is = λ s i there place.
 -- a faulty chain that is walked and goes back
 pub faulty_beside : {F : Type 0} (may : May F) (walks_law : HandleEndsPop may) (faulty_law : HandleFaulty may)
     (given : List (Bor (List ℕ))) (old one later : ChainHandle)
-    (before after : QueueState) (head : ℕ) (fault : ChainFault)
+    (before after final : QueueState) (head : ℕ) (fault : ChainFault)
     (notice : Bool) → before.stopped ≡ None → IsWalkedBy given old one before after (wents.On (says.Faulty head fault))
     → later.state ≡ one.state
     → ((room behind : List ℕ) → (acts : List Act) × (last : ℕ) × GoesBackBy after room behind later.state acts last notice)
-    → (s : LiveState F) (i : ℕ) → slice_get s.queues i ≡ Some (live_of before)
+    → final ≡ gave after → (s : LiveState F) (i : ℕ) → slice_get s.queues i ≡ Some (live_of before)
     → s.places ≡ places_in old.regions → s.limit ≡ old.limit
     → (es : List LiveEvent) × (end : LiveState F) × LiveRun may s es end × IsFaultyChain s i given old before notice es
-    × (calls_among es ≡ []) × (end.outs ≡ s.outs)
-faulty_beside {F} may walks_law faulty_law given old one later before after head fault notice goes walks same back s i there places limit =
+    × (calls_among es ≡ []) × (end.outs ≡ s.outs) × (slice_get end.queues i ≡ Some (live_of final))
+faulty_beside {F} may walks_law faulty_law given old one later before after final head fault notice goes walks same back final_is s i there
+    places limit =
     let q = live_of before in
     let ds = one.descriptors.items in
     let called = calls_of walks.0 given in
@@ -403,4 +404,5 @@ faulty_beside {F} may walks_law faulty_law given old one later before after head
       ),
       refl,
       append-nil s.outs,
+      next_used.5 ∙ ap (λ (q : QueueState). Some (live_of q)) (sym final_is),
     )

@@ -62,14 +62,16 @@ module _ {F : Type 0} (may : May F) (walks_law : HandleEndsPop may) (asks_law : 
   abbrev early : Calls
   early = file_calls (drop 80 request') made' given'
 
-  pub served_crossed : (s : LiveState F) (i : ℕ) (between files : F) → IsReached may s → slice_get s.queues i ≡ Some (live_of before)
+  pub served_crossed : (final : QueueState) → final ≡ gave (gave after) → (s : LiveState F) (i : ℕ) (between files : F)
+      → IsReached may s → slice_get s.queues i ≡ Some (live_of before)
       → s.places ≡ places_in old.regions → s.places ≡ places_in old'.regions
       → s.limit ≡ old.limit → s.limit ≡ old'.limit → s.limit ≤ 2 ^ 31 → IsSessionOf s session → IsSessionOf s session'
       → FileRun may s.files early between → FileRun may between late files
       → (es : List LiveEvent) × (end : LiveState F) × LiveRun may s es end
       × AreCrossedChains s i bytes bytes' old old' before mid request request' late early notice notice' es
       × (calls_among es ≡ early ++ late) × (end.outs ≡ s.outs)
-  served_crossed s i between files reached there places places' limit limit' small in_session in_session' run' run =
+      × (slice_get end.queues i ≡ Some (live_of final))
+  served_crossed final final_is s i between files reached there places places' limit limit' small in_session in_session' run' run =
       let q = live_of before in
       let q' = live_of mid in
       let ds = one.descriptors.items in
@@ -191,4 +193,5 @@ module _ {F : Type 0} (may : May F) (walks_law : HandleEndsPop may) (asks_law : 
         calls_of_both ans'.es (last' ∷ ends) ∙ ap (λ (l : Calls). l ++ calls_among ends) ans'.calls
             ∙ ap (λ (l : Calls). early ++ l) (calls_of_both ans.es (last ∷ []) ∙ append-nil (calls_among ans.es) ∙ ans.calls),
         append-nil s.outs,
+        next_used.5 ∙ ap (λ (q : QueueState). Some (live_of q)) (sym final_is),
       )

@@ -68,7 +68,8 @@ pub fn read_beside<F: FileSystem>(
         × LiveRun F.may s es end
         × IsServedChain s i given.now handle.old queue.old request.now calls notice es
         × (calls_among es ≡ calls)
-        × (end.outs ≡ s.outs)))) }
+        × (end.outs ≡ s.outs)
+        × (slice_get end.queues i ≡ Some (live_of queue.new))))) }
 {
     law_handles::<F>();
     let (_, request_len, _) = walk_chain(handle, queue, given)?;
@@ -111,7 +112,8 @@ pub fn list_beside<F: FileSystem>(
         × LiveRun F.may s es end
         × IsServedChain s i given.now handle.old queue.old request.now calls notice es
         × (calls_among es ≡ calls)
-        × (end.outs ≡ s.outs)))) }
+        × (end.outs ≡ s.outs)
+        × (slice_get end.queues i ≡ Some (live_of queue.new))))) }
 {
     law_handles::<F>();
     let (_, request_len, _) = walk_chain(handle, queue, given)?;

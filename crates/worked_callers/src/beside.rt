@@ -65,6 +65,7 @@ pub fn serve_beside<F: FileSystem>(
         × IsServedChain s i given.now handle.old queue.old request.now calls notice es
         × (calls_among es ≡ calls)
         × (end.outs ≡ s.outs)
+        × (slice_get end.queues i ≡ Some (live_of queue.new))
         × FileRun F.may s.files (calls_among es) end.files
         × EachStoresThere F.may s es end run
         × UsedFrom (going (live_of queue.old)) (returns_among (events_on i es))
@@ -214,7 +215,8 @@ pub fn give_faulty_beside<F: FileSystem>(
         × LiveRun F.may s es end
         × IsFaultyChain s i given.now handle.old queue.old notice es
         × (calls_among es ≡ [])
-        × (end.outs ≡ s.outs)) }
+        × (end.outs ≡ s.outs)
+        × (slice_get end.queues i ≡ Some (live_of queue.new))) }
 {
     law_handles::<F>();
     let (_, _fault) = take_faulty(handle, queue, given)?;

@@ -72,7 +72,8 @@ pub fn serve_crossed<F: FileSystem>(
         × AreCrossedChains s i one.now.given.now two.now.given.now first.old second.old queue.old
         of_one.decoded.after one.now.request.now two.now.request.now late early notices.1 notices.0 es
         × (calls_among es ≡ early ++ late)
-        × (end.outs ≡ s.outs)))) }
+        × (end.outs ≡ s.outs)
+        × (slice_get end.queues i ≡ Some (live_of queue.new))))) }
 {
     law_handles::<F>();
     let (of_first, of_second) = sessions;

@@ -70,7 +70,8 @@ pub fn serve_lent<F: FileSystem>(
         × LiveRun F.may s es end
         × IsServedChain s i given.now handle.old queue.old request.now calls notice es
         × (calls_among es ≡ calls)
-        × (end.outs ≡ s.outs))) }
+        × (end.outs ≡ s.outs)
+        × (slice_get end.queues i ≡ Some (live_of queue.new)))) }
 {
     law_handles::<F>();
     let (_, request_len, _) = walk_chain(handle, queue, given)?;
@@ -123,7 +124,8 @@ pub fn give_faulty_lent<F: FileSystem>(
         × LiveRun F.may s es end
         × IsFaultyChain s i given.now handle.old queue.old notice es
         × (calls_among es ≡ [])
-        × (end.outs ≡ s.outs)) }
+        × (end.outs ≡ s.outs)
+        × (slice_get end.queues i ≡ Some (live_of queue.new))) }
 {
     law_handles::<F>();
     let (_, _fault) = take_faulty(handle, queue, given)?;

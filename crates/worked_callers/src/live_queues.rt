@@ -8,7 +8,7 @@ ghost use Rattle.plain_machine.specs.Step.{Calls, Exchanged, Step};
 ghost use Rattle.plain_machine.specs.StepBy.{after_stores, stores_among};
 ghost use Rattle.server_phases.specs.Answering.{TellsBytes};
 ghost use Rattle.fs_chain.specs.declared.state.ChainState.TheVariants as at;
-ghost use Rattle.fs_live.specs.Handles.{IsSessionOf};
+ghost use Rattle.fs_live.specs.Handles.{IsSessionOf, live_of};
 ghost use Rattle.fs_live.specs.Live.{LiveRun, LiveState, event_acts};
 ghost use Rattle.fs_live.specs.Overlap.{at_positions, state};
 ghost use Rattle.fs_live.specs.Serial.{FoundIn, IsAtRest, SerialRun, Single, events_in, plain, return_in};
@@ -87,6 +87,7 @@ pub fn serve_single<F: FileSystem>(
         → (r : Single) × (end : LiveState F)
         × LiveRun F.may s (events_in r) end
         × IsServedChain s i given.now handle.old queue.old request.now calls notice (events_in r)
+        × (slice_get end.queues i ≡ Some (live_of queue.new))
         × ((m : Memory)
         → FoundIn m s r
         → Step F.may (plain s m) i calls (Exchanged r.exchange r.notice)

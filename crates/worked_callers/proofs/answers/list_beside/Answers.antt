@@ -1,16 +1,18 @@
-use Rattle.std.proofs.Common.{◌≡◌, List, true, length, take, refl, ◌∙◌, arith}
+use Rattle.std.proofs.Common.{◌≡◌, List, true, length, take, Some, refl, sym, ap, ◌∙◌, arith}
 use Rattle.std.specs.Prelude.{drop}
 use Rattle.std.proofs.lemmas.Bool.Decides.{nat_tests}
 use Rattle.server_phases.specs.Gathering.{Brought}
 use Rattle.fs_chain.specs.Whole.{ByEntries, ChainAnswer, file_calls}
 use Rattle.fs_chain.specs.WholeListings.{EndsThere}
 use Rattle.fs_chain.specs.declared.decoding.Decoded.TheVariants as asks
+use Rattle.fs_chain.specs.declared.queue.QueueState.{QueueState}
+use Rattle.fs_live.specs.Handles.{live_of}
 use Rattle.worked_callers.specs.ChainCalls.{both_entries}
 use Rattle.worked_callers.specs.Notified.{calls_of}
 use Rattle.worked_callers.proofs.CalledBy.{calls_by}
 use Rattle.worked_callers.proofs.CallsSuit.{listed_suits}
 use Rattle.worked_callers.proofs.NamedEvents.{served_named}
-use Rattle.worked_callers.proofs.Served.{if_ok, more_taken, taken_so}
+use Rattle.worked_callers.proofs.Served.{if_ok_so, more_taken, taken_so}
 use Rattle.worked_callers.proofs.ServedBeside.{served_beside}
 use Rattle.worked_callers.proofs.answers.list_beside.Goals as goal
 
@@ -47,8 +49,8 @@ returns g c =
     c.in_ok-request_len.request_len c.in_ok-request_len.field-0-2 c.args.session request (asks.Call call.0) answer
     c.in_ok-request_len.ensures.given call.1 told.lists suit in
     record {
-      run = if_ok c.give_back.result _ _
-          (λ notice back s i files reached there places limit small session. (
+      run = if_ok_so c.give_back.result _ _ _
+          (λ notice back final_is s i files reached there places limit small session. (
             call.0,
             c.in_ok-_len._len,
             (
@@ -68,8 +70,9 @@ returns g c =
                         (file_calls (drop 80 request) (asks.Call call.0) answer) notice so,
                     so.calls_are,
                     so.outs,
+                    so.there ∙ ap (λ (q : QueueState). Some (live_of q)) (sym final_is),
                   ),
             ),
           ))
-          c.give_back.ensures.back;
+          c.give_back.ensures.back c.give_back.ensures.queue;
     }

@@ -1,4 +1,4 @@
-use Rattle.std.proofs.Common.{◌≡◌, length, refl, ◌∙◌, arith}
+use Rattle.std.proofs.Common.{◌≡◌, length, Some, refl, sym, ap, ◌∙◌, arith}
 use Rattle.std.specs.Prelude.{drop, map}
 use Rattle.std.proofs.lemmas.Bool.Decides.{nat_tests}
 use Rattle.fuse_fs.specs.Calls.{Done, FileCall}
@@ -7,12 +7,14 @@ use Rattle.server_phases.specs.Answering.{forget_if_any}
 use Rattle.plain_machine.specs.Step.{Calls}
 use Rattle.fs_chain.specs.Whole.{ChainAnswer, file_calls}
 use Rattle.fs_chain.specs.declared.decoding.Decoded.TheVariants as asks
+use Rattle.fs_chain.specs.declared.queue.QueueState.{QueueState}
+use Rattle.fs_live.specs.Handles.{live_of}
 use Rattle.worked_callers.specs.ChainCalls.{with_data}
 use Rattle.worked_callers.specs.Notified.{calls_of}
 use Rattle.worked_callers.proofs.CalledBy.{calls_by}
 use Rattle.worked_callers.proofs.CallsSuit.{answered_suits}
 use Rattle.worked_callers.proofs.NamedEvents.{served_named}
-use Rattle.worked_callers.proofs.Served.{if_ok, more_taken, taken_so}
+use Rattle.worked_callers.proofs.Served.{if_ok_so, more_taken, taken_so}
 use Rattle.worked_callers.proofs.ServedBeside.{served_beside}
 use Rattle.worked_callers.proofs.answers.read_beside.Goals as goal
 
@@ -49,8 +51,8 @@ returns g c =
     c.in_ok-request_len.request_len c.in_ok-request_len.field-0-2 c.args.session request (asks.Call call.0) answer
     c.in_ok-request_len.ensures.given call.1 told.1 suit in
     record {
-      run = if_ok c.give_back.result _ _
-          (λ notice back s i files reached there places limit small session. (
+      run = if_ok_so c.give_back.result _ _ _
+          (λ notice back final_is s i files reached there places limit small session. (
             call.0,
             told.0,
             more,
@@ -71,8 +73,9 @@ returns g c =
                         (file_calls (drop 80 request) (asks.Call call.0) answer) notice so,
                     so.calls_are,
                     so.outs,
+                    so.there ∙ ap (λ (q : QueueState). Some (live_of q)) (sym final_is),
                   ),
             ),
           ))
-          c.give_back.ensures.back;
+          c.give_back.ensures.back c.give_back.ensures.queue;
     }

@@ -1,5 +1,5 @@
 use Rattle.std.proofs.Common.{refl}
-use Rattle.worked_callers.proofs.Served.{if_ok}
+use Rattle.worked_callers.proofs.Served.{if_ok_so}
 use Rattle.worked_callers.proofs.ServedBeside.{faulty_beside}
 use Rattle.worked_callers.proofs.beside.give_faulty_beside.Goals as goal
 
@@ -8,10 +8,10 @@ returns g c =
     let handles = c.law_handles.ensures in
     let walked = c.in_ok-_fault.ensures in
     record {
-      run = if_ok c.give_back.result _ _
-          (λ notice back.
+      run = if_ok_so c.give_back.result _ _ _
+          (λ notice back final_is.
           faulty_beside g.F.FileSystemBase.may handles.walks handles.faulty c.args.given.now c.args.handle.now c.take_faulty.new.handle
-          c.take_faulty.new.handle c.args.queue.now c.take_faulty.new.queue
-          c.in_ok-_fault.field-0-0 c.in_ok-_fault._fault notice c.requires.goes walked.given refl back)
-          c.give_back.ensures.back;
+          c.take_faulty.new.handle c.args.queue.now c.take_faulty.new.queue c.give_back.new.queue
+          c.in_ok-_fault.field-0-0 c.in_ok-_fault._fault notice c.requires.goes walked.given refl back final_is)
+          c.give_back.ensures.back c.give_back.ensures.queue;
     }

@@ -1,12 +1,13 @@
-use Rattle.std.proofs.Common.{◌≡◌, length, refl, ◌∙◌, arith}
+use Rattle.std.proofs.Common.{◌≡◌, Some, length, refl, sym, ap, ◌∙◌, arith}
 use Rattle.std.specs.Prelude.{drop}
 use Rattle.std.proofs.lemmas.Bool.Decides.{nat_tests}
 use Rattle.fs_chain.specs.Whole.{file_calls}
+use Rattle.fs_chain.specs.declared.queue.QueueState.{QueueState}
 use Rattle.fs_live.specs.Handles.{live_of}
 use Rattle.worked_callers.specs.Notified.{calls_of}
 use Rattle.worked_callers.proofs.CalledBy.{calls_of_answer}
 use Rattle.worked_callers.proofs.NamedEvents.{served_named}
-use Rattle.worked_callers.proofs.Served.{if_ok, more_taken, taken_so}
+use Rattle.worked_callers.proofs.Served.{if_ok_so, more_taken, taken_so}
 use Rattle.worked_callers.proofs.ServedBeside.{served_beside}
 use Rattle.worked_callers.proofs.beside.serve_beside.Goals as goal
 
@@ -34,8 +35,8 @@ returns g c =
     let request = c.args.request.now in
     let calls = file_calls (drop 80 request) replied.0 replied.2 in
     record {
-      run = if_ok c.give_back.result _ _
-          (λ notice back s i files reached there places limit small session. (
+      run = if_ok_so c.give_back.result _ _ _
+          (λ notice back final_is s i files reached there places limit small session. (
             calls,
             calls_of_answer c.args.given.now old one replied.1 c.reply.new.handle before after c.in_ok-request_len.field-0-0
                 c.in_ok-request_len.request_len c.in_ok-request_len.field-0-2 c.args.session request c.args.answer replied.0 replied.2
@@ -53,11 +54,12 @@ returns g c =
                       c.in_ok-request_len.field-0-2 walks request calls notice so,
                   so.calls_are,
                   so.outs,
+                  so.there ∙ ap (λ (q : QueueState). Some (live_of q)) (sym final_is),
                   runs.calls s so.end so.es so.run,
                   runs.stores s so.end so.es so.run,
                   runs.used s so.end so.es i (live_of before) there so.anew so.run,
                   runs.queue s so.end so.es i (live_of before) there so.anew so.run,
                 ),
           ))
-          c.give_back.ensures.back;
+          c.give_back.ensures.back c.give_back.ensures.queue;
     }

@@ -1,4 +1,4 @@
-use Rattle.std.proofs.Common.{◌≡◌, ℕ, List, length, subst, ◌∙◌, arith}
+use Rattle.std.proofs.Common.{◌≡◌, ℕ, List, length, subst, ap, ◌∙◌, arith}
 use Rattle.std.specs.Prelude.{map}
 use Rattle.std.proofs.lemmas.Bool.Decides.{nat_tests}
 use Rattle.fuse_fs.specs.Calls.{Done, FileCall}
@@ -6,6 +6,7 @@ use Rattle.fuse_values.specs.declared.answer.FileAnswer.TheVariants as value
 use Rattle.server_phases.specs.Answering.{forget_if_any}
 use Rattle.plain_machine.specs.Step.{Calls}
 use Rattle.plain_machine.specs.StepBy.{Act}
+use Rattle.fs_chain.specs.Queues.{gave}
 use Rattle.fs_chain.specs.Whole.{ChainAnswer, GoesBackBy}
 use Rattle.fs_chain.specs.declared.decoding.Decoded.TheVariants as asks
 use Rattle.fs_chain.specs.declared.queue.QueueState.{QueueState}
@@ -107,7 +108,9 @@ returns g c =
               c.in_ok-second_len.ensures.given call.1 call'.1 told.1 told'.1
               (subst (λ (k : QueueState). (room behind : List ℕ) →
               (acts : List Act) × (last : ℕ) × GoesBackBy k room behind st acts last c.in_ok-late.late) c.in_ok-early.ensures.queue
-              c.in_ok-late.ensures.back) c.in_ok-early.ensures.back s i between files reached there places places' limit limit' small
+              c.in_ok-late.ensures.back) c.in_ok-early.ensures.back c.give_back-2.new.queue
+              (c.in_ok-late.ensures.queue ∙ ap gave c.in_ok-early.ensures.queue)
+              s i between files reached there places places' limit limit' small
               in_session in_session' early_run late_run,
         ),
       );

@@ -1,14 +1,16 @@
-use Rattle.std.proofs.Common.{[], ◌≡◌, ℕ, List, length, ap, subst, sym, ◌∙◌, arith}
+use Rattle.std.proofs.Common.{[], ◌≡◌, ℕ, List, Some, length, ap, subst, sym, ◌∙◌, arith}
 use Rattle.std.specs.Prelude.{drop}
 use Rattle.std.proofs.lemmas.Bool.Decides.{nat_tests}
 use Rattle.plain_machine.specs.StepBy.{Act}
 use Rattle.fs_chain.specs.Whole.{FromTaken, GoesBackBy, IsDecodedBy, file_calls}
 use Rattle.fs_chain.specs.declared.chain_handle.ChainHandle.{ChainHandle}
+use Rattle.fs_chain.specs.declared.queue.QueueState.{QueueState}
 use Rattle.fs_chain.specs.declared.state.ChainState as state
+use Rattle.fs_live.specs.Handles.{live_of}
 use Rattle.worked_callers.specs.Notified.{calls_of}
 use Rattle.worked_callers.proofs.CalledBy.{calls_of_answer}
 use Rattle.worked_callers.proofs.NamedEvents.{served_named}
-use Rattle.worked_callers.proofs.Served.{if_ok, more_taken, taken_so}
+use Rattle.worked_callers.proofs.Served.{if_ok_so, more_taken, taken_so}
 use Rattle.worked_callers.proofs.ServedBeside.{served_beside}
 use Rattle.worked_callers.proofs.lent.serve_lent.Goals as goal
 
@@ -35,8 +37,8 @@ returns g c =
     let replied = c.in_ok-reply.ensures.replied in
     let request = c.args.request.now in
     record {
-      run = if_ok c.give_back.result _ _
-          (λ notice back s i files reached there places limit small session. (
+      run = if_ok_so c.give_back.result _ _ _
+          (λ notice back final_is s i files reached there places limit small session. (
             file_calls (drop 80 request) replied.0 replied.2,
             calls_of_answer c.args.given.now old one replied.1 c.reply.new.handle before after c.in_ok-request_len.field-0-0
                 c.in_ok-request_len.request_len c.in_ok-request_len.field-0-2 c.args.session request c.args.answer replied.0 replied.2
@@ -62,7 +64,8 @@ returns g c =
                       c.in_ok-request_len.field-0-2 walks request (file_calls (drop 80 request) replied.0 replied.2) notice so,
                   so.calls_are,
                   so.outs,
+                  so.there ∙ ap (λ (q : QueueState). Some (live_of q)) (sym final_is),
                 ),
           ))
-          c.give_back.ensures.back;
+          c.give_back.ensures.back c.give_back.ensures.queue;
     }

@@ -1,9 +1,10 @@
-use Rattle.std.proofs.Common.{◌≡◌, ℕ, List, length, Some, slice_get, subst, sym, refl, ◌∙◌, arith}
+use Rattle.std.proofs.Common.{◌≡◌, ℕ, List, length, Some, slice_get, subst, sym, ap, refl, ◌∙◌, arith}
 use Rattle.std.specs.Prelude.{drop}
 use Rattle.std.proofs.lemmas.Bool.Decides.{nat_tests}
 use Rattle.fs_chain.specs.Whole.{file_calls}
 use Rattle.plain_machine.specs.Step.{Calls, Exchanged, Step}
 use Rattle.plain_machine.specs.StepBy.{after_stores, stores_among}
+use Rattle.fs_chain.specs.declared.queue.QueueState.{QueueState}
 use Rattle.fs_live.specs.Handles.{live_of}
 use Rattle.fs_live.specs.Live.{LiveEvent, calls_in, event_acts}
 use Rattle.fs_live.specs.Serial.{IsAtRest, plain, return_in}
@@ -11,7 +12,7 @@ use Rattle.worked_callers.specs.Events.{IsServedChain}
 use Rattle.worked_callers.specs.Notified.{calls_of}
 use Rattle.worked_callers.proofs.CalledBy.{calls_of_answer}
 use Rattle.worked_callers.proofs.NamedEvents.{served_named}
-use Rattle.worked_callers.proofs.Served.{if_ok, more_taken, taken_so}
+use Rattle.worked_callers.proofs.Served.{if_ok_so, more_taken, taken_so}
 use Rattle.worked_callers.proofs.ServedBeside.{served_beside}
 use Rattle.worked_callers.proofs.live_queues.serve_single.Goals as goal
 
@@ -38,8 +39,8 @@ returns g c =
     let request = c.args.request.now in
     let calls = file_calls (drop 80 request) replied.0 replied.2 in
     record {
-      step = if_ok c.give_back.result _ _
-          (λ notice back s i files here none session. (
+      step = if_ok_so c.give_back.result _ _ _
+          (λ notice back final_is s i files here none session. (
             calls,
             calls_of_answer c.args.given.now old one replied.1 c.reply.new.handle before after c.in_ok-request_len.field-0-0
                 c.in_ok-request_len.request_len c.in_ok-request_len.field-0-2 c.args.session request c.args.answer replied.0 replied.2
@@ -59,6 +60,7 @@ returns g c =
                       (λ (es : List LiveEvent). IsServedChain s i c.args.given.now old before request calls notice es) (sym so.single_is)
                       (served_named may s i c.args.given.now old one before after c.in_ok-request_len.field-0-0
                       c.in_ok-request_len.request_len c.in_ok-request_len.field-0-2 walks request calls notice so),
+                  so.there ∙ ap (λ (q : QueueState). Some (live_of q)) (sym final_is),
                   λ m found.
                       let law = c.law_serial.ensures.single s so.end r m (live_of before) none
                       (subst (λ (j : ℕ). slice_get s.queues j ≡ Some (live_of before)) (sym so.queue_is) here.there) rest so.of_chain
@@ -69,5 +71,5 @@ returns g c =
                       (plain so.end (after_stores m (stores_among (event_acts (return_in r)))))) so.queue_is law.0),
                 ),
           ))
-          c.give_back.ensures.back;
+          c.give_back.ensures.back c.give_back.ensures.queue;
     }
