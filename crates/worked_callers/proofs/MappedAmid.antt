@@ -8,6 +8,7 @@ use Rattle.fs_regions.specs.declared.step.CourseStep as comes
 use Rattle.fs_regions.specs.declared.step.CourseStep.TheVariants as step
 use Rattle.virtiofsd_fuse.specs.Serving.{May}
 use Rattle.vm_memory.specs.Memory.{Memory}
+use Rattle.fs_chain.specs.Queues.{gave}
 use Rattle.fs_chain.specs.OwnReplies.{IfUnanswered, own_error, own_reply}
 use Rattle.fs_chain.specs.Whole.{FromTaken}
 use Rattle.fs_chain.specs.declared.loads.LoadOutcome.TheVariants as wents
@@ -31,20 +32,20 @@ use Rattle.worked_callers.proofs.ServedBeside.{chain_is, reached_by, taken_of}
 pub mapped_amid :
     {F : Type 0} (may : May F) (walks_law : HandleEndsPop may) (maps_law : HandleRemaps may) (replies_law : HandleRepliesOwnBytes may)
     (returns_law : HandlePushesOwn may) (given : List (Bor (List ℕ))) (old one two other : ChainHandle)
-    (before after : QueueState) (head n r serial : ℕ) (request reply : List ℕ) (notice : Bool) → before.stopped ≡ None
+    (before after final : QueueState) (head n r serial : ℕ) (request reply : List ℕ) (notice : Bool) → before.stopped ≡ None
     → IsWalkedBy given old one before after (wents.On (says.Chain head n r))
     → FromTaken one.state (λ out. out.request_len ≡ length request) → own_error one.state one.serial serial (length reply) ≡ None
     → IfUnanswered one.state (λ out. two ≡ record one { state = at.HasReply out (own_reply (length reply)) })
     → ((room bytes : List ℕ) (last : ℕ) → (acts : List Act) × GoesBackOwn after room bytes two.state acts last notice)
-    → (s : LiveState F) (i : ℕ) → IsReached may s → s.outs ≡ []
+    → final ≡ gave after → (s : LiveState F) (i : ℕ) → IsReached may s → s.outs ≡ []
     → slice_get s.queues i ≡ Some (live_of before) → s.places ≡ places_in old.regions → s.limit ≡ old.limit → s.limit ≤ 2 ^ 31
     → KeepsReturns s.places (places_in other.regions) (live_of before)
     → (es : List LiveEvent) × (end : LiveState F) × LiveRun may s es end
     × IsRepliedChain s i given old before (Remaps (places_in other.regions) ∷ []) request reply notice es
-    × (calls_among es ≡ []) × (end.outs ≡ [])
+    × (calls_among es ≡ []) × (end.outs ≡ []) × (slice_get end.queues i ≡ Some (live_of final))
     × (end.places ≡ places_in other.regions)
-mapped_amid {F} may walks_law maps_law replies_law returns_law given old one two other before after head n r serial request reply notice
-    goes walks len clear is_kept back s i reached none there places limit small
+mapped_amid {F} may walks_law maps_law replies_law returns_law given old one two other before after final head n r serial request reply
+    notice goes walks len clear is_kept back final_is s i reached none there places limit small
     keeps =
     let q = live_of before in
     let m : Memory = places_in other.regions in
@@ -93,5 +94,6 @@ mapped_amid {F} may walks_law maps_law replies_law returns_law given old one two
       ),
       refl,
       ap (λ (outs : List OutChain). outs ++ []) none,
+      next_used.5 ∙ ap (λ (k : QueueState). Some (live_of k)) (sym final_is),
       refl,
     )

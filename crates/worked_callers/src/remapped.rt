@@ -43,6 +43,7 @@ pub fn map_amid<F: FileSystem>(
         request.now bytes.now notice es
         × (calls_among es ≡ [])
         × (end.outs ≡ [])
+        × (slice_get end.queues i ≡ Some (live_of queue.new))
         × (end.places ≡ places_in second.new.regions)) }
 {
     law_handles::<F>();

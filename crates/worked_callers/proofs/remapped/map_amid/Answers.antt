@@ -1,7 +1,7 @@
 use Rattle.std.proofs.Common.{◌≡◌, length, ◌∙◌, arith}
 use Rattle.std.proofs.lemmas.Bool.Decides.{nat_tests}
 use Rattle.worked_callers.proofs.MappedAmid.{mapped_amid}
-use Rattle.worked_callers.proofs.Served.{if_ok, more_taken, taken_so}
+use Rattle.worked_callers.proofs.Served.{if_ok_so, more_taken, taken_so}
 use Rattle.worked_callers.proofs.remapped.map_amid.Goals as goal
 
 pub returns : goal.returns
@@ -20,10 +20,10 @@ returns g c =
     let same : n ≡ length c.args.request.now = grind (arith, nat_tests, test) in
     let taken = more_taken one.state _ _ (λ out is. is ∙ same) (taken_so old one before after head n r c.requires.goes walked) in
     record {
-      run = if_ok c.give_own_back.result _ _
-          (λ notice back.
+      run = if_ok_so c.give_own_back.result _ _ _
+          (λ notice back final_is.
           mapped_amid may handles.walks handles.maps handles.replies handles.returns_own c.args.given.now old one c.reply.new.self
-          c.set_memory.new.self before after head n r _ c.args.request.now c.args.bytes.now
-          notice c.requires.goes c.in_ok-request_len.ensures.given taken c.in_ok-reply.ensures.ok c.in_ok-reply.ensures.kept back)
-          c.give_own_back.ensures.back;
+          c.set_memory.new.self before after c.give_own_back.new.queue head n r _ c.args.request.now c.args.bytes.now
+          notice c.requires.goes c.in_ok-request_len.ensures.given taken c.in_ok-reply.ensures.ok c.in_ok-reply.ensures.kept back final_is)
+          c.give_own_back.ensures.back c.give_own_back.ensures.queue;
     }
