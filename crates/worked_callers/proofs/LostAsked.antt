@@ -1,4 +1,4 @@
--- A chain that is walked and asked, and lost while its call waits.
+-- A chain that is popped and decoded, and lost while its call is pending.
 use Rattle.std.proofs.Common.{◌≡◌, ℕ, ◌≤◌, ◌^◌, List, [], ◌∷◌, ◌++◌, Some, None, slice_get, refl, subst, sym, ap, ◌∙◌}
 use Rattle.std.specs.Borrow.{Bor}
 use Rattle.std.specs.Prelude.{drop, IsTrue}

@@ -1,4 +1,4 @@
--- A chain that is walked and given up, or replied by bytes of its caller's own, as a run beside whatever other chains are out.
+-- A chain that is popped and given up, or that its caller replies to with its own bytes, beside any other chains in flight.
 use Rattle.std.proofs.Common.{◌≡◌, ℕ, zero, suc, ◌≤◌, ◌<◌, ◌^◌, Bool, List, [], ◌∷◌, ◌++◌, append-nil, length, Some, None, Result, Ok, Err}
 use Rattle.std.proofs.Common.{OnOk, slice_get, refl, subst, sym, ap, ◌∙◌}
 use Rattle.std.specs.Borrow.{Bor}

@@ -1,4 +1,4 @@
--- A chain that is walked, asked, answered and returned, call by call.
+-- A chain that is popped, decoded, answered and pushed, call by call.
 use Rattle.std.proofs.Common.{◌≡◌, ℕ, Bool, List, length, Some, None, Result, Ok, Err, IfOk, OnOk, refl, subst, sym, ap, ◌∙◌, arith}
 use Rattle.std.proofs.lemmas.List.{take_all}
 use Rattle.fs_queue.specs.Chain.{Descriptor}

@@ -1,4 +1,4 @@
--- A chain that is walked, asked, answered and returned by a handle, as a run beside whatever other chains are out.
+-- A chain that is popped, decoded, answered and pushed with a handle, as a run beside any other chains in flight.
 use Rattle.std.proofs.Common.{◌≡◌, ℕ, ◌≤◌, ◌^◌, Bool, List, [], ◌∷◌, ◌++◌, append-nil, append_assoc, Some, None, slice_get, refl}
 use Rattle.std.proofs.Common.{subst, sym, ap, ◌∙◌}
 use Rattle.std.specs.Borrow.{Bor}

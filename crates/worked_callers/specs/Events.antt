@@ -59,8 +59,8 @@ IsServedChain s i given old before request calls notice es =
     ∷ (answer_events c request s.options [] calls
     ++ PushesChain (asked_chain c request s.options calls) x notice last used seen ∷ []))
 
--- two chains of queue i are popped, the second one from the queue that the first pop left, and both are
--- decoded. The second one is answered and pushed, and then the first one
+-- two chains of queue i are popped, the second one from a queue in between, and both are decoded. The second
+-- one is answered and pushed, and then the first one
 abbrev pub AreCrossedChains : {F : Type 0} → LiveState F → (i : ℕ) → (given given' : List (Bor (List ℕ))) →
     (old old' : ChainHandle) → (before left : QueueState) → (request request' : List ℕ) →
     (late early : Calls) → (notice notice' : Bool) → List LiveEvent → Type 0

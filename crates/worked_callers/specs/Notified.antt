@@ -25,7 +25,7 @@ IsStoredWish q s (Some store) =
     × ActsOver (ways_of q) s (Wishes ∷ WishIsThere ∷ []) wished
     × IsOf q wished
 
--- the first `n` of these bytes, the last ones first, as the calls of a pop were given them
+-- the bytes of a pop's first `n` loads, as its calls are listed: the last load's first
 abbrev pub calls_of : ℕ → List (Bor (List ℕ)) → List (List ℕ)
 calls_of n bytes = reverse (take n (map (λ b. b.now) bytes))
 
@@ -46,7 +46,7 @@ PopsWithIndex given old new before after told P =
     × IsIndex loaded index
     × P index
 
--- a pop, some calls of which were refused, that was given the first of these bytes has this result
+-- a pop, some calls of which may have been refused, that was given the first of these bytes has this result
 abbrev pub IsWalkedAmid : List (Bor (List ℕ)) → (old new : ChainHandle) → (before after : QueueState) →
     went.LoadOutcome → Type 0
 IsWalkedAmid bytes old new before after told =

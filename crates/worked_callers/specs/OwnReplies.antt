@@ -21,7 +21,8 @@ use Rattle.fs_live.specs.Several.{LiveQueue, StoresAsTaken, UsedFrom, heads_ende
 use Rattle.fs_live.specs.Several.{returns_among}
 use Rattle.worked_callers.specs.Events.{IsPoppedChain, IsRepliedChain, pop_event}
 
--- a state that a run reaches. Its queue i and its mappings are those of the caller's queue and handle
+-- a state that a run reaches. Its queue i, mappings and limit, of at most 2^31, are those of the caller's
+-- queue and handle
 pub record IsAt {F : Type 0} (may : May F) (s : LiveState F) (i : ℕ) (handle : ChainHandle)
     (queue : QueueState) : Type 0 where
   pub reached : IsReached may s

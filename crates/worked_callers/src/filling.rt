@@ -18,8 +18,9 @@ use fs_live::law_handles;
 use fuse_fs::FileSystem;
 use vm_memory_core::VolatileSlice;
 
-/// Pops a chain, and stores bytes in its reply buffer from byte `from` on: at the start of the window that is
-/// returned, which lies at the addresses of these bytes. Fails with `LongReply` if they don't fit one window.
+/// Pops a chain, and returns the window where its caller stores bytes in the reply buffer, from byte
+/// `from` on. The window begins at the addresses of these bytes. Fails with `LongReply` if they don't
+/// fit one window.
 pub fn fill_window<F: FileSystem>(
     handle: &mut ChainHandle,
     queue: &mut QueueState,
@@ -50,8 +51,8 @@ pub fn fill_window<F: FileSystem>(
     Ok(window)
 }
 
-/// Pops a chain, and stores bytes in its reply buffer from byte `from` on. They are reported by the guest
-/// address that is returned. Fails with `LongReply` if they don't fit one range of addresses.
+/// Pops a chain, and returns the guest address by which its caller reports bytes that it stores in the reply
+/// buffer from byte `from` on. Fails with `LongReply` if they don't fit one range of addresses.
 pub fn fill_range<F: FileSystem>(
     handle: &mut ChainHandle,
     queue: &mut QueueState,

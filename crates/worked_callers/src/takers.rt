@@ -66,8 +66,8 @@ pub fn walk_idle(
     }
 }
 
-/// Stores a wish, and pops behind a barrier. If no chain is available, the thread sleeps as the model's does.
-/// Fails with `WrongOrder` if one is.
+/// Returns the store of a wish, after a pop by loads that its caller makes behind that store and a barrier.
+/// If no chain is available, the thread sleeps as the model's does. Fails with `WrongOrder` if one is.
 pub fn sleep_if_idle(
     handle: &mut ChainHandle,
     queue: &mut QueueState,
