@@ -193,8 +193,8 @@ stored_reply reply behind = front_if reply.front behind
 
 -- the caller's stores and load for a push, in this order: the data into the reply buffer, the front over
 -- its start, the used element's two halves, and the used index. Then the caller loads the two bytes that
--- decide on the notification: flags, or used_event (2.7.8 and 2.7.7). Without a reply nothing is stored in
--- the reply buffer
+-- decide on the notification: flags, or used_event (2.7.8 and 2.7.7). Without a front nothing is stored in
+-- the reply buffer: there is no reply, or its caller stored bytes of its own there before
 abbrev pub push_acts :
     (room : List ℕ) → ChainReply → (behind : List ℕ) → PushStores → (flags : List ℕ) → List Act
 push_acts room reply behind s flags =
@@ -283,8 +283,8 @@ abbrev pub step_loads : Loaded → (lost : List Load) → (request : List ℕ) �
 step_loads l lost request =
     record { index = l.index; entry = l.entry; entries = l.entries ++ lost; request = request }
 
--- besides the loads that resulted from bytes, a step knows only which addresses aren't mapped. They are
--- those of an index or a ring's entry, or of the table entry that the pop needed last
+-- besides the loads that resulted from bytes, a step knows only which addresses aren't mapped: that of the
+-- index, that of the ring's entry, and those of `lost` table entries
 abbrev pub LackPlaces : ChainHandle → QueueState → Loaded → (lost : List Load) → Type 0
 LackPlaces old before loaded lost =
     RingIsAsked (places_in old.regions) (queue_of (course_of before old.limit)) loaded

@@ -123,7 +123,7 @@ own_walked limit c (Asked asked options calls) request reply is un few h = (
 own_walked limit c p request reply is un few h = absurd un
 
 keeps : {F : Type 0} (may : May F) (s after : LiveState F) (e : LiveEvent) → Happens may s e after → AllWalked s → AllWalked after
-keeps may s after (EndsPop i loaded ds came) h all = walk_keeps s after i h.w loaded ds came h.walks all
+keeps may s after (EndsPop i loaded ds came) h all = walk_keeps s after i h.w loaded ds came h.ends all
 keeps {F} may s after (RefusesPop i e) h all = subst (λ (k : LiveState F). AllWalked k) (sym h.state) all
 keeps {F} may s after (DecodesRequest c request told) h all =
     let P = Walked s.limit in
@@ -316,6 +316,7 @@ returned_is_step_by {F} {G} may other s now after es c x notice last used seen m
       h.there,
       record {
         lost = made.lost;
+        lost_are = made.all_lost;
         step = subst (λ (k : Option Queue). StepOfBy other m c.queue k (chain_loads c made.lost) (calls_in c.phase)
             (Exchanged x (tells seen)) (effects_of c x last seen) (after_alone m c files)) (sym first.queue)
             (made.offer, made.offered, made.exchanges);

@@ -373,7 +373,7 @@ handle_walks_among {F} may s i given old new before now after told there places 
       so.1,
       came,
       c.told_is,
-      record { w = live_of now; there = there; room = c.may; goes = clear; walks = event.0 },
+      record { w = live_of now; there = there; room = c.may; goes = clear; ends = event.0 },
       event.1,
       held_by s i (live_of now) before loaded came new queue state_is,
     )

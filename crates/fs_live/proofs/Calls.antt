@@ -21,7 +21,7 @@ one_event : {F : Type 0} (may : May F) (s mid : LiveState F) (end : F) (e : Live
     → FileRun may mid.files (calls_among es) end
     → FileRun may s.files (calls_among (e ∷ es)) end
 one_event {F} may s mid end (EndsPop i loaded ds came) es h run =
-    subst (λ (f : F). FileRun may f (calls_among es) end) (walk_files s mid i h.w loaded ds came h.walks) run
+    subst (λ (f : F). FileRun may f (calls_among es) end) (walk_files s mid i h.w loaded ds came h.ends) run
 one_event {F} may s mid end (ReceivesAnswer c call answer) es h run =
     let is : mid.files ≡ h.files = ap (λ (k : LiveState F). k.files) h.state in
     (mid.files, h.is_one, subst (λ (f : F). may s.files call answer f) (sym is) h.may_so, run)

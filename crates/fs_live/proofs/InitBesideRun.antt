@@ -74,7 +74,7 @@ second_fetches = (([], All-nil (IsLost blank), refl), second_offers)
 
 first_walks : {F : Type 0} (f : F) →
     EndsPopSo (state f (at_positions 0 0) 0 []) 0 first_loads first_table (step.Chain 0 None) (state f (at_positions 1 0) 0 (first ∷ []))
-first_walks f = record { w = at_positions 0 0; there = refl; room = refl; goes = refl; walks = (first_fetches, refl) }
+first_walks f = record { w = at_positions 0 0; there = refl; room = refl; goes = refl; ends = (first_fetches, refl) }
 
 first_asks : {F : Type 0} (f : F) →
     DecodesRequestSo (state f (at_positions 1 0) 0 (first ∷ [])) first lookup (looks ∷ []) (state f (at_positions 1 0) 0 (first_asked ∷ []))
@@ -83,7 +83,7 @@ first_asks f = record { before = []; behind = []; out = refl; fresh = refl; whol
 
 second_walks : {F : Type 0} (f : F) → EndsPopSo (state f (at_positions 1 0) 0 (first_asked ∷ [])) 0 second_loads second_table
     (step.Chain 2 None) (state f (at_positions 2 0) 0 (first_asked ∷ second ∷ []))
-second_walks f = record { w = at_positions 1 0; there = refl; room = refl; goes = refl; walks = (second_fetches, refl) }
+second_walks f = record { w = at_positions 1 0; there = refl; room = refl; goes = refl; ends = (second_fetches, refl) }
 
 second_asks : {F : Type 0} (f : F) → DecodesRequestSo (state f (at_positions 2 0) 0 (first_asked ∷ second ∷ [])) second init (starts ∷ [])
     (state f (at_positions 2 0) 0 (first_asked ∷ second_asked ∷ []))

@@ -244,7 +244,7 @@ module _ (i : ℕ) where
       (λ rest. mapped_all s m' w cs there keeps.1 rest) ahead
 
   keeps : {F : Type 0} (may : May F) (s mid : LiveState F) (e : LiveEvent) → Happens may s e mid → Kept s → Kept mid
-  keeps may s mid (EndsPop j loaded ds came) h kept = walks s mid j h.w loaded ds came h.there h.goes h.walks kept
+  keeps may s mid (EndsPop j loaded ds came) h kept = walks s mid j h.w loaded ds came h.there h.goes h.ends kept
   keeps {F} may s mid (RefusesPop j e) h kept = subst (λ (k : LiveState F). Kept k) (sym h.state)
       (refuses s j h.w (stops_queue e) h.there kept)
   keeps {F} may s mid (DecodesRequest c request told) h kept =
@@ -418,7 +418,7 @@ walk_tied {F} s mid j v loaded ds (step.Chain head fault) at h all =
     (λ m m' keeps. record { returns = keeps.returns; event = keeps.event }) all) (mine, tt))
 
 ties : {F : Type 0} (may : May F) (s mid : LiveState F) (e : LiveEvent) → Happens may s e mid → AllTied s → AllTied mid
-ties may s mid (EndsPop j loaded ds came) h all = walk_tied s mid j h.w loaded ds came h.there h.walks all
+ties may s mid (EndsPop j loaded ds came) h all = walk_tied s mid j h.w loaded ds came h.there h.ends all
 ties {F} may s mid (RefusesPop j e) h all =
     subst (λ (k : LiveState F). AllTied k) (sym h.state) (refusal_tied s j h.w (stops_queue e) h.there all)
 ties {F} may s mid (DecodesRequest c request told) h all =

@@ -273,7 +273,7 @@ module _ (i : ℕ) where
 
   carries : {F : Type 0} (may : May F) (s mid : LiveState F) (w : LiveQueue) (e : LiveEvent) → slice_get s.queues i ≡ Some w → NotAnew i e
       → Happens may s e mid → Carries s mid w (event_on i e)
-  carries may s mid w (EndsPop j loaded ds came) there anew h = walks s mid j w h.w loaded ds came there h.there h.room h.walks
+  carries may s mid w (EndsPop j loaded ds came) there anew h = walks s mid j w h.w loaded ds came there h.there h.room h.ends
   carries {F} may s mid w (RefusesPop j e) there anew h =
       subst (λ (k : LiveState F). Carries s k w []) (sym h.state) (refuses s j w h.w (j == i) (stops_queue e) refl there h.there)
   carries {F} may s mid w (DecodesRequest c request told) there anew h =

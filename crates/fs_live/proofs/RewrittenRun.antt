@@ -48,11 +48,11 @@ second_offers = (
 
 first_walks : {F : Type 0} (f : F) →
     EndsPopSo (state f (at_positions 0 0) 0 []) 0 first_loads table (step.Chain 0 None) (state f (at_positions 1 0) 0 (first ∷ []))
-first_walks f = record { w = at_positions 0 0; there = refl; room = refl; goes = refl; walks = (first_fetches, refl) }
+first_walks f = record { w = at_positions 0 0; there = refl; room = refl; goes = refl; ends = (first_fetches, refl) }
 
 second_walks : {F : Type 0} (f : F) → EndsPopSo (state f (at_positions 1 0) 0 (first ∷ [])) 0 second_loads [] (step.Refused HeadOutOfTable)
     (state f (stopped_at 1 0) 0 (first ∷ []))
-second_walks f = record { w = at_positions 1 0; there = refl; room = refl; goes = refl; walks = (second_offers, refl) }
+second_walks f = record { w = at_positions 1 0; there = refl; room = refl; goes = refl; ends = (second_offers, refl) }
 
 first_asks : {F : Type 0} (f : F) →
     DecodesRequestSo (state f (stopped_at 1 0) 0 (first ∷ [])) first forget (told ∷ []) (state f (stopped_at 1 0) 0 (first_asked ∷ []))

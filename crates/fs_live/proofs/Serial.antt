@@ -351,7 +351,7 @@ single_is_step {F} may s after r m w none there rest of run found =
     let c₀ = new_chain s i v r.loaded r.descriptors r.head r.fault in
     let qs = changed_at s.queues i (λ _. took v) in
     let back = between_alone may s qs c₀ run.0 after r.between (return_in r) of
-    (start_alone may s run.0 i v r.loaded r.descriptors r.head r.fault none walk.walks.0 walk.walks.1) run.2 in
+    (start_alone may s run.0 i v r.loaded r.descriptors r.head r.fault none walk.ends.0 walk.ends.1) run.2 in
     let k = back.0 in
     let a = back.1 in
     let b : PushesChainSo k r.chain r.exchange r.notice r.last r.used r.seen after = back.2 in

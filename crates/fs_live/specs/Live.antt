@@ -197,7 +197,7 @@ pub record EndsPopSo {F : Type 0} (s : LiveState F) (i : ℕ) (loaded : Loaded) 
   pub there : slice_get s.queues i ≡ Some w
   pub room : IsTrue (may_take w)
   pub goes : pop_refusal s.places w ≡ None
-  pub walks : EndsPopIn s i w loaded ds came after
+  pub ends : EndsPopIn s i w loaded ds came after
 
 -- a pop of a queue is refused with this error, if one more of its chains may be in flight
 pub record RefusesPopSo {F : Type 0} (s : LiveState F) (i : ℕ) (e : QueueError) (after : LiveState F) :

@@ -1,5 +1,6 @@
 -- Theorems that hold for each run.
-use Rattle.std.specs.Prelude.{◌≡◌, ◌≤◌, ◌/◌, ℕ, Bool, true, false, take, ◌==◌, List, [], ◌∷◌, ◌++◌, length}
+use Rattle.std.specs.Prelude.{◌≡◌, ◌≤◌, ◌/◌, ℕ, Bool, true, false, All, take, ◌==◌, List, [], ◌∷◌}
+use Rattle.std.specs.Prelude.{◌++◌, length}
 use Rattle.std.specs.Prelude.{map, filter, flat_map, is_some, IsPermutation, Option, Some, None, slice_get}
 use Rattle.std.specs.Prelude.{if◌then◌else◌}
 use Rattle.std.specs.List.{AllByRecursion, Contains, list_all, list_any}
@@ -15,7 +16,7 @@ use Rattle.fuse_fs.specs.Calls.{FileRun}
 use Rattle.virtiofsd_fuse.specs.Serving.{May}
 use Rattle.plain_machine.specs.MarkedPages.{Marks, returned_addresses}
 use Rattle.plain_machine.specs.Step.{State, Exchange, Exchanged}
-use Rattle.fs_regions.specs.Walks.{OffersBy}
+use Rattle.fs_regions.specs.Walks.{IsLost, OffersBy}
 use Rattle.plain_machine.specs.StepBy.{Act, StepLoads, StepBy, ReturnsBy, after_stores, return_acts}
 use Rattle.plain_machine.specs.StepBy.{return_stores, stores_among}
 use Rattle.fs_live.specs.Several.{LiveQueue, InFlightId, QueueEvent, RunsOver, UsedFrom, heads_taken}
@@ -60,7 +61,7 @@ options_left page_size options c (Asked request asked calls) =
     (serving page_size asked asked request (room_of c) calls).options
 options_left page_size options c _ = options
 
--- a chain that the server answers, or a faulty one: the reply isn't its caller's own
+-- the reply of a chain isn't its caller's own bytes
 abbrev pub IsServedPhase : Phase → Type 0
 IsServedPhase (Own request reply) = ⊥
 IsServedPhase _ = Unit {0}
@@ -83,7 +84,7 @@ after_alone m c files =
       files = files;
     }
 
--- the loads of its step, and those of entries that aren't mapped
+-- the loads of its step. It may load `lost` entries that aren't mapped, which give it no bytes
 abbrev pub chain_loads : OutChain → (lost : List Load) → StepLoads
 chain_loads c lost =
     record {
@@ -99,6 +100,7 @@ chain_loads c lost =
 pub record IsAStep {G : Type 0} (other : May G) (m : State G) (files : G) (w : LiveQueue) (c : OutChain)
     (x : Exchange) (last : ℕ) (used : List Store) (seen : List ℕ) (notice : Bool) : Type 0 where
   pub lost : List Load
+  pub lost_are : All (IsLost m.memory) lost
   pub step : StepBy other m c.queue (chain_loads c lost) (calls_in c.phase) (Exchanged x (tells seen))
       (record {
         acts = return_acts (return_stores c.taken c.head (room_of c) x.reply last) seen;

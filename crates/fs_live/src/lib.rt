@@ -95,29 +95,29 @@ pub fn law_examples<F: FileSystem>()
 /// - While no chain is in flight, so are other regions, and a record that is made here and read
 ///   elsewhere.
 pub fn law_handles<F: FileSystem>()
-    ensures walks { HandleEndsPop F.may }
-    ensures among { HandleEndsPopAmong F.may }
+    ensures ends_pop { HandleEndsPop F.may }
+    ensures ends_pop_among { HandleEndsPopAmong F.may }
     ensures wanted_among { WantedAmongHasAPlace }
-    ensures stopped { HandleFindsStopped F.may }
+    ensures finds_stopped { HandleFindsStopped F.may }
     ensures loads { HandleLoads }
     ensures loads_among { HandleLoadsAmong }
     ensures refuses_pop { HandleRefusesPop F.may }
-    ensures asks { HandleDecodesRequest F.may }
-    ensures answers { HandleReceivesAnswer F.may }
+    ensures decodes_request { HandleDecodesRequest F.may }
+    ensures receives_answer { HandleReceivesAnswer F.may }
     ensures calls { HandleCalls F.may }
-    ensures returns { HandlePushesChain F.may }
+    ensures pushes_chain { HandlePushesChain F.may }
     ensures faulty { HandleFaulty F.may }
-    ensures sleeps { HandleStoresNotification F.may }
-    ensures begins { HandleResetsQueue F.may }
-    ensures drops { HandleGivesUpChain F.may }
+    ensures stores_notification { HandleStoresNotification F.may }
+    ensures resets_queue { HandleResetsQueue F.may }
+    ensures gives_up_chain { HandleGivesUpChain F.may }
     ensures abandons { HandleAbandons F.may }
-    ensures replies { HandleRepliesOwnBytes F.may }
-    ensures instead { HandleRepliesInstead F.may }
+    ensures replies_own_bytes { HandleRepliesOwnBytes F.may }
+    ensures replies_instead { HandleRepliesInstead F.may }
     ensures held { AskedIsHeld }
-    ensures returns_own { HandlePushesOwn F.may }
-    ensures fills { HandleFillsBuffer F.may }
+    ensures pushes_own { HandlePushesOwn F.may }
+    ensures fills_buffer { HandleFillsBuffer F.may }
     ensures fills_range { HandleFillsRange F.may }
-    ensures maps { HandleRemaps F.may }
-    ensures moves { HandleMovesDevice F.may }
+    ensures remaps { HandleRemaps F.may }
+    ensures moves_device { HandleMovesDevice F.may }
     ensures options { OptionsStay }
 {}

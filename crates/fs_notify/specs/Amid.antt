@@ -13,8 +13,8 @@ use Rattle.fs_chain.specs.Whole.{AddsSo, BeginsPopBy, WantsBytes}
 use Rattle.notify.specs.Threads.{Rearmer, SleepsNow, TakesOne, ThreadedQueue, Walker, after_act, may_act}
 use Rattle.fs_notify.specs.Takers.{HasPopped, IsCounted, IsIndex, IsOf, ways_of}
 
--- a pop by calls of the handle, the last one first. Between two of them, calls with other bytes were refused,
--- or an allocation failed: the handle `w` became `v` by these
+-- a pop by calls of the handle, the last one first. Between two of them there may be calls that other bytes
+-- or a failed allocation end with an error: the handle `w` became `v` by these
 abbrev pub WalksAmid : (given : List (List ℕ)) → (old new : ChainHandle) → (before after : QueueState) →
     went.LoadOutcome → Type 0
 WalksAmid [] old new before after told = BeginsPopBy old new before after told

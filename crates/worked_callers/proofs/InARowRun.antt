@@ -31,7 +31,7 @@ use Rattle.worked_callers.specs.InARow.{second_exchange, second_used, two, with_
 
 first_walks : {F : Type 0} (f : F) →
     EndsPopSo (state f (at_positions 0 0) 1 []) 0 first_loads first_table (step.Chain 0 None) (state f (at_positions 1 0) 1 (first ∷ []))
-first_walks f = record { w = at_positions 0 0; there = refl; room = refl; goes = refl; walks = (first_fetches, refl) }
+first_walks f = record { w = at_positions 0 0; there = refl; room = refl; goes = refl; ends = (first_fetches, refl) }
 
 first_asks : {F : Type 0} (f : F) →
     DecodesRequestSo (state f (at_positions 1 0) 1 (first ∷ [])) first unknown [] (state f (at_positions 1 0) 1 (first_asked ∷ []))
@@ -56,7 +56,7 @@ first_returns f = record {
 
 second_walks : {F : Type 0} (f : F) →
     EndsPopSo (state f (at_positions 1 1) 1 []) 0 second_loads second_table (step.Chain 2 None) (state f (at_positions 2 1) 1 (second ∷ []))
-second_walks f = record { w = at_positions 1 1; there = refl; room = refl; goes = refl; walks = (second_fetches, refl) }
+second_walks f = record { w = at_positions 1 1; there = refl; room = refl; goes = refl; ends = (second_fetches, refl) }
 
 second_asks : {F : Type 0} (f : F) →
     DecodesRequestSo (state f (at_positions 2 1) 1 (second ∷ [])) second destroy (Destroy ∷ [])

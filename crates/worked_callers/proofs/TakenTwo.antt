@@ -25,7 +25,7 @@ pub took_so : {F : Type 0} (may : May F) (s next : LiveState F) (i : ℕ) (loade
     → Happens may s (EndsPop i loaded ds came) next → (came ≡ step.Chain head None) × (next.places ≡ s.places) × (next.limit ≡ s.limit)
 took_so {F} may s next i loaded ds came head n r told happens =
     let is = chain_is ds came head n r told in
-    let goes = subst (λ (k : comes.CourseStep). EndsPopIn s i happens.w loaded ds k next) is happens.walks in
+    let goes = subst (λ (k : comes.CourseStep). EndsPopIn s i happens.w loaded ds k next) is happens.ends in
     (is, ap (λ (k : LiveState F). k.places) goes.1, ap (λ (k : LiveState F). k.limit) goes.1)
 
 -- and its queue goes on

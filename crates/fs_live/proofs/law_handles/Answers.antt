@@ -12,8 +12,8 @@ use Rattle.fs_live.proofs.Sleeping.{handle_begins, handle_sleeps}
 use Rattle.fs_live.proofs.WantedAmong.{wanted_among_has_a_place}
 use Rattle.fs_live.proofs.law_handles.Goals as goal
 
-pub returns-clause-walks : goal.returns-clause-walks
-returns-clause-walks g c = handle_walks g.F.FileSystemBase.may
+pub returns-clause-ends_pop : goal.returns-clause-ends_pop
+returns-clause-ends_pop g c = handle_walks g.F.FileSystemBase.may
 
 pub returns-clause-loads : goal.returns-clause-loads
 returns-clause-loads g c = handle_loads
@@ -24,65 +24,65 @@ returns-clause-loads_among g c = handle_loads_among
 pub returns-clause-refuses_pop : goal.returns-clause-refuses_pop
 returns-clause-refuses_pop g c = handle_refuses_pop g.F.FileSystemBase.may
 
-pub returns-clause-asks : goal.returns-clause-asks
-returns-clause-asks g c = handle_asks g.F.FileSystemBase.may
+pub returns-clause-decodes_request : goal.returns-clause-decodes_request
+returns-clause-decodes_request g c = handle_asks g.F.FileSystemBase.may
 
-pub returns-clause-answers : goal.returns-clause-answers
-returns-clause-answers g c = handle_answers _
+pub returns-clause-receives_answer : goal.returns-clause-receives_answer
+returns-clause-receives_answer g c = handle_answers _
 
 pub returns-clause-calls : goal.returns-clause-calls
 returns-clause-calls g c = handle_calls g.F.FileSystemBase.may
 
-pub returns-clause-returns : goal.returns-clause-returns
-returns-clause-returns g c = handle_returns g.F.FileSystemBase.may
+pub returns-clause-pushes_chain : goal.returns-clause-pushes_chain
+returns-clause-pushes_chain g c = handle_returns g.F.FileSystemBase.may
 
 pub returns-clause-faulty : goal.returns-clause-faulty
 returns-clause-faulty g c = handle_faulty g.F.FileSystemBase.may
 
-pub returns-clause-sleeps : goal.returns-clause-sleeps
-returns-clause-sleeps g c = handle_sleeps g.F.FileSystemBase.may
+pub returns-clause-stores_notification : goal.returns-clause-stores_notification
+returns-clause-stores_notification g c = handle_sleeps g.F.FileSystemBase.may
 
-pub returns-clause-begins : goal.returns-clause-begins
-returns-clause-begins g c = handle_begins g.F.FileSystemBase.may
+pub returns-clause-resets_queue : goal.returns-clause-resets_queue
+returns-clause-resets_queue g c = handle_begins g.F.FileSystemBase.may
 
 pub returns-clause-options : goal.returns-clause-options
 returns-clause-options g c = options_stay
 
-pub returns-clause-among : goal.returns-clause-among
-returns-clause-among g c = handle_walks_among g.F.FileSystemBase.may
+pub returns-clause-ends_pop_among : goal.returns-clause-ends_pop_among
+returns-clause-ends_pop_among g c = handle_walks_among g.F.FileSystemBase.may
 
 pub returns-clause-wanted_among : goal.returns-clause-wanted_among
 returns-clause-wanted_among g c = wanted_among_has_a_place
 
-pub returns-clause-stopped : goal.returns-clause-stopped
-returns-clause-stopped g c = handle_finds_stopped g.F.FileSystemBase.may
+pub returns-clause-finds_stopped : goal.returns-clause-finds_stopped
+returns-clause-finds_stopped g c = handle_finds_stopped g.F.FileSystemBase.may
 
-pub returns-clause-drops : goal.returns-clause-drops
-returns-clause-drops g c = handle_drops g.F.FileSystemBase.may
+pub returns-clause-gives_up_chain : goal.returns-clause-gives_up_chain
+returns-clause-gives_up_chain g c = handle_drops g.F.FileSystemBase.may
 
 pub returns-clause-abandons : goal.returns-clause-abandons
 returns-clause-abandons g c = handle_abandons g.F.FileSystemBase.may
 
-pub returns-clause-replies : goal.returns-clause-replies
-returns-clause-replies g c = handle_replies g.F.FileSystemBase.may
+pub returns-clause-replies_own_bytes : goal.returns-clause-replies_own_bytes
+returns-clause-replies_own_bytes g c = handle_replies g.F.FileSystemBase.may
 
-pub returns-clause-instead : goal.returns-clause-instead
-returns-clause-instead g c = handle_replies_instead g.F.FileSystemBase.may
+pub returns-clause-replies_instead : goal.returns-clause-replies_instead
+returns-clause-replies_instead g c = handle_replies_instead g.F.FileSystemBase.may
 
 pub returns-clause-held : goal.returns-clause-held
 returns-clause-held g c = asked_is_held
 
-pub returns-clause-returns_own : goal.returns-clause-returns_own
-returns-clause-returns_own g c = handle_returns_own g.F.FileSystemBase.may
+pub returns-clause-pushes_own : goal.returns-clause-pushes_own
+returns-clause-pushes_own g c = handle_returns_own g.F.FileSystemBase.may
 
-pub returns-clause-maps : goal.returns-clause-maps
-returns-clause-maps g c = handle_maps g.F.FileSystemBase.may
+pub returns-clause-remaps : goal.returns-clause-remaps
+returns-clause-remaps g c = handle_maps g.F.FileSystemBase.may
 
-pub returns-clause-moves : goal.returns-clause-moves
-returns-clause-moves g c = handle_moves g.F.FileSystemBase.may
+pub returns-clause-moves_device : goal.returns-clause-moves_device
+returns-clause-moves_device g c = handle_moves g.F.FileSystemBase.may
 
-pub returns-clause-fills : goal.returns-clause-fills
-returns-clause-fills g c = handle_fills g.F.FileSystemBase.may
+pub returns-clause-fills_buffer : goal.returns-clause-fills_buffer
+returns-clause-fills_buffer g c = handle_fills g.F.FileSystemBase.may
 
 pub returns-clause-fills_range : goal.returns-clause-fills_range
 returns-clause-fills_range g c = handle_fills_range g.F.FileSystemBase.may

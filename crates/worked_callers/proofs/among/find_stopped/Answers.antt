@@ -16,6 +16,6 @@ returns g c =
       stopped = λ told why is walking stopped s i there.
           let goes : GoesSo old before bytes (wents.On told) new after =
           subst (λ (r : Result LoadOutcome ChainError). IfOk r (λ went. GoesSo old before bytes went new after)) is c.pop.ensures.goes in
-          let law = c.law_handles.ensures.stopped s i bytes old new before after told why there walking stopped goes in
+          let law = c.law_handles.ensures.finds_stopped s i bytes old new before after told why there walking stopped goes in
           (law.0, law.3, law.4, law.5);
     }

@@ -40,7 +40,7 @@ returns-in-Err g c =
     record {
       idle = λ is s i there places limit.
           let walks = walks_so says.Idle is in
-          let law = c.law_handles.ensures.among s i (index ∷ []) old new before now after says.Idle
+          let law = c.law_handles.ensures.ends_pop_among s i (index ∷ []) old new before now after says.Idle
           (there ∙ ap (λ (q : QueueState). Some (live_of q)) (sym same)) places limit c.requires.goes
           (ap (λ (q : QueueState). q.stopped) same ∙ c.requires.goes) (ap (λ (q : QueueState). q.event_index) same) tt walks tt in
           let ds = new.descriptors.items in

@@ -46,7 +46,7 @@ returns g c =
           let goes : GoesSo w now index (wents.On says.Idle) new after =
           subst (λ (r : Result LoadOutcome ChainError). IfOk r (λ out. GoesSo w now index out new after)) is c.pop-2.ensures.goes in
           let walks = walks_so (wents.On says.Idle) goes in
-          let law = c.law_handles.ensures.among s i (index ∷ []) old new before now after says.Idle
+          let law = c.law_handles.ensures.ends_pop_among s i (index ∷ []) old new before now after says.Idle
           (there ∙ ap (λ (q : QueueState). Some (live_of q)) (sym now_is)) places limit c.requires.goes
           (ap (λ (q : QueueState). q.stopped) now_is ∙ c.requires.goes) (ap (λ (q : QueueState). q.event_index) now_is) tt
           walks tt in

@@ -56,7 +56,8 @@ returns g c =
             (
               are_calls,
               λ files_run.
-                  let so = served_beside may handles.walks handles.asks handles.calls handles.returns old one one two three
+                  let so = served_beside may handles.ends_pop handles.decodes_request handles.calls handles.pushes_chain old one
+                  one two three
                   c.args.queue.now c.walk_chain.new.queue c.in_ok-request_len.field-0-0 c.in_ok-request_len.request_len
                   c.in_ok-request_len.field-0-2
                   c.args.session request (asks.Call call.0) answer notice c.requires.goes

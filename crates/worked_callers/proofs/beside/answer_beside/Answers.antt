@@ -17,7 +17,7 @@ returns-in-Ok g c =
           let call = call_of (drop 80 request) made in
           let answer = answer_of [] a in
           let n = length (room_of chain) in
-          let law = c.law_handles.ensures.answers s chain before behind old new request options made a [] c.in-Ok.field-0 files
+          let law = c.law_handles.ensures.receives_answer s chain before behind old new request options made a [] c.in-Ok.field-0 files
           out asked kept
           (c.in-Ok.ensures.taken.0, c.requires.data, c.in-Ok.ensures.stays.1, c.in-Ok.ensures.given) c.in-Ok.ensures.taken.1 so in
           let left = options_after _ _ _ _ _ _ law.1

@@ -9,7 +9,8 @@ returns g c =
     let after = c.reset.new.self in
     record {
       begins = λ s i there some few none.
-          let law = c.law_handles.ensures.begins s i before after c.args.layout c.args.position before.max_in_flight before.event_index None
+          let law = c.law_handles.ensures.resets_queue s i before after c.args.layout c.args.position before.max_in_flight
+          before.event_index None
           there c.reset.ensures some few c.ranges.position.fits none in
           (after_reset s i (live_of after), law.0, law.1);
     }

@@ -22,7 +22,7 @@ returns-clause-loaded g c e is s i there places limit events =
     let walks : IsWalkedBy given old new before after (wents.On (says.Refused e)) =
     subst (λ (r : Result walked.PopOutcome ChainError). IfOk r (λ told. IsWalkedBy given old new before after (wents.On told))) is
     c.walk_to_end.ensures.given in
-    let walk = c.law_handles.ensures.walks s i (calls_of walks.0 given) old new before after (says.Refused e) there places limit
+    let walk = c.law_handles.ensures.ends_pop s i (calls_of walks.0 given) old new before after (says.Refused e) there places limit
     c.requires.goes events walks.1 tt in
     let end = after_pop s i (live_of before) walk.0 ds walk.2 in (
       EndsPop i walk.0 ds walk.2 ∷ [],

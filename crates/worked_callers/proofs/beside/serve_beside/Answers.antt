@@ -42,7 +42,7 @@ returns g c =
                 c.in_ok-request_len.request_len c.in_ok-request_len.field-0-2 c.args.session request c.args.answer replied.0 replied.2
                 walks replied.3 replied.4 replied.6 replied.7,
             λ files_run.
-                let so = served_beside may handles.walks handles.asks handles.calls handles.returns old one one replied.1
+                let so = served_beside may handles.ends_pop handles.decodes_request handles.calls handles.pushes_chain old one one replied.1
                 c.reply.new.handle before after
                 c.in_ok-request_len.field-0-0 c.in_ok-request_len.request_len c.in_ok-request_len.field-0-2 c.args.session request replied.0
                 replied.2 notice c.requires.goes (calls_of walks.0 c.args.given.now, walks.1) refl

@@ -97,7 +97,7 @@ returns g c =
           of_one,
           of_two,
           λ between files early_run late_run.
-              served_crossed may handles.walks handles.asks handles.calls handles.returns c.args.one.now.given.now
+              served_crossed may handles.ends_pop handles.decodes_request handles.calls handles.pushes_chain c.args.one.now.given.now
               c.args.two.now.given.now old popped asked replied
               old' popped' asked' replied' before mid after
               c.in_ok-first_len.field-0-0 c.in_ok-first_len.first_len c.in_ok-first_len.field-0-2 c.in_ok-second_len.field-0-0

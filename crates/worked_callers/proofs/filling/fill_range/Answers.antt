@@ -12,7 +12,7 @@ returns g c =
     let few : length c.args.bytes.now ≤ c.in-Some.len = grind (arith, nat_tests, test) in
     record {
       fills = λ s i here.
-          filled_range may handles.walks c.args.given.now c.args.handle.now one c.args.queue.now c.walk_chain.new.queue
+          filled_range may handles.ends_pop c.args.given.now c.args.handle.now one c.args.queue.now c.walk_chain.new.queue
           c.in_ok-_len.field-0-0 c.in_ok-_len._len c.in_ok-_len.field-0-2 c.requires.goes c.in_ok-_len.ensures.given
           c.args.from c.args.bytes.now s i here
           handles.fills_range c.in-Some.guest c.in-Some.len c.in-Some.ensures.some few;

@@ -14,8 +14,8 @@ returns g c =
     let few : length c.args.bytes.now ≤ v.len = grind (arith, nat_tests, test, len) in
     record {
       fills = λ s i here.
-          filled_window may handles.walks c.args.given.now c.args.handle.now one c.args.queue.now c.walk_chain.new.queue
+          filled_window may handles.ends_pop c.args.given.now c.args.handle.now one c.args.queue.now c.walk_chain.new.queue
           c.in_ok-_len.field-0-0 c.in_ok-_len._len c.in_ok-_len.field-0-2 c.requires.goes c.in_ok-_len.ensures.given
           c.args.from c.args.bytes.now s i here
-          handles.fills v c.in-Some.ensures.some few;
+          handles.fills_buffer v c.in-Some.ensures.some few;
     }

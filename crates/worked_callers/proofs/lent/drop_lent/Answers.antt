@@ -9,7 +9,8 @@ returns g c =
     record {
       run = on_ok_two c.give_up.result _ _ _
           (λ clear left.
-          dropped_beside g.F.FileSystemBase.may handles.walks handles.drops c.args.given.now c.args.handle.now c.walk_chain.new.handle
+          dropped_beside g.F.FileSystemBase.may handles.ends_pop handles.gives_up_chain c.args.given.now c.args.handle.now
+          c.walk_chain.new.handle
           c.take_table.new.handle c.args.queue.now c.walk_chain.new.queue c.give_up.new.queue
           c.in_ok-_len.field-0-0 c.in_ok-_len._len c.in_ok-_len.field-0-2 c.requires.goes c.in_ok-_len.ensures.given
           (ap (λ (w : ChainHandle). w.state) c.in_ok-_table.ensures.taken) clear left)

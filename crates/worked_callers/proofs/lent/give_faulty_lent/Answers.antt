@@ -10,7 +10,7 @@ returns g c =
     record {
       run = if_ok_so c.give_back.result _ _ _
           (λ notice back final_is.
-          faulty_beside g.F.FileSystemBase.may handles.walks handles.faulty c.args.given.now c.args.handle.now c.take_faulty.new.handle
+          faulty_beside g.F.FileSystemBase.may handles.ends_pop handles.faulty c.args.given.now c.args.handle.now c.take_faulty.new.handle
           c.take_table.new.handle c.args.queue.now c.take_faulty.new.queue c.give_back.new.queue
           c.in_ok-_fault.field-0-0 c.in_ok-_fault._fault notice c.requires.goes c.in_ok-_fault.ensures.given
           (ap (λ (w : ChainHandle). w.state) c.in_ok-_table.ensures.taken) back final_is)

@@ -25,7 +25,7 @@ returns g c =
     let more = c.walk_chain-2.new.handle.descriptors.items in
     record {
       out = λ s i none there places places' limit limit'.
-          let one = c.law_handles.ensures.walks s i (calls_of first.given.0 c.args.given.now) c.args.first.now c.walk_chain.new.handle
+          let one = c.law_handles.ensures.ends_pop s i (calls_of first.given.0 c.args.given.now) c.args.first.now c.walk_chain.new.handle
           before mid
           (says.Chain head c.in_ok-head.field-0-1 c.in_ok-head.field-0-2)
           there places limit c.requires.goes tt first.given.1 tt in
@@ -33,7 +33,8 @@ returns g c =
           let took = took_so may s s₁ i one.0 ds one.2 head c.in_ok-head.field-0-1 c.in_ok-head.field-0-2 one.3 one.4 in
           let goes = goes_still c.args.first.now c.walk_chain.new.handle before mid head c.in_ok-head.field-0-1 c.in_ok-head.field-0-2
           c.requires.goes first.walked in
-          let two = c.law_handles.ensures.walks s₁ i (calls_of second.given.0 c.args.more.now) c.args.second.now c.walk_chain-2.new.handle
+          let two = c.law_handles.ensures.ends_pop s₁ i (calls_of second.given.0 c.args.more.now) c.args.second.now
+          c.walk_chain-2.new.handle
           mid
           c.walk_chain-2.new.queue
           (says.Chain other c.in_ok-other.field-0-1 c.in_ok-other.field-0-2) one.5 (took.1 ∙ places') (took.2 ∙ limit') goes tt

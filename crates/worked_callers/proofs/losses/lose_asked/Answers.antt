@@ -30,7 +30,8 @@ returns-in-Err g c =
     record {
       again = ap (λ (w : ChainHandle). w.state) c.in-Err.ensures.same ∙ c.abandon.ensures.0.3;
       run = λ s i reached there places limit small session.
-          let so = lost_asked may handles.walks handles.asks handles.abandons c.args.given.now c.args.handle.now c.walk_chain.new.handle
+          let so = lost_asked may handles.ends_pop handles.decodes_request handles.abandons c.args.given.now c.args.handle.now
+          c.walk_chain.new.handle
           c.ask_call.new.handle c.args.queue.now
           c.walk_chain.new.queue c.in_ok-request_len.field-0-0 c.in_ok-request_len.request_len c.in_ok-request_len.field-0-2 c.args.session
           c.args.request.now asked.0

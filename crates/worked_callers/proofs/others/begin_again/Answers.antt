@@ -14,7 +14,8 @@ returns g c =
     record {
       stands = λ start now es i none even run there out some few waits.
           let stood = c.law_runs.ensures.stands start now es i (live_of before) none even run there out in
-          let law = c.law_handles.ensures.begins now i before after before.layout before.next_avail before.max_in_flight before.event_index
+          let law = c.law_handles.ensures.resets_queue now i before after before.layout before.next_avail before.max_in_flight
+          before.event_index
           None there c.reset.ensures some few stood.0.1 waits in
           let same : live_of after ≡ live_of before =
           ap (λ (q : QueueState). live_of q) c.reset.ensures ∙ begun_same before c.requires.goes stood.0.0 in

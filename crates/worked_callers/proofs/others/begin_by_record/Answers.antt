@@ -13,7 +13,8 @@ returns g c =
     let begun = c.reset.ensures ∙ ap (λ (p : ℕ). reset_to before layout p) c.position-position.ensures in
     record {
       moves = λ s here m bytes v v' options none queues made found.
-          moved_by may c.law_handles.ensures.moves before (record c.reset.new.self { stopped = stopped }) layout c.args.read.now stopped
+          moved_by may c.law_handles.ensures.moves_device before (record c.reset.new.self { stopped = stopped }) layout
+          c.args.read.now stopped
           c.layout-layout.ensures.size c.layout-layout.ensures.desc
           c.layout-layout.ensures.avail c.layout-layout.ensures.used c.stopped_by-stopped.ensures
           (ap (λ (k : QueueState). record k { stopped = stopped }) begun) c.requires.some c.requires.few

@@ -8,5 +8,5 @@ returns g c =
     let w = c.set_memory.new.self in
     record {
       maps = on_ok_any c.set_memory.result _
-          (λ s none. (record s { places = places_in w.regions }, c.law_handles.ensures.maps s w (inl none), refl, refl));
+          (λ s none. (record s { places = places_in w.regions }, c.law_handles.ensures.remaps s w (inl none), refl, refl));
     }

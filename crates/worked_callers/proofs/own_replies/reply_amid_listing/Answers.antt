@@ -50,7 +50,8 @@ returns g c =
                 c.in_ok-request_len.field-0-2 c.args.session request (asks.Call asked.0) c.in_ok-request_len.ensures.given asked.1,
             λ answer files fits so.
                 let calls : Calls = (call_of (drop 80 request) asked.0, answer) ∷ [] in
-                let whole = replied_answered may handles.walks handles.asks handles.held handles.instead handles.returns_own given old one
+                let whole = replied_answered may handles.ends_pop handles.decodes_request handles.held handles.replies_instead
+                handles.pushes_own given old one
                 two three four
                 before after c.in_ok-request_len.field-0-0 c.in_ok-request_len.request_len c.in_ok-request_len.field-0-2 _ c.args.session
                 request bytes asked.0 notice c.requires.goes c.in_ok-request_len.ensures.given asked.1

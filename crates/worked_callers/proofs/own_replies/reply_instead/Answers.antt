@@ -39,7 +39,8 @@ returns g c =
     record {
       step = if_ok_so c.give_own_back.result _ _ _
           (λ notice back final_is s i here session.
-          let so = replied_asked may handles.walks handles.asks handles.held handles.instead handles.returns_own given old one two three
+          let so = replied_asked may handles.ends_pop handles.decodes_request handles.held handles.replies_instead
+          handles.pushes_own given old one two three
           four before after
           c.in_ok-request_len.field-0-0 c.in_ok-request_len.request_len c.in_ok-request_len.field-0-2 _ c.args.session request bytes
           asked.0 notice c.requires.goes c.in_ok-request_len.ensures.given asked.1 (λ out is. is) c.in_ok-reply.ensures.ok

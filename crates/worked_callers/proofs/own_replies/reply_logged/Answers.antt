@@ -40,21 +40,25 @@ returns g c =
           (λ (q : QueueState). ReturnsAsStep g.row.G.Denot may s i before q request bytes [] notice
           (IsRepliedChain s i given old before [] request bytes notice)) (sym final_is)
           (as_step may s i before (gave after) request bytes [] notice
-          (replied_fetched may handles.walks handles.replies handles.returns_own given old one two before after head n r _ request bytes
+          (replied_fetched may handles.ends_pop handles.replies_own_bytes handles.pushes_own given old one two before after head
+          n r _ request bytes
           notice goes by taken ok kept back s i here)
           g.row.G.Denot (IsRepliedChain s i given old before [] request bytes notice)
-          (fetched_named may handles.walks handles.replies handles.returns_own given old one two before after head n r _ request bytes
+          (fetched_named may handles.ends_pop handles.replies_own_bytes handles.pushes_own given old one two before after head n
+          r _ request bytes
           notice goes by taken ok kept back s i here)
           runs.own here.reached))
           c.give_own_back.ensures.back c.give_own_back.ensures.queue;
       reports = if_ok_so c.give_own_back.result _ _ _
           (λ notice back final_is s i here.
-          let whole = replied_fetched may handles.walks handles.replies handles.returns_own given old one two before after head n r _
+          let whole = replied_fetched may handles.ends_pop handles.replies_own_bytes handles.pushes_own given old one two before
+          after head n r _
           request bytes notice goes by taken ok kept back s i here in
           let told = reports may s i before (gave after) request bytes [] notice whole runs.tell in
           subst (λ (q : QueueState). ReportsOwn may s i given old before q request bytes notice) (sym final_is) (
             whole,
-            fetched_named may handles.walks handles.replies handles.returns_own given old one two before after head n r _ request bytes
+            fetched_named may handles.ends_pop handles.replies_own_bytes handles.pushes_own given old one two before after head n
+                r _ request bytes
                 notice goes by taken ok kept back s i here,
             told.0,
             told.1,
@@ -64,7 +68,8 @@ returns g c =
       log = if_ok_so c.give_own_back.result _ _ _
           (λ notice back final_is s i here.
           subst (λ (q : QueueState). LogsOwn may s i given old before q request bytes notice) (sym final_is)
-          (logged may handles.walks handles.replies handles.returns_own given old one two before after head n r _ request bytes notice goes
+          (logged may handles.ends_pop handles.replies_own_bytes handles.pushes_own given old one two before after head n r _
+          request bytes notice goes
           by taken ok kept back runs.log s i here))
           c.give_own_back.ensures.back c.give_own_back.ensures.queue;
     }

@@ -22,7 +22,8 @@ returns g c =
     record {
       run = if_ok_so c.give_own_back.result _ _ _
           (λ notice back final_is.
-          mapped_amid may handles.walks handles.maps handles.replies handles.returns_own c.args.given.now old one c.reply.new.self
+          mapped_amid may handles.ends_pop handles.remaps handles.replies_own_bytes handles.pushes_own c.args.given.now old one
+          c.reply.new.self
           c.set_memory.new.self before after c.give_own_back.new.queue head n r _ c.args.request.now c.args.bytes.now
           notice c.requires.goes c.in_ok-request_len.ensures.given taken c.in_ok-reply.ensures.ok c.in_ok-reply.ensures.kept back final_is)
           c.give_own_back.ensures.back c.give_own_back.ensures.queue;
