@@ -3,8 +3,8 @@
 what the three print.
 
 usage: fuzz.py SECONDS [SEED], with the paths of built programs in PROGRAM and, if the handle is to
-be played, in HANDLE (./run --fuzz has both). Status 0 if nothing differed, 1 if something did, 2 if
-it couldn't begin."""
+be played, in HANDLE (./run --fuzz has both). Status 0 if nothing differed, 1 if something did or
+nothing was compared, 2 if it couldn't begin, 130 if it was interrupted before that."""
 
 import os
 import re
@@ -27,6 +27,8 @@ SECONDS_TO_WRAP = 200
 MOST_DIFFERENCES = 10
 # A script ends with this status and line if it meets a command that the device lacks.
 LACKING = 4
+# The commands at which the handle may lack something (docs/SCRIPT.md, "On the handle").
+LACKED = {"the program": (), "the handle": (b"map", b"unmap", b"kick")}
 LAST_LINE = re.compile(rb"line (\d+): not on this device\n\Z")
 
 
@@ -37,13 +39,14 @@ class Device:
         self.name = name
         self.program = Built(path)
 
-    def agrees(self, want, found):
+    def agrees(self, script, want, found):
         """Whether it printed the plain machine's lines, at least up to a command that it lacks."""
         printed, status = found
         if status != LACKING:
             return want[:2] == found
         last = LAST_LINE.search(printed)
-        return last is not None and want[0].startswith(printed[:last.start()])
+        return (last is not None and word_of(script, int(last[1])) in LACKED[self.name]
+            and want[0].startswith(printed[:last.start()]))
 
 
 class Fuzzer:
@@ -90,7 +93,7 @@ class Fuzzer:
             self.coverage += want[2]
             for device, results in zip(self.devices, found):
                 self.coverage[device.name, played(script, *results[index])] += 1
-                if not device.agrees(want, results[index]):
+                if not device.agrees(script, want, results[index]):
                     self.tell(name, script, device)
 
     def plain(self, script):
@@ -106,8 +109,8 @@ class Fuzzer:
         started = device.program.start(scripts)
         wanted = [self.plain(script) for script in scripts]
         results = device.program.results(started)
-        pairs = zip(wanted, results)
-        return [want is not None and not device.agrees(want, found) for want, found in pairs]
+        return [want is not None and not device.agrees(script, want, found)
+            for script, want, found in zip(scripts, wanted, results)]
 
     def tell(self, name, script, device):
         """Shrinks a script and tells what differs."""
@@ -147,7 +150,13 @@ def played(script, printed, status):
     last = LAST_LINE.search(printed) if status == LACKING else None
     if last is None:
         return "whole scripts"
-    return "up to " + script.split(b"\n")[int(last[1]) - 1].split(b" ")[0].decode()
+    return "up to " + word_of(script, int(last[1])).decode()
+
+
+def word_of(script, number):
+    """The first word of a script's line; of no line none."""
+    lines = script.split(b"\n")
+    return lines[number - 1].split(b" ")[0] if 0 < number <= len(lines) else b""
 
 
 def zip_lines(first, second):
@@ -180,11 +189,13 @@ def main(arguments):
     fuzzer = Fuzzer(devices, seed, time.monotonic() + seconds)
     try:
         fuzzer.run()
+        status = 0 if fuzzer.scripts else 1
     except KeyboardInterrupt:
         say("interrupted")
+        status = 130
     fuzzer.report()
     say(f"seeds from {seed} to {fuzzer.seed - 1}")
-    return 1 if fuzzer.differences else 0
+    return 1 if fuzzer.differences else status
 
 
 if __name__ == "__main__":

@@ -60,7 +60,7 @@ use Rattle.fs_chain.specs.Whole.{
   FromReplied,
   FromTaken,
   ChainAnswer,
-  HasReply,
+  IsRepliedBy,
   IdleIsStepBy,
   IsMachineBefore,
   IsInOrder,
@@ -115,7 +115,7 @@ pub told_so : {F : Type 0} (may : May F) (m : State F) (i : ℕ) (kq : QueueStat
     → m.page_size ≡ s.page_size → m.options ≡ s.options.0 → length room ≡ out.room_len → out.room_len ≤ 2 ^ 31
     → TellsMeaning (setting s.page_size s.options.0 out.room_len) (meaning s.options.0 request out.room_len) (drop 80 request) out
     made asked.state
-    → asked.session ≡ s → HasReply made asked given answered
+    → asked.session ≡ s → IsRepliedBy made asked given answered
     → FromReplied kq answered.state (λ reply s₁. (last ≡ front_len reply) × (acts ≡ push_acts room reply (data_behind given) s₁ flags)) used
     → length flags ≡ 2 → notice ≡ tells flags
     → FileRun may m.files (file_calls (drop 80 request) made given) files

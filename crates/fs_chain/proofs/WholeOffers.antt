@@ -13,7 +13,7 @@ use Rattle.fs_queue.specs.NextAvail as avail
 use Rattle.fs_queue.specs.NextAvail.{NextAvail, next_avail}
 use Rattle.fs_queue.specs.Chain.{Descriptor, Found, IsChain, HasFault, StopsQueue}
 use Rattle.fs_queue.specs.Loads.{Load, holding, index_load, entry_load, chain_exactly}
-use Rattle.fs_queue.specs.OfferLoads.{without_request, without_chain, without_loads, without_entry, waits_by, with_request, with_loaded}
+use Rattle.fs_queue.specs.OfferLoads.{without_request, without_chain, without_loads, without_entry, available_by, with_request, with_loaded}
 use Rattle.fs_queue.specs.OfferLoads.{on_waits, offer_by}
 use Rattle.fs_queue.specs.Taking.{readable, writable, total_len, all_reach, RequestAndRoom, IsRequest, CannotFetch, Offer, Refuses, Offers}
 use Rattle.fs_queue.specs.Taking.{offer_of, addresses_of}
@@ -83,7 +83,7 @@ waits_tests false true c entry v w one two = entry_not entry v one
 waits_tests false false true entry v w one two = tt
 waits_tests false false false entry v w one two = two
 
-waits_is : (q : Queue) (index entry : Option (List ℕ)) → SaysNext NoWant (waits_by q index entry)
+waits_is : (q : Queue) (index entry : Option (List ℕ)) → SaysNext NoWant (available_by q index entry)
 waits_is q index entry =
     waits_tests _ _ _ entry (next_avail (holding (index_load q index ∷ [])) q)
     (next_avail (holding (index_load q index ∷ entry_load q entry ∷ [])) q)
@@ -179,8 +179,8 @@ pub is_within : (m : Memory) (limit : ℕ) (q : Queue) (index entry : Option (Li
     offer_by m limit q index entry ls request ≡ Some o → IsWithin limit o
 is_within m limit q index entry ls request o is =
     says_is (IsWithin limit) (offer_by m limit q index entry ls request) o
-    (by_stop m limit q.stopped index entry ls request (option_and_then (on_waits m limit q ls request) (waits_by q index entry))
-    (of_waits m limit q ls request (waits_by q index entry) (waits_is q index entry))) is
+    (by_stop m limit q.stopped index entry ls request (option_and_then (on_waits m limit q ls request) (available_by q index entry))
+    (of_waits m limit q ls request (available_by q index entry) (waits_is q index entry))) is
 
 -- ---- a chain that is offered whole
 

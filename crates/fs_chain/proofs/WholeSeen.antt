@@ -28,7 +28,8 @@ use Rattle.fs_chain.specs.Events.{seen_at, tells_of}
 use Rattle.fs_chain.specs.Orders.{front_len}
 use Rattle.fs_chain.specs.Queues.{pop_id_of}
 use Rattle.fs_chain.specs.Walks.{HasEvents, course_of, faulty_out, no_reply, out_of, state_after}
-use Rattle.fs_chain.specs.Whole.{ByEntries, ChainBy, FaultyChainBy, FromReplied, FromTaken, ChainAnswer, HasReply, IsByFlags, IsToldBySeen}
+use Rattle.fs_chain.specs.Whole.{ByEntries, ChainBy, FaultyChainBy, FromReplied, FromTaken, ChainAnswer, IsRepliedBy, IsByFlags}
+use Rattle.fs_chain.specs.Whole.{IsToldBySeen}
 use Rattle.fs_chain.specs.Whole.{NoAnswer, OneAnswer, ReturnsAreToldBySeen, push_acts, data_behind}
 use Rattle.plain_machine.specs.Step.{Calls}
 use Rattle.plain_machine.specs.StepBy.{Act}
@@ -82,7 +83,7 @@ unanswered kq P asked answered used same back = subst (λ (w : ChainHandle). Fro
 
 seen_so : (s : Setting) (m : Meaning) (behind : List ℕ) (kq : QueueState) (P : ChainReply → PushStores
     → Type 0) (out : InFlight) (made : told.Decoded) (asked answered : ChainHandle) (given : ChainAnswer) (used : PushStores)
-    → TellsMeaning s m behind out made asked.state → HasReply made asked given answered → FromReplied kq answered.state P used
+    → TellsMeaning s m behind out made asked.state → IsRepliedBy made asked given answered → FromReplied kq answered.state P used
     → IsSeenThere kq out used
 seen_so s m behind kq P out (asks.Call c) asked answered (OneAnswer a bytes replied) used meant has back =
     seen_answered s (λ r. setting asked.session.page_size asked.session.options.0 r) m behind kq P out c a answered.session.options.0

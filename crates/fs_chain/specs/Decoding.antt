@@ -9,7 +9,7 @@ use Rattle.server_phases.specs.declared.asking.DecodedRequest.{DecodedRequest}
 use Rattle.server_phases.specs.declared.asking.DecodedRequest.TheVariants as asked
 use Rattle.server_phases.specs.declared.listing.Listing.{Listing}
 use Rattle.server_phases.specs.declared.waiting.Waiting.{Waiting}
-use Rattle.server_phases.specs.Asking.{AsksCall, TellsData, IsDecoded, front_tells}
+use Rattle.server_phases.specs.Asking.{AsksCall, TellsData, IsDecoded, front_suffices}
 use Rattle.server_phases.specs.Gathering.{IsListingFor, is_list_command}
 use Rattle.server_phases.specs.Waiting.{WaitsFor, first_call}
 use Rattle.fs_chain.specs.declared.decoding.Decoded as told
@@ -77,7 +77,7 @@ wanted_by _ = None
 
 -- how many bytes are needed after these first ones; none if they suffice
 abbrev pub wanted_after : (front : List ℕ) → (whole : ℕ) → Option ℕ
-wanted_after front whole = if front_tells front whole then None else Some (wanted (length front) whole)
+wanted_after front whole = if front_suffices front whole then None else Some (wanted (length front) whole)
 
 -- P, if a chain is in flight and its request wasn't decoded
 abbrev pub IfUndecoded : state.ChainState → (InFlight → Type 0) → Type 0

@@ -160,13 +160,13 @@ file_calls behind (asks.Call made) (ByEntries with_nodes es ending bytes) =
 file_calls behind made given = []
 
 -- a chain whose request was decoded has its reply: without a call, or after its call was answered
-abbrev pub HasReply : told.Decoded → ChainHandle → ChainAnswer → ChainHandle → Type 0
-HasReply (asks.Call made) w (OneAnswer answer bytes replied) w' = IsAnsweredBy w answer bytes replied w'
-HasReply (asks.Call made) w (ByEntries with_nodes es ending bytes) w' =
+abbrev pub IsRepliedBy : told.Decoded → ChainHandle → ChainAnswer → ChainHandle → Type 0
+IsRepliedBy (asks.Call made) w (OneAnswer answer bytes replied) w' = IsAnsweredBy w answer bytes replied w'
+IsRepliedBy (asks.Call made) w (ByEntries with_nodes es ending bytes) w' =
     IsListedBy w with_nodes es ending bytes w'
-HasReply asks.Nothing w NoAnswer w' = w' ≡ w
-HasReply (asks.Fault e) w NoAnswer w' = w' ≡ w
-HasReply _ w given w' = ⊥
+IsRepliedBy asks.Nothing w NoAnswer w' = w' ≡ w
+IsRepliedBy (asks.Fault e) w NoAnswer w' = w' ≡ w
+IsRepliedBy _ w given w' = ⊥
 
 -- the data behind a front
 abbrev pub data_behind : ChainAnswer → List ℕ
@@ -230,7 +230,7 @@ pub record ChainBy (given_bytes : List (List ℕ)) (request : List ℕ) (calls :
   pub decoded_handle : ChainHandle
   pub is_asked : IsDecodedBy popped_handle s request front made decoded_handle
   pub given : ChainAnswer
-  pub replies : HasReply made decoded_handle given new
+  pub replies : IsRepliedBy made decoded_handle given new
   pub calls_are : calls ≡ file_calls (drop 80 request) made given
   pub back : QueueState
   pub returns : GoesBackBy back (addresses_of (writable popped_handle.descriptors.items)) (data_behind given)

@@ -11,7 +11,7 @@ ghost use Rattle.server_requests.specs.Reading.{record_parser};
 ghost use Rattle.virtiofsd_fuse.specs.Grammar.{Meaning, meaning};
 ghost use Rattle.virtiofsd_fuse.specs.Serving.{Setting, setting};
 ghost use Rattle.server_phases.specs.Asking.{AsksCall, HasAskerByFront, IsAskedBy, IsRequestFront, IsDecoded};
-ghost use Rattle.server_phases.specs.Asking.{IsDecodedByFront, front_suffices};
+ghost use Rattle.server_phases.specs.Asking.{IsDecodedByFront, is_decoded};
 ghost use Rattle.fs_chain.specs.Decoding.{IfUndecoded, IsKeptFor, KeepsCall, TellsMeaning, wanted};
 ghost use Rattle.fs_chain.specs.Decoding.{wanted_after, wanted_by};
 ghost use Rattle.fs_chain.specs.Orders.{ask_error};
@@ -111,7 +111,7 @@ impl ChainHandle {
             → (h : InHeader) (more : List ℕ)
             → record_parser in_header request ≡ Ok (h, more)
             → IsKeptFor (context_of h) self.new.state }
-        ensures wanted { wanted_by result ≡ (if front_suffices asked.entry then None
+        ensures wanted { wanted_by result ≡ (if is_decoded asked.entry then None
             else Some (wanted len out.request_len)) }
         ensures same { IsAllButPlace self.old self.new }
         ensures list { self.new.list_len ≡ self.old.list_len }

@@ -19,7 +19,7 @@ use Rattle.server_segments.specs.declared.error.Error.TheVariants.{DecodeMessage
 use Rattle.server_requests.specs.Reading.{Parsed, ReadFailure, Faults, and_then, needs, record_parser}
 use Rattle.server_calls.specs.Requests.{write_call}
 use Rattle.server_phases.specs.declared.session.Session.{Session}
-use Rattle.server_phases.specs.Asking.{IsRequestFront, front_tells}
+use Rattle.server_phases.specs.Asking.{IsRequestFront, front_suffices}
 use Rattle.server_phases.specs.Waiting.{first_call}
 use Rattle.virtiofsd_fuse.specs.DataApart.{begins_a_write, is_write}
 use Rattle.virtiofsd_fuse.specs.Grammar.{Asks, FileCommand, Given, Meaning, given, meaning, one, row}
@@ -169,7 +169,7 @@ call_named :
 call_named (at.Taken out) kept s request made other small can keeps wanted =
     by_front (length request == out.request_len) out kept s request made other refl small
     (ltb-false out.request_len (length request) (fits_by (nat_lt out.request_len (length request)) can))
-    (tells_by (front_tells request out.request_len) _ wanted) keeps
+    (tells_by (front_suffices request out.request_len) _ wanted) keeps
 call_named _ kept s request made other small can keeps wanted = absurd (cc)
 
 told_named : (b asked b' : ChainHandle) (s : Session) (request : List ℕ) (made : told.Decoded) (fields call : FsCall) (status ticket : ℕ)

@@ -23,7 +23,7 @@ use Rattle.fs_queue.specs.Taking.{offer, addresses_of}
 use Rattle.fs_queue.specs.Loads.{Load, Ahead, Reads, Ends, holding, reads_entry, step_by, ahead_at, ahead_after, ahead_of_next, is_whole}
 use Rattle.fs_queue.specs.Loads.{found_exactly, chain_exactly}
 use Rattle.fs_queue.specs.Loads.{index_load, entry_load, asks_entry, IsEntryOf, AreEntriesOf, IsLoadOf}
-use Rattle.fs_queue.specs.OfferLoads.{without_request, without_chain, without_loads, without_entry, waits_by, with_request, with_loaded}
+use Rattle.fs_queue.specs.OfferLoads.{without_request, without_chain, without_loads, without_entry, available_by, with_request, with_loaded}
 use Rattle.fs_queue.specs.OfferLoads.{on_waits}
 use Rattle.fs_queue.proofs.BoundLemmas.{walks_end}
 use Rattle.fs_queue.proofs.LoadLemmas.{step_still}
@@ -236,7 +236,7 @@ told P entry one two w true true true p s e = let same : two ≡ w = cc in subst
 
 ring_came : (m : Memory) (q : Queue) (index entry : Option (List ℕ)) (w : NextAvail) → IsLoadOf m 2 (index_load q index) →
     (asks_entry (alone q index) ≡ true → IsLoadOf m 2 (entry_load q entry)) →
-    waits_by q index entry ≡ Some w → RingCame m q index entry w
+    available_by q index entry ≡ Some w → RingCame m q index entry w
 ring_came m q index entry w is es e =
     let in_memory = if reach m Read (ring_entry_at q) 2 then Some (bytes m (ring_entry_at q) 2) else None in
     told (RingCame m q index entry) entry (alone q index) (both q index entry) w (is_whole 2 index) (asks_entry (alone q index))
@@ -376,11 +376,11 @@ offers_read m limit q index entry ls request o are e =
     let i = came_at (avail_index_at q) index in
     let r = came_at (ring_entry_at q) entry in
     by_stop q.stopped (without_loads index entry ls request (Refuses stop.Stopped))
-    (option_and_then (on_waits m limit q ls request) (waits_by q index entry)) o
+    (option_and_then (on_waits m limit q ls request) (available_by q index entry)) o
     (ring_reads q (next_avail m q) ++ waiting_reads m q (next_avail m q) (offer m limit q))
     (i ++ r ++ all_came ls ++ request_came q ls request o)
     (λ h. no_loads q index entry ls request (Refuses stop.Stopped) o h)
-    (λ runs h. let got = chained (on_waits m limit q ls request) (waits_by q index entry) o h in
+    (λ runs h. let got = chained (on_waits m limit q ls request) (available_by q index entry) o h in
     let ring = ring_came m q index entry got.0 (are.index_is runs) (are.entry_is runs) got.1 in
     ap (λ (w : NextAvail). ring_reads q w ++ waiting_reads m q w (offer m limit q)) (sym ring.waits)
     ∙ ap (λ (x : Offer). ring_reads q got.0 ++ waiting_reads m q got.0 x) (sym (offer_is_still m limit q index entry ls request o are e))

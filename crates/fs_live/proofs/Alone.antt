@@ -29,7 +29,8 @@ use Rattle.fs_live.specs.Live.{StoresNotification, ResetsQueue, FillsBuffer, Giv
 use Rattle.fs_live.specs.Live.{Happens}
 use Rattle.fs_live.specs.Live.{IsUnreplied}
 use Rattle.fs_live.specs.Live.{LiveRun, EndsPopIn}
-use Rattle.fs_live.specs.Live.{GoesBackWith, abandoned_chain, new_chain, fault_of, own_exchange, room_in, room_of, calls_in, serving}
+use Rattle.fs_live.specs.Live.{PushedWith, abandoned_chain, new_chain, fault_of_phase, own_exchange, room_of_phase, room_of, calls_in}
+use Rattle.fs_live.specs.Live.{serving}
 use Rattle.fs_live.specs.Runs.{OwnIsReturned, ReturnedIsStepBy, IsAskedIn, IsServedPhase, after_alone, chain_loads, options_left}
 
 -- ---- lists of chains
@@ -66,7 +67,7 @@ IsWhole _ ds = Unit {0}
 
 -- its walk came to it by its loads, and its request is as long as it says
 abbrev pub Walked : ℕ → OutChain → Type 0
-Walked limit c = FetchesBy c.places limit c.taken c.loaded c.descriptors c.head (fault_of c.phase) × IsWhole c.phase c.descriptors
+Walked limit c = FetchesBy c.places limit c.taken c.loaded c.descriptors c.head (fault_of_phase c.phase) × IsWhole c.phase c.descriptors
 
 abbrev pub AllWalked : {F : Type 0} → LiveState F → Type 0
 AllWalked s = AllByRecursion (Walked s.limit) s.outs
@@ -95,7 +96,7 @@ one_walked s before behind c out all =
     let right = all_right (Walked s.limit) before (c ∷ behind) split in
     (all_left (Walked s.limit) before (c ∷ behind) split, right.0, right.1)
 
-pub asked_walked : (limit : ℕ) (c : OutChain) (request : List ℕ) (options : ℕ) (calls : Calls) → fault_of c.phase ≡ None
+pub asked_walked : (limit : ℕ) (c : OutChain) (request : List ℕ) (options : ℕ) (calls : Calls) → fault_of_phase c.phase ≡ None
     → length request ≡ total_len (readable c.descriptors)
     → Walked limit c → Walked limit (record c { phase = Asked request options calls })
 asked_walked limit c request options calls good whole h =
@@ -110,14 +111,14 @@ own_walked : (limit : ℕ) (c : OutChain) (p : Phase) (request reply : List ℕ)
     → length reply ≤ length (room_of c) → Walked limit c
     → Walked limit (record c { phase = Own request reply })
 own_walked limit c Fetched request reply is un few h = (
-  subst (λ (f : Option ChainFault). FetchesBy c.places limit c.taken c.loaded c.descriptors c.head f) (ap fault_of is) h.0,
-  (un, subst (λ (p : Phase). length reply ≤ length (room_in p c.descriptors)) is few),
+  subst (λ (f : Option ChainFault). FetchesBy c.places limit c.taken c.loaded c.descriptors c.head f) (ap fault_of_phase is) h.0,
+  (un, subst (λ (p : Phase). length reply ≤ length (room_of_phase p c.descriptors)) is few),
 )
 own_walked limit c (Asked asked options calls) request reply is un few h = (
-  subst (λ (f : Option ChainFault). FetchesBy c.places limit c.taken c.loaded c.descriptors c.head f) (ap fault_of is) h.0,
+  subst (λ (f : Option ChainFault). FetchesBy c.places limit c.taken c.loaded c.descriptors c.head f) (ap fault_of_phase is) h.0,
   (
     ap length un ∙ subst (λ (p : Phase). IsWhole p c.descriptors) is h.1,
-    subst (λ (p : Phase). length reply ≤ length (room_in p c.descriptors)) is few,
+    subst (λ (p : Phase). length reply ≤ length (room_of_phase p c.descriptors)) is few,
   ),
 )
 own_walked limit c p request reply is un few h = absurd un
@@ -130,14 +131,14 @@ keeps {F} may s after (DecodesRequest c request told) h all =
     let parts = one_walked s h.before h.behind c h.out all in
     subst (λ (k : LiveState F). AllWalked k) (sym h.state)
     (all_both P h.before (record c { phase = Asked request s.options [] } ∷ h.behind) parts.0
-    (asked_walked s.limit c request s.options [] (ap fault_of h.fresh) h.whole parts.1, parts.2))
+    (asked_walked s.limit c request s.options [] (ap fault_of_phase h.fresh) h.whole parts.1, parts.2))
 keeps {F} may s after (ReceivesAnswer c call answer) h all =
     let P = Walked s.limit in
     let parts = one_walked s h.before h.behind c h.out all in
     let whole : length h.request ≡ total_len (readable c.descriptors) = subst (λ (p : Phase). IsWhole p c.descriptors) h.asked parts.1.1 in
     subst (λ (k : LiveState F). AllWalked k) (sym h.state)
     (all_both P h.before (record c { phase = Asked h.request h.options (h.calls ++ (call, answer) ∷ []) } ∷ h.behind) parts.0
-    (asked_walked s.limit c h.request h.options (h.calls ++ (call, answer) ∷ []) (ap fault_of h.asked) whole parts.1, parts.2))
+    (asked_walked s.limit c h.request h.options (h.calls ++ (call, answer) ∷ []) (ap fault_of_phase h.asked) whole parts.1, parts.2))
 keeps {F} may s after (PushesChain c x notice last used seen) h all =
     let parts = one_walked s h.before h.behind c h.out all in
     subst (λ (k : LiveState F). AllWalked k) (sym h.state) (all_both (Walked s.limit) h.before h.behind parts.0 parts.2)
@@ -231,7 +232,7 @@ pub exchange_of : {G : Type 0} (other : May G) (m : State G) (files : G) (places
     → location m.memory ≡ location places → IsServedPhase p
     → Walked m.limit (record { places = places; queue = i; taken = q; loaded = loaded; descriptors = ds; head = head; phase = p })
     → IsAskedIn p m.options
-    → GoesBackWith m.page_size (record { places = places; queue = i; taken = q; loaded = loaded; descriptors = ds; head = head; phase = p })
+    → PushedWith m.page_size (record { places = places; queue = i; taken = q; loaded = loaded; descriptors = ds; head = head; phase = p })
     p x
     → length seen ≡ 2 → FileRun other m.files (calls_in p) files
     → Exchanging other m files (record { places = places; queue = i; taken = q; loaded = loaded; descriptors = ds; head = head; phase = p })
@@ -309,7 +310,7 @@ pub returned_is_step_by : {F G : Type 0} (may : May F) (other : May G) → Retur
 returned_is_step_by {F} {G} may other s now after es c x notice last used seen m files none run h served first calls =
     let so : Walked m.limit c =
     subst (λ (k : ℕ). Walked k c) (sym first.limit) (walked_there may s now es c h.before h.behind none run h.out) in
-    let goes : GoesBackWith m.page_size c c.phase x = subst (λ (k : ℕ). GoesBackWith k c c.phase x) (sym first.page_size) h.goes in
+    let goes : PushedWith m.page_size c c.phase x = subst (λ (k : ℕ). PushedWith k c c.phase x) (sym first.page_size) h.goes in
     let made = exchange_of other m files c.places c.queue c.taken c.loaded c.descriptors c.head c.phase x last seen first.places served so
     first.options goes h.two calls in (
       h.w,
@@ -331,9 +332,9 @@ own_is_returned {F} G may s now after es c x notice last used seen request reply
     let whole : (length request ≡ total_len (readable c.descriptors)) × (length reply ≤ length (addresses_of (writable c.descriptors))) =
     subst (λ (p : Phase). IsWhole p c.descriptors) is walked.1 in
     let fetched : FetchesBy c.places now.limit c.taken c.loaded c.descriptors c.head None =
-    subst (λ (p : Phase). FetchesBy c.places now.limit c.taken c.loaded c.descriptors c.head (fault_of p)) is walked.0 in
-    let room : room_of c ≡ addresses_of (writable c.descriptors) = ap (λ (p : Phase). room_in p c.descriptors) is in
-    let exchange : x ≡ own_exchange c.head request reply = subst (λ (p : Phase). GoesBackWith now.page_size c p x) is h.goes in (
+    subst (λ (p : Phase). FetchesBy c.places now.limit c.taken c.loaded c.descriptors c.head (fault_of_phase p)) is walked.0 in
+    let room : room_of c ≡ addresses_of (writable c.descriptors) = ap (λ (p : Phase). room_of_phase p c.descriptors) is in
+    let exchange : x ≡ own_exchange c.head request reply = subst (λ (p : Phase). PushedWith now.page_size c p x) is h.goes in (
       h.w,
       h.there,
       record {

@@ -19,7 +19,7 @@ use Rattle.virtiofsd_fuse.specs.Serving.{Setting, May, ServedMessage, served, se
 use Rattle.fs_chain.specs.Answers.{CanBeGiven, IfWaits, IsGiven, IsWaiting}
 use Rattle.fs_chain.specs.Decoding.{KeepsCall, KeepsReply, TellsMeaning, asked_of}
 use Rattle.fs_chain.specs.Walks.{course_of, out_of}
-use Rattle.fs_chain.specs.Whole.{ByEntries, ChainAnswer, FromTaken, HasReply, NoAnswer, OneAnswer, file_calls}
+use Rattle.fs_chain.specs.Whole.{ByEntries, ChainAnswer, FromTaken, IsRepliedBy, NoAnswer, OneAnswer, file_calls}
 use Rattle.fs_chain.specs.declared.answering.Replied.{Replied}
 use Rattle.fs_chain.specs.declared.decoding.Decoded as told
 use Rattle.fs_chain.specs.declared.decoding.Decoded.TheVariants as asks
@@ -29,8 +29,8 @@ use Rattle.fs_chain.specs.declared.state.ChainState.TheVariants as at
 use Rattle.fs_chain.specs.declared.chain_handle.ChainHandle.{ChainHandle}
 use Rattle.fs_chain.proofs.WholeOffers.{fits_limit}
 use Rattle.plain_machine.specs.Step.{Calls, answers_alone}
-use Rattle.fs_live.specs.Live.{Phase, fault_of, room_in, room_of}
-use Rattle.fs_live.specs.Handles.{HandleCalls, HandleDecodesRequest, HandleReceivesAnswer, IsDecodedWhole, calls_told}
+use Rattle.fs_live.specs.Live.{Phase, fault_of_phase, room_of_phase, room_of}
+use Rattle.fs_live.specs.Handles.{HandleCalls, HandleDecodesRequest, HandleReceivesAnswer, IsDecodedWhole, calls_decoded}
 use Rattle.fs_live.proofs.Alone.{Walked, walked_there}
 use Rattle.fs_live.proofs.EachCall.{each_waits}
 use Rattle.fs_live.proofs.Left.{options_left_by}
@@ -65,7 +65,7 @@ by_reply s m behind out (at.HasReply kept reply) keeps = by_front s m behind rep
 by_reply s m behind out st keeps = absurd keeps
 
 told_calls : (s : Setting) (m : Meaning) (behind : List ℕ) (out : InFlight) (made : told.Decoded) (st : state.ChainState) →
-    IsDecodedWhole made → TellsMeaning s m behind out made st → calls_told behind made ≡ (served s m []).calls
+    IsDecodedWhole made → TellsMeaning s m behind out made st → calls_decoded behind made ≡ (served s m []).calls
 told_calls s m behind out (asks.Call made) st is tells = by_call s m behind made out st tells
 told_calls s m behind out (asks.More n) st is tells = absurd is
 told_calls s m behind out asks.Nothing st is tells = by_reply s m behind out st tells
@@ -76,7 +76,7 @@ handle_asks {F} may s c before behind w w' session request front made reached sm
     let ds = c.descriptors in
     let walked : Walked s.limit c = walked_there may reached.0 s reached.1 c before behind reached.2 reached.3 out in
     let fetches : FetchesBy c.places s.limit c.taken c.loaded ds c.head None =
-    subst (λ (p : Phase). FetchesBy c.places s.limit c.taken c.loaded ds c.head (fault_of p)) fresh walked.0 in
+    subst (λ (p : Phase). FetchesBy c.places s.limit c.taken c.loaded ds c.head (fault_of_phase p)) fresh walked.0 in
     let fits = fits_limit c.places s.limit c.taken c.loaded ds c.head small fetches.1 in
     let o = out_of (course_of kept.kept s.limit) kept.pop_id c.head ds in
     let by = subst (λ (st : state.ChainState). FromTaken st (λ o. (o.request_len ≡ length request) × IsRequestFront front request
@@ -90,8 +90,8 @@ handle_asks {F} may s c before behind w w' session request front made reached sm
     (subst (λ (a : ℕ). TellsMeaning (setting session.page_size a o.room_len) (meaning a request o.room_len) (drop 80 request) o made
     w'.state) session_is.1 by.2) in
     let n = length (room_of c) in
-    let room : n ≡ o.room_len = ap (λ (p : Phase). length (room_in p ds)) fresh ∙ fits.1 in
-    let told_so_far : calls_told (drop 80 request) made
+    let room : n ≡ o.room_len = ap (λ (p : Phase). length (room_of_phase p ds)) fresh ∙ fits.1 in
+    let told_so_far : calls_decoded (drop 80 request) made
     ≡ (served (setting s.page_size s.options n) (meaning s.options request n) []).calls =
     told_calls (setting s.page_size s.options o.room_len) (meaning s.options request o.room_len) (drop 80 request) o made w'.state is tells
     ∙ ap (λ (k : ℕ). (served (setting s.page_size s.options k) (meaning s.options request k) []).calls) (sym room) in (
@@ -161,7 +161,7 @@ handle_answers {F} may s c before behind w w' request options made a bytes told 
         options = options;
         calls = [];
         asked = asked;
-        waits = parts.0;
+        pending = parts.0;
         is_one = parts.1;
         files = files;
         may_so = so;
@@ -174,7 +174,7 @@ handle_answers {F} may s c before behind w w' request options made a bytes told 
 all_served : (page_size options n : ℕ) (m : Meaning) (behind : List ℕ) (made : told.Decoded) (given : ChainAnswer) (out : InFlight)
     (w w' : ChainHandle)
     → (w.session.page_size ≡ page_size) × (w.session.options.0 ≡ options)
-    → TellsMeaning (setting page_size options n) m behind out made w.state → HasReply made w given w'
+    → TellsMeaning (setting page_size options n) m behind out made w.state → IsRepliedBy made w given w'
     → AreServed (setting page_size options n) m (file_calls behind made given)
 all_served page_size options n m behind (asks.Call made) (OneAnswer a bytes replied) out w w' session tells has =
     let left = w'.session.options.0 in
@@ -214,7 +214,7 @@ handle_calls {F} may s c before behind w w' request options made given earlier l
         options = options;
         calls = earlier;
         asked = asked;
-        waits = each_waits (setting s.page_size options n) (meaning options request n) earlier later call answer split;
+        pending = each_waits (setting s.page_size options n) (meaning options request n) earlier later call answer split;
         is_one = fits;
         files = files;
         may_so = so;

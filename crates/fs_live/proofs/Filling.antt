@@ -16,7 +16,7 @@ use Rattle.fs_regions.specs.Places.{places_in}
 use Rattle.virtiofsd_fuse.specs.Serving.{May}
 use Rattle.plain_machine.specs.StepBy.{byte_store}
 use Rattle.fs_live.specs.Filling.{HandleFillsBuffer, HandleFillsRange, HasRoom}
-use Rattle.fs_live.specs.Live.{Abandoned, IsStoredIn, Phase, PoppedFaulty, room_in, room_of}
+use Rattle.fs_live.specs.Live.{Abandoned, IsStoredIn, Phase, PoppedFaulty, room_of_phase, room_of}
 use Rattle.fs_live.proofs.Queues.{same_some}
 
 -- ---- in the reply buffer
@@ -46,7 +46,7 @@ each_stored (a ∷ as') (x ∷ xs) target there = (
   each_stored as' xs target (λ b in_rest. there b (Contains-append_right (a ∷ []) as' b in_rest)),
 )
 
-room_is : (p : Phase) (ds : List Descriptor) → HasRoom p → room_in p ds ≡ addresses_of (writable ds)
+room_is : (p : Phase) (ds : List Descriptor) → HasRoom p → room_of_phase p ds ≡ addresses_of (writable ds)
 room_is (PoppedFaulty why) ds has = absurd has
 room_is (Abandoned fault) ds has = absurd has
 room_is p ds has = refl

@@ -9,7 +9,7 @@ use Rattle.plain_machine.proofs.PageLemmas.{marks_join, none_written, ways_stay,
 use Rattle.fs_live.specs.Guest.{DeviceEvent, PagesOfRun, StaysThere, Writes, after_moments, over_places, told_through}
 use Rattle.fs_live.specs.Live.{LiveEvent, MovesDevice, Remaps}
 use Rattle.fs_live.specs.Live.{event_acts}
-use Rattle.fs_live.specs.Runs.{told_by}
+use Rattle.fs_live.specs.Runs.{reported_by}
 use Rattle.fs_live.proofs.Pages.{event_told}
 
 -- an event that leaves the places
@@ -28,8 +28,8 @@ pages_of_run may s after (DeviceEvent e ∷ ms) m run stay =
     let ws = flat_map writes_of (stores_among (event_acts e)) in
     let n : Memory = after_stores m (stores_among (event_acts e)) in
     let laid : over_places e n ≡ n = stays_laid e n stay.0 in
-    let first : Marks m (told_by s e) n.host = event_told may s run.0 e run.1 m in
+    let first : Marks m (reported_by s e) n.host = event_told may s run.0 e run.1 m in
     let later : Marks n (told_through may run.0 ms after run.2) (after_moments n ms).host =
     pages_of_run may run.0 after ms n run.2 stay.1 in
-    subst (λ (k : Memory). Marks m (told_by s e ++ told_through may run.0 ms after run.2) (after_moments k ms).host) (sym laid)
-    (marks_join m n (told_by s e) (told_through may run.0 ms after run.2) (after_moments n ms).host (ways_stay m ws) first later)
+    subst (λ (k : Memory). Marks m (reported_by s e ++ told_through may run.0 ms after run.2) (after_moments k ms).host) (sym laid)
+    (marks_join m n (reported_by s e) (told_through may run.0 ms after run.2) (after_moments n ms).host (ways_stay m ws) first later)

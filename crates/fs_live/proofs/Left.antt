@@ -10,7 +10,7 @@ use Rattle.server_phases.specs.declared.session.Session.{Session}
 use Rattle.fs_chain.specs.Answers.{IfWaits, IsGiven, IsWaiting, data_len, replied_of, reply_of}
 use Rattle.fs_chain.specs.Decoding.{AsksListing, KeepsCall, KeepsReply, TellsMeaning}
 use Rattle.fs_chain.specs.Walks.{no_reply}
-use Rattle.fs_chain.specs.Whole.{ByEntries, FromReplied, ChainAnswer, HasReply, NoAnswer, OneAnswer, file_calls}
+use Rattle.fs_chain.specs.Whole.{ByEntries, FromReplied, ChainAnswer, IsRepliedBy, NoAnswer, OneAnswer, file_calls}
 use Rattle.fs_chain.specs.WholeListings.{Ending, IsListedBy}
 use Rattle.fs_chain.specs.declared.answering.Replied.{Replied}
 use Rattle.fs_chain.specs.declared.decoding.Decoded as told
@@ -56,7 +56,7 @@ unanswered : (out : InFlight) (w w' : ChainHandle) → w' ≡ w → IsOf out w.s
 unanswered out w w' same is = subst (λ (v : ChainHandle). IsOf out v.state) (sym same) is
 
 pub out_left : (s : Setting) (m : Meaning) (behind : List ℕ) (made : told.Decoded) (given : ChainAnswer) (out : InFlight)
-    (w w' : ChainHandle) → TellsMeaning s m behind out made w.state → HasReply made w given w'
+    (w w' : ChainHandle) → TellsMeaning s m behind out made w.state → IsRepliedBy made w given w'
     → IsOf out w'.state
 out_left s m behind (asks.Call made) (OneAnswer a bytes replied) out w w' tells has =
     out_answered s m behind w.session.page_size w.session.options.0 w'.session.options.0 made a replied out w.state w'.state
@@ -119,7 +119,7 @@ none_left page_size options n m w w' same now =
 pub options_left_by : (page_size options n : ℕ) (m : Meaning) (behind : List ℕ) (made : told.Decoded) (given : ChainAnswer) (out : InFlight)
     (w w' : ChainHandle)
     → (w.session.page_size ≡ page_size) × (w.session.options.0 ≡ options)
-    → TellsMeaning (setting page_size options n) m behind out made w.state → HasReply made w given w'
+    → TellsMeaning (setting page_size options n) m behind out made w.state → IsRepliedBy made w given w'
     → LeavesBy (setting page_size options n) m w'.session.options.0 (file_calls behind made given)
 options_left_by page_size options n m behind (asks.Call made) (OneAnswer a bytes replied) out w w' session tells has =
     let left = w'.session.options.0 in

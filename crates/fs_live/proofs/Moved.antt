@@ -8,7 +8,7 @@ use Rattle.fs_queue.specs.Queue.{Queue}
 use Rattle.virtiofsd_fuse.specs.Serving.{May}
 use Rattle.fs_live.specs.Several.{LiveQueue, InFlightId}
 use Rattle.fs_live.specs.Live.{Happens, KeepsQueue, LiveEvent, LiveRun, LiveState, MovesDeviceSo, OutChain, Remaps, ResetsQueueSo}
-use Rattle.fs_live.specs.Runs.{HasNoneInFlight, MovedGoesOn, StandsEven, tickets_on, untold}
+use Rattle.fs_live.specs.Runs.{HasNoneInFlight, MovedGoesOn, PositionsAgree, tickets_on, untold}
 use Rattle.fs_live.proofs.Placed.{Ahead, run_kept, started}
 use Rattle.fs_live.proofs.Queues.{kept_not, one_ticket, same_some}
 
@@ -57,7 +57,7 @@ module _ (i : ℕ) where
       let kept = run_kept i may s now es run (started i s none even) in
       subst (λ (ts : List InFlightId). Ahead now.places w (length ts)) out (kept w there)
 
-pub stands_even : {F : Type 0} (may : May F) → StandsEven may
+pub stands_even : {F : Type 0} (may : May F) → PositionsAgree may
 stands_even {F} may s now es i w none even run there out = (
   none_out_even i may s now es w none even run there out,
   λ after begins.

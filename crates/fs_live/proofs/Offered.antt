@@ -14,7 +14,7 @@ use Rattle.fs_queue.specs.NextAvail as avail
 use Rattle.fs_queue.specs.NextAvail.{NextAvail}
 use Rattle.fs_queue.specs.Chain.{Descriptor, Found, IsChain, HasFault, StopsQueue}
 use Rattle.fs_queue.specs.Loads.{Load, chain_exactly}
-use Rattle.fs_queue.specs.OfferLoads.{without_request, without_chain, without_loads, waits_by, with_request, with_loaded, on_waits}
+use Rattle.fs_queue.specs.OfferLoads.{without_request, without_chain, without_loads, available_by, with_request, with_loaded, on_waits}
 use Rattle.fs_queue.specs.Taking.{readable, writable, total_len, all_reach, addresses_of, return_fault, IsRequest, CannotFetch, Offer}
 use Rattle.fs_queue.specs.Taking.{Refuses, Offers, offer_of}
 use Rattle.fs_queue.specs.Taking as taking
@@ -136,8 +136,8 @@ fits m limit q loaded request o by =
     let ls = loaded.entries ++ by.1 in
     subst (Says m q) by.3
     (by_stop m q q.stopped loaded.index loaded.entry ls request
-    (option_and_then (on_waits m limit q ls request) (waits_by q loaded.index loaded.entry))
-    (of_waits m limit q ls request (waits_by q loaded.index loaded.entry)))
+    (option_and_then (on_waits m limit q ls request) (available_by q loaded.index loaded.entry))
+    (of_waits m limit q ls request (available_by q loaded.index loaded.entry)))
 
 -- ---- chains that are fetched
 

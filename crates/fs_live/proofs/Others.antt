@@ -31,7 +31,8 @@ use Rattle.plain_machine.specs.Step.{Exchange}
 use Rattle.plain_machine.specs.StepBy.{reply_stores, return_acts}
 use Rattle.fs_live.specs.Several.{LiveQueue, returning, seen_at}
 use Rattle.fs_live.specs.Several as several
-use Rattle.fs_live.specs.Live.{GoesBackWith, IsUnreplied, KeepsQueue, OutChain, Own, Phase, fault_of, own_exchange, room_in, room_of}
+use Rattle.fs_live.specs.Live.{PushedWith, IsUnreplied, KeepsQueue, OutChain, Own, Phase, fault_of_phase, own_exchange, room_of_phase}
+use Rattle.fs_live.specs.Live.{room_of}
 use Rattle.fs_live.specs.Handles.{live_of}
 use Rattle.fs_live.specs.Others.{AskedIsHeld, HandleAbandons, HandleGivesUpChain, HandleMovesDevice, HandleRemaps, HandleRepliesInstead}
 use Rattle.fs_live.specs.Others.{HandleRepliesOwnBytes}
@@ -108,7 +109,7 @@ handle_replies {F} may s c before behind w serial options request reply reached 
     let ds = c.descriptors in
     let walked : Walked s.limit c = walked_there may reached.0 s reached.1 c before behind reached.2 reached.3 out in
     let fetches : FetchesBy c.places s.limit c.taken c.loaded ds c.head None =
-    subst (λ (p : Phase). FetchesBy c.places s.limit c.taken c.loaded ds c.head (fault_of p)) fresh walked.0 in
+    subst (λ (p : Phase). FetchesBy c.places s.limit c.taken c.loaded ds c.head (fault_of_phase p)) fresh walked.0 in
     let fits = fits_limit c.places s.limit c.taken c.loaded ds c.head small fetches.1 in
     let o = out_of (course_of held.kept s.limit) held.pop_id c.head ds in
     let told : o.request_len ≡ length request =
@@ -116,7 +117,7 @@ handle_replies {F} may s c before behind w serial options request reply reached 
     let clear : own_error (at.Taken o) w.serial serial (length reply) ≡ None =
     subst (λ (st : state.ChainState). own_error st w.serial serial (length reply) ≡ None) held.state none in
     let few : Fits o.room_len (length reply) = chain_fits w.serial serial o.room_len (length reply) clear in
-    let room : length (room_of c) ≡ o.room_len = ap (λ (p : Phase). length (room_in p ds)) fresh ∙ fits.1 in (
+    let room : length (room_of c) ≡ o.room_len = ap (λ (p : Phase). length (room_of_phase p ds)) fresh ∙ fits.1 in (
       record {
         before = before;
         behind = behind;
@@ -214,7 +215,7 @@ handle_returns_own {F} may s c before behind st kept request reply acts last not
     ∙ ap (λ (k : ℕ). stores_after_reply (at_position kept.layout kept.next_used) c.head k) (told_len o n (own.fits, own.counts)) in
     let acts_are : acts ≡ return_acts (reply_stores room reply last ++ used) flags =
     by.1 ∙ ap (λ (u : List Store). return_acts (reply_stores room reply last ++ u) flags) stored in
-    let goes : GoesBackWith s.page_size c c.phase x = subst (λ (p : Phase). GoesBackWith s.page_size c p x) (sym phase) refl in
+    let goes : PushedWith s.page_size c c.phase x = subst (λ (p : Phase). PushedWith s.page_size c p x) (sym phase) refl in
     let seen : back.stores.seen_at ≡ seen_at (live_of kept) = by.0.2 ∙ ap (λ (k : Queue). seen_of kept.event_index k) laid in (
       x,
       used,

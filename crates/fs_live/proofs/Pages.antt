@@ -23,7 +23,7 @@ use Rattle.fs_live.specs.Several.{LiveQueue, avail_event_at, returning, sleep_st
 use Rattle.fs_live.specs.Live.{FillsBuffer, Happens, LiveEvent, LiveState, OutChain, PushesChain, PushesChainSo, StoresNotification}
 use Rattle.fs_live.specs.Live.{StoresNotificationSo, event_acts}
 use Rattle.fs_live.specs.Live.{room_of}
-use Rattle.fs_live.specs.Runs.{LogsAsTold, MarksAsTold, PagesAreTold, ReturnsTell, page_of, told_by, told_of_queue, written_by}
+use Rattle.fs_live.specs.Runs.{LogsAsTold, MarksAsTold, PagesAreTold, ReturnsTell, page_of, reported_by, queue_addresses, written_by}
 use Rattle.fs_live.proofs.Stored.{among_return, among_stores}
 
 -- ---- lists
@@ -99,7 +99,7 @@ module _ (q : Queue) (head : ℕ) (room reply : List ℕ) where
 
 -- both by one list of addresses that sets the same marks
 both_told : {F : Type 0} (s : LiveState F) (e : LiveEvent) →
-    ((p : ℕ → Bool) → list_any p (written_by (event_acts e)) ≡ list_any p (told_by s e)) → MarksAsTold s e × LogsAsTold s e
+    ((p : ℕ → Bool) → list_any p (written_by (event_acts e)) ≡ list_any p (reported_by s e)) → MarksAsTold s e × LogsAsTold s e
 both_told s e same = (
   λ m.
       let ws = flat_map writes_of (stores_among (event_acts e)) in
@@ -116,9 +116,9 @@ both_told s e same = (
 
 returns_told : {F : Type 0} (s mid : LiveState F) (c : OutChain) (x : Exchange) (notice : Bool) (last : ℕ) (used : List Store)
     (seen : List ℕ) → (h : PushesChainSo s c x notice last used seen mid)
-    → told_by s (PushesChain c x notice last used seen) ≡ returned_addresses (returning h.w) c.head (room_of c) x.reply
+    → reported_by s (PushesChain c x notice last used seen) ≡ returned_addresses (returning h.w) c.head (room_of c) x.reply
 returns_told s mid c x notice last used seen h =
-    ap (λ (k : Option LiveQueue). take (length x.reply) (room_of c) ++ told_of_queue k) h.there
+    ap (λ (k : Option LiveQueue). take (length x.reply) (room_of c) ++ queue_addresses k) h.there
     ∙ sym (returned_are (returning h.w) c.head (room_of c) x.reply)
 
 -- a store of two bytes
@@ -146,7 +146,7 @@ fills_told (store ∷ stores) =
     ∙ ap (λ (l : List ℕ). addresses store.address (length store.bytes) ++ l) (fills_told stores)
 
 one_event : {F : Type 0} (may : May F) (s mid : LiveState F) (e : LiveEvent) → Happens may s e mid → (p : ℕ → Bool) →
-    list_any p (written_by (event_acts e)) ≡ list_any p (told_by s e)
+    list_any p (written_by (event_acts e)) ≡ list_any p (reported_by s e)
 one_event may s mid (PushesChain c x notice last used seen) h p =
     let so : PushesChainSo s c x notice last used seen mid = h in
     ap (λ (l : List Store). list_any p (firsts (flat_map writes_of l))) (among_return (reply_stores (room_of c) x.reply last ++ used) seen)

@@ -21,8 +21,8 @@ use Rattle.fs_live.specs.Live.{MovesDevice, Happens}
 use Rattle.fs_live.specs.Live.{LiveRun}
 use Rattle.fs_live.specs.Live.{IfKeepsReturns, KeepsQueue, KeepsReturns, EndsPopIn, after_answer, after_decoding, after_reset}
 use Rattle.fs_live.specs.Live.{after_giving_up}
-use Rattle.fs_live.specs.Live.{abandoned_chain, after_abandoning, after_push, after_own, asked_chain, fault_of, new_chain}
-use Rattle.fs_live.specs.Live.{room_in, pop_refusal}
+use Rattle.fs_live.specs.Live.{abandoned_chain, after_abandoning, after_push, after_own, asked_chain, fault_of_phase, new_chain}
+use Rattle.fs_live.specs.Live.{room_of_phase, pop_refusal}
 use Rattle.fs_live.specs.Runs.{HasNoneInFlight, HasUsedEvent, ReturnHasPlaces, ReturnsHavePlaces, has_places, tickets_on}
 use Rattle.fs_live.proofs.Alone.{Walked, all_both, all_left, all_right, walked_there}
 use Rattle.fs_live.proofs.Declined.{has_events, seen_has_a_place}
@@ -459,7 +459,7 @@ run_ties may s now (e ∷ es) run all = run_ties may run.0 now es run.2 (ties ma
 -- ---- a chain that goes back
 
 -- its room
-room_fits : (m : Memory) (ds : List Descriptor) (p : Phase) → RoomFits m ds (fault_of p) → has_places m (room_in p ds) ≡ true
+room_fits : (m : Memory) (ds : List Descriptor) (p : Phase) → RoomFits m ds (fault_of_phase p) → has_places m (room_of_phase p ds) ≡ true
 room_fits m ds (PoppedFaulty why) fits = refl
 room_fits m ds (Abandoned fault) fits = refl
 room_fits m ds p fits = fits
@@ -493,7 +493,7 @@ returns_have_places {F} may s now after es c x notice last used seen none even r
     let next : Next c.places h.w =
     back_there now.places c.places h.w (subst (λ (k : Option LiveQueue). IfKeepsReturns c.places now.places k) h.there tied) ahead in
     let walked : Walked now.limit c = walked_there may s now es c h.before h.behind none run h.out in
-    let fetched = fetched_fits c.places now.limit c.taken c.loaded c.descriptors c.head (fault_of c.phase) walked.0 in (
+    let fetched = fetched_fits c.places now.limit c.taken c.loaded c.descriptors c.head (fault_of_phase c.phase) walked.0 in (
       h.w,
       h.there,
       return_there now.places h.w ahead,

@@ -25,7 +25,7 @@ use Rattle.plain_machine.specs.StepBy as act
 use Rattle.plain_machine.specs.StepBy.{Act, reply_stores, return_acts}
 use Rattle.fs_live.specs.Several.{returning, seen_at}
 use Rattle.fs_live.specs.Several as several
-use Rattle.fs_live.specs.Live.{Phase, room_in, room_of, GoesBackWith}
+use Rattle.fs_live.specs.Live.{Phase, room_of_phase, room_of, PushedWith}
 use Rattle.fs_live.specs.Handles.{HandleFaulty, HandlePushesChain, live_of}
 use Rattle.fs_live.proofs.Left.{out_left, seen_left}
 use Rattle.fs_live.proofs.Queues.{there_same}
@@ -86,7 +86,7 @@ handle_returns {F} may s c before behind w w' kept request options made given ac
     (served (setting s.page_size options (length room)) (meaning options request (length room)) (answers_alone calls)) =
     answer.returns.exchange ∙ ap (λ (h : ℕ). served_exchange h request answer.given) keeps.head
     ∙ ap (λ (k : ServedMessage). served_exchange c.head request k) answer.serves.gives in
-    let goes : GoesBackWith s.page_size c c.phase x = subst (λ (p : Phase). GoesBackWith s.page_size c p x) (sym phase) (asked, exchange) in
+    let goes : PushedWith s.page_size c c.phase x = subst (λ (p : Phase). PushedWith s.page_size c p x) (sym phase) (asked, exchange) in
     let reply : answer.given.reply ≡ x.reply = sym (ap (λ (k : Exchange). k.reply) answer.returns.exchange) in
     let laid : queue_of o.course ≡ at_position kept.layout c.taken.position = sym keeps.taken ∙ taken in
     let stores : stores_after_reply (at_return kept o) o.head (length answer.given.reply) ≡ used =
@@ -150,8 +150,8 @@ handle_faulty {F} may s c before behind w kept why acts last notice out there ta
     by.1.1 ∙ ap (λ (u : List Store). return_acts u flags) stored
     ∙ sym (ap (λ (n : ℕ). return_acts (reply_stores [] [] n ++ used) flags) by.1.0) in
     let acts_are : acts ≡ return_acts (reply_stores (room_of c) [] last ++ used) flags =
-    done ∙ ap (λ (p : Phase). return_acts (reply_stores (room_in p c.descriptors) [] last ++ used) flags) (sym phase) in
-    let goes : GoesBackWith s.page_size c c.phase x = subst (λ (p : Phase). GoesBackWith s.page_size c p x) (sym phase) refl in
+    done ∙ ap (λ (p : Phase). return_acts (reply_stores (room_of_phase p c.descriptors) [] last ++ used) flags) (sym phase) in
+    let goes : PushedWith s.page_size c c.phase x = subst (λ (p : Phase). PushedWith s.page_size c p x) (sym phase) refl in
     let seen : back.stores.seen_at ≡ seen_at (live_of kept) = by.0.2 ∙ ap (λ (k : Queue). seen_of kept.event_index k) laid in (
       x,
       used,

@@ -24,7 +24,7 @@ use Rattle.fs_live.specs.Live.{Own, abandoned_chain, after_abandoning, after_ans
 use Rattle.fs_live.specs.Live.{after_own}
 use Rattle.fs_live.specs.Live.{asked_chain}
 use Rattle.fs_live.specs.Live.{new_chain}
-use Rattle.fs_live.specs.Runs.{RunsOnQueue, OncePerLiveChain, LiveUsedInOrder, NotAnew, event_on, events_on, tickets_on, going}
+use Rattle.fs_live.specs.Runs.{RunsOnQueue, OncePerLiveChain, LiveUsedInOrder, NoReset, event_on, events_on, tickets_on, going}
 
 -- ---- queues in their places
 
@@ -271,7 +271,7 @@ module _ (i : ℕ) where
   not_true true never = absurd (never refl)
   not_true false never = refl
 
-  carries : {F : Type 0} (may : May F) (s mid : LiveState F) (w : LiveQueue) (e : LiveEvent) → slice_get s.queues i ≡ Some w → NotAnew i e
+  carries : {F : Type 0} (may : May F) (s mid : LiveState F) (w : LiveQueue) (e : LiveEvent) → slice_get s.queues i ≡ Some w → NoReset i e
       → Happens may s e mid → Carries s mid w (event_on i e)
   carries may s mid w (EndsPop j loaded ds came) there anew h = walks s mid j w h.w loaded ds came there h.there h.room h.ends
   carries {F} may s mid w (RefusesPop j e) there anew h =
@@ -316,7 +316,7 @@ module _ (i : ℕ) where
   carries may s mid w (MovesDevice m queues) there anew h = absurd anew
 
   pub runs_on : {F : Type 0} (may : May F) (s after : LiveState F) (es : List LiveEvent) (w : LiveQueue) → slice_get s.queues i ≡ Some w
-      → AllByRecursion (NotAnew i) es → LiveRun may s es after →
+      → AllByRecursion (NoReset i) es → LiveRun may s es after →
       (w' : LiveQueue) × (slice_get after.queues i ≡ Some w')
       × RunsOver (going w) (tickets_on i s.outs) (events_on i es) (going w') (tickets_on i after.outs)
   runs_on {F} may s after [] w there anew run =

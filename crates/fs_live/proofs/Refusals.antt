@@ -9,7 +9,7 @@ use Rattle.fs_queue.specs.NextAvail as avail
 use Rattle.fs_queue.specs.NextAvail.{NextAvail, next_avail}
 use Rattle.fs_queue.specs.Chain.{Found, IsChain, HasFault, StopsQueue}
 use Rattle.fs_queue.specs.Loads.{Load, holding, index_load, entry_load, chain_exactly}
-use Rattle.fs_queue.specs.OfferLoads.{without_request, without_chain, without_entry, waits_by, with_request, with_loaded, on_waits}
+use Rattle.fs_queue.specs.OfferLoads.{without_request, without_chain, without_entry, available_by, with_request, with_loaded, on_waits}
 use Rattle.fs_queue.specs.OfferLoads.{offer_by}
 use Rattle.fs_queue.specs.Taking.{RequestAndRoom, CannotFetch, Offer, Refuses, Offers, offer_of, request_and_room, stops_queue}
 use Rattle.fs_queue.specs.Taking as taking
@@ -62,7 +62,7 @@ waits_tests false true c entry v w one two = entry_stops entry v one
 waits_tests false false true entry v w one two = tt
 waits_tests false false false entry v w one two = two
 
-waits_stop : (q : Queue) (index entry : Option (List ℕ)) → NextMayStop (waits_by q index entry)
+waits_stop : (q : Queue) (index entry : Option (List ℕ)) → NextMayStop (available_by q index entry)
 waits_stop q index entry =
     waits_tests _ _ _ entry (next_avail (holding (index_load q index ∷ [])) q)
     (next_avail (holding (index_load q index ∷ entry_load q entry ∷ [])) q)
@@ -107,4 +107,4 @@ refusal_stops m limit c loaded e by =
     let q = queue_of c in
     let ls = loaded.entries ++ by.1 in
     refused_so (offer_by m limit q loaded.index loaded.entry ls []) e
-    (of_waits m limit q ls [] (waits_by q loaded.index loaded.entry) (waits_stop q loaded.index loaded.entry)) by.3
+    (of_waits m limit q ls [] (available_by q loaded.index loaded.entry) (waits_stop q loaded.index loaded.entry)) by.3

@@ -28,10 +28,11 @@ use Rattle.plain_machine.specs.StepBy.{after_stores, stores_among, offered_by, r
 use Rattle.plain_machine.proofs.StepByLemmas.{step_by_is_step}
 use Rattle.fs_live.specs.Live.{Phase, PoppedFaulty, Fetched, Asked, OutChain, LiveState, LiveEvent, DecodesRequest, ReceivesAnswer}
 use Rattle.fs_live.specs.Live.{Happens, LiveRun}
-use Rattle.fs_live.specs.Live.{EndsPopSo, DecodesRequestSo, ReceivesAnswerSo, PushesChainSo, calls_in, fault_of, new_chain, with_popped}
+use Rattle.fs_live.specs.Live.{EndsPopSo, DecodesRequestSo, ReceivesAnswerSo, PushesChainSo, calls_in, fault_of_phase, new_chain}
+use Rattle.fs_live.specs.Live.{with_popped}
 use Rattle.fs_live.specs.Live.{room_of, serving, event_acts}
-use Rattle.fs_live.specs.Live.{GoesBackWith}
-use Rattle.fs_live.specs.Runs.{IsAskedIn, IsServedPhase, options_left, after_alone, chain_loads, request_in}
+use Rattle.fs_live.specs.Live.{PushedWith}
+use Rattle.fs_live.specs.Runs.{IsAskedIn, IsServedPhase, options_left, after_alone, chain_loads, request_of_phase}
 use Rattle.fs_live.specs.Several.{LiveQueue, took, gave, returning, wants}
 use Rattle.fs_live.specs.Serial.{IsAtRest, SingleIsStep, SerialIsKick, return_in, IsOfChain, plain}
 use Rattle.fs_live.proofs.Alone.{all_reach_same, reach_same, Walked, IsWhole, Exchanging, asked_walked, new_walked, exchange_of}
@@ -117,7 +118,7 @@ asks_alone {F} may s queues c₀ k mid c request told a h =
       options = ap (λ (x : LiveState F). x.options) h.state
           ∙ sym (leaves_none (setting s.page_size k.options (length room)) (meaning k.options request (length room)));
       run = ap (λ (x : LiveState F). x.files) h.state ∙ subst (λ (p : Phase). FileRun may s.files (calls_in p) k.files) fresh a.run;
-      walked = asked_walked s.limit (in_phase c₀ a.phase) request k.options [] (ap fault_of fresh)
+      walked = asked_walked s.limit (in_phase c₀ a.phase) request k.options [] (ap fault_of_phase fresh)
           (h.whole ∙ ap (λ (x : OutChain). total_len (readable x.descriptors)) one.1) a.walked;
       served = tt;
     }
@@ -160,7 +161,7 @@ answers_alone_too {F} may s queues c₀ k mid c call answer a h =
       run = subst (λ (f : F). FileRun may s.files more f) (sym (ap (λ (x : LiveState F). x.files) h.state))
           (run_on may s.files k.files h.files h.calls call answer (subst (λ (p : Phase). FileRun may s.files (calls_in p) k.files) is a.run)
           h.is_one h.may_so);
-      walked = asked_walked s.limit (in_phase c₀ a.phase) h.request h.options more (ap fault_of is)
+      walked = asked_walked s.limit (in_phase c₀ a.phase) h.request h.options more (ap fault_of_phase is)
           (subst (λ (p : Phase). IsWhole p c₀.descriptors) is a.walked.1) a.walked;
       served = tt;
     }
@@ -267,7 +268,7 @@ room_in_offer None = []
 -- an exchange by loads that a memory has is a step over it
 step_over : {F : Type 0} (may : May F) (before : State F) (files : F) (c : OutChain) (x : Exchange) (last : ℕ) (seen : List ℕ) (m : Memory)
     → Exchanging may before files c x last seen → location m ≡ location before.memory → slice_get before.queues c.queue ≡ Some c.taken
-    → HasLoaded m c.taken c.loaded (request_in c.phase) → FindFlags m c.taken (effects_of c x last seen).acts
+    → HasLoaded m c.taken c.loaded (request_of_phase c.phase) → FindFlags m c.taken (effects_of c x last seen).acts
     → MayStoreLast m (room_of c) last
     → Step may (record before { memory = m }) c.queue (calls_in c.phase) (Exchanged x (tells seen))
     (record (after_alone before c files) { memory = after_stores m (stores_among (effects_of c x last seen).acts) })
@@ -364,9 +365,9 @@ single_is_step {F} may s after r m w none there rest of run found =
     ∙ there_same s.queues i i (λ _. took v) v refl walk.there) in
     let base : State F = plain s s.places in
     let at : slice_get base.queues i ≡ Some v.queue = get_map (λ (x : LiveQueue). x.queue) s.queues i v walk.there in
-    let goes : GoesBackWith s.page_size d a.phase r.exchange =
-    subst (λ (p : ℕ). GoesBackWith p d a.phase r.exchange) a.page_size
-    (subst (λ (c : OutChain). GoesBackWith k.page_size c c.phase r.exchange) one.1 b.goes) in
+    let goes : PushedWith s.page_size d a.phase r.exchange =
+    subst (λ (p : ℕ). PushedWith p d a.phase r.exchange) a.page_size
+    (subst (λ (c : OutChain). PushedWith k.page_size c c.phase r.exchange) one.1 b.goes) in
     let made : Exchanging may base k.files d r.exchange r.last r.seen =
     exchange_of may base k.files s.places i v.queue r.loaded r.descriptors r.head a.phase r.exchange r.last r.seen refl a.served a.walked
     a.asked goes b.two a.run in
@@ -377,8 +378,8 @@ single_is_step {F} may s after r m w none there rest of run found =
     let acts_are : event_acts (return_in r) ≡ (effects_of d r.exchange r.last r.seen).acts =
     ap (λ (c : OutChain). return_acts (reply_stores (room_of c) r.exchange.reply r.last ++ r.used) r.seen) one.1
     ∙ ap (λ (u : List Store). return_acts (reply_stores (room_of d) r.exchange.reply r.last ++ u) r.seen) behind_is in
-    let has : HasLoaded m v.queue r.loaded (request_in a.phase) =
-    subst (λ (c : OutChain). HasLoaded m v.queue r.loaded (request_in c.phase)) one.1 (found.loads v walk.there) in
+    let has : HasLoaded m v.queue r.loaded (request_of_phase a.phase) =
+    subst (λ (c : OutChain). HasLoaded m v.queue r.loaded (request_of_phase c.phase)) one.1 (found.loads v walk.there) in
     let flags : FindFlags m v.queue (effects_of d r.exchange r.last r.seen).acts =
     subst (FindFlags m v.queue) acts_are (found.flags v walk.there) in
     let apart : MayStoreLast m (room_of d) r.last = subst (λ (c : OutChain). MayStoreLast m (room_of c) r.last) one.1 found.apart in

@@ -7,7 +7,7 @@ use Rattle.fs_queue.specs.Returning.{Store}
 use Rattle.virtiofsd_fuse.specs.Serving.{May}
 use Rattle.fs_chain.specs.Events as chain_events
 use Rattle.fs_chain.specs.declared.queue.QueueState.{QueueState}
-use Rattle.fs_live.specs.Live.{HasPlace, HasValidMaximum}
+use Rattle.fs_live.specs.Live.{StoreIsMapped, HasValidMaximum}
 use Rattle.fs_live.specs.Handles.{HandleResetsQueue, HandleStoresNotification, live_of}
 use Rattle.fs_live.proofs.Declined.{has_events}
 use Rattle.fs_live.proofs.Queues.{none_some, same_some, there_same}
@@ -32,7 +32,8 @@ handle_sleeps may s i kept wanted (Some store) there is =
       λ place. record { w = live_of kept; there = there; wanted = wanted; stores = sym is; place = place; state = refl },
       λ has goes.
           let same = stored_event kept.event_index wanted event flags (chain_events.store_of store) is has in
-          subst (λ (a : ℕ). HasPlace s.places a) (sym (ap (λ (k : Store). k.address) same)) (has_events s.places (live_of kept) goes has).1,
+          subst (λ (a : ℕ). StoreIsMapped s.places a) (sym (ap (λ (k : Store). k.address) same)) (has_events s.places (live_of
+          kept) goes has).1,
     )
 handle_sleeps may s i kept wanted None there is =
     let event : Store = record { address = chain_events.avail_event_at kept.layout; bytes = to_le_bytes w16 kept.next_avail } in
@@ -49,7 +50,7 @@ handle_begins {F} may s i kept after layout position max_in_flight event_index s
       subst (λ (q : QueueState). q.next_avail < 2 ^ 16) (sym is) small,
     );
     few = subst (λ (q : QueueState). HasValidMaximum (live_of q)) (sym is) (some, few);
-    none_waits = none;
+    none_pending = none;
     state = refl;
   },
   there_same s.queues i i (λ _. live_of after) (live_of kept) refl there,

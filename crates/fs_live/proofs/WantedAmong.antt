@@ -10,7 +10,7 @@ use Rattle.fs_regions.specs.Walks.{asked_by, asked_len}
 use Rattle.fs_chain.specs.Loads.{came}
 use Rattle.fs_chain.specs.Orders.{IfWalking}
 use Rattle.fs_chain.specs.declared.state.ChainState as state
-use Rattle.fs_live.specs.Among.{WantedAmongHasAPlace}
+use Rattle.fs_live.specs.Among.{WantedAmongIsMapped}
 use Rattle.fs_live.proofs.Among.{all_among, standing, wants_unrefused}
 
 -- each address of what is there has a place
@@ -28,8 +28,8 @@ has_place l (suc n) a (suc i) all lt =
     (has_place l n (a + 1) i (and_parts (is_some (location (places_in l) Read a))
     (list_all (λ x. is_some (location (places_in l) Read x)) (addresses (a + 1) n)) all).1 (omega (arith, lt)))
 
-pub wanted_among_has_a_place : WantedAmongHasAPlace
-wanted_among_has_a_place given old new before now after told goes walks wants lacks =
+pub wanted_among_is_mapped : WantedAmongIsMapped
+wanted_among_is_mapped given old new before now after told goes walks wants lacks =
     let s = standing now.stopped given old new before now after told walks wants
     (all_among given old new before now after told goes (wants_unrefused old before told wants) walks) in
     let from = s.2 in

@@ -70,8 +70,8 @@ HandleEndsPopAmong {F} may =
     × IsHeld s i (live_of now) loaded came new
 
 -- each load that such a pop asks for is mapped, so no call is refused for it
-abbrev pub WantedAmongHasAPlace : Type 0
-WantedAmongHasAPlace =
+abbrev pub WantedAmongIsMapped : Type 0
+WantedAmongIsMapped =
     (given : List (List ℕ)) (old new : ChainHandle) (before now after : QueueState)
     (told : went.LoadOutcome) →
     before.stopped ≡ None →

@@ -12,7 +12,7 @@ use Rattle.fs_chain.specs.declared.chain_handle.ChainHandle.{ChainHandle}
 use Rattle.plain_machine.specs.StepBy.{byte_store}
 use Rattle.fs_live.specs.Live.{Abandoned, FillsBuffer, Happens, LiveState, OutChain, Phase, PoppedFaulty}
 use Rattle.fs_live.specs.Live.{room_of}
-use Rattle.fs_live.specs.Runs.{told_by}
+use Rattle.fs_live.specs.Runs.{reported_by}
 
 -- a chain that has its reply buffer still: it isn't faulty, and its handle wasn't freed
 abbrev pub HasRoom : Phase → Type 0
@@ -53,4 +53,4 @@ HandleFillsRange {F} may =
     (address : ℕ)
     × (guest ≡ address % 2 ^ 64)
     × (let fills = FillsBuffer c (record { address = address; bytes = bytes } ∷ []) in
-    Happens may s fills s × (told_by s fills ≡ take (length bytes) (drop from (room_of c))))
+    Happens may s fills s × (reported_by s fills ≡ take (length bytes) (drop from (room_of c))))

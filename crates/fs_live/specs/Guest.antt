@@ -6,7 +6,7 @@ use Rattle.virtiofsd_fuse.specs.Serving.{May}
 use Rattle.plain_machine.specs.MarkedPages.{Marks}
 use Rattle.plain_machine.specs.StepBy.{after_stores, stores_among}
 use Rattle.fs_live.specs.Live.{LiveEvent, LiveRun, LiveState, MovesDevice, Remaps, event_acts}
-use Rattle.fs_live.specs.Runs.{told_by}
+use Rattle.fs_live.specs.Runs.{reported_by}
 
 -- the guest writes these bytes, each at its address; or the device's next event happens. The guest's reads
 -- change nothing, and the device's events have the bytes that its loads find
@@ -46,7 +46,7 @@ abbrev pub told_through : {F : Type 0} → (may : May F) → (s : LiveState F) �
     (after : LiveState F) → LiveRun may s (events_of ms) after → List ℕ
 told_through may s [] after run = []
 told_through may s (Writes ws ∷ ms) after run = map (λ w. w.0) ws ++ told_through may s ms after run
-told_through may s (DeviceEvent e ∷ ms) after run = told_by s e ++ told_through may run.0 ms after run.2
+told_through may s (DeviceEvent e ∷ ms) after run = reported_by s e ++ told_through may run.0 ms after run.2
 
 -- the guest may write between any two events of a run. The pages that are marked in the end are those marked
 -- before, those of the guest's writes, and those that the events reported. No others are marked

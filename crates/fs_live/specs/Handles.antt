@@ -25,7 +25,7 @@ use Rattle.fs_chain.specs.Decoding.{TellsMeaning}
 use Rattle.fs_chain.specs.Events.{event_miss, notification_store, store_of}
 use Rattle.fs_chain.specs.Queues.{reset_to, gave}
 use Rattle.fs_chain.specs.Walks.{RefusalHasEvents, course_of, faulty_out, no_reply, out_of, told_of}
-use Rattle.fs_chain.specs.Whole.{ChainAnswer, GoesBackBy, HasReply, IsAnsweredBy, IsDecodedBy, LoadsOf}
+use Rattle.fs_chain.specs.Whole.{ChainAnswer, GoesBackBy, IsRepliedBy, IsAnsweredBy, IsDecodedBy, LoadsOf}
 use Rattle.fs_chain.specs.Whole.{WalksBy, data_behind, file_calls}
 use Rattle.fs_chain.specs.declared.answering.Replied.{Replied}
 use Rattle.fs_chain.specs.declared.decoding.Decoded as told
@@ -48,7 +48,7 @@ use Rattle.fs_live.specs.Live.{Asked, RefusesPop, DecodesRequest, Fetched, LiveE
 use Rattle.fs_live.specs.Live.{ResetsQueue}
 use Rattle.fs_live.specs.Live.{PoppedFaulty}
 use Rattle.fs_live.specs.Live.{LiveState, OutChain, PushesChain, StoresNotification, EndsPop}
-use Rattle.fs_live.specs.Live.{Happens, HasPlace, NoneWaits, after_answer, after_decoding, event_acts}
+use Rattle.fs_live.specs.Live.{Happens, StoreIsMapped, NonePending, after_answer, after_decoding, event_acts}
 use Rattle.fs_live.specs.Live.{after_reset, after_push, after_pop, asked_chain, new_chain, room_of}
 use Rattle.fs_live.specs.Live.{serving, pop_refusal}
 
@@ -137,9 +137,9 @@ HandleLoads =
     (walks : WalksBy given old new before after told) →
     load_count given old new before after told walks ≤ before.layout.size + 4
 
--- a pop of a queue that is stopped, or whose event index isn't mapped, is refused by its first call: no load
--- was made. If the table doesn't map a field of the event index, the pop misses it instead (`Missed` of
--- fs_chain)
+-- a pop of a stopped queue is refused by its first call, before any load. So is a pop with the event index,
+-- if used_event or avail_event isn't mapped. If the table doesn't map one of these, the pop misses it instead
+-- (`Missed` of fs_chain)
 abbrev pub HandleRefusesPop : {F : Type 0} → May F → Type 0
 HandleRefusesPop {F} may =
     (s : LiveState F) (i : ℕ) (given : List (List ℕ)) (old new : ChainHandle) (before after : QueueState)
@@ -158,9 +158,9 @@ HandleRefusesPop {F} may =
 -- ---- decoding and answers
 
 -- the calls that a decoding returns, as the calls of a run: none, or the one that is pending
-abbrev pub calls_told : (behind : List ℕ) → told.Decoded → List FileCall
-calls_told behind (asks.Call made) = call_of behind made ∷ []
-calls_told behind _ = []
+abbrev pub calls_decoded : (behind : List ℕ) → told.Decoded → List FileCall
+calls_decoded behind (asks.Call made) = call_of behind made ∷ []
+calls_decoded behind _ = []
 
 -- the given bytes were enough to decode the request. A decoding that needs more bytes is no event: the
 -- handle keeps only its session
@@ -202,7 +202,7 @@ HandleDecodesRequest {F} may =
     IsSessionOf s session →
     IsDecodedBy w session request front made w' →
     IsDecodedWhole made →
-    Happens may s (DecodesRequest c request (calls_told (drop 80 request) made))
+    Happens may s (DecodesRequest c request (calls_decoded (drop 80 request) made))
     (after_decoding s before behind c request)
     × IsKept s.page_size s.options request (asked_chain c request s.options []) made w'
 
@@ -239,7 +239,7 @@ HandleCalls {F} may =
     s.outs ≡ before ++ c ∷ behind →
     c.phase ≡ Asked request options earlier →
     IsKept s.page_size options request c made w →
-    HasReply made w given w' →
+    IsRepliedBy made w given w' →
     file_calls (drop 80 request) made given ≡ earlier ++ (call, answer) ∷ later →
     IsTrue (suits call answer) →
     may s.files call answer files →
@@ -301,7 +301,7 @@ HandlePushesChain {F} may =
     c.phase ≡ Asked request options (file_calls (drop 80 request) made given) →
     EachSuits (file_calls (drop 80 request) made given) →
     IsKept s.page_size options request c made w →
-    HasReply made w given w' →
+    IsRepliedBy made w given w' →
     (back : GoesBackBy kept (room_of c) (data_behind given) w'.state acts last notice) →
     IsReturn may s before behind c kept acts last notice back.stores
 
@@ -326,10 +326,10 @@ HandleFaulty {F} may =
 abbrev pub IsNotificationStore : {F : Type 0} → May F → LiveState F → (i : ℕ) → QueueState → (wanted : Bool) →
     Option NotificationStore → Type 0
 IsNotificationStore may s i kept wanted (Some store) =
-    (HasPlace s.places store.address → Happens may s (StoresNotification i (store_of store)) s)
+    (StoreIsMapped s.places store.address → Happens may s (StoresNotification i (store_of store)) s)
     × (kept.event_index ≡ true →
     pop_refusal s.places (live_of kept) ≡ None →
-    HasPlace s.places store.address)
+    StoreIsMapped s.places store.address)
 IsNotificationStore may s i kept wanted None = (kept.event_index ≡ true) × (wanted ≡ false)
 
 abbrev pub HandleStoresNotification : {F : Type 0} → May F → Type 0
@@ -355,6 +355,6 @@ HandleResetsQueue {F} may =
     1 ≤ max_in_flight →
     max_in_flight ≤ layout.size →
     position < 2 ^ 16 →
-    AllByRecursion (λ c. NoneWaits s.page_size i c c.phase) s.outs →
+    AllByRecursion (λ c. NonePending s.page_size i c c.phase) s.outs →
     Happens may s (ResetsQueue i (live_of after)) (after_reset s i (live_of after))
     × (slice_get (after_reset s i (live_of after)).queues i ≡ Some (live_of after))

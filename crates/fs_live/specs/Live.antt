@@ -53,16 +53,16 @@ pub record OutChain : Type 0 where
   pub phase : Phase
 
 -- the fault with which the chain was popped
-abbrev pub fault_of : Phase → Option ChainFault
-fault_of (PoppedFaulty why) = Some why
-fault_of (Abandoned fault) = fault
-fault_of _ = None
+abbrev pub fault_of_phase : Phase → Option ChainFault
+fault_of_phase (PoppedFaulty why) = Some why
+fault_of_phase (Abandoned fault) = fault
+fault_of_phase _ = None
 
 -- the addresses of the reply buffer: a faulty chain has none, and an abandoned one needs none
-abbrev pub room_in : Phase → List Descriptor → List ℕ
-room_in (PoppedFaulty why) ds = []
-room_in (Abandoned fault) ds = []
-room_in _ ds = addresses_of (writable ds)
+abbrev pub room_of_phase : Phase → List Descriptor → List ℕ
+room_of_phase (PoppedFaulty why) ds = []
+room_of_phase (Abandoned fault) ds = []
+room_of_phase _ ds = addresses_of (writable ds)
 
 -- a chain that was decoded from this request, with these options, and whose calls so far are these
 abbrev pub asked_chain : OutChain → (request : List ℕ) → (options : ℕ) → Calls → OutChain
@@ -70,7 +70,7 @@ asked_chain c request options calls = record c { phase = Asked request options c
 
 -- the addresses of the chain's reply buffer, in its phase
 abbrev pub room_of : OutChain → List ℕ
-room_of c = room_in c.phase c.descriptors
+room_of c = room_of_phase c.phase c.descriptors
 
 -- the calls of a chain that were answered so far, while the server is to reply; of any other phase none
 abbrev pub calls_in : Phase → Calls
@@ -173,6 +173,7 @@ EndsPopIn s i w loaded ds (step.Chain head fault) after =
     FetchesBy s.places s.limit w.queue loaded ds head fault
     × (after ≡ with_popped s i w (new_chain s i w loaded ds head fault))
 
+-- the state after a pop with this result
 abbrev pub after_pop :
     {F : Type 0} → LiveState F → ℕ → LiveQueue → Loaded → List Descriptor → comes.CourseStep → LiveState F
 after_pop s i w loaded ds (step.Refused e) = with_live s i (record w { queue = after_refusal w.queue e })
@@ -208,6 +209,7 @@ pub record RefusesPopSo {F : Type 0} (s : LiveState F) (i : ℕ) (e : QueueError
   pub why : pop_refusal s.places w ≡ Some e
   pub state : after ≡ with_live s i (record w { queue = after_refusal w.queue e })
 
+-- the state after a chain in flight was decoded
 abbrev pub after_decoding :
     {F : Type 0} → LiveState F → (before behind : List OutChain) → OutChain → (request : List ℕ) → LiveState F
 after_decoding s before behind c request =
@@ -244,7 +246,7 @@ pub record ReceivesAnswerSo {F : Type 0} (may : May F) (s : LiveState F) (c : Ou
   pub options : ℕ
   pub calls : Calls
   pub asked : c.phase ≡ Asked request options calls
-  pub waits :
+  pub pending :
       (serving s.page_size options options request (room_of c) calls).calls ≡ calls_alone calls ++ call ∷ []
   pub is_one : IsTrue (suits call answer)
   pub files : F
@@ -257,15 +259,16 @@ own_exchange head request reply = record { head = head; request = request; reply
 
 -- the exchange with which a chain is returned: an empty reply, if it is faulty; the server's reply, once no
 -- call is pending; or its caller's own bytes
-abbrev pub GoesBackWith : (page_size : ℕ) → OutChain → Phase → Exchange → Type 0
-GoesBackWith page_size c (PoppedFaulty why) x = x ≡ faulty c.head why
-GoesBackWith page_size c Fetched x = ⊥
-GoesBackWith page_size c (Own request reply) x = x ≡ own_exchange c.head request reply
-GoesBackWith page_size c (Abandoned fault) x = ⊥
-GoesBackWith page_size c (Asked request options calls) x =
+abbrev pub PushedWith : (page_size : ℕ) → OutChain → Phase → Exchange → Type 0
+PushedWith page_size c (PoppedFaulty why) x = x ≡ faulty c.head why
+PushedWith page_size c Fetched x = ⊥
+PushedWith page_size c (Own request reply) x = x ≡ own_exchange c.head request reply
+PushedWith page_size c (Abandoned fault) x = ⊥
+PushedWith page_size c (Asked request options calls) x =
     let given = serving page_size options options request (room_of c) calls in
     (given.calls ≡ calls_alone calls) × (x ≡ served_exchange c.head request given)
 
+-- the state after a chain was pushed
 abbrev pub after_push :
     {F : Type 0} → LiveState F → (before behind : List OutChain) → OutChain → LiveQueue → LiveState F
 after_push s before behind c w =
@@ -279,15 +282,15 @@ pub record PushesChainSo {F : Type 0} (s : LiveState F) (c : OutChain) (x : Exch
   pub out : s.outs ≡ before ++ c ∷ behind
   pub w : LiveQueue
   pub there : slice_get s.queues c.queue ≡ Some w
-  pub goes : GoesBackWith s.page_size c c.phase x
+  pub goes : PushedWith s.page_size c c.phase x
   pub used_is : used ≡ stores_after_reply (returning w) c.head (length x.reply)
   pub two : length seen ≡ 2
   pub told : notice ≡ wants w seen
   pub state : after ≡ after_push s before behind c w
 
 -- two writable bytes are mapped at this address
-abbrev pub HasPlace : Memory → (address : ℕ) → Type 0
-HasPlace m address = reach m Write address 2 ≡ true
+abbrev pub StoreIsMapped : Memory → (address : ℕ) → Type 0
+StoreIsMapped m address = reach m Write address 2 ≡ true
 
 -- the device enables or disables notifications by a store to a mapped address
 pub record StoresNotificationSo {F : Type 0} (s : LiveState F) (i : ℕ) (store : Store) (after : LiveState F) :
@@ -296,14 +299,14 @@ pub record StoresNotificationSo {F : Type 0} (s : LiveState F) (i : ℕ) (store 
   pub there : slice_get s.queues i ≡ Some w
   pub wanted : Bool
   pub stores : sleep_store w wanted ≡ Some store
-  pub place : HasPlace s.places store.address
+  pub place : StoreIsMapped s.places store.address
   pub state : after ≡ s
 
 -- no call of the chain is pending, if it is of queue i
-abbrev pub NoneWaits : (page_size i : ℕ) → OutChain → Phase → Type 0
-NoneWaits page_size i c (Asked request options calls) =
+abbrev pub NonePending : (page_size i : ℕ) → OutChain → Phase → Type 0
+NonePending page_size i c (Asked request options calls) =
     c.queue ≡ i → (serving page_size options options request (room_of c) calls).calls ≡ calls_alone calls
-NoneWaits page_size i c _ = Unit {0}
+NonePending page_size i c _ = Unit {0}
 
 -- the state after a reset: no chain of the queue is in flight
 abbrev pub after_reset : {F : Type 0} → LiveState F → ℕ → LiveQueue → LiveState F
@@ -326,7 +329,7 @@ pub record ResetsQueueSo {F : Type 0} (s : LiveState F) (i : ℕ) (w : LiveQueue
   pub there : slice_get s.queues i ≡ Some old
   pub both : HasNoneInFlight w
   pub few : HasValidMaximum w
-  pub none_waits : AllByRecursion (λ c. NoneWaits s.page_size i c c.phase) s.outs
+  pub none_pending : AllByRecursion (λ c. NonePending s.page_size i c c.phase) s.outs
   pub state : after ≡ after_reset s i w
 
 -- each address of a store is in the reply buffer
@@ -345,6 +348,7 @@ pub record FillsBufferSo {F : Type 0} (s : LiveState F) (c : OutChain) (stores :
 
 -- ---- chains that end without an answer
 
+-- the state after a chain was given up
 abbrev pub after_giving_up :
     {F : Type 0} → LiveState F → (before behind : List OutChain) → OutChain → LiveQueue → LiveState F
 after_giving_up s before behind c w =
@@ -363,7 +367,7 @@ pub record GivesUpChainSo {F : Type 0} (s : LiveState F) (c : OutChain) (after :
 
 -- an abandoned chain keeps its fault
 abbrev pub abandoned_chain : OutChain → OutChain
-abandoned_chain c = record c { phase = Abandoned (fault_of c.phase) }
+abandoned_chain c = record c { phase = Abandoned (fault_of_phase c.phase) }
 
 -- the state after a handle is freed
 abbrev pub after_abandoning : {F : Type 0} → LiveState F → (before behind : List OutChain) → OutChain
@@ -404,8 +408,8 @@ pub record RepliesOwnBytesSo {F : Type 0} (s : LiveState F) (c : OutChain) (requ
 
 -- ---- other mappings, and another host
 
--- at each position, a push has the same error in another memory as in this one, or none in both: its used
--- element, used index and available flags are mapped. used_event is mapped by both or by neither
+-- at each position, a push has the same error in both memories, or none in both. Both map used_event, or
+-- neither does
 pub record KeepsReturns (m m' : Memory) (w : LiveQueue) : Type 0 where
   pub returns : (p : ℕ) →
       return_fault m' (record (w.queue) { position = p }) ≡ return_fault m (record (w.queue) { position = p })

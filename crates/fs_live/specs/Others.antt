@@ -129,7 +129,7 @@ HandleRepliesInstead {F} may =
 
 -- a chain is returned by its caller's stores and loads: the caller's bytes at the start of the reply buffer,
 -- in any two parts
-pub record GoesBackOwn (back : QueueState) (room reply : List ℕ) (from : state.ChainState) (acts : List Act)
+pub record PushedOwn (back : QueueState) (room reply : List ℕ) (from : state.ChainState) (acts : List Act)
     (last : ℕ) (notice : Bool) : Type 0 where
   pub stores : PushStores
   pub flags : List ℕ
@@ -149,14 +149,13 @@ HandlePushesOwn {F} may =
     c.taken ≡ queue_of (course_of (record kept { next_avail = c.taken.position }) 0) →
     c.phase ≡ Own request reply →
     IsOwn c reply st →
-    (back : GoesBackOwn kept (room_of c) reply st acts last notice) →
+    (back : PushedOwn kept (room_of c) reply st acts last notice) →
     IsReturn may s before behind c kept acts last notice back.stores
 
 -- ---- other regions
 
 -- setting other regions of a handle is the event `Remaps`, and its next pops are events with them. For
--- the queues of chains in flight, the new regions must map the addresses of returns just where the old
--- ones do
+-- the queues of chains in flight, the new regions must map an address of returns exactly if the old ones do
 abbrev pub HandleRemaps : {F : Type 0} → May F → Type 0
 HandleRemaps {F} may =
     (s : LiveState F) (w : ChainHandle) →

@@ -45,10 +45,10 @@ CallsAreARun {F} may =
 -- ---- each chain by itself
 
 -- the request of a chain, as it was loaded
-abbrev pub request_in : Phase → List ℕ
-request_in (Asked request options calls) = request
-request_in (Own request reply) = request
-request_in _ = []
+abbrev pub request_of_phase : Phase → List ℕ
+request_of_phase (Asked request options calls) = request
+request_of_phase (Own request reply) = request
+request_of_phase _ = []
 
 -- the options are those of the chain's decoding
 abbrev pub IsAskedIn : Phase → (options : ℕ) → Type 0
@@ -91,7 +91,7 @@ chain_loads c lost =
       index = c.loaded.index;
       entry = c.loaded.entry;
       entries = c.loaded.entries ++ lost;
-      request = request_in c.phase;
+      request = request_of_phase c.phase;
     }
 
 -- a returned chain is a step by its loads, of a machine that takes the two bytes that were seen for the
@@ -262,17 +262,17 @@ abbrev pub going : LiveQueue → LiveQueue
 going w = record w { queue = record (w.queue) { stopped = false } }
 
 -- the event doesn't reset the queue, not from a record either
-abbrev pub NotAnew : ℕ → LiveEvent → Type 0
-NotAnew i (ResetsQueue j w) = (j == i) ≡ true → ⊥
-NotAnew i (MovesDevice m queues) = ⊥
-NotAnew i _ = Unit {0}
+abbrev pub NoReset : ℕ → LiveEvent → Type 0
+NoReset i (ResetsQueue j w) = (j == i) ≡ true → ⊥
+NoReset i (MovesDevice m queues) = ⊥
+NoReset i _ = Unit {0}
 
 -- queue i of a run is a run of pops and returns, for any events on the other queues
 abbrev pub RunsOnQueue : {F : Type 0} → May F → Type 0
 RunsOnQueue {F} may =
     (s after : LiveState F) (es : List LiveEvent) (i : ℕ) (w : LiveQueue) →
     slice_get s.queues i ≡ Some w →
-    AllByRecursion (NotAnew i) es →
+    AllByRecursion (NoReset i) es →
     LiveRun may s es after →
     (w' : LiveQueue)
     × (slice_get after.queues i ≡ Some w')
@@ -284,7 +284,7 @@ OncePerLiveChain {F} may =
     (s after : LiveState F) (es : List LiveEvent) (i : ℕ) (w : LiveQueue) →
     slice_get s.queues i ≡ Some w →
     tickets_on i s.outs ≡ [] →
-    AllByRecursion (NotAnew i) es →
+    AllByRecursion (NoReset i) es →
     LiveRun may s es after →
     IsPermutation (heads_ended (events_on i es) ++ map (λ t. t.1) (tickets_on i after.outs))
     (heads_taken (events_on i es))
@@ -294,7 +294,7 @@ abbrev pub LiveUsedInOrder : {F : Type 0} → May F → Type 0
 LiveUsedInOrder {F} may =
     (s after : LiveState F) (es : List LiveEvent) (i : ℕ) (w : LiveQueue) →
     slice_get s.queues i ≡ Some w →
-    AllByRecursion (NotAnew i) es →
+    AllByRecursion (NoReset i) es →
     LiveRun may s es after →
     UsedFrom (going w) (returns_among (events_on i es))
 
@@ -308,34 +308,28 @@ page_of a = a / 4096
 abbrev pub written_by : List Act → List ℕ
 written_by acts = map (λ w. w.0) (flat_map writes_of (stores_among acts))
 
--- the addresses of a queue's next return besides the reply buffer: the used element's 8 bytes and the used
--- index's 2
-abbrev pub told_of_queue : Option LiveQueue → List ℕ
-told_of_queue None = []
-told_of_queue (Some w) = addresses (element_at (returning w)) 8 ++ addresses (index_at (returning w)) 2
-
 -- the addresses that an event reports for its caller to mark:
 -- - of a return, the reply's addresses from the reply buffer's first on, the used element, and the used index
 -- - of a sleep, the two bytes of its store
 -- - of other stores in a reply buffer, just those
-abbrev pub told_by : {F : Type 0} → LiveState F → LiveEvent → List ℕ
-told_by s (PushesChain c x notice last used seen) =
-    take (length x.reply) (room_of c) ++ told_of_queue (slice_get s.queues c.queue)
-told_by s (StoresNotification i store) = addresses store.address 2
-told_by s (FillsBuffer c stores) = flat_map (λ store. addresses store.address (length store.bytes)) stores
-told_by s _ = []
+abbrev pub reported_by : {F : Type 0} → LiveState F → LiveEvent → List ℕ
+reported_by s (PushesChain c x notice last used seen) =
+    take (length x.reply) (room_of c) ++ queue_addresses (slice_get s.queues c.queue)
+reported_by s (StoresNotification i store) = addresses store.address 2
+reported_by s (FillsBuffer c stores) = flat_map (λ store. addresses store.address (length store.bytes)) stores
+reported_by s _ = []
 
 -- over each memory, an event's stores mark the pages of the addresses that it reports, of blocks or of I/O
 -- pages, and no others. So do those of the plain machine's step, which stores the same
 abbrev pub MarksAsTold : {F : Type 0} → LiveState F → LiveEvent → Type 0
-MarksAsTold s e = (m : Memory) → Marks m (told_by s e) (after_stores m (stores_among (event_acts e))).host
+MarksAsTold s e = (m : Memory) → Marks m (reported_by s e) (after_stores m (stores_among (event_acts e))).host
 
 -- and if the reported addresses are marked, a log by the guest's pages has just those that the stores write
 -- to
 abbrev pub LogsAsTold : {F : Type 0} → LiveState F → LiveEvent → Type 0
 LogsAsTold s e =
     (page : ℕ) → list_any (λ a. page_of a == page) (written_by (event_acts e))
-    ≡ list_any (λ a. page_of a == page) (told_by s e)
+    ≡ list_any (λ a. page_of a == page) (reported_by s e)
 
 -- so it is for each event of a run
 abbrev pub EachIsTold : {F : Type 0} → (may : May F) → (s : LiveState F) → (es : List LiveEvent) →
@@ -356,15 +350,15 @@ ReturnsTell {F} may =
     Happens may s (PushesChain c x notice last used seen) after →
     (w : LiveQueue)
     × (slice_get s.queues c.queue ≡ Some w)
-    × (told_by s (PushesChain c x notice last used seen)
+    × (reported_by s (PushesChain c x notice last used seen)
     ≡ returned_addresses (returning w) c.head (room_of c) x.reply)
 
 -- ---- stops, and moves
 
 -- in a run that starts without chains in flight, a queue without any is at the position of its next return.
 -- One number reports both positions (GET_VRING_BASE), and a reset to it (SET_VRING_BASE) changes nothing
-abbrev pub StandsEven : {F : Type 0} → May F → Type 0
-StandsEven {F} may =
+abbrev pub PositionsAgree : {F : Type 0} → May F → Type 0
+PositionsAgree {F} may =
     (s now : LiveState F) (es : List LiveEvent) (i : ℕ) (w : LiveQueue) →
     s.outs ≡ [] →
     AllByRecursion HasNoneInFlight s.queues →

@@ -18,7 +18,7 @@ use Rattle.fs_live.specs.Live.{OutChain, LiveState, LiveEvent, EndsPop, DecodesR
 use Rattle.fs_live.specs.Live.{PushesChain}
 use Rattle.fs_live.specs.Live.{LiveRun}
 use Rattle.fs_live.specs.Live.{calls_in, event_acts, room_of}
-use Rattle.fs_live.specs.Runs.{request_in}
+use Rattle.fs_live.specs.Runs.{request_of_phase}
 
 -- a chain from its pop to its return, with the events between
 pub record Single : Type 0 where
@@ -71,7 +71,7 @@ pub record FoundIn {F : Type 0} (m : Memory) (s : LiveState F) (r : Single) : Ty
   pub places : location m ≡ location s.places
   pub loads : (w : LiveQueue) →
       slice_get s.queues r.queue ≡ Some w →
-      HasLoaded m w.queue r.loaded (request_in r.chain.phase)
+      HasLoaded m w.queue r.loaded (request_of_phase r.chain.phase)
   pub flags :
       (w : LiveQueue) →
       slice_get s.queues r.queue ≡ Some w →

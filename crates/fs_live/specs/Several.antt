@@ -43,8 +43,10 @@ untook w = record w { queue = record (w.queue) { position = (w.queue.position + 
 abbrev pub InFlightId : Type 0
 InFlightId = ℕ × ℕ
 
--- an event of a queue: a chain with this head is popped; the chain that was popped last is given up; a
--- chain is returned with a reply of `len` bytes, by these stores
+-- an event of a queue:
+-- - a chain with this head is popped
+-- - the chain that was popped last is given up
+-- - a chain is returned with a reply of `len` bytes, by these stores
 pub data QueueEvent : Type 0 where
   PopsOne : (head : ℕ) → QueueEvent
   DropsLast : InFlightId → QueueEvent

@@ -3,7 +3,7 @@
 #![tactic(auto)]
 
 ghost use Rattle.fs_live.specs.Among.{HandleFindsStopped, HandleLoadsAmong, HandleEndsPopAmong};
-ghost use Rattle.fs_live.specs.Among.{WantedAmongHasAPlace};
+ghost use Rattle.fs_live.specs.Among.{WantedAmongIsMapped};
 ghost use Rattle.fs_live.specs.Filling.{HandleFillsBuffer, HandleFillsRange};
 ghost use Rattle.fs_live.specs.Guest.{PagesOfRun};
 ghost use Rattle.fs_live.specs.Handles.{HandleCalls, HandleRefusesPop, HandleDecodesRequest};
@@ -19,7 +19,7 @@ ghost use Rattle.fs_live.specs.Overlap.{Overlap};
 ghost use Rattle.fs_live.specs.Rewritten.{Rewritten};
 ghost use Rattle.fs_live.specs.Runs.{CallsAreARun, LiveUsedInOrder, MovedGoesOn, OncePerLiveChain};
 ghost use Rattle.fs_live.specs.Runs.{OwnIsReturned, PagesAreTold, ReturnedIsStepBy, ReturnsHavePlaces};
-ghost use Rattle.fs_live.specs.Runs.{ReturnsTell, RunsOnQueue, StandsEven, StoresStayThere};
+ghost use Rattle.fs_live.specs.Runs.{ReturnsTell, RunsOnQueue, PositionsAgree, StoresStayThere};
 ghost use Rattle.fs_live.specs.Serial.{SingleIsStep, SerialIsKick};
 ghost use Rattle.fs_live.specs.Several.{ByEvent, KeepsOrder, OncePerChain, OneAtATime, UsedInOrder};
 
@@ -55,7 +55,7 @@ pub fn law_runs<F: FileSystem, G: FileSystem>()
     ensures pages { PagesAreTold F.may }
     ensures tell { ReturnsTell F.may }
     ensures log { PagesOfRun F.may }
-    ensures stands { StandsEven F.may }
+    ensures positions { PositionsAgree F.may }
     ensures moves { MovedGoesOn F.may }
     ensures places { ReturnsHavePlaces F.may }
     ensures queue { RunsOnQueue F.may }
@@ -97,7 +97,7 @@ pub fn law_examples<F: FileSystem>()
 pub fn law_handles<F: FileSystem>()
     ensures ends_pop { HandleEndsPop F.may }
     ensures ends_pop_among { HandleEndsPopAmong F.may }
-    ensures wanted_among { WantedAmongHasAPlace }
+    ensures wanted_among { WantedAmongIsMapped }
     ensures finds_stopped { HandleFindsStopped F.may }
     ensures loads { HandleLoads }
     ensures loads_among { HandleLoadsAmong }

@@ -16,7 +16,7 @@ use Rattle.fs_queue.specs.Chain.{Found, IsChain, HasFault, StopsQueue}
 use Rattle.fs_queue.specs.Queue.{Queue as Ring, avail_index_at, element_at, index_at, ring_entry_at}
 use Rattle.fs_queue.specs.NextAvail.{NextAvail, Idle, Head, Refused, next_avail}
 use Rattle.fs_queue.specs.Loads.{Load, holding, index_load, entry_load, asks_entry, is_whole, chain_exactly}
-use Rattle.fs_queue.specs.OfferLoads.{on_waits, waits_by, with_loaded, without_chain, without_entry, without_request}
+use Rattle.fs_queue.specs.OfferLoads.{on_waits, available_by, with_loaded, without_chain, without_entry, without_request}
 use Rattle.fs_queue.specs.WalkingView.{at_position}
 use Rattle.fs_queue.specs.Taking as taking
 use Rattle.fs_queue.specs.Taking.{Offer, RequestAndRoom, offer_of}
@@ -150,16 +150,16 @@ none_some w is = cc
 
 waits_some : (q : Ring) (bs : List ℕ) (entry : Option (List ℕ)) (w : NextAvail) (whole : Bool) → (length bs == 2) ≡ whole
     → avail_index_at q + 2 < 2 ^ 64 → ring_entry_at q + 2 < 2 ^ 64
-    → waits_by q (Some bs) entry ≡ Some w → WaitsBy w (ahead (from_le_bytes w16 bs) q.position)
+    → available_by q (Some bs) entry ≡ Some w → WaitsBy w (ahead (from_le_bytes w16 bs) q.position)
 waits_some q bs entry w false is index_fits entry_fits e =
-    let unfolded : waits_by q (Some bs) entry ≡ None = rw is refl in
+    let unfolded : available_by q (Some bs) entry ≡ None = rw is refl in
     absurd (none_some w (sym unfolded ∙ e))
 waits_some q bs entry w true is index_fits entry_fits e =
     let n = ahead (from_le_bytes w16 bs) q.position in
     let one = next_avail (holding (index_load q (Some bs) ∷ [])) q in
     let both = next_avail (holding (index_load q (Some bs) ∷ entry_load q entry ∷ [])) q in
     let len = eqb-true (length bs) 2 is in
-    let unfolded : waits_by q (Some bs) entry
+    let unfolded : available_by q (Some bs) entry
     ≡ (if not (asks_entry one) then without_entry entry one else if not (is_whole 2 entry) then None else Some both) = rw is refl in
     let tells : one ≡ pick true (n == 0) (nat_lt q.size n) (Refused RingEntryUnreachable) =
     index_tells q (Some bs) bs (from_le_bytes w16 bs) n refl len index_fits refl refl in
@@ -213,11 +213,11 @@ abbrev IndexSays : (index : Option (List ℕ)) → (position : ℕ) → Offer �
 IndexSays index position o = (bs : List ℕ) × (index ≡ Some bs) × OffersAt o (ahead (from_le_bytes w16 bs) position)
 
 index_says : (l : QueueLayout) (position : ℕ) (index entry : Option (List ℕ)) (w : NextAvail) (o : Offer)
-    → waits_by (at_position l position) index entry ≡ Some w → IsBy w o → IsNoRefusal o
+    → available_by (at_position l position) index entry ≡ Some w → IsBy w o → IsNoRefusal o
     → IndexSays index position o
 index_says l position None entry w o is by offers =
     let q = at_position l position in
-    let unfolded : waits_by q None entry ≡ without_entry entry (Refused AvailIndexUnreachable) = rw (index_lost q None refl) refl in
+    let unfolded : available_by q None entry ≡ without_entry entry (Refused AvailIndexUnreachable) = rw (index_lost q None refl) refl in
     absurd (lost_entry entry w o (sym unfolded ∙ is) by offers)
 index_says l position (Some bs) entry w o is by offers = (
   bs,
@@ -230,7 +230,7 @@ offer_says : (m : Memory) (limit : ℕ) (l : QueueLayout) (position : ℕ) (load
     → IndexSays loaded.index position o
 offer_says m limit l position loaded request o by offers =
     let q = at_position l position in
-    let w = by_waits m limit q (loaded.entries ++ by.1) request (waits_by q loaded.index loaded.entry) o by.3 in
+    let w = by_waits m limit q (loaded.entries ++ by.1) request (available_by q loaded.index loaded.entry) o by.3 in
     index_says l position loaded.index loaded.entry w.0 o w.1 w.2 offers
 
 -- ---- a walk

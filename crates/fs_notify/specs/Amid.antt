@@ -53,8 +53,8 @@ TakesAmidRefusals =
     × (s.known ≡ index
     → IsTrue (may_act (ways_of before) s TakesOne) × IsOf after (after_act (ways_of before) s TakesOne))
 
--- such a pop that finds no chain was given an index by which the model's thread may sleep, if its wish is in
--- memory, behind a barrier, and that index is the one in memory now
+-- such a pop that finds no chain was given an index. By it the model's thread may sleep, if two conditions
+-- hold. Its wish is in memory, behind a barrier. The index is the one in memory now
 abbrev pub FindsNoneAmidRefusals : Type 0
 FindsNoneAmidRefusals =
     (given : List (List ℕ)) (old new : ChainHandle) (before after : QueueState) (s : ThreadedQueue)

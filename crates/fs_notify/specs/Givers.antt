@@ -49,8 +49,8 @@ ChecksBySeen =
     → SaysWish q.event_index seen u.event u.muted
     → (after (rules_of q) u ChecksWish).owes ≡ (u.owes || tells_of q seen)
 
--- the store of the used index, the barrier and the load, in this order, are a run of the model, while the
--- driver has made no more chains available than the queue has descriptors
+-- the store of the used index, the barrier and the load, in this order, are a run of the model. The driver
+-- has made no more chains available than the queue has descriptors
 abbrev pub ReturnsInOrder : Type 0
 ReturnsInOrder =
     (q : QueueState) (u : NotifyState)

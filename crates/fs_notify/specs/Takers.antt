@@ -113,9 +113,8 @@ TakesByWalk =
     × (s.known ≡ index
     → IsTrue (may_act (ways_of before) s TakesOne) × IsOf after (after_act (ways_of before) s TakesOne))
 
--- a pop that finds no chain was given an index by which the model's thread may sleep, if two conditions
--- hold: its wish is in memory, behind a barrier, and that index is the one in memory now, not an
--- earlier one
+-- a pop that finds no chain was given an index. By it the model's thread may sleep, if two conditions hold.
+-- Its wish is in memory, behind a barrier. The index is the one in memory now, not an earlier one
 abbrev pub FindsNoneByWalk : Type 0
 FindsNoneByWalk =
     (given : List (List ℕ)) (old new : ChainHandle) (before after : QueueState) (s : ThreadedQueue)

@@ -1,5 +1,5 @@
-//! What the calls of a handle return are the device's steps of the model of notifications (crate `notify`),
-//! so that no notification of this library's queues is lost. Laws, as contracts of functions that do
+//! The results of a handle's calls are steps of the device in the model of notifications (crate `notify`).
+//! So no notification of this library's queues is lost. Each theorem is the contract of a function that does
 //! nothing.
 //!
 //! The model's steps are those of the device's threads (`ThreadStep`), and of a giver of used chains

@@ -12,7 +12,7 @@ use Rattle.fs_queue.specs.NextAvail as avail
 use Rattle.fs_queue.specs.Chain.{Descriptor, Found, IsChain, HasFault, StopsQueue}
 use Rattle.fs_queue.specs.Taking.{IsRequest, CannotFetch, readable, writable, total_len, all_reach, Offer, Refuses, Offers, offer_of}
 use Rattle.fs_queue.specs.Loads.{Load, chain_exactly}
-use Rattle.fs_queue.specs.OfferLoads.{without_chain, without_loads, waits_by, with_request, with_loaded, on_waits, SameReachOfChain}
+use Rattle.fs_queue.specs.OfferLoads.{without_chain, without_loads, available_by, with_request, with_loaded, on_waits, SameReachOfChain}
 use Rattle.fs_queue.specs.OfferLoads.{SameReach, OnlyPlacesCount, OffersAreConfined}
 use Rattle.fs_queue.proofs.ReadLemmas.{length-bytes}
 use Rattle.fs_queue.proofs.OfferByLemmas.{offer_is_still}
@@ -84,7 +84,7 @@ each_alike g h (Some w) same = same w
 pub only_places_count : OnlyPlacesCount
 only_places_count m n limit q index entry ls request same =
     ap (λ (o : Option Offer). if q.stopped then without_loads index entry ls request (Refuses stop.Stopped) else o)
-    (each_alike (on_waits m limit q ls request) (on_waits n limit q ls request) (waits_by q index entry)
+    (each_alike (on_waits m limit q ls request) (on_waits n limit q ls request) (available_by q index entry)
     (λ w. waits_alike m n limit q ls request w same))
 
 pub offers_are_confined : OffersAreConfined

@@ -4,7 +4,7 @@ ghost use Rattle.std.specs.Prelude.{◌≡◌};
 
 use thiserror::Error;
 
-/// The greatest limit of a request and of a room, in bytes (`ChainFault::OverLimit`).
+/// The greatest limit of a request and of a reply buffer, in bytes (`ChainFault::OverLimit`).
 pub const MOST_LIMIT: u32 = 1 << 31;
 
 /// Why the device returns a chain without serving it. The chain breaks a rule of VIRTIO 1.2, 2.7.5 or

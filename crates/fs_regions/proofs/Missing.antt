@@ -14,7 +14,7 @@ use Rattle.fs_queue.specs.Queue.{Queue, avail_index_at, element_at, head, index_
 use Rattle.fs_queue.specs.NextAvail.{NextAvail, Idle, Head, Refused, next_avail}
 use Rattle.fs_queue.specs.Chain.{Descriptor}
 use Rattle.fs_queue.specs.Loads.{asks_entry, entry_load, holding, index_load, is_whole}
-use Rattle.fs_queue.specs.OfferLoads.{waits_by, without_entry}
+use Rattle.fs_queue.specs.OfferLoads.{available_by, without_entry}
 use Rattle.fs_queue.specs.Taking.{all_reach, chain_fault, readable, return_fault, total_len, writable}
 use Rattle.fs_regions.specs.Misses.{Area, OfBuffers, OfReturn, first_miss, miss_of}
 use Rattle.fs_regions.specs.Walks.{Loaded, MissesNothing, RefusalIsNoMiss, RingIsNoMiss, TestIsNoMiss}
@@ -65,7 +65,7 @@ by_loads true false c x y n None hx hy e = let same : x ≡ n = cc in subst IsRi
 by_loads true true true x y n entry hx hy e = let same : y ≡ n = cc in subst IsRingError same hy
 by_loads a b c x y n entry hx hy e = absurd (cc)
 
-waits_error : (q : Queue) (index entry : Option (List ℕ)) (n : NextAvail) → waits_by q index entry ≡ Some n → IsRingError n
+waits_error : (q : Queue) (index entry : Option (List ℕ)) (n : NextAvail) → available_by q index entry ≡ Some n → IsRingError n
 waits_error q index entry n by =
     by_loads (is_whole 2 index) (asks_entry (next_avail (holding (index_load q index ∷ [])) q)) (is_whole 2 entry)
     (next_avail (holding (index_load q index ∷ [])) q) (next_avail (holding (index_load q index ∷ entry_load q entry ∷ [])) q) n entry
@@ -79,7 +79,7 @@ by_error m limit q loaded stop.DescriptorUnreachable is none = absurd is
 by_error m limit q loaded e is none = none
 
 pub ring_no_miss : (m : Memory) (limit : ℕ) (q : Queue) (loaded : Loaded) (e : QueueError) →
-    waits_by q loaded.index loaded.entry ≡ Some (Refused e) → RingIsNoMiss m q loaded → RefusalIsNoMiss m limit q loaded e
+    available_by q loaded.index loaded.entry ≡ Some (Refused e) → RingIsNoMiss m q loaded → RefusalIsNoMiss m limit q loaded e
 ring_no_miss m limit q loaded e by none =
     by_error m limit q loaded e (waits_error q loaded.index loaded.entry (Refused e) by) none
 

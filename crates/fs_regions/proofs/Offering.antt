@@ -11,13 +11,13 @@ use Rattle.fs_queue.specs.Queue.{Queue, element_at, index_at}
 use Rattle.fs_queue.specs.NextAvail as avail
 use Rattle.fs_queue.specs.Chain.{Found}
 use Rattle.fs_queue.specs.Loads.{Load}
-use Rattle.fs_queue.specs.OfferLoads.{waits_by, on_waits, with_loaded, offer_by}
+use Rattle.fs_queue.specs.OfferLoads.{available_by, on_waits, with_loaded, offer_by}
 use Rattle.fs_queue.specs.Taking.{Offer, Refuses, offer_of, return_fault}
 use Rattle.fs_regions.specs.Walks.{Loaded, RingIsAsked, IsLost, HeadBeginsWalk, HeadMayBePushed, FindsBy, OffersBy}
 
 -- by what waits
 on_next : (m : Memory) (limit : ℕ) (q : Queue) (index entry : Option (List ℕ)) (ls : List Load) (request : List ℕ)
-    (next : avail.NextAvail) → q.stopped ≡ false → waits_by q index entry ≡ Some next →
+    (next : avail.NextAvail) → q.stopped ≡ false → available_by q index entry ≡ Some next →
     offer_by m limit q index entry ls request ≡ on_waits m limit q ls request next
 on_next m limit q index entry ls request next runs waits = rw (runs, waits) refl
 
@@ -38,7 +38,7 @@ on_found m limit q loaded head found request o runs waits with_request finds =
 
 pub on_refused : (m : Memory) (limit : ℕ) (q : Queue) (loaded : Loaded) (e : QueueError) → q.stopped ≡ false → loaded.entries ≡ [] →
     RingIsAsked m q loaded →
-    waits_by q loaded.index loaded.entry ≡ Some (avail.Refused e) → OffersBy m limit q loaded [] (Refuses e)
+    available_by q loaded.index loaded.entry ≡ Some (avail.Refused e) → OffersBy m limit q loaded [] (Refuses e)
 on_refused m limit q loaded e runs none asked waits = (
   asked,
   [],

@@ -19,7 +19,7 @@ use Rattle.fs_queue.specs.Queue.{Queue, avail_index_at, ring_entry_at}
 use Rattle.fs_queue.specs.NextAvail.{NextAvail, Idle, Head, Refused}
 use Rattle.fs_queue.specs.Chain.{Descriptor, Found, Visit, WalkStep, after_walk_step, entry_address, first_visit}
 use Rattle.fs_queue.specs.Loads.{Load, Reads, Ends, asks_entry, is_whole, found_exactly, chain_exactly, ahead_at, ahead_after}
-use Rattle.fs_queue.specs.OfferLoads.{waits_by}
+use Rattle.fs_queue.specs.OfferLoads.{available_by}
 use Rattle.fs_queue.specs.RingingView.{Stage, AsksIndex, AsksEntry, HasResult, by_index, by_entry, stage_of, stage_at, BeginsAt}
 use Rattle.fs_queue.specs.RingingView.{BeginsChain}
 use Rattle.fs_queue.specs.RingingView.{IfRingEntry}
@@ -121,12 +121,12 @@ not_entry_of (says.RingEntry x) other e = other x refl
 not_entry_of w other e = cc
 
 by_alone : (q : Queue) (index : Option (List ℕ)) → is_whole 2 index ≡ true → asks_entry (by_index q index) ≡ false →
-    waits_by q index None ≡ Some (by_index q index)
+    available_by q index None ≡ Some (by_index q index)
 by_alone q index whole alone = rw (whole, alone) refl
 
 by_both :
     (q : Queue) (index entry : Option (List ℕ)) → is_whole 2 index ≡ true → asks_entry (by_index q index) ≡ true → is_whole 2 entry ≡ true →
-    waits_by q index entry ≡ Some (by_entry q index entry)
+    available_by q index entry ≡ Some (by_entry q index entry)
 by_both q index entry whole asks_it whole_entry = rw (whole, asks_it, whole_entry) refl
 
 no_more : {A : Type 0} (b : Bool) → b ≡ false → b ≡ true → A

@@ -19,7 +19,7 @@ use Rattle.fs_queue.specs.Chain.{Descriptor, DescriptorTable, Visit, with_front,
 use Rattle.fs_queue.specs.Chain.{IsChain, HasFault, StopsQueue, first_visit}
 use Rattle.fs_queue.specs.Loads.{Load, Ahead, Reads, found_exactly, chain_exactly, asks_entry, ahead_at}
 use Rattle.fs_queue.specs.Loads.{is_whole}
-use Rattle.fs_queue.specs.OfferLoads.{waits_by, offer_by}
+use Rattle.fs_queue.specs.OfferLoads.{available_by, offer_by}
 use Rattle.fs_queue.specs.Taking.{readable, writable, total_len, IsRequest, CannotFetch, Offer, Idle, Refuses}
 use Rattle.fs_queue.specs.Taking.{Offers, addresses_of, chain_fault, return_fault}
 use Rattle.fs_queue.specs.RingingView.{HasResult, by_index, stage_of, stage_at, IfRingEntry}
@@ -88,7 +88,7 @@ BeginsIfChain q _ = Unit {0}
 pub record TellsBy (m : Memory) (q : Queue) (loaded : Loaded) (walk : code.Walk) : Type 0 where
   pub next : NextAvail
   pub tells : stage_of walk ≡ HasResult next
-  pub by_loads : waits_by q loaded.index loaded.entry ≡ Some next
+  pub by_loads : available_by q loaded.index loaded.entry ≡ Some next
   pub no_entries : loaded.entries ≡ []
   pub asked : RingIsAsked m q loaded
   pub no_miss : RingIsNoMiss m q loaded
@@ -107,14 +107,14 @@ pub record StandsAfterIndex (m : Memory) (q : Queue) (index : Option (List ℕ))
 -- the chain of this head is available, and its walk begins
 pub record HeadBeginsWalk (m : Memory) (q : Queue) (loaded : Loaded) (head : ℕ) (progress : Progress) :
     Type 0 where
-  pub by_loads : waits_by q loaded.index loaded.entry ≡ Some (Head head)
+  pub by_loads : available_by q loaded.index loaded.entry ≡ Some (Head head)
   pub no_entries : loaded.entries ≡ []
   pub asked : RingIsAsked m q loaded
   pub begins : BeginsAtHead q head progress
 
 -- the chain of this head is available, and the stores of its push are mapped
 pub record HeadMayBePushed (m : Memory) (q : Queue) (loaded : Loaded) (head : ℕ) : Type 0 where
-  pub by_loads : waits_by q loaded.index loaded.entry ≡ Some (Head head)
+  pub by_loads : available_by q loaded.index loaded.entry ≡ Some (Head head)
   pub asked : RingIsAsked m q loaded
   pub returns : return_fault m q ≡ None
 
@@ -262,7 +262,7 @@ LeadsTo m limit q loaded ds OfRingEntry =
     × (ds ≡ [])
 LeadsTo m limit q loaded ds OfReturn =
     (head : ℕ)
-    × (waits_by q loaded.index loaded.entry ≡ Some (Head head))
+    × (available_by q loaded.index loaded.entry ≡ Some (Head head))
     × (loaded.entries ≡ [])
     × (ds ≡ [])
 LeadsTo m limit q loaded ds (OfEntry v) =

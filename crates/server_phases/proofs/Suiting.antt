@@ -24,7 +24,7 @@ use Rattle.server_phases.specs.declared.waiting.Waiting.{Waiting}
 use Rattle.server_calls.specs.Callers.{IsFor}
 use Rattle.server_phases.specs.Waiting.{awaits_of, WaitsFor, first_call}
 use Rattle.server_phases.specs.Answering.{TellsBytes, tells_nothing, leaves_options, brings_entry, takes, back_by, served_by, data_of}
-use Rattle.server_phases.specs.Answering.{init_options_of}
+use Rattle.server_phases.specs.Answering.{init_offer_of}
 
 silent_same : (call : FileCall) → is_silent call ≡ tells_nothing (awaits_of call)
 silent_same Destroy = refl
@@ -95,7 +95,7 @@ failed_list s w unique call with_nodes size errno given a b h =
 
 pub single_gives : (s : Setting) (w : Waiting) (command : FileCommand) (bytes : List ℕ) (answer : made.FileAnswer) (given : ServedMessage)
     → WaitsFor w command
-    → TellsBytes bytes answer → takes w.awaits (answer_of bytes answer) ≡ true → data_of answer ≡ None → init_options_of w.awaits ≡ None
+    → TellsBytes bytes answer → takes w.awaits (answer_of bytes answer) ≡ true → data_of answer ≡ None → init_offer_of w.awaits ≡ None
     → Placed s w (first_call command) (answer_of bytes answer) given → commanded s command (answer_of bytes answer ∷ []) ≡ given
 single_gives s w (One unique call) bytes answer given waits t taken plain single h =
     let a = answer_of bytes answer in
@@ -105,7 +105,7 @@ single_gives s w (One unique call) bytes answer given waits t taken plain single
     waits.1 h) in
     rw (silent_same call, back_same w.context call a waits.2, options_same s.options call) h1
 single_gives s w (Starts unique capable readahead) bytes answer given waits t taken plain single h =
-    let clash : Some (capable, readahead) ≡ None = ap init_options_of (sym waits.1) ∙ single in absurd (cc)
+    let clash : Some (capable, readahead) ≡ None = ap init_offer_of (sym waits.1) ∙ single in absurd (cc)
 single_gives s w (Lists unique l) bytes (value.Failed errno) given waits t taken plain single h =
     failed_list s w unique (readdir_call l) l.with_nodes l.size errno given waits.0 waits.1 h
 single_gives s w (Lists unique l) bytes answer given waits t taken plain single h =

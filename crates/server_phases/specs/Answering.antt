@@ -102,9 +102,9 @@ data_of (value.Bytes len) = Some len
 data_of _ = None
 
 -- the options of client and server, and the client's readahead in bytes, if the call is INIT's
-abbrev pub init_options_of : Awaits → Option (ℕ × ℕ)
-init_options_of (awaits.InitOptions capable readahead) = Some (capable, readahead)
-init_options_of _ = None
+abbrev pub init_offer_of : Awaits → Option (ℕ × ℕ)
+init_offer_of (awaits.InitOptions capable readahead) = Some (capable, readahead)
+init_offer_of _ = None
 
 -- an answer is data whose reply fits in the reply buffer, but not in its header's 32-bit length
 -- (struct fuse_out_header, len)

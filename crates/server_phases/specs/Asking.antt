@@ -78,14 +78,14 @@ IsRequestFront front request = take (length front) request ≡ front
 
 -- the first bytes are enough to decode a request of `len` bytes: all of them, or all before the
 -- data of a WRITE
-abbrev pub front_tells : (front : List ℕ) → (len : ℕ) → Bool
-front_tells front len =
+abbrev pub front_suffices : (front : List ℕ) → (len : ℕ) → Bool
+front_suffices front len =
     length front == len || (nat_le 80 (length front) && nat_le (length front) len && begins_a_write front)
 
 -- the request was decoded from its first bytes
-abbrev pub front_suffices : AskedFront → Bool
-front_suffices (asked_front.Decoded asked) = true
-front_suffices asked_front.More = false
+abbrev pub is_decoded : AskedFront → Bool
+is_decoded (asked_front.Decoded asked) = true
+is_decoded asked_front.More = false
 
 -- a request with this meaning is decoded from its first bytes, if these are enough
 abbrev pub IsDecodedByFront : Setting → Meaning → (bytes : List ℕ) → AskedFront → Type 0

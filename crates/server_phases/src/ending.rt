@@ -7,7 +7,7 @@ ghost use Rattle.fuse_values.specs.Answers.{answer_of};
 ghost use Rattle.virtiofsd_fuse.specs.Grammar.{FileCommand, known_options};
 ghost use Rattle.virtiofsd_fuse.specs.Serving.{setting, replied, start_options, start_answered};
 ghost use Rattle.server_phases.specs.Answering.{Gives, TellsBytes, takes, forget_if_any, served_by, data_of};
-ghost use Rattle.server_phases.specs.Answering.{init_options_of, leaves_options, is_too_long, IsRefusedFor};
+ghost use Rattle.server_phases.specs.Answering.{init_offer_of, leaves_options, is_too_long, IsRefusedFor};
 ghost use Rattle.server_phases.specs.Waiting.{WaitsFor, first_call};
 
 use crate::answering::{
@@ -46,8 +46,8 @@ fn data_of(answer: &FileAnswer) -> Option<usize>
 }
 
 // The options of client and server, and the client's readahead in bytes, if the call is INIT's.
-fn init_options_of(awaits: &Awaits) -> Option<(u64, u32)>
-    ensures { result ≡ init_options_of awaits.now }
+fn init_offer_of(awaits: &Awaits) -> Option<(u64, u32)>
+    ensures { result ≡ init_offer_of awaits.now }
 {
     match awaits {
         Awaits::InitOptions { capable, readahead } => Some((*capable, *readahead)),
@@ -87,7 +87,7 @@ impl Session {
     // An answer without data, of a call other than INIT.
     fn answer_single(&mut self, waiting: &Waiting, answer: FileAnswer) -> Answered
         requires without_data { data_of answer ≡ None }
-        requires single { init_options_of waiting.now.awaits ≡ None }
+        requires single { init_offer_of waiting.now.awaits ≡ None }
         ensures gives { (command : FileCommand) (bytes : List ℕ)
             → WaitsFor waiting.now command
             → TellsBytes bytes answer
@@ -111,7 +111,7 @@ impl Session {
             result self.new.options.0 }
         ensures page_size { self.new.page_size ≡ self.old.page_size }
     {
-        match init_options_of(&waiting.awaits) {
+        match init_offer_of(&waiting.awaits) {
             Some((capable, readahead)) => {
                 self.start(
                     waiting.unique,

@@ -5,7 +5,7 @@ ghost use Rattle.server_replies.specs.PageSizes.{is_page_size};
 ghost use Rattle.virtiofsd_fuse.specs.Grammar.{meaning, known_options};
 ghost use Rattle.virtiofsd_fuse.specs.Serving.{setting};
 ghost use Rattle.server_phases.specs.Asking.{IsDecoded, HasAsker, HasAskerByFront, IsRequestFront};
-ghost use Rattle.server_phases.specs.Asking.{IsDecodedByFront, front_tells, front_suffices};
+ghost use Rattle.server_phases.specs.Asking.{IsDecodedByFront, front_suffices, is_decoded};
 
 use crate::asking::{AskedFront, DecodedRequest, ask_write_front};
 use bitflags::Flags;
@@ -91,7 +91,7 @@ impl Session {
             → len ≡ length request
             → IsRequestFront front.now request
             → HasAskerByFront request result }
-        ensures more { front_suffices result ≡ front_tells front.now len }
+        ensures more { is_decoded result ≡ front_suffices front.now len }
     {
         if front.len() == len {
             return AskedFront::Decoded(self.ask(front, room));

@@ -57,7 +57,7 @@ placed (IsWrong errno) bytes undo next = nothing_more undo (Some errno)
 abbrev pub after_call : FileCall → ListingResult → ListingResult
 after_call call w = record { calls = call ∷ w.calls; bytes = w.bytes; error = w.error }
 
--- the call that forgets a node: FORGET of 1
+-- FORGET of one lookup of a node
 abbrev pub forget_lookup : Context → (node : ℕ) → FileCall
 forget_lookup who node = Forget who node 1
 

@@ -5,7 +5,7 @@ use Rattle.std.specs.Prelude.{drop}
 use Rattle.fuse_values.specs.declared.answer.FileAnswer.{FileAnswer}
 use Rattle.server_phases.specs.declared.session.Session.{Session}
 use Rattle.plain_machine.specs.Step.{EachSuits}
-use Rattle.fs_chain.specs.Whole.{ChainAnswer, HasReply, IsDecodedBy, file_calls}
+use Rattle.fs_chain.specs.Whole.{ChainAnswer, IsRepliedBy, IsDecodedBy, file_calls}
 use Rattle.fs_chain.specs.declared.chain_handle.ChainHandle.{ChainHandle}
 use Rattle.fs_chain.specs.declared.decoding.Decoded as told
 use Rattle.fs_chain.specs.declared.loads.LoadOutcome.TheVariants as wents
@@ -25,7 +25,7 @@ decodes_by bytes old popped asked before after head n r session request made wal
 abbrev pub calls_by : (bytes : List (Bor (List ℕ))) (old popped asked replied : ChainHandle) (before after : QueueState) (head n r : ℕ)
     (session : Session) (request : List ℕ) (made : told.Decoded) (given : ChainAnswer)
     → IsWalkedBy bytes old popped before after (wents.On (says.Chain head n r))
-    → IsDecodedBy popped session request request made asked → HasReply made asked given replied
+    → IsDecodedBy popped session request request made asked → IsRepliedBy made asked given replied
     → EachSuits (file_calls (drop 80 request) made given)
     → AreCallsBy bytes old before session request given (file_calls (drop 80 request) made given)
 calls_by bytes old popped asked replied before after head n r session request made given walks decodes replies suit = record {
@@ -42,7 +42,7 @@ calls_by bytes old popped asked replied before after head n r session request ma
 pub calls_of_answer : (bytes : List (Bor (List ℕ))) (old popped asked replied : ChainHandle) (before after : QueueState) (head n r : ℕ)
     (session : Session) (request : List ℕ) (answer : FileAnswer) (made : told.Decoded) (given : ChainAnswer)
     → IsWalkedBy bytes old popped before after (wents.On (says.Chain head n r))
-    → IsDecodedBy popped session request request made asked → HasReply made asked given replied → HasThisAnswer answer given
+    → IsDecodedBy popped session request request made asked → IsRepliedBy made asked given replied → HasThisAnswer answer given
     → EachSuits (file_calls (drop 80 request) made given)
     → AreCallsOf bytes old before session request answer (file_calls (drop 80 request) made given)
 calls_of_answer bytes old popped asked replied before after head n r session request answer made given walks decodes replies is suit =

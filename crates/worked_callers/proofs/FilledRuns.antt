@@ -15,9 +15,9 @@ use Rattle.fs_chain.specs.declared.chain_handle.ChainHandle.{ChainHandle}
 use Rattle.fs_live.specs.Filling.{HandleFillsBuffer, HandleFillsRange, data_stores}
 use Rattle.fs_live.specs.Handles.{HandleEndsPop, live_of}
 use Rattle.fs_live.specs.Live.{FillsBuffer, LiveRun, LiveState, OutChain, after_pop, new_chain, room_of}
-use Rattle.fs_live.specs.Runs.{told_by}
+use Rattle.fs_live.specs.Runs.{reported_by}
 use Rattle.worked_callers.specs.Events.{IsPoppedChain, pop_event}
-use Rattle.worked_callers.specs.Notified.{IsWalkedBy, calls_of}
+use Rattle.worked_callers.specs.Notified.{IsWalkedBy, given_so_far}
 use Rattle.worked_callers.specs.OwnReplies.{IsAt}
 use Rattle.worked_callers.proofs.NamedEvents.{popped_by}
 use Rattle.worked_callers.proofs.OwnRuns.{popped}
@@ -35,7 +35,7 @@ module _ {F : Type 0} (may : May F) (walks_law : HandleEndsPop may) (given : Lis
       ≡ Some (take (length bytes) (places_of v)))
   filled_window law v window few =
       let ds = one.descriptors.items in
-      let pop = popped may walks_law old one before after head n r goes (calls_of walks.0 given, walks.1) s i here in
+      let pop = popped may walks_law old one before after head n r goes (given_so_far walks.0 given, walks.1) s i here in
       let c : OutChain = new_chain s i (live_of before) pop.loaded ds head None in
       let s₁ : LiveState F = after_pop s i (live_of before) pop.loaded ds (step.Chain head None) in
       let fills = law s₁ c s.outs [] one from v bytes refl tt refl window few in
@@ -47,10 +47,10 @@ module _ {F : Type 0} (may : May F) (walks_law : HandleEndsPop may) (given : Lis
       × IsPoppedChain s i given old before None c
       × (guest ≡ address % 2 ^ 64)
       × (let fills = FillsBuffer c (record { address = address; bytes = bytes } ∷ []) in
-      LiveRun may s (pop_event c None ∷ fills ∷ []) mid × (told_by mid fills ≡ take (length bytes) (drop from (room_of c))))
+      LiveRun may s (pop_event c None ∷ fills ∷ []) mid × (reported_by mid fills ≡ take (length bytes) (drop from (room_of c))))
   filled_range law guest len range few =
       let ds = one.descriptors.items in
-      let pop = popped may walks_law old one before after head n r goes (calls_of walks.0 given, walks.1) s i here in
+      let pop = popped may walks_law old one before after head n r goes (given_so_far walks.0 given, walks.1) s i here in
       let c : OutChain = new_chain s i (live_of before) pop.loaded ds head None in
       let s₁ : LiveState F = after_pop s i (live_of before) pop.loaded ds (step.Chain head None) in
       let fills = law s₁ c s.outs [] one from guest len bytes refl tt refl range few in (

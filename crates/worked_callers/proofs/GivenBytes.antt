@@ -9,7 +9,7 @@ use Rattle.fs_chain.specs.declared.chain_handle.ChainHandle.{ChainHandle}
 use Rattle.fs_chain.specs.declared.loads.LoadOutcome as went
 use Rattle.fs_chain.specs.declared.queue.QueueState.{QueueState}
 use Rattle.fs_notify.specs.Amid.{WalksAmid}
-use Rattle.worked_callers.specs.Notified.{calls_of}
+use Rattle.worked_callers.specs.Notified.{given_so_far}
 
 abbrev pub none : Bor (List ℕ)
 none = record { ref_ptr = (0, 0); now = [] }
@@ -18,7 +18,7 @@ turned : (x : List ℕ) (xs : List (List ℕ)) → reverse (x ∷ xs) ≡ revers
 turned x xs = reverse-append (x ∷ []) xs
 
 calls_more : (bytes : List (Bor (List ℕ))) (k : ℕ) → k < length bytes
-    → calls_of (suc k) bytes ≡ (get_or bytes k none).now ∷ calls_of k bytes
+    → given_so_far (suc k) bytes ≡ (get_or bytes k none).now ∷ given_so_far k bytes
 calls_more [] k within = absurd (omega (arith, within))
 calls_more (x ∷ xs) zero within = refl
 calls_more (x ∷ xs) (suc k) within =
@@ -28,16 +28,16 @@ calls_more (x ∷ xs) (suc k) within =
 
 -- one call more
 pub calls_next : (bytes : List (Bor (List ℕ))) (k : ℕ) (bs : List ℕ) → k < length bytes → bs ≡ (get_or bytes k none).now
-    → calls_of (k + 1) bytes ≡ bs ∷ calls_of k bytes
+    → given_so_far (k + 1) bytes ≡ bs ∷ given_so_far k bytes
 calls_next bytes k bs within is =
     let one : k + 1 ≡ suc k = omega arith in
-    ap (λ (n : ℕ). calls_of n bytes) one ∙ calls_more bytes k within ∙ ap (λ (l : List ℕ). l ∷ calls_of k bytes) (sym is)
+    ap (λ (n : ℕ). given_so_far n bytes) one ∙ calls_more bytes k within ∙ ap (λ (l : List ℕ). l ∷ given_so_far k bytes) (sym is)
 
 -- one call more, before which another was refused
 pub amid_more : (bytes : List (Bor (List ℕ))) (k : ℕ) (bs : List ℕ) (old w v new : ChainHandle) (before q found after : QueueState)
-    (earlier told : went.LoadOutcome) → k < length bytes → WalksAmid (calls_of k bytes) old w before q earlier → WantsBytes earlier
+    (earlier told : went.LoadOutcome) → k < length bytes → WalksAmid (given_so_far k bytes) old w before q earlier → WantsBytes earlier
     → IsSame w v → found ≡ q → GoesSo v found bs told new after → bs ≡ (get_or bytes k none).now
-    → WalksAmid (calls_of (k + 1) bytes) old new before after told
+    → WalksAmid (given_so_far (k + 1) bytes) old new before after told
 amid_more bytes k bs old w v new before q found after earlier told within walks wants same left goes is =
     subst (λ (given : List (List ℕ)). WalksAmid given old new before after told) (sym (calls_next bytes k bs within is))
     (w, v, q, earlier, walks, wants, same, subst (λ (j : QueueState). GoesSo v j bs told new after) left goes)

@@ -5,7 +5,7 @@ pub mod FilledRuns
 pub mod GivenBytes
 pub mod InARowRun
 pub mod Looks
-pub mod LostAsked
+pub mod AbandonedAsked
 pub mod MappedAmid
 pub mod ModelActs
 pub mod MovedAmid

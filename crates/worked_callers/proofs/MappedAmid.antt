@@ -20,11 +20,11 @@ use Rattle.plain_machine.specs.StepBy.{Act}
 use Rattle.fs_live.specs.Handles.{HandleEndsPop, IsHeld, IsOut, IsReached, live_of}
 use Rattle.fs_live.specs.Live.{Happens, IfKeepsReturns, KeepsQueue, KeepsReturns, LiveEvent, LiveRun, LiveState, OutChain, Own, Remaps}
 use Rattle.fs_live.specs.Live.{PushesChain, RepliesOwnBytes, EndsPop, after_push, after_own, after_pop, calls_among, new_chain, room_of}
-use Rattle.fs_live.specs.Others.{GoesBackOwn, HandlePushesOwn, HandleRemaps, HandleRepliesOwnBytes, IsOwn}
+use Rattle.fs_live.specs.Others.{PushedOwn, HandlePushesOwn, HandleRemaps, HandleRepliesOwnBytes, IsOwn}
 use Rattle.fs_live.specs.Several.{LiveQueue, took}
 use Rattle.fs_live.proofs.Queues.{same_some, there_same}
 use Rattle.worked_callers.specs.Events.{IsRepliedChain}
-use Rattle.worked_callers.specs.Notified.{IsWalkedBy, calls_of}
+use Rattle.worked_callers.specs.Notified.{IsWalkedBy, given_so_far}
 use Rattle.worked_callers.proofs.NamedEvents.{popped_by, told_so}
 use Rattle.worked_callers.proofs.OthersBeside.{own_kept}
 use Rattle.worked_callers.proofs.ServedBeside.{chain_is, reached_by, taken_of}
@@ -36,7 +36,7 @@ pub mapped_amid :
     → IsWalkedBy given old one before after (wents.On (says.Chain head n r))
     → FromTaken one.state (λ out. out.request_len ≡ length request) → own_error one.state one.serial serial (length reply) ≡ None
     → IfUnanswered one.state (λ out. two ≡ record one { state = at.HasReply out (own_reply (length reply)) })
-    → ((room bytes : List ℕ) (last : ℕ) → (acts : List Act) × GoesBackOwn after room bytes two.state acts last notice)
+    → ((room bytes : List ℕ) (last : ℕ) → (acts : List Act) × PushedOwn after room bytes two.state acts last notice)
     → final ≡ gave after → (s : LiveState F) (i : ℕ) → IsReached may s → s.outs ≡ []
     → slice_get s.queues i ≡ Some (live_of before) → s.places ≡ places_in old.regions → s.limit ≡ old.limit → s.limit ≤ 2 ^ 31
     → KeepsReturns s.places (places_in other.regions) (live_of before)
@@ -50,7 +50,8 @@ mapped_amid {F} may walks_law maps_law replies_law returns_law given old one two
     let q = live_of before in
     let m : Memory = places_in other.regions in
     let ds = one.descriptors.items in
-    let walk = walks_law s i (calls_of walks.0 given) old one before after (says.Chain head n r) there places limit goes tt walks.1 tt in
+    let walk = walks_law s i (given_so_far walks.0 given) old one before after (says.Chain head n r) there places limit goes tt
+    walks.1 tt in
     let loaded = walk.0 in
     let is = chain_is ds walk.2 head n r walk.3 in
     let came = step.Chain head None in

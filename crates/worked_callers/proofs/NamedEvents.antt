@@ -20,7 +20,7 @@ use Rattle.fs_live.specs.Handles.{live_of}
 use Rattle.fs_live.specs.Live.{LiveState, new_chain}
 use Rattle.worked_callers.specs.ChainCalls.{ArePopLoads}
 use Rattle.worked_callers.specs.Events.{IsPoppedChain, IsServedChain}
-use Rattle.worked_callers.specs.Notified.{IsWalkedBy, calls_of}
+use Rattle.worked_callers.specs.Notified.{IsWalkedBy, given_so_far}
 use Rattle.worked_callers.proofs.ServedBeside.{ServedRun}
 
 -- ---- the pop
@@ -34,7 +34,7 @@ told_so ds told came so is same = is ∙ ap (λ (k : comes.CourseStep). told_of 
 pub popped_by : {F : Type 0} (s : LiveState F) (i : ℕ) (given : List (Bor (List ℕ))) (old one : ChainHandle) (before after : QueueState)
     (head n r : ℕ) (ds : List Descriptor) (loaded : Loaded)
     (walks : IsWalkedBy given old one before after (wents.On (says.Chain head n r)))
-    → LoadsOf (calls_of walks.0 given) old one before after (wents.On (says.Chain head n r)) walks.1 loaded
+    → LoadsOf (given_so_far walks.0 given) old one before after (wents.On (says.Chain head n r)) walks.1 loaded
     → says.Chain head n r ≡ told_of ds (step.Chain head None)
     → IsPoppedChain s i given old before None (new_chain s i (live_of before) loaded ds head None)
 popped_by s i given old one before after head n r ds loaded walks loads told_is = (
@@ -73,7 +73,7 @@ refusal_is ds came error told = absurd (subst IsRefusal told tt)
 pub served_named : {F : Type 0} (may : May F) (s : LiveState F) (i : ℕ) (given : List (Bor (List ℕ))) (old one : ChainHandle)
     (before after : QueueState) (head n r : ℕ) (walks : IsWalkedBy given old one before after (wents.On (says.Chain head n r)))
     (request : List ℕ) (calls : Calls) (notice : Bool)
-    (so : ServedRun may s i old one before after head n r (calls_of walks.0 given, walks.1) request calls notice)
+    (so : ServedRun may s i old one before after head n r (given_so_far walks.0 given, walks.1) request calls notice)
     → IsServedChain s i given old before request calls notice so.es
 served_named may s i given old one before after head n r walks request calls notice so = (
   new_chain s i (live_of before) so.loaded one.descriptors.items head None,

@@ -38,13 +38,13 @@ use Rattle.fs_live.specs.Live.{RepliesOwnBytes}
 use Rattle.fs_live.specs.Live.{PushesChain, EndsPop, after_abandoning, after_giving_up, after_push, after_own, after_pop, calls_among}
 use Rattle.fs_live.specs.Live.{new_chain}
 use Rattle.fs_live.specs.Live.{room_of}
-use Rattle.fs_live.specs.Others.{AreBegunBy, GoesBackOwn, HandleAbandons, HandleGivesUpChain, HandleMovesDevice, HandlePushesOwn}
+use Rattle.fs_live.specs.Others.{AreBegunBy, PushedOwn, HandleAbandons, HandleGivesUpChain, HandleMovesDevice, HandlePushesOwn}
 use Rattle.fs_live.specs.Others.{HandleRepliesOwnBytes, IfOut}
 use Rattle.fs_live.specs.Others.{IsOwn, recorded}
 use Rattle.fs_live.specs.Several.{took}
 use Rattle.fs_live.proofs.Queues.{same_some, there_same}
 use Rattle.worked_callers.specs.Events.{IsAbandonedChain, IsGivenUpChain, IsRepliedChain}
-use Rattle.worked_callers.specs.Notified.{IsWalkedBy, calls_of}
+use Rattle.worked_callers.specs.Notified.{IsWalkedBy, given_so_far}
 use Rattle.worked_callers.proofs.NamedEvents.{popped_by, told_so}
 use Rattle.worked_callers.proofs.ServedBeside.{chain_is, held_later, reached_by, taken_of}
 
@@ -62,7 +62,7 @@ dropped_beside {F} may walks_law drops_law given old one later before after last
     limit =
     let q = live_of before in
     let ds = one.descriptors.items in
-    let called = calls_of walks.0 given in
+    let called = given_so_far walks.0 given in
     let walk = walks_law s i called old one before after (says.Chain head n r) there places limit goes tt walks.1 tt in
     let loaded = walk.0 in
     let is = chain_is ds walk.2 head n r walk.3 in
@@ -100,7 +100,7 @@ pub lost_beside : {F : Type 0} (may : May F) (walks_law : HandleEndsPop may) (ab
 lost_beside {F} may walks_law abandons_law given old one before after head n r goes walks s i there places limit =
     let q = live_of before in
     let ds = one.descriptors.items in
-    let called = calls_of walks.0 given in
+    let called = given_so_far walks.0 given in
     let walk = walks_law s i called old one before after (says.Chain head n r) there places limit goes tt walks.1 tt in
     let loaded = walk.0 in
     let is = chain_is ds walk.2 head n r walk.3 in
@@ -127,7 +127,7 @@ lost_beside {F} may walks_law abandons_law given old one before after head n r g
 -- a chain that its caller replied to goes back by what push told, with his bytes
 pub own_goes_back : (st : state.ChainState) (q : QueueState) (len : ℕ) (s : PushStores) (flags room reply : List ℕ) (last : ℕ) →
     return_error st q len ≡ None → length flags ≡ 2 →
-    IfHasReply st (λ out reply. PushesBy q out reply s) → (acts : List Act) × GoesBackOwn q room reply st acts last (tells_of q flags)
+    IfHasReply st (λ out reply. PushesBy q out reply s) → (acts : List Act) × PushedOwn q room reply st acts last (tells_of q flags)
 own_goes_back (at.HasReply out r) q len s flags room reply last can two back = (
   return_acts (reply_stores room reply last ++ stores_of s.used) flags,
   record { stores = s; flags = flags; flags_len = two; returns = (back, refl); notified = refl },
@@ -164,7 +164,7 @@ pub replied_beside : {F : Type 0} (may : May F) (walks_law : HandleEndsPop may) 
     → IsWalkedBy given old one before after (wents.On (says.Chain head n r))
     → FromTaken one.state (λ out. out.request_len ≡ length request) → own_error one.state one.serial serial (length reply) ≡ None
     → IfUnanswered one.state (λ out. two ≡ record one { state = at.HasReply out (own_reply (length reply)) })
-    → ((room bytes : List ℕ) (last : ℕ) → (acts : List Act) × GoesBackOwn after room bytes two.state acts last notice) → final ≡ gave after
+    → ((room bytes : List ℕ) (last : ℕ) → (acts : List Act) × PushedOwn after room bytes two.state acts last notice) → final ≡ gave after
     → (s : LiveState F) (i : ℕ)
     → IsReached may s → slice_get s.queues i ≡ Some (live_of before) → s.places ≡ places_in old.regions → s.limit ≡ old.limit
     → s.limit ≤ 2 ^ 31
@@ -175,7 +175,7 @@ replied_beside {F} may walks_law replies_law returns_law given old one two befor
     walks len clear is_kept back final_is s i reached there places limit small =
     let q = live_of before in
     let ds = one.descriptors.items in
-    let called = calls_of walks.0 given in
+    let called = given_so_far walks.0 given in
     let walk = walks_law s i called old one before after (says.Chain head n r) there places limit goes tt walks.1 tt in
     let loaded = walk.0 in
     let is = chain_is ds walk.2 head n r walk.3 in

@@ -44,20 +44,20 @@ use Rattle.plain_machine.specs.Step.{Calls, Exchange}
 use Rattle.plain_machine.specs.StepBy.{Act}
 use Rattle.fs_live.specs.Guest.{DeviceEvent, PagesOfRun, Writes}
 use Rattle.fs_live.specs.Handles.{HandleDecodesRequest, HandleEndsPop, IsHeld, IsOut, IsReached, IsSessionOf, live_of}
-use Rattle.fs_live.specs.Live.{DecodesRequest, GoesBackWith, Happens, LiveEvent, LiveRun, LiveState, OutChain, Own, Phase, ReceivesAnswer}
+use Rattle.fs_live.specs.Live.{DecodesRequest, PushedWith, Happens, LiveEvent, LiveRun, LiveState, OutChain, Own, Phase, ReceivesAnswer}
 use Rattle.fs_live.specs.Live.{PushesChain, RepliesOwnBytes}
 use Rattle.fs_live.specs.Live.{EndsPop, after_answer, after_decoding, after_push, after_own, after_pop, asked_chain, calls_among, new_chain}
 use Rattle.fs_live.specs.Live.{room_of}
-use Rattle.fs_live.specs.Others.{AskedIsHeld, GoesBackOwn, HandlePushesOwn, HandleRepliesInstead, HandleRepliesOwnBytes, IfOut, IsHeldAsked}
+use Rattle.fs_live.specs.Others.{AskedIsHeld, PushedOwn, HandlePushesOwn, HandleRepliesInstead, HandleRepliesOwnBytes, IfOut, IsHeldAsked}
 use Rattle.fs_live.specs.Others.{IsOwn}
-use Rattle.fs_live.specs.Runs.{IsAskedIn, IsBefore, OwnIsReturned, ReturnsTell, RunsOnQueue, events_on, going, tickets_on, told_by}
+use Rattle.fs_live.specs.Runs.{IsAskedIn, IsBefore, OwnIsReturned, ReturnsTell, RunsOnQueue, events_on, going, tickets_on, reported_by}
 use Rattle.fs_live.specs.Several.{InFlightId, IsSerial, LiveQueue, OncePerChain, OneAtATime, QueueEvent, RunsOver, UsedInOrder}
 use Rattle.fs_live.specs.Several.{heads_taken, returning, took}
 use Rattle.fs_live.specs.Several as several
 use Rattle.fs_live.proofs.Moved.{joined}
 use Rattle.fs_live.proofs.Queues.{same_some, there_same}
 use Rattle.worked_callers.specs.Events.{IsRepliedChain, IsRepliedInstead}
-use Rattle.worked_callers.specs.Notified.{IsWalkedBy, calls_of}
+use Rattle.worked_callers.specs.Notified.{IsWalkedBy, given_so_far}
 use Rattle.worked_callers.specs.OwnReplies.{EndsAlone, IsAt, LogsOwn, ReturnsOwn, ReturnsAsStep}
 use Rattle.worked_callers.proofs.NamedEvents.{popped_by, told_so}
 use Rattle.worked_callers.proofs.OthersBeside.{changed_twice, own_kept}
@@ -105,7 +105,7 @@ module _ {F : Type 0} (may : May F) (returns_law : HandlePushesOwn may) (before 
       → s₁.limit ≡ s.limit → s₁.page_size ≡ s.page_size
       → Happens may s₁ (RepliesOwnBytes c request reply options) (after_own s₁ s.outs [] c request reply options)
       → IsOwn (record c { phase = Own request reply }) reply st
-      → ((room bytes : List ℕ) (last : ℕ) → (acts : List Act) × GoesBackOwn after room bytes st acts last notice)
+      → ((room bytes : List ℕ) (last : ℕ) → (acts : List Act) × PushedOwn after room bytes st acts last notice)
       → ReturnsOwn may s c.queue before (gave after) request reply calls notice
   replied_from s s₁ c st earlier calls options run calls_are outs there there₁ queues taken places limit page_size replies own back =
       let q = live_of before in
@@ -170,10 +170,10 @@ module _ {F : Type 0} (may : May F) (s : LiveState F) (i : ℕ) (before after : 
   -- the bytes of the return are those of the reply
   pub reply_is : r.exchange.reply ≡ reply
   reply_is = ap (λ (x : Exchange). x.reply)
-      (subst (λ (p : Phase). GoesBackWith r.now.page_size r.chain p r.exchange) r.phase_is r.returns.goes)
+      (subst (λ (p : Phase). PushedWith r.now.page_size r.chain p r.exchange) r.phase_is r.returns.goes)
 
   pub reports : ReturnsTell may → (w : LiveQueue) × (slice_get r.now.queues r.chain.queue ≡ Some w)
-      × (told_by r.now (PushesChain r.chain r.exchange notice 0 r.used r.seen)
+      × (reported_by r.now (PushesChain r.chain r.exchange notice 0 r.used r.seen)
       ≡ returned_addresses (returning w) r.chain.head (room_of r.chain) reply)
   reports law =
       let told = law r.now r.end r.chain r.exchange notice 0 r.used r.seen r.returns in
@@ -195,13 +195,13 @@ module _ {F : Type 0} (may : May F) (walks_law : HandleEndsPop may) (replies_law
     (len : FromTaken one.state (λ out. out.request_len ≡ length request))
     (clear : own_error one.state one.serial serial (length reply) ≡ None)
     (kept : IfUnanswered one.state (λ out. two ≡ record one { state = at.HasReply out (own_reply (length reply)) }))
-    (back : (room bytes : List ℕ) (last : ℕ) → (acts : List Act) × GoesBackOwn after room bytes two.state acts last notice) where
+    (back : (room bytes : List ℕ) (last : ℕ) → (acts : List Act) × PushedOwn after room bytes two.state acts last notice) where
   abbrev pub replied_fetched : (s : LiveState F) (i : ℕ) → IsAt may s i old before
       → ReturnsOwn may s i before (gave after) request reply [] notice
   replied_fetched s i here =
       let q = live_of before in
       let ds = one.descriptors.items in
-      let pop = popped may walks_law old one before after head n r goes (calls_of walks.0 given, walks.1) s i here in
+      let pop = popped may walks_law old one before after head n r goes (given_so_far walks.0 given, walks.1) s i here in
       let c : OutChain = new_chain s i q pop.loaded ds head None in
       let s₁ : LiveState F = after_pop s i q pop.loaded ds (step.Chain head None) in
       let walked : LiveEvent = EndsPop i pop.loaded ds (step.Chain head None) in
@@ -217,7 +217,7 @@ module _ {F : Type 0} (may : May F) (walks_law : HandleEndsPop may) (replies_law
       (replied_fetched s i here).used (replied_fetched s i here).seen ∷ [])
   fetched_named s i here =
       let ds = one.descriptors.items in
-      let pop = popped may walks_law old one before after head n r goes (calls_of walks.0 given, walks.1) s i here in
+      let pop = popped may walks_law old one before after head n r goes (given_so_far walks.0 given, walks.1) s i here in
       let whole = replied_fetched s i here in (
         new_chain s i (live_of before) pop.loaded ds head None,
         s.options,
@@ -233,7 +233,7 @@ module _ {F : Type 0} (may : May F) (walks_law : HandleEndsPop may) (replies_law
   logged law s i here =
       let q = live_of before in
       let ds = one.descriptors.items in
-      let pop = popped may walks_law old one before after head n r goes (calls_of walks.0 given, walks.1) s i here in
+      let pop = popped may walks_law old one before after head n r goes (given_so_far walks.0 given, walks.1) s i here in
       let c : OutChain = new_chain s i q pop.loaded ds head None in
       let s₁ : LiveState F = after_pop s i q pop.loaded ds (step.Chain head None) in
       let walked : LiveEvent = EndsPop i pop.loaded ds (step.Chain head None) in
@@ -267,7 +267,7 @@ module _ {F : Type 0} (may : May F) (walks_law : HandleEndsPop may) (replies_law
   ended_alone runs once used one_at none_out s i here none =
       let q = live_of before in
       let ds = one.descriptors.items in
-      let pop = popped may walks_law old one before after head n r goes (calls_of walks.0 given, walks.1) s i here in
+      let pop = popped may walks_law old one before after head n r goes (given_so_far walks.0 given, walks.1) s i here in
       let c : OutChain = new_chain s i q pop.loaded ds head None in
       let s₁ : LiveState F = after_pop s i q pop.loaded ds (step.Chain head None) in
       let walked : LiveEvent = EndsPop i pop.loaded ds (step.Chain head None) in
@@ -332,7 +332,7 @@ module _ {F : Type 0} (may : May F) (walks_law : HandleEndsPop may) (asks_law : 
     (keeps : (out : InFlight) → IfOut two.state (λ o. o ≡ out) → IfOut three.state (λ o. o ≡ out))
     (clear : own_error three.state three.serial serial (length reply) ≡ None)
     (kept : IfUnanswered three.state (λ out. four ≡ record three { state = at.HasReply out (own_reply (length reply)) }))
-    (back : (room bytes : List ℕ) (last : ℕ) → (acts : List Act) × GoesBackOwn after room bytes four.state acts last notice) where
+    (back : (room bytes : List ℕ) (last : ℕ) → (acts : List Act) × PushedOwn after room bytes four.state acts last notice) where
   abbrev call : FileCall
   call = call_of (drop 80 request) made
 
@@ -343,7 +343,7 @@ module _ {F : Type 0} (may : May F) (walks_law : HandleEndsPop may) (asks_law : 
   replied_asked s i here in_session =
       let q = live_of before in
       let ds = one.descriptors.items in
-      let pop = popped may walks_law old one before after head n r goes (calls_of walks.0 given, walks.1) s i here in
+      let pop = popped may walks_law old one before after head n r goes (given_so_far walks.0 given, walks.1) s i here in
       let c : OutChain = new_chain s i q pop.loaded ds head None in
       let s₁ : LiveState F = after_pop s i q pop.loaded ds (step.Chain head None) in
       let walked : LiveEvent = EndsPop i pop.loaded ds (step.Chain head None) in
@@ -385,7 +385,7 @@ module _ {F : Type 0} (may : May F) (walks_law : HandleEndsPop may) (asks_law : 
   replied_answered s i here in_session answer files fits so =
       let q = live_of before in
       let ds = one.descriptors.items in
-      let pop = popped may walks_law old one before after head n r goes (calls_of walks.0 given, walks.1) s i here in
+      let pop = popped may walks_law old one before after head n r goes (given_so_far walks.0 given, walks.1) s i here in
       let c : OutChain = new_chain s i q pop.loaded ds head None in
       let s₁ : LiveState F = after_pop s i q pop.loaded ds (step.Chain head None) in
       let walked : LiveEvent = EndsPop i pop.loaded ds (step.Chain head None) in
@@ -406,7 +406,7 @@ module _ {F : Type 0} (may : May F) (walks_law : HandleEndsPop may) (asks_law : 
         options = s.options;
         calls = [];
         asked = refl;
-        waits = sym asking.0.tells;
+        pending = sym asking.0.tells;
         is_one = fits;
         files = files;
         may_so = so;

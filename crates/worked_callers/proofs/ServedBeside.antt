@@ -19,7 +19,7 @@ use Rattle.server_phases.specs.declared.session.Session.{Session}
 use Rattle.fs_chain.specs.Events.{notification_store, store_of}
 use Rattle.fs_chain.specs.Queues.{gave}
 use Rattle.fs_chain.specs.Walks.{course_of, told_of}
-use Rattle.fs_chain.specs.Whole.{ChainAnswer, GoesBackBy, HasReply, IsDecodedBy, IsWalked, LoadsOf, data_behind, file_calls}
+use Rattle.fs_chain.specs.Whole.{ChainAnswer, GoesBackBy, IsRepliedBy, IsDecodedBy, IsWalked, LoadsOf, data_behind, file_calls}
 use Rattle.fs_chain.specs.declared.decoding.Decoded as told
 use Rattle.fs_chain.specs.declared.decoding.Decoded.TheVariants as asks
 use Rattle.fs_chain.specs.declared.event_index.NotificationStore.{NotificationStore}
@@ -33,7 +33,7 @@ use Rattle.plain_machine.specs.StepBy.{Act}
 use Rattle.fs_live.specs.Handles.{HandleCalls, HandleDecodesRequest, HandleFaulty, HandlePushesChain, HandleStoresNotification}
 use Rattle.fs_live.specs.Handles.{HandleEndsPop}
 use Rattle.fs_live.specs.Handles.{IsFaultyOut, IsHeld}
-use Rattle.fs_live.specs.Handles.{IsKept, IsOut, IsReached, IsSessionOf, IsDecodedWhole, calls_told, live_of}
+use Rattle.fs_live.specs.Handles.{IsKept, IsOut, IsReached, IsSessionOf, IsDecodedWhole, calls_decoded, live_of}
 use Rattle.fs_live.specs.Live.{
   ReceivesAnswer,
   DecodesRequest,
@@ -43,7 +43,7 @@ use Rattle.fs_live.specs.Live.{
   GivesUpChain,
   FillsBuffer,
   Happens,
-  HasPlace,
+  StoreIsMapped,
   LiveEvent,
   LiveRun,
   LiveState,
@@ -64,13 +64,13 @@ use Rattle.fs_live.specs.Live.{
   new_chain,
   room_of,
 }
-use Rattle.fs_live.specs.Runs.{EachStoresThere, NotAnew, StoresStayThere}
+use Rattle.fs_live.specs.Runs.{EachStoresThere, NoReset, StoresStayThere}
 use Rattle.fs_live.specs.Serial.{IsOfChain, Single, events_in}
 use Rattle.fs_live.specs.Several.{LiveQueue, took}
 use Rattle.fs_live.proofs.Alone.{all_both}
 use Rattle.fs_live.proofs.Queues.{same_some, there_same}
 use Rattle.worked_callers.specs.Events.{IsFaultyChain, answer_events}
-use Rattle.worked_callers.specs.Notified.{IsWalkedBy, calls_of}
+use Rattle.worked_callers.specs.Notified.{IsWalkedBy, given_so_far}
 
 -- ---- runs
 
@@ -124,7 +124,7 @@ each_suits may files files' [] run = tt
 each_suits may files files' (step ∷ calls) run = (run.1, each_suits may run.0 files' calls run.3)
 
 -- what was asked is told, where there is a reply to it
-pub told_with_reply : (made : told.Decoded) (w w' : ChainHandle) (given : ChainAnswer) → HasReply made w given w' → IsDecodedWhole made
+pub told_with_reply : (made : told.Decoded) (w w' : ChainHandle) (given : ChainAnswer) → IsRepliedBy made w given w' → IsDecodedWhole made
 told_with_reply (asks.Call made) w w' given has = tt
 told_with_reply (asks.More n) w w' given has = absurd has
 told_with_reply asks.Nothing w w' given has = tt
@@ -154,13 +154,13 @@ pub record AllAnswered {F : Type 0} (may : May F) (s : LiveState F) (before behi
   pub queues_are : end.queues ≡ s.queues
   pub page_size : end.page_size ≡ s.page_size
   pub calls : calls_among es ≡ later
-  pub anew : (i : ℕ) → AllByRecursion (NotAnew i) es
+  pub anew : (i : ℕ) → AllByRecursion (NoReset i) es
   pub of_chain : AllByRecursion IsOfChain es
   pub files_are : end.files ≡ files
   pub es_are : es ≡ answer_events popped request options earlier later
 
 module _ {F : Type 0} (may : May F) (law : HandleCalls may) (w w' : ChainHandle) (request : List ℕ) (options : ℕ) (made : told.Decoded)
-    (given : ChainAnswer) (has : HasReply made w given w') where
+    (given : ChainAnswer) (has : IsRepliedBy made w given w') where
   abbrev pub all : Calls
   all = file_calls (drop 80 request) made given
 
@@ -228,7 +228,7 @@ pub record ServedRun {F : Type 0} (may : May F) (s : LiveState F) (i : ℕ) (old
   pub calls_are : calls_among es ≡ calls
   pub outs : end.outs ≡ s.outs
   pub there : slice_get end.queues i ≡ Some (live_of (gave after))
-  pub anew : AllByRecursion (NotAnew i) es
+  pub anew : AllByRecursion (NoReset i) es
   pub single : Single
   pub queue_is : single.queue ≡ i
   pub of_chain : AllByRecursion IsOfChain single.between
@@ -256,7 +256,7 @@ module _ {F : Type 0} (may : May F) (walks_law : HandleEndsPop may) (asks_law : 
     (notice : Bool) (goes : before.stopped ≡ None)
     (walks : IsWalked old one before after (wents.On (says.Chain head n r))) (same : later.state ≡ one.state)
     (asked : IsDecodedBy later session request request made two)
-    (has : HasReply made two given three) (back : (room behind : List ℕ)
+    (has : IsRepliedBy made two given three) (back : (room behind : List ℕ)
     → (acts : List Act) × (last : ℕ) × GoesBackBy after room behind three.state acts last notice) where
   pub served_beside : (s : LiveState F) (i : ℕ) (files : F) → IsReached may s → slice_get s.queues i ≡ Some (live_of before)
       → s.places ≡ places_in old.regions → s.limit ≡ old.limit
@@ -297,21 +297,21 @@ module _ {F : Type 0} (may : May F) (walks_law : HandleEndsPop may) (asks_law : 
       let last = PushesChain d next_used.0 notice goes_back.1 next_used.1 next_used.2 in
       let s₄ : LiveState F = after_push ans.end s.outs [] d (live_of after) in
       record {
-        es = EndsPop i loaded ds (step.Chain head None) ∷ DecodesRequest c request (calls_told (drop 80 request) made)
+        es = EndsPop i loaded ds (step.Chain head None) ∷ DecodesRequest c request (calls_decoded (drop 80 request) made)
             ∷ (ans.es ++ last ∷ []);
         end = s₄;
         run = (s₁, first, (s₂, asking.0, run_more may s₂ ans.end s₄ ans.es last ans.run next_used.4));
         calls_are = calls_of_both ans.es (last ∷ []) ∙ append-nil (calls_among ans.es) ∙ ans.calls;
         outs = append-nil s.outs;
         there = next_used.5;
-        anew = (tt, (tt, all_both (NotAnew i) ans.es (last ∷ []) (ans.anew i) (tt, tt)));
+        anew = (tt, (tt, all_both (NoReset i) ans.es (last ∷ []) (ans.anew i) (tt, tt)));
         single = record {
           queue = i;
           loaded = loaded;
           descriptors = ds;
           head = head;
           fault = None;
-          between = DecodesRequest c request (calls_told (drop 80 request) made) ∷ ans.es;
+          between = DecodesRequest c request (calls_decoded (drop 80 request) made) ∷ ans.es;
           chain = d;
           exchange = next_used.0;
           notice = notice;
@@ -327,14 +327,14 @@ module _ {F : Type 0} (may : May F) (walks_law : HandleEndsPop may) (asks_law : 
         loaded = loaded;
         loads = walk.1;
         told_is = walk.3 ∙ ap (λ (k : comes.CourseStep). told_of ds k) is;
-        told_calls = calls_told (drop 80 request) made;
+        told_calls = calls_decoded (drop 80 request) made;
         exchange = next_used.0;
         stored_last = goes_back.1;
         used = next_used.1;
         seen = next_used.2;
         es_are = ap
             (λ (es : List LiveEvent). EndsPop i loaded ds (step.Chain head None)
-            ∷ DecodesRequest c request (calls_told (drop 80 request) made) ∷ (es ++ last ∷ [])) ans.es_are;
+            ∷ DecodesRequest c request (calls_decoded (drop 80 request) made) ∷ (es ++ last ∷ [])) ans.es_are;
       }
 
 -- ---- one event
@@ -348,7 +348,7 @@ options_after changes now now' asked asked' left is stays = (λ no. ((stays.0 no
 -- what is stored before a sleep
 pub sleep_is : {F : Type 0} (may : May F) (q : QueueState) (wanted : Bool) (told : Option NotificationStore) → HandleStoresNotification may
     → StoresStayThere may → option_map store_of told ≡ notification_store q wanted
-    → IfSome told (λ store. (s : LiveState F) (i : ℕ) → slice_get s.queues i ≡ Some (live_of q) → HasPlace s.places store.address
+    → IfSome told (λ store. (s : LiveState F) (i : ℕ) → slice_get s.queues i ≡ Some (live_of q) → StoreIsMapped s.places store.address
     → (run : LiveRun may s (StoresNotification i (store_of store) ∷ []) s)
     × EachStoresThere may s (StoresNotification i (store_of store) ∷ []) s run)
 sleep_is may q wanted None law stores is = tt
@@ -371,7 +371,7 @@ faulty_beside {F} may walks_law faulty_law given old one later before after fina
     places limit =
     let q = live_of before in
     let ds = one.descriptors.items in
-    let called = calls_of walks.0 given in
+    let called = given_so_far walks.0 given in
     let walk = walks_law s i called old one before after (says.Faulty head fault) there places limit goes tt walks.1 tt in
     let loaded = walk.0 in
     let is = faulty_is ds walk.2 head fault walk.3 in

@@ -12,7 +12,7 @@ use Rattle.virtiofsd_fuse.specs.Serving.{May}
 use Rattle.server_phases.specs.declared.session.Session.{Session}
 use Rattle.fs_chain.specs.Queues.{gave}
 use Rattle.fs_chain.specs.Walks.{course_of}
-use Rattle.fs_chain.specs.Whole.{ChainAnswer, GoesBackBy, HasReply, IsDecodedBy, data_behind, file_calls}
+use Rattle.fs_chain.specs.Whole.{ChainAnswer, GoesBackBy, IsRepliedBy, IsDecodedBy, data_behind, file_calls}
 use Rattle.fs_chain.specs.declared.decoding.Decoded as told
 use Rattle.fs_chain.specs.declared.loads.LoadOutcome.TheVariants as wents
 use Rattle.fs_chain.specs.declared.queue.QueueState.{QueueState}
@@ -22,14 +22,14 @@ use Rattle.plain_machine.specs.Step.{Calls}
 use Rattle.plain_machine.specs.StepBy.{Act}
 use Rattle.fs_live.specs.Handles.{HandleCalls, HandleDecodesRequest, HandlePushesChain, HandleEndsPop, IsHeld, IsKept, IsOut, IsReached}
 use Rattle.fs_live.specs.Handles.{IsSessionOf}
-use Rattle.fs_live.specs.Handles.{calls_told, live_of}
+use Rattle.fs_live.specs.Handles.{calls_decoded, live_of}
 use Rattle.fs_live.specs.Live.{DecodesRequest, Happens, LiveEvent, LiveRun, LiveState, OutChain, PushesChain, EndsPop, after_decoding}
 use Rattle.fs_live.specs.Live.{after_push}
 use Rattle.fs_live.specs.Live.{after_pop, asked_chain, calls_among, new_chain, room_of}
 use Rattle.fs_live.specs.Several.{LiveQueue, took}
 use Rattle.fs_live.proofs.Queues.{same_some, there_same}
 use Rattle.worked_callers.specs.Events.{AreCrossedChains, answer_events}
-use Rattle.worked_callers.specs.Notified.{IsWalkedBy, calls_of}
+use Rattle.worked_callers.specs.Notified.{IsWalkedBy, given_so_far}
 use Rattle.worked_callers.proofs.NamedEvents.{popped_by, told_so}
 use Rattle.worked_callers.proofs.TakenTwo.{goes_still}
 use Rattle.worked_callers.proofs.ServedBeside.{answered_all, calls_of_both, chain_is, each_suits, kept_on, reached_by, taken_of}
@@ -53,7 +53,7 @@ module _ {F : Type 0} (may : May F) (walks_law : HandleEndsPop may) (asks_law : 
     (goes : before.stopped ≡ None) (walks : IsWalkedBy bytes old one before mid (wents.On (says.Chain head n r)))
     (walks' : IsWalkedBy bytes' old' two mid after (wents.On (says.Chain head' n' r')))
     (asked : IsDecodedBy one session request request made one₂) (asked' : IsDecodedBy two session' request' request' made' two₂)
-    (has : HasReply made one₂ given one₃) (has' : HasReply made' two₂ given' two₃)
+    (has : IsRepliedBy made one₂ given one₃) (has' : IsRepliedBy made' two₂ given' two₃)
     (back : (room behind : List ℕ) → (acts : List Act) × (last : ℕ) × GoesBackBy (gave after) room behind one₃.state acts last notice)
     (back' : (room behind : List ℕ) → (acts : List Act) × (last : ℕ) × GoesBackBy after room behind two₃.state acts last notice') where
   abbrev late : Calls
@@ -76,7 +76,8 @@ module _ {F : Type 0} (may : May F) (walks_law : HandleEndsPop may) (asks_law : 
       let q' = live_of mid in
       let ds = one.descriptors.items in
       let ds' = two.descriptors.items in
-      let walk = walks_law s i (calls_of walks.0 bytes) old one before mid (says.Chain head n r) there places limit goes tt walks.1 tt in
+      let walk = walks_law s i (given_so_far walks.0 bytes) old one before mid (says.Chain head n r) there places limit goes tt
+      walks.1 tt in
       let is = chain_is ds walk.2 head n r walk.3 in
       let came = step.Chain head None in
       let c : OutChain = new_chain s i q walk.0 ds head None in
@@ -86,8 +87,8 @@ module _ {F : Type 0} (may : May F) (walks_law : HandleEndsPop may) (asks_law : 
       let there₁ : slice_get s₁.queues i ≡ Some q' =
       subst (λ (k : comes.CourseStep). slice_get (after_pop s i q walk.0 ds k).queues i ≡ Some q') is walk.5 in
       let held : IsOut s.limit c one = subst (λ (k : comes.CourseStep). IsHeld s i q walk.0 k one) is walk.6 in
-      let goes' : mid.stopped ≡ None = goes_still old one before mid head n r goes (calls_of walks.0 bytes, walks.1) in
-      let walk' = walks_law s₁ i (calls_of walks'.0 bytes') old' two mid after (says.Chain head' n' r')
+      let goes' : mid.stopped ≡ None = goes_still old one before mid head n r goes (given_so_far walks.0 bytes, walks.1) in
+      let walk' = walks_law s₁ i (given_so_far walks'.0 bytes') old' two mid after (says.Chain head' n' r')
       there₁ places' limit' goes' tt walks'.1 tt in
       let is' = chain_is ds' walk'.2 head' n' r' walk'.3 in
       let came' = step.Chain head' None in
@@ -103,14 +104,14 @@ module _ {F : Type 0} (may : May F) (walks_law : HandleEndsPop may) (asks_law : 
       let asking = asks_law s₂ c s.outs (c' ∷ []) one one₂ session request request made reached₂ small
       (append_assoc s.outs (c ∷ []) (c' ∷ [])) refl held in_session asked
       (told_with_reply made one₂ one₃ given has) in
-      let asks = DecodesRequest c request (calls_told (drop 80 request) made) in
+      let asks = DecodesRequest c request (calls_decoded (drop 80 request) made) in
       let s₃ : LiveState F = after_decoding s₂ s.outs (c' ∷ []) c request in
       let d : OutChain = asked_chain c request s.options [] in
       let others : List OutChain = s.outs ++ d ∷ [] in
       let asking' = asks_law s₃ c' others [] two two₂ session' request' request' made' (reached_by may s₂ s₃ asks reached₂ asking.0) small
       (sym (append_assoc s.outs (d ∷ []) (c' ∷ []))) refl held'
       in_session' asked' (told_with_reply made' two₂ two₃ given' has') in
-      let asks' = DecodesRequest c' request' (calls_told (drop 80 request') made') in
+      let asks' = DecodesRequest c' request' (calls_decoded (drop 80 request') made') in
       let s₄ : LiveState F = after_decoding s₃ others [] c' request' in
       let kept : IsKept s.page_size s.options request d made one₂ = asking.1 in
       let kept' : IsKept s.page_size s.options request' (asked_chain c' request' s.options []) made' two₂ = asking'.1 in
@@ -169,13 +170,13 @@ module _ {F : Type 0} (may : May F) (walks_law : HandleEndsPop may) (asks_law : 
         ),
         (
           c,
-          calls_told (drop 80 request) made,
+          calls_decoded (drop 80 request) made,
           next_used.0,
           goes_back.1,
           next_used.1,
           next_used.2,
           c',
-          calls_told (drop 80 request') made',
+          calls_decoded (drop 80 request') made',
           returned'.0,
           goes_back'.1,
           returned'.1,

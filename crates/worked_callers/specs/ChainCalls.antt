@@ -10,7 +10,8 @@ use Rattle.server_phases.specs.declared.session.Session.{Session}
 use Rattle.server_phases.specs.Gathering.{Brought}
 use Rattle.plain_machine.specs.Step.{Calls, EachSuits}
 use Rattle.fs_regions.specs.Walks.{Loaded}
-use Rattle.fs_chain.specs.Whole.{ByEntries, ChainAnswer, HasReply, IsDecodedBy, LoadsOf, NoAnswer, OneAnswer}
+use Rattle.fs_chain.specs.Whole.{ByEntries, ChainAnswer, IsRepliedBy, IsDecodedBy, LoadsOf, NoAnswer}
+use Rattle.fs_chain.specs.Whole.{OneAnswer}
 use Rattle.fs_chain.specs.Whole.{WalksBy, file_calls}
 use Rattle.fs_chain.specs.declared.answering.Replied.{Replied}
 use Rattle.fs_chain.specs.declared.chain_handle.ChainHandle.{ChainHandle}
@@ -19,7 +20,7 @@ use Rattle.fs_chain.specs.declared.loads.LoadOutcome as went
 use Rattle.fs_chain.specs.declared.loads.LoadOutcome.TheVariants as wents
 use Rattle.fs_chain.specs.declared.popping.PopOutcome.TheVariants as says
 use Rattle.fs_chain.specs.declared.queue.QueueState.{QueueState}
-use Rattle.worked_callers.specs.Notified.{IsWalkedBy, calls_of}
+use Rattle.worked_callers.specs.Notified.{IsWalkedBy, given_so_far}
 
 -- a pop that is given the first of these bytes ends with a chain, whose request is decoded with this result
 pub record DecodesPopped (bytes : List (Bor (List ℕ))) (old : ChainHandle) (before : QueueState)
@@ -38,7 +39,7 @@ pub record AreCallsBy (bytes : List (Bor (List ℕ))) (old : ChainHandle) (befor
   pub asked : ChainHandle
   pub decoded : DecodesPopped bytes old before session request made asked
   pub replied : ChainHandle
-  pub replies : HasReply made asked given replied
+  pub replies : IsRepliedBy made asked given replied
   pub calls_are : calls ≡ file_calls (drop 80 request) made given
   pub suit : EachSuits calls
 
@@ -69,5 +70,5 @@ abbrev pub ArePopLoads :
     List (Bor (List ℕ)) → (old : ChainHandle) → (before : QueueState) → went.LoadOutcome → Loaded → Type 0
 ArePopLoads given old before told loaded =
     (n : ℕ) × (new : ChainHandle) × (after : QueueState)
-    × (walks : WalksBy (calls_of n given) old new before after told)
-    × LoadsOf (calls_of n given) old new before after told walks loaded
+    × (walks : WalksBy (given_so_far n given) old new before after told)
+    × LoadsOf (given_so_far n given) old new before after told walks loaded

@@ -28,7 +28,7 @@ use Rattle.worked_callers.specs.ChainCalls.{ArePopLoads}
 abbrev pub pop_event : OutChain → Option ChainFault → LiveEvent
 pop_event c fault = EndsPop c.queue c.loaded c.descriptors (step.Chain c.head fault)
 
--- a pop of queue i by the first of these bytes leads to this chain in this state, with this fault or none
+-- in state s a pop of queue i returns this chain, by the first of these bytes, with this fault or none
 abbrev pub IsPoppedChain : {F : Type 0} → LiveState F → (i : ℕ) → (given : List (Bor (List ℕ))) →
     (old : ChainHandle) → (before : QueueState) → Option ChainFault → OutChain → Type 0
 IsPoppedChain s i given old before fault c =
@@ -103,9 +103,9 @@ IsAbandonedChain s i given old before es =
     × (es ≡ pop_event c None ∷ Abandons c ∷ [])
 
 -- a chain of queue i is popped and decoded from this request. Its handle is freed after these calls
-abbrev pub IsLostChain : {F : Type 0} → LiveState F → (i : ℕ) → (given : List (Bor (List ℕ))) →
+abbrev pub IsAbandonedAsked : {F : Type 0} → LiveState F → (i : ℕ) → (given : List (Bor (List ℕ))) →
     (old : ChainHandle) → (before : QueueState) → (request : List ℕ) → Calls → List LiveEvent → Type 0
-IsLostChain s i given old before request calls es =
+IsAbandonedAsked s i given old before request calls es =
     (c : OutChain) × (told : List FileCall)
     × IsPoppedChain s i given old before None c
     × (es
@@ -142,10 +142,10 @@ IsRepliedInstead s i given old before request reply calls notice es =
 
 -- ---- a pop that leads to no chain
 
--- the one event of a pop of queue i by the first of these bytes, which is refused with this error
-abbrev pub IsRefusedPop : (i : ℕ) → (given : List (Bor (List ℕ))) → (old : ChainHandle) →
+-- the one event of a pop of queue i that its loads refuse with this error, by the first of these bytes
+abbrev pub IsPopRefusedByLoads : (i : ℕ) → (given : List (Bor (List ℕ))) → (old : ChainHandle) →
     (before : QueueState) → QueueError → List LiveEvent → Type 0
-IsRefusedPop i given old before e es =
+IsPopRefusedByLoads i given old before e es =
     (loaded : Loaded) × (ds : List Descriptor)
     × ArePopLoads given old before (wents.On (says.Refused e)) loaded
     × (es ≡ EndsPop i loaded ds (step.Refused e) ∷ [])

@@ -26,14 +26,14 @@ IsStoredWish q s (Some store) =
     × IsOf q wished
 
 -- the bytes of a pop's first `n` loads, as its calls are listed: the last load's first
-abbrev pub calls_of : ℕ → List (Bor (List ℕ)) → List (List ℕ)
-calls_of n bytes = reverse (take n (map (λ b. b.now) bytes))
+abbrev pub given_so_far : ℕ → List (Bor (List ℕ)) → List (List ℕ)
+given_so_far n bytes = reverse (take n (map (λ b. b.now) bytes))
 
 -- a pop that was given the first of these bytes has this result
 abbrev pub IsWalkedBy : List (Bor (List ℕ)) → (old new : ChainHandle) → (before after : QueueState) →
     went.LoadOutcome → Type 0
 IsWalkedBy bytes old new before after told =
-    (n : ℕ) × WalksBy (calls_of n bytes) old new before after told
+    (n : ℕ) × WalksBy (given_so_far n bytes) old new before after told
 
 -- calls with these bytes are a pop with this result, and P holds for the index among the bytes
 abbrev pub PopsWithIndex : (given : List (List ℕ)) → (old new : ChainHandle) → (before after : QueueState) →
@@ -50,7 +50,7 @@ PopsWithIndex given old new before after told P =
 abbrev pub IsWalkedAmid : List (Bor (List ℕ)) → (old new : ChainHandle) → (before after : QueueState) →
     went.LoadOutcome → Type 0
 IsWalkedAmid bytes old new before after told =
-    (n : ℕ) × WalksAmid (calls_of n bytes) old new before after told
+    (n : ℕ) × WalksAmid (given_so_far n bytes) old new before after told
 
 -- such a pop has a result whose loaded index satisfies P
 abbrev pub PopsAmid : (given : List (List ℕ)) → (old new : ChainHandle) → (before after : QueueState) →

@@ -11,22 +11,22 @@ use Rattle.fs_chain.specs.Whole.{LoadsOf, WalksBy}
 use Rattle.fs_chain.specs.declared.chain_handle.ChainHandle.{ChainHandle}
 use Rattle.fs_chain.specs.declared.loads.LoadOutcome as went
 use Rattle.fs_chain.specs.declared.queue.QueueState.{QueueState}
-use Rattle.worked_callers.specs.Notified.{calls_of}
+use Rattle.worked_callers.specs.Notified.{given_so_far}
 
 -- the memory has each load of any pop by the first of these bytes, and the request's bytes
 abbrev pub HasEachLoad :
     Memory → (old : ChainHandle) → (before : QueueState) → List (Bor (List ℕ)) → (request : List ℕ) → Type 0
 HasEachLoad m old before given request =
     (n : ℕ) (new : ChainHandle) (after : QueueState) (told : went.LoadOutcome) (loaded : Loaded)
-    → (walks : WalksBy (calls_of n given) old new before after told)
-    → LoadsOf (calls_of n given) old new before after told walks loaded
+    → (walks : WalksBy (given_so_far n given) old new before after told)
+    → LoadsOf (given_so_far n given) old new before after told walks loaded
     → HasLoaded m (queue_of (course_of before old.limit)) loaded request
 
 -- after any pop by the first of these bytes, the first bytes of its reply buffer lie apart from the others,
 -- however many they are
-abbrev pub KeepsBuffersApart :
+abbrev pub KeepsReplyApart :
     Memory → (old : ChainHandle) → (before : QueueState) → List (Bor (List ℕ)) → Type 0
-KeepsBuffersApart m old before given =
+KeepsReplyApart m old before given =
     (n : ℕ) (new : ChainHandle) (after : QueueState) (told : went.LoadOutcome) (last : ℕ)
-    → WalksBy (calls_of n given) old new before after told
+    → WalksBy (given_so_far n given) old new before after told
     → MayStoreLast m (addresses_of (writable new.descriptors.items)) last

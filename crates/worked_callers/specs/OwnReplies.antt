@@ -16,7 +16,7 @@ use Rattle.fs_live.specs.Handles.{IsReached, live_of}
 use Rattle.fs_live.specs.Live.{Happens, LiveEvent, LiveRun, LiveState, OutChain, Own, PushesChain}
 use Rattle.fs_live.specs.Live.{RepliesOwnBytes, calls_among}
 use Rattle.fs_live.specs.Live.{room_of}
-use Rattle.fs_live.specs.Runs.{IsAReturn, events_on, going, tickets_on, told_by}
+use Rattle.fs_live.specs.Runs.{IsAReturn, events_on, going, tickets_on, reported_by}
 use Rattle.fs_live.specs.Several.{LiveQueue, StoresAsTaken, UsedFrom, heads_ended, heads_taken, returning}
 use Rattle.fs_live.specs.Several.{returns_among}
 use Rattle.worked_callers.specs.Events.{IsPoppedChain, IsRepliedChain, pop_event}
@@ -81,7 +81,7 @@ ReportsOwn {F} may s i given old before after request reply notice =
     (r.earlier ++ PushesChain r.chain r.exchange notice 0 r.used r.seen ∷ [])
     × (w : LiveQueue)
     × (slice_get r.now.queues r.chain.queue ≡ Some w)
-    × (told_by r.now (PushesChain r.chain r.exchange notice 0 r.used r.seen)
+    × (reported_by r.now (PushesChain r.chain r.exchange notice 0 r.used r.seen)
     ≡ returned_addresses (returning w) r.chain.head (room_of r.chain) reply)
 
 -- the addresses that the guest writes
@@ -106,7 +106,7 @@ LogsOwn {F} may s i given old before after request reply notice =
     × (r.chain ≡ record c { phase = Own request reply })
     × ((first second third last : List (ℕ × ℕ)) (m : Memory) →
     Marks m (written first
-    ++ (written second ++ (written third ++ (told_by r.now returned ++ (written last ++ [])))))
+    ++ (written second ++ (written third ++ (reported_by r.now returned ++ (written last ++ [])))))
     (after_moments m
     (
     Writes first ∷ DeviceEvent popped

@@ -8,7 +8,7 @@ ghost use Rattle.fs_chain.specs.declared.state.ChainState.TheVariants as at;
 ghost use Rattle.notify.specs.Threads.{Rearmer, SleepsNow, TakesOne, ThreadedQueue, Walker, after_act};
 ghost use Rattle.notify.specs.Threads.{may_act};
 ghost use Rattle.fs_notify.specs.Takers.{IsOf, ways_of};
-ghost use Rattle.worked_callers.specs.Notified.{IsWalkedAmid, PopsAmid, calls_of};
+ghost use Rattle.worked_callers.specs.Notified.{IsWalkedAmid, PopsAmid, given_so_far};
 
 use crate::takers::are_counted;
 use crate::wholes::wants_bytes;
@@ -69,7 +69,7 @@ pub fn sleep_amid(
         → s.holder ≡ Rearmer
         → s.hidden ≡ false
         → s.index < 2 ^ 16
-        → PopsAmid (calls_of n given.now) handle.old handle.new queue.old queue.new PopOutcome.Idle
+        → PopsAmid (given_so_far n given.now) handle.old handle.new queue.old queue.new PopOutcome.Idle
         (λ index. s.index ≡ index
         → IsTrue (may_act (ways_of queue.old) s SleepsNow)
         × IsOf queue.new (after_act (ways_of queue.old) s SleepsNow)))) }
@@ -96,7 +96,7 @@ pub fn take_amid(
         × ((s : ThreadedQueue)
         → IsOf queue.old s
         → s.holder ≡ Walker
-        → PopsAmid (calls_of n given.now) handle.old handle.new queue.old queue.new
+        → PopsAmid (given_so_far n given.now) handle.old handle.new queue.old queue.new
         (PopOutcome.Chain c.0 c.1 c.2)
         (λ index. s.known ≡ index
         → IsTrue (may_act (ways_of queue.old) s TakesOne)

@@ -13,7 +13,7 @@ ghost use Rattle.fs_live.specs.Handles.{live_of};
 ghost use Rattle.fs_live.specs.Live.{RefusesPop, Happens, LiveEvent, LiveRun, LiveState};
 ghost use Rattle.worked_callers.specs.Events.{IsIdlePop};
 
-use crate::wholes::{give_back, wants_bytes};
+use crate::wholes::{push_reply, wants_bytes};
 use fs_chain::{ChainError, ChainHandle, LoadOutcome, PopOutcome, QueueState};
 use fs_live::law_handles;
 use fs_queue::QueueError;
@@ -55,9 +55,9 @@ pub fn look_after_refusal<F: FileSystem>(
     }
 }
 
-/// A pop amid which another handle returns a chain of the same queue. It makes few loads. If it finds no
-/// chain available, it is an event, and leaves the queue as that return did.
-pub fn look_amid_return<F: FileSystem>(
+/// A pop between whose calls another handle returns a chain of the same queue. It makes few loads. If it finds
+/// no chain available, it is an event, and leaves the queue as that return did.
+pub fn look_among_returns<F: FileSystem>(
     handle: &mut ChainHandle,
     other: &mut ChainHandle,
     queue: &mut QueueState,
@@ -84,7 +84,7 @@ pub fn look_amid_return<F: FileSystem>(
     if !wants_bytes(&begun) {
         return Err(ChainError::WrongOrder);
     }
-    let _notice = give_back(other, queue)?;
+    let _notice = push_reply(other, queue)?;
     handle.pop(queue, index)
 }
 

@@ -18,7 +18,7 @@ ghost use Rattle.worked_callers.specs.ChainCalls.{AreCallsBy, both_entries, with
 ghost use Rattle.worked_callers.specs.Events.{IsServedChain};
 
 use crate::listings::{Pair, ask_call, list_two};
-use crate::wholes::{give_back, walk_chain};
+use crate::wholes::{push_reply, walk_chain};
 use fs_chain::{ChainError, ChainHandle, QueueState};
 use fs_live::law_handles;
 use fuse_fs::{Entry, FileSystem};
@@ -78,7 +78,7 @@ pub fn read_beside<F: FileSystem>(
     }
     ask_call(handle, session, request)?;
     give_data(handle, bytes)?;
-    give_back(handle, queue)
+    push_reply(handle, queue)
 }
 
 /// A chain that lists two entries with their nodes, from its pop to its return, beside any other chains in
@@ -122,5 +122,5 @@ pub fn list_beside<F: FileSystem>(
     }
     ask_call(handle, session, request)?;
     let _len = list_two(handle, list, entries, nodes)?;
-    give_back(handle, queue)
+    push_reply(handle, queue)
 }

@@ -18,19 +18,19 @@ ghost use Rattle.fs_chain.specs.declared.decoding.Decoded.TheVariants as asks;
 ghost use Rattle.fs_chain.specs.declared.state.ChainState.TheVariants as at;
 ghost use Rattle.plain_machine.specs.Step.{Calls};
 ghost use Rattle.fs_live.specs.Handles.{IsKept, IsReached, IsSessionOf, changes_options, live_of, load_count};
-ghost use Rattle.fs_live.specs.Live.{Asked, RefusesPop, Happens, HasPlace, LiveEvent, ReceivesAnswer};
+ghost use Rattle.fs_live.specs.Live.{Asked, RefusesPop, Happens, StoreIsMapped, LiveEvent, ReceivesAnswer};
 ghost use Rattle.fs_live.specs.Live.{ResetsQueue};
 ghost use Rattle.fs_live.specs.Live.{LiveRun};
-ghost use Rattle.fs_live.specs.Live.{LiveState, NoneWaits, OutChain, StoresNotification, calls_among};
+ghost use Rattle.fs_live.specs.Live.{LiveState, NonePending, OutChain, StoresNotification, calls_among};
 ghost use Rattle.fs_live.specs.Live.{room_of};
 ghost use Rattle.fs_live.specs.Live.{pop_refusal};
 ghost use Rattle.fs_live.specs.Runs.{EachStoresThere, events_on, going, tickets_on};
 ghost use Rattle.fs_live.specs.Several.{LiveQueue, RunsOver, UsedFrom, returns_among};
 ghost use Rattle.worked_callers.specs.Notified.{IsWalkedBy};
 ghost use Rattle.worked_callers.specs.ChainCalls.{AreCallsOf};
-ghost use Rattle.worked_callers.specs.Events.{IsFaultyChain, IsRefusedPop, IsServedChain};
+ghost use Rattle.worked_callers.specs.Events.{IsFaultyChain, IsPopRefusedByLoads, IsServedChain};
 
-use crate::wholes::{give_back, reply, walk_by, walk_chain};
+use crate::wholes::{push_reply, reply, walk_by, walk_chain};
 use fs_chain::{ChainError, ChainHandle, LoadOutcome, NotificationStore, PopOutcome, QueueState};
 use fs_live::{law_handles, law_runs};
 use fs_queue::{ChainFault, QueueError, QueueLayout};
@@ -81,7 +81,7 @@ pub fn serve_beside<F: FileSystem>(
         return Err(ChainError::BadArgument);
     }
     reply(handle, session, request, answer)?;
-    give_back(handle, queue)
+    push_reply(handle, queue)
 }
 
 /// Answers a call without data, with the options of the call's decoding. The run's options stay those of this
@@ -165,7 +165,7 @@ pub fn refuse_beside<F: FileSystem>(
         → HasEvents handle.old queue.old
         → (es : List LiveEvent) × (end : LiveState F)
         × LiveRun F.may s es end
-        × IsRefusedPop i given.now handle.old queue.old e es
+        × IsPopRefusedByLoads i given.now handle.old queue.old e es
         × (slice_get end.queues i ≡ Some (live_of queue.new)) }
     ensures refused { IfOk result (λ told. (s : LiveState F) (i : ℕ) (e : QueueError)
         → slice_get s.queues i ≡ Some (live_of queue.old)
@@ -200,7 +200,7 @@ pub fn take_faulty(
 }
 
 /// Pops and returns a faulty chain, beside any other chains in flight: no call is made.
-pub fn give_faulty_beside<F: FileSystem>(
+pub fn push_faulty_beside<F: FileSystem>(
     handle: &mut ChainHandle,
     queue: &mut QueueState,
     given: &[&[u8]],
@@ -220,14 +220,14 @@ pub fn give_faulty_beside<F: FileSystem>(
 {
     law_handles::<F>();
     let (_, _fault) = take_faulty(handle, queue, given)?;
-    give_back(handle, queue)
+    push_reply(handle, queue)
 }
 
 /// The device's store before it sleeps is an event, if its address is mapped, and stays where it may be.
 pub fn sleep_beside<F: FileSystem>(queue: &QueueState, wanted: bool) -> Option<NotificationStore>
     ensures sleeps { IfSome result (λ store. (s : LiveState F) (i : ℕ)
         → slice_get s.queues i ≡ Some (live_of queue.now)
-        → HasPlace s.places store.address
+        → StoreIsMapped s.places store.address
         → (run : LiveRun F.may s (StoresNotification i (store_of store) ∷ []) s)
         × EachStoresThere F.may s (StoresNotification i (store_of store) ∷ []) s run) }
 {
@@ -242,7 +242,7 @@ pub fn begin_beside<F: FileSystem>(queue: &mut QueueState, layout: QueueLayout, 
         → slice_get s.queues i ≡ Some (live_of queue.old)
         → 1 ≤ queue.old.max_in_flight
         → queue.old.max_in_flight ≤ layout.size
-        → AllByRecursion (λ c. NoneWaits s.page_size i c c.phase) s.outs
+        → AllByRecursion (λ c. NonePending s.page_size i c c.phase) s.outs
         → (next : LiveState F)
         × Happens F.may s (ResetsQueue i (live_of queue.new)) next
         × (slice_get next.queues i ≡ Some (live_of queue.new)) }

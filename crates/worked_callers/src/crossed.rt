@@ -16,7 +16,7 @@ ghost use Rattle.worked_callers.specs.Events.{AreCrossedChains};
 
 use crate::answers::give_data;
 use crate::listings::ask_call;
-use crate::wholes::{give_back, walk_chain};
+use crate::wholes::{push_reply, walk_chain};
 use fs_chain::{ChainError, ChainHandle, QueueState};
 use fs_live::law_handles;
 use fuse_fs::FileSystem;
@@ -88,8 +88,8 @@ pub fn serve_crossed<F: FileSystem>(
     ask_call(first, of_first, one.request)?;
     ask_call(second, of_second, two.request)?;
     give_data(second, two.bytes)?;
-    let early = give_back(second, queue)?;
+    let early = push_reply(second, queue)?;
     give_data(first, one.bytes)?;
-    let late = give_back(first, queue)?;
+    let late = push_reply(first, queue)?;
     Ok((early, late))
 }

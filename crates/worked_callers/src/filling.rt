@@ -8,7 +8,7 @@ ghost use Rattle.fs_regions.specs.Places.{places_in};
 ghost use Rattle.fs_chain.specs.declared.state.ChainState.TheVariants as at;
 ghost use Rattle.fs_live.specs.Filling.{data_stores};
 ghost use Rattle.fs_live.specs.Live.{FillsBuffer, LiveRun, LiveState, OutChain, room_of};
-ghost use Rattle.fs_live.specs.Runs.{told_by};
+ghost use Rattle.fs_live.specs.Runs.{reported_by};
 ghost use Rattle.worked_callers.specs.Events.{IsPoppedChain, pop_event};
 ghost use Rattle.worked_callers.specs.OwnReplies.{IsAt};
 
@@ -69,7 +69,7 @@ pub fn fill_range<F: FileSystem>(
         × (guest ≡ address % 2 ^ 64)
         × (let fills = FillsBuffer c (record { address = address; bytes = bytes.now } ∷ []) in
         LiveRun F.may s (pop_event c None ∷ fills ∷ []) mid
-        × (told_by mid fills ≡ take (length bytes.now) (drop from (room_of c))))) }
+        × (reported_by mid fills ≡ take (length bytes.now) (drop from (room_of c))))) }
 {
     law_handles::<F>();
     let (_, _len, _) = walk_chain(handle, queue, given)?;

@@ -14,7 +14,7 @@ ghost use Rattle.worked_callers.specs.ChainCalls.{AreCallsOf};
 ghost use Rattle.worked_callers.specs.Events.{IsFaultyChain, IsGivenUpChain, IsServedChain};
 
 use crate::beside::take_faulty;
-use crate::wholes::{give_back, reply, walk_chain};
+use crate::wholes::{push_reply, reply, walk_chain};
 use fs_chain::{ChainError, ChainHandle, QueueState};
 use fs_live::law_handles;
 use fuse_fs::FileSystem;
@@ -81,7 +81,7 @@ pub fn serve_lent<F: FileSystem>(
     let table = take_table(handle)?;
     reply(handle, session, request, answer)?;
     lend_table(handle, table)?;
-    give_back(handle, queue)
+    push_reply(handle, queue)
 }
 
 /// Pops a chain with the table, and gives it up without it.
@@ -109,7 +109,7 @@ pub fn drop_lent<F: FileSystem>(
 }
 
 /// Pops a faulty chain with the table, and pushes it without it.
-pub fn give_faulty_lent<F: FileSystem>(
+pub fn push_faulty_lent<F: FileSystem>(
     handle: &mut ChainHandle,
     queue: &mut QueueState,
     given: &[&[u8]],
@@ -130,5 +130,5 @@ pub fn give_faulty_lent<F: FileSystem>(
     law_handles::<F>();
     let (_, _fault) = take_faulty(handle, queue, given)?;
     let _table = take_table(handle)?;
-    give_back(handle, queue)
+    push_reply(handle, queue)
 }

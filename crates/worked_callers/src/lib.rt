@@ -2,6 +2,7 @@
 //! calls are a step or a run. So real calls meet the hypotheses of these theorems. `chain_tests` runs them.
 #![tactic(auto)]
 
+pub mod abandoned;
 pub mod amid;
 pub mod among;
 pub mod answers;
@@ -14,7 +15,6 @@ pub mod lent;
 pub mod listings;
 pub mod live_queues;
 pub mod lives;
-pub mod losses;
 pub mod misses;
 pub mod moves;
 pub mod notices;

@@ -21,7 +21,7 @@ ghost use Rattle.fs_chain.specs.declared.popping.PopOutcome.TheVariants as says;
 ghost use Rattle.fs_chain.specs.declared.state.ChainState.TheVariants as at;
 ghost use Rattle.worked_callers.specs.ChainCalls.{AreCallsBy, ArePopLoads, both_entries};
 
-use crate::wholes::{give_back, walk_chain};
+use crate::wholes::{push_reply, walk_chain};
 use fs_chain::laws::law_chains;
 use fs_chain::{Added, ChainError, ChainHandle, Decoded, QueueState};
 use fuse_fs::{DirEntry, Entry, FileSystem};
@@ -133,5 +133,5 @@ pub fn serve_two<F: FileSystem>(
     }
     ask_call(handle, session, request)?;
     let _len = list_two(handle, list, entries, nodes)?;
-    give_back(handle, queue)
+    push_reply(handle, queue)
 }

@@ -20,7 +20,7 @@ ghost use Rattle.worked_callers.specs.OwnReplies.{IsAt};
 ghost use Rattle.worked_callers.specs.ChainCalls.{AreCallsOf};
 ghost use Rattle.worked_callers.specs.Events.{IsServedChain};
 
-use crate::wholes::{give_back, reply, walk_chain};
+use crate::wholes::{push_reply, reply, walk_chain};
 use fs_chain::{ChainError, ChainHandle, QueueState};
 use fs_live::{law_handles, law_queues, law_serial};
 use fuse_fs::FileSystem;
@@ -100,5 +100,5 @@ pub fn serve_single<F: FileSystem>(
         return Err(ChainError::BadArgument);
     }
     reply(handle, session, request, answer)?;
-    give_back(handle, queue)
+    push_reply(handle, queue)
 }

@@ -6,7 +6,7 @@ ghost use Rattle.fs_queue.specs.Returning.{next_position};
 ghost use Rattle.fs_live.specs.Handles.{live_of};
 ghost use Rattle.fs_live.specs.Several.{passes, returning};
 
-use crate::seen::give_back_by;
+use crate::seen::push_by;
 use fs_chain::{ChainError, ChainHandle, QueueState};
 use fs_live::law_queues;
 
@@ -24,6 +24,6 @@ pub fn notify_by_event(
     law_queues();
     let _returned = queue.next_used;
     let bytes = used_event.to_le_bytes();
-    let (notice, _) = give_back_by(handle, queue, bytes)?;
+    let (notice, _) = push_by(handle, queue, bytes)?;
     Ok(notice)
 }

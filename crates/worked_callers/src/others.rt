@@ -1,5 +1,9 @@
-//! Calls of a handle that answer no file call, as events of a run: giving a chain up, losing it,
-//! replying with the caller's own bytes, other regions, and the reset of a queue to its own position.
+//! Calls of a handle that answer no file call, as events of a run:
+//! - giving a chain up
+//! - freeing its handle
+//! - replying with the caller's own bytes
+//! - setting other regions
+//! - resetting a queue to its own position
 
 ghost use Rattle.std.specs.Prelude.{◌≡◌, ◌≤◌, ◌^◌, ℕ, [], ◌∷◌, IfOk, is_some, List, None, OnOk, Some};
 ghost use Rattle.std.specs.Prelude.{slice_get};
@@ -12,11 +16,11 @@ ghost use Rattle.fs_chain.specs.Queues.{gave};
 ghost use Rattle.fs_chain.specs.declared.state.ChainState.TheVariants as at;
 ghost use Rattle.plain_machine.specs.StepBy.{Act};
 ghost use Rattle.fs_live.specs.Handles.{IsReached, live_of};
-ghost use Rattle.fs_live.specs.Live.{Happens, LiveEvent, LiveRun, LiveState, MovesDevice, NoneWaits};
+ghost use Rattle.fs_live.specs.Live.{Happens, LiveEvent, LiveRun, LiveState, MovesDevice, NonePending};
 ghost use Rattle.fs_live.specs.Live.{ResetsQueue};
 ghost use Rattle.fs_live.specs.Live.{Remaps};
 ghost use Rattle.fs_live.specs.Live.{calls_among};
-ghost use Rattle.fs_live.specs.Others.{GoesBackOwn, recorded};
+ghost use Rattle.fs_live.specs.Others.{PushedOwn, recorded};
 ghost use Rattle.fs_live.specs.Runs.{HasNoneInFlight, tickets_on};
 ghost use Rattle.worked_callers.specs.Events.{IsAbandonedChain, IsGivenUpChain, IsRepliedChain};
 
@@ -52,7 +56,7 @@ pub fn drop_beside<F: FileSystem>(
 }
 
 /// Pops a chain and frees its handle: the chain is abandoned, stays in flight, and the handle may pop again.
-pub fn lose_beside<F: FileSystem>(
+pub fn abandon_beside<F: FileSystem>(
     handle: &mut ChainHandle,
     queue: &mut QueueState,
     given: &[&[u8]],
@@ -77,9 +81,9 @@ pub fn lose_beside<F: FileSystem>(
 
 /// Returns a chain that its caller replied to, with the caller's bytes, to a driver that enabled the
 /// notification.
-pub fn give_own_back(handle: &mut ChainHandle, queue: &mut QueueState) -> Result<bool, ChainError>
+pub fn push_own(handle: &mut ChainHandle, queue: &mut QueueState) -> Result<bool, ChainError>
     ensures back { IfOk result (λ notice. (room reply : List ℕ) (last : ℕ) → (acts : List Act)
-        × GoesBackOwn queue.old room reply handle.old.state acts last notice) }
+        × PushedOwn queue.old room reply handle.old.state acts last notice) }
     ensures queue { OnOk result (queue.new ≡ gave queue.old) }
 {
     let mut front = [0u8; 160];
@@ -121,7 +125,7 @@ pub fn reply_beside<F: FileSystem>(
     }
     let serial = handle.serial();
     handle.reply(serial, bytes.len())?;
-    give_own_back(handle, queue)
+    push_own(handle, queue)
 }
 
 /// Setting other regions while no chain is in flight is the event `Remaps`.
@@ -193,7 +197,7 @@ pub fn begin_again<F: FileSystem>(queue: &mut QueueState)
         → tickets_on i now.outs ≡ []
         → 1 ≤ queue.old.max_in_flight
         → queue.old.max_in_flight ≤ queue.old.layout.size
-        → AllByRecursion (λ c. NoneWaits now.page_size i c c.phase) now.outs
+        → AllByRecursion (λ c. NonePending now.page_size i c c.phase) now.outs
         → Happens F.may now (ResetsQueue i (live_of queue.new)) now }
 {
     law_handles::<F>();

@@ -16,7 +16,7 @@ ghost use Rattle.worked_callers.specs.OwnReplies.{EndsAlone, IsAt, LogsOwn, Repo
 ghost use Rattle.std.specs.Prelude.{◌≡◌, None};
 
 use crate::listings::{ask_call, bring};
-use crate::others::give_own_back;
+use crate::others::push_own;
 use crate::wholes::walk_chain;
 use fs_chain::{ChainError, ChainHandle, QueueState};
 use fs_live::{law_handles, law_queues, law_runs};
@@ -53,7 +53,7 @@ pub fn reply_logged<F: FileSystem, G: FileSystem>(
     }
     let serial = handle.serial();
     handle.reply(serial, bytes.len())?;
-    give_own_back(handle, queue)
+    push_own(handle, queue)
 }
 
 /// Pops the one chain of a queue, and returns it with bytes of the caller's own: it ends once, at the
@@ -82,7 +82,7 @@ pub fn reply_alone<F: FileSystem>(
     }
     let serial = handle.serial();
     handle.reply(serial, bytes.len())?;
-    give_own_back(handle, queue)
+    push_own(handle, queue)
 }
 
 /// Pops a chain and decodes its request, but replies with bytes of the caller's own instead of the answer to
@@ -112,7 +112,7 @@ pub fn reply_instead<F: FileSystem, G: FileSystem>(
     ask_call(handle, session, request)?;
     let serial = handle.serial();
     handle.reply(serial, bytes.len())?;
-    give_own_back(handle, queue)
+    push_own(handle, queue)
 }
 
 /// Begins a listing of a directory with one entry, and then replies with bytes of the caller's own. The
@@ -153,5 +153,5 @@ pub fn reply_amid_listing<F: FileSystem, G: FileSystem>(
     bring(handle, list, entry, node)?;
     let serial = handle.serial();
     handle.reply(serial, bytes.len())?;
-    give_own_back(handle, queue)
+    push_own(handle, queue)
 }

@@ -8,7 +8,7 @@ ghost use Rattle.fs_live.specs.Handles.{IsReached, live_of};
 ghost use Rattle.fs_live.specs.Live.{KeepsReturns, LiveEvent, LiveRun, LiveState, Remaps, calls_among};
 ghost use Rattle.worked_callers.specs.Events.{IsRepliedChain};
 
-use crate::others::give_own_back;
+use crate::others::push_own;
 use crate::wholes::walk_chain;
 use fs_chain::{ChainError, ChainHandle, QueueState};
 use fs_live::law_handles;
@@ -16,8 +16,8 @@ use fs_regions::GuestMap;
 use fuse_fs::FileSystem;
 
 /// One handle pops a chain, another handle gets other regions, and the chain is returned with its caller's
-/// own bytes. That is a run, if the new regions map the addresses of the queue's returns just where the old
-/// ones do.
+/// own bytes. That is a run, if the new regions map an address of the queue's returns exactly if the old ones
+/// do.
 pub fn map_amid<F: FileSystem>(
     first: &mut ChainHandle,
     second: &mut ChainHandle,
@@ -54,5 +54,5 @@ pub fn map_amid<F: FileSystem>(
     second.set_memory(regions, 0x101000)?;
     let serial = first.serial();
     first.reply(serial, bytes.len())?;
-    give_own_back(first, queue)
+    push_own(first, queue)
 }

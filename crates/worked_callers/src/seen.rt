@@ -1,6 +1,6 @@
 //! With the event index, a chain is a step of the plain machine, which takes the two bytes that are seen for
-//! its flags. The driver is notified by used_event (VIRTIO 1.2, 2.7.7.2). A chain that is pushed at another
-//! position than that of its pop is answered as by a machine whose queue is there.
+//! its flags. used_event decides whether the driver is notified (VIRTIO 1.2, 2.7.7.2). A chain that is pushed
+//! at another position than that of its pop is answered as by a machine whose queue is there.
 
 ghost use Rattle.std.specs.Prelude.{◌≡◌, ◌≤◌, ◌^◌, ℕ, List, [], None, IfOk, OnOk};
 ghost use Rattle.vm_memory_core.specs.Host.{Host};
@@ -23,7 +23,7 @@ ghost use Rattle.fs_chain.specs.Whole.{LackPlaces, after_chain, step_loads};
 ghost use Rattle.fs_chain.specs.declared.state.ChainState.TheVariants as at;
 ghost use Rattle.worked_callers.specs.ChainCalls.{ArePopLoads, AreCallsOf};
 ghost use Rattle.worked_callers.specs.Notified.{IsWalkedBy};
-ghost use Rattle.worked_callers.specs.OverMemory.{HasEachLoad, KeepsBuffersApart};
+ghost use Rattle.worked_callers.specs.OverMemory.{HasEachLoad, KeepsReplyApart};
 
 use crate::wholes::{reply, walk_by, walk_chain};
 use fs_chain::laws::law_chains;
@@ -35,7 +35,7 @@ use server_phases::Session;
 
 /// Returns a chain whose reply is known, while these two bytes are seen: whether the driver is notified, and
 /// the address of the two bytes.
-pub fn give_back_by(
+pub fn push_by(
     handle: &mut ChainHandle,
     queue: &mut QueueState,
     seen: [u8; 2],
@@ -56,9 +56,9 @@ pub fn give_back_by(
 
 /// Serves a chain without data in its answer, not a listing. Beside other chains of its queue, it is answered
 /// as by a machine whose queue is at the position of the push. If it is in flight alone, it is a step by the
-/// two bytes seen. Over a memory with all loaded bytes, in which no byte of the reply buffer lies in another,
-/// it is the machine's step over that memory. Returns whether the driver is notified, and the address of the
-/// two bytes.
+/// two bytes seen. Take a memory that has all loaded bytes, and in which the start of the reply buffer never
+/// overlaps its rest. Over it the chain is the machine's step. Returns whether the driver is notified, and the
+/// address of the two bytes.
 pub fn serve_by<F: FileSystem>(
     handle: &mut ChainHandle,
     queue: &mut QueueState,
@@ -111,7 +111,7 @@ pub fn serve_by<F: FileSystem>(
         → IsMachineBefore handle.old queue.old i m
         → IsSession session m
         → HasEachLoad (memory_over h handle.old.regions) handle.old queue.old given.now request.now
-        → KeepsBuffersApart (memory_over h handle.old.regions) handle.old queue.old given.now
+        → KeepsReplyApart (memory_over h handle.old.regions) handle.old queue.old given.now
         → (calls : Calls)
         × AreCallsOf given.now handle.old queue.old session request.now answer calls
         × (FileRun F.may m.files calls files
@@ -134,7 +134,7 @@ pub fn serve_by<F: FileSystem>(
         return Err(ChainError::BadArgument);
     }
     reply(handle, session, request, answer)?;
-    give_back_by(handle, queue, seen)
+    push_by(handle, queue, seen)
 }
 
 /// Pops a faulty chain: its head, and its fault. Fails with `WrongOrder` if the pop ends otherwise.
@@ -187,5 +187,5 @@ pub fn serve_faulty<F: FileSystem>(
 {
     law_chains::<F>();
     let (_, _) = walk_faulty(handle, queue, given)?;
-    give_back_by(handle, queue, seen)
+    push_by(handle, queue, seen)
 }

@@ -13,7 +13,8 @@ ghost use Rattle.notify.specs.Threads.{ActsOver, Rearmer, DropsOne, Loads, Nobod
 ghost use Rattle.notify.specs.Threads.{TakesOne, ThreadedQueue, Walker, WishIsThere, Wishes, after_act};
 ghost use Rattle.notify.specs.Threads.{may_act};
 ghost use Rattle.fs_notify.specs.Takers.{IsCounted, IsOf, MutesBy, ways_of};
-ghost use Rattle.worked_callers.specs.Notified.{ActsTo, IsStoredWish, IsWalkedBy, PopsWithIndex, calls_of};
+ghost use Rattle.worked_callers.specs.Notified.{ActsTo, IsStoredWish, IsWalkedBy, PopsWithIndex};
+ghost use Rattle.worked_callers.specs.Notified.{given_so_far};
 
 use crate::beside::walk_to_end;
 use crate::wholes::walk_chain;
@@ -86,7 +87,7 @@ pub fn sleep_if_idle(
         → s.index < 2 ^ 16
         → (let ways = ways_of queue.old in
         let end = after_act ways (after_act ways (after_act ways s Wishes) WishIsThere) SleepsNow in
-        PopsWithIndex (calls_of n given.now) handle.old handle.new queue.old queue.new PopOutcome.Idle
+        PopsWithIndex (given_so_far n given.now) handle.old handle.new queue.old queue.new PopOutcome.Idle
         (ActsTo queue.old s (Wishes ∷ WishIsThere ∷ SleepsNow ∷ []) end queue.new)))) }
     ensures order { OnOk result ((s : ThreadedQueue)
         → IsOf queue.old s
@@ -117,7 +118,7 @@ pub fn take_one(
         → IsOf queue.old s
         → s.holder ≡ Walker
         → (let ways = ways_of queue.old in
-        PopsWithIndex (calls_of n given.now) handle.old handle.new queue.old queue.new
+        PopsWithIndex (given_so_far n given.now) handle.old handle.new queue.old queue.new
         (PopOutcome.Chain c.0 c.1 c.2)
         (ActsTo queue.old s (Loads ∷ TakesOne ∷ []) (after_act ways (after_act ways s Loads) TakesOne)
         queue.new)))) }
@@ -142,7 +143,7 @@ pub fn drop_one(
         → s.holder ≡ Walker
         → (let ways = ways_of queue.old in
         let end = after_act ways (after_act ways (after_act ways s Loads) TakesOne) DropsOne in
-        PopsWithIndex (calls_of n given.now) handle.old taken queue.old mid
+        PopsWithIndex (given_so_far n given.now) handle.old taken queue.old mid
         (PopOutcome.Chain head request room)
         (ActsTo queue.old s (Loads ∷ TakesOne ∷ DropsOne ∷ []) end queue.new)))) }
 {

@@ -1,4 +1,4 @@
-//! The calls of a handle from the begin of a pop on are a step of the plain machine.
+//! The calls of a handle from the start of a pop on are a step of the plain machine.
 
 ghost use Rattle.std.specs.Prelude.{◌≡◌, ℕ, List, [], drop, length, None, Some, Ok, IfOk, OnOk, true};
 ghost use Rattle.server_phases.specs.Answering.{TellsBytes};
@@ -13,7 +13,7 @@ ghost use Rattle.fs_regions.specs.Walks.{Loaded, queue_of};
 ghost use Rattle.fs_chain.specs.Events.{event_fault, event_miss};
 ghost use Rattle.fs_chain.specs.Queues.{gave};
 ghost use Rattle.fs_chain.specs.Walks.{HasEvents, course_of};
-ghost use Rattle.fs_chain.specs.Whole.{FromTaken, ChainAnswer, GoesBackBy, HasReply, IsDecodedBy};
+ghost use Rattle.fs_chain.specs.Whole.{FromTaken, ChainAnswer, GoesBackBy, IsRepliedBy, IsDecodedBy};
 ghost use Rattle.fs_chain.specs.Whole.{IsMachineBefore, IsWalked, LackPlaces, WantsBytes, data_behind};
 ghost use Rattle.fs_chain.specs.Whole.{file_calls, no_effects, step_loads};
 ghost use Rattle.fs_chain.specs.declared.decoding.Decoded as told;
@@ -131,7 +131,7 @@ pub fn reply(
     requires data { TellsBytes [] answer }
     ensures replied { OnOk result ((made : told.Decoded) × (asked : ChainHandle) × (given : ChainAnswer)
         × IsDecodedBy handle.old session request.now request.now made asked
-        × HasReply made asked given handle.new
+        × IsRepliedBy made asked given handle.new
         × (data_behind given ≡ [])
         × HasThisAnswer answer given
         × EachSuits (file_calls (drop 80 request.now) made given)) }
@@ -151,7 +151,7 @@ pub fn reply(
 }
 
 /// Returns a chain whose reply is known, to a driver that enabled the notification.
-pub fn give_back(handle: &mut ChainHandle, queue: &mut QueueState) -> Result<bool, ChainError>
+pub fn push_reply(handle: &mut ChainHandle, queue: &mut QueueState) -> Result<bool, ChainError>
     ensures back { IfOk result (λ notice. (room behind : List ℕ) → (acts : List Act) × (last : ℕ)
         × GoesBackBy queue.old room behind handle.old.state acts last notice) }
     ensures session { OnOk result (handle.new.session ≡ handle.old.session) }

@@ -9,7 +9,7 @@ use Rattle.fs_live.proofs.Others.{handle_replies_instead, handle_returns_own}
 use Rattle.fs_live.proofs.Popped.{handle_refuses_pop}
 use Rattle.fs_live.proofs.Pushed.{handle_faulty, handle_returns}
 use Rattle.fs_live.proofs.Sleeping.{handle_begins, handle_sleeps}
-use Rattle.fs_live.proofs.WantedAmong.{wanted_among_has_a_place}
+use Rattle.fs_live.proofs.WantedAmong.{wanted_among_is_mapped}
 use Rattle.fs_live.proofs.law_handles.Goals as goal
 
 pub returns-clause-ends_pop : goal.returns-clause-ends_pop
@@ -52,7 +52,7 @@ pub returns-clause-ends_pop_among : goal.returns-clause-ends_pop_among
 returns-clause-ends_pop_among g c = handle_walks_among g.F.FileSystemBase.may
 
 pub returns-clause-wanted_among : goal.returns-clause-wanted_among
-returns-clause-wanted_among g c = wanted_among_has_a_place
+returns-clause-wanted_among g c = wanted_among_is_mapped
 
 pub returns-clause-finds_stopped : goal.returns-clause-finds_stopped
 returns-clause-finds_stopped g c = handle_finds_stopped g.F.FileSystemBase.may

@@ -26,8 +26,8 @@ returns-clause-tell g c = returns_tell g.F.FileSystemBase.may
 pub returns-clause-log : goal.returns-clause-log
 returns-clause-log g c = pages_of_run g.F.FileSystemBase.may
 
-pub returns-clause-stands : goal.returns-clause-stands
-returns-clause-stands g c = stands_even _
+pub returns-clause-positions : goal.returns-clause-positions
+returns-clause-positions g c = stands_even _
 
 pub returns-clause-moves : goal.returns-clause-moves
 returns-clause-moves g c = moved_goes_on _

@@ -3,7 +3,7 @@ use Rattle.fs_chain.specs.declared.loads.LoadOutcome as went
 use Rattle.fs_chain.specs.declared.loads.LoadOutcome.TheVariants as wents
 use Rattle.fs_chain.specs.declared.popping.PopOutcome as walked
 use Rattle.fs_chain.specs.declared.popping.PopOutcome.TheVariants as says
-use Rattle.worked_callers.specs.Notified.{IsWalkedAmid, calls_of}
+use Rattle.worked_callers.specs.Notified.{IsWalkedAmid, given_so_far}
 use Rattle.worked_callers.proofs.amid.sleep_amid.Goals as goal
 
 pub returns-in-On-Idle : goal.returns-in-On-Idle
@@ -19,7 +19,7 @@ returns-in-On-Idle c =
     subst (λ (t : went.LoadOutcome). IsWalkedAmid given old new q after t) told c.in_ok-walk_amid.ensures in (
       by.0,
       λ s is asker shown fits.
-          let none = c.law_takers.ensures.none_amid (calls_of by.0 given) old new q after s c.are_counted.ensures fits c.requires.goes
+          let none = c.law_takers.ensures.none_amid (given_so_far by.0 given) old new q after s c.are_counted.ensures fits c.requires.goes
           by.1 is asker shown in
           (by.1, none.0, none.1, none.2, none.3, none.4),
     )

@@ -3,7 +3,7 @@ use Rattle.fs_chain.specs.declared.loads.LoadOutcome as went
 use Rattle.fs_chain.specs.declared.loads.LoadOutcome.TheVariants as wents
 use Rattle.fs_chain.specs.declared.popping.PopOutcome as walked
 use Rattle.fs_chain.specs.declared.popping.PopOutcome.TheVariants as says
-use Rattle.worked_callers.specs.Notified.{IsWalkedAmid, calls_of}
+use Rattle.worked_callers.specs.Notified.{IsWalkedAmid, given_so_far}
 use Rattle.worked_callers.proofs.amid.take_amid.Goals as goal
 
 pub returns-in-On-Chain : goal.returns-in-On-Chain
@@ -20,7 +20,8 @@ returns-in-On-Chain c =
     subst (λ (t : went.LoadOutcome). IsWalkedAmid given old new q after t) told c.in_ok-head.ensures in (
       by.0,
       λ s is walker.
-          let took = c.law_takers.ensures.takes_amid (calls_of by.0 given) old new q after chain s c.are_counted.ensures c.requires.goes tt
+          let took = c.law_takers.ensures.takes_amid (given_so_far by.0 given) old new q after chain s c.are_counted.ensures
+          c.requires.goes tt
           by.1 is walker in
           (by.1, took.0, took.1, took.2, took.3, took.4),
     )

@@ -10,7 +10,7 @@ use Rattle.fs_chain.specs.declared.decoding.Decoded.TheVariants as asks
 use Rattle.fs_chain.specs.declared.queue.QueueState.{QueueState}
 use Rattle.fs_live.specs.Handles.{live_of}
 use Rattle.worked_callers.specs.ChainCalls.{with_data}
-use Rattle.worked_callers.specs.Notified.{calls_of}
+use Rattle.worked_callers.specs.Notified.{given_so_far}
 use Rattle.worked_callers.proofs.CalledBy.{calls_by}
 use Rattle.worked_callers.proofs.CallsSuit.{answered_suits}
 use Rattle.worked_callers.proofs.NamedEvents.{served_named}
@@ -51,7 +51,7 @@ returns g c =
     c.in_ok-request_len.request_len c.in_ok-request_len.field-0-2 c.args.session request (asks.Call call.0) answer
     c.in_ok-request_len.ensures.given call.1 told.1 suit in
     record {
-      run = if_ok_so c.give_back.result _ _ _
+      run = if_ok_so c.push_reply.result _ _ _
           (λ notice back final_is s i files reached there places limit small session. (
             call.0,
             told.0,
@@ -64,7 +64,7 @@ returns g c =
                   c.args.queue.now c.walk_chain.new.queue c.in_ok-request_len.field-0-0 c.in_ok-request_len.request_len
                   c.in_ok-request_len.field-0-2
                   c.args.session request (asks.Call call.0) answer notice c.requires.goes
-                  (calls_of walks.0 c.args.given.now, walks.1) refl
+                  (given_so_far walks.0 c.args.given.now, walks.1) refl
                   call.1 told.1 back s i files reached there places limit small session files_run in (
                     so.es,
                     so.end,
@@ -78,5 +78,5 @@ returns g c =
                   ),
             ),
           ))
-          c.give_back.ensures.back c.give_back.ensures.queue;
+          c.push_reply.ensures.back c.push_reply.ensures.queue;
     }

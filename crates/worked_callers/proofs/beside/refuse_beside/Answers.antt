@@ -6,7 +6,7 @@ use Rattle.fs_chain.specs.declared.popping.PopOutcome as walked
 use Rattle.fs_chain.specs.declared.popping.PopOutcome.TheVariants as says
 use Rattle.fs_live.specs.Handles.{live_of}
 use Rattle.fs_live.specs.Live.{EndsPop, after_pop}
-use Rattle.worked_callers.specs.Notified.{IsWalkedBy, calls_of}
+use Rattle.worked_callers.specs.Notified.{IsWalkedBy, given_so_far}
 use Rattle.worked_callers.proofs.NamedEvents.{refusal_is}
 use Rattle.worked_callers.proofs.Served.{if_ok}
 use Rattle.worked_callers.proofs.beside.refuse_beside.Goals as goal
@@ -22,7 +22,7 @@ returns-clause-loaded g c e is s i there places limit events =
     let walks : IsWalkedBy given old new before after (wents.On (says.Refused e)) =
     subst (λ (r : Result walked.PopOutcome ChainError). IfOk r (λ told. IsWalkedBy given old new before after (wents.On told))) is
     c.walk_to_end.ensures.given in
-    let walk = c.law_handles.ensures.ends_pop s i (calls_of walks.0 given) old new before after (says.Refused e) there places limit
+    let walk = c.law_handles.ensures.ends_pop s i (given_so_far walks.0 given) old new before after (says.Refused e) there places limit
     c.requires.goes events walks.1 tt in
     let end = after_pop s i (live_of before) walk.0 ds walk.2 in (
       EndsPop i walk.0 ds walk.2 ∷ [],

@@ -4,7 +4,7 @@ use Rattle.std.proofs.lemmas.Bool.Decides.{nat_tests}
 use Rattle.fs_chain.specs.Whole.{file_calls}
 use Rattle.fs_chain.specs.declared.queue.QueueState.{QueueState}
 use Rattle.fs_live.specs.Handles.{live_of}
-use Rattle.worked_callers.specs.Notified.{calls_of}
+use Rattle.worked_callers.specs.Notified.{given_so_far}
 use Rattle.worked_callers.proofs.CalledBy.{calls_of_answer}
 use Rattle.worked_callers.proofs.NamedEvents.{served_named}
 use Rattle.worked_callers.proofs.Served.{if_ok_so, more_taken, taken_so}
@@ -35,7 +35,7 @@ returns g c =
     let request = c.args.request.now in
     let calls = file_calls (drop 80 request) replied.0 replied.2 in
     record {
-      run = if_ok_so c.give_back.result _ _ _
+      run = if_ok_so c.push_reply.result _ _ _
           (λ notice back final_is s i files reached there places limit small session. (
             calls,
             calls_of_answer c.args.given.now old one replied.1 c.reply.new.handle before after c.in_ok-request_len.field-0-0
@@ -45,7 +45,7 @@ returns g c =
                 let so = served_beside may handles.ends_pop handles.decodes_request handles.calls handles.pushes_chain old one one replied.1
                 c.reply.new.handle before after
                 c.in_ok-request_len.field-0-0 c.in_ok-request_len.request_len c.in_ok-request_len.field-0-2 c.args.session request replied.0
-                replied.2 notice c.requires.goes (calls_of walks.0 c.args.given.now, walks.1) refl
+                replied.2 notice c.requires.goes (given_so_far walks.0 c.args.given.now, walks.1) refl
                 replied.3 replied.4 back s i files reached there places limit small session files_run in (
                   so.es,
                   so.end,
@@ -61,5 +61,5 @@ returns g c =
                   runs.queue s so.end so.es i (live_of before) there so.anew so.run,
                 ),
           ))
-          c.give_back.ensures.back c.give_back.ensures.queue;
+          c.push_reply.ensures.back c.push_reply.ensures.queue;
     }

@@ -108,7 +108,7 @@ returns g c =
               c.in_ok-second_len.ensures.given call.1 call'.1 told.1 told'.1
               (subst (λ (k : QueueState). (room behind : List ℕ) →
               (acts : List Act) × (last : ℕ) × GoesBackBy k room behind st acts last c.in_ok-late.late) c.in_ok-early.ensures.queue
-              c.in_ok-late.ensures.back) c.in_ok-early.ensures.back c.give_back-2.new.queue
+              c.in_ok-late.ensures.back) c.in_ok-early.ensures.back c.push_reply-2.new.queue
               (c.in_ok-late.ensures.queue ∙ ap gave c.in_ok-early.ensures.queue)
               s i between files reached there places places' limit limit' small
               in_session in_session' early_run late_run,

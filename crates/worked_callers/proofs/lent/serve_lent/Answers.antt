@@ -7,7 +7,7 @@ use Rattle.fs_chain.specs.declared.chain_handle.ChainHandle.{ChainHandle}
 use Rattle.fs_chain.specs.declared.queue.QueueState.{QueueState}
 use Rattle.fs_chain.specs.declared.state.ChainState as state
 use Rattle.fs_live.specs.Handles.{live_of}
-use Rattle.worked_callers.specs.Notified.{calls_of}
+use Rattle.worked_callers.specs.Notified.{given_so_far}
 use Rattle.worked_callers.proofs.CalledBy.{calls_of_answer}
 use Rattle.worked_callers.proofs.NamedEvents.{served_named}
 use Rattle.worked_callers.proofs.Served.{if_ok_so, more_taken, taken_so}
@@ -37,7 +37,7 @@ returns g c =
     let replied = c.in_ok-reply.ensures.replied in
     let request = c.args.request.now in
     record {
-      run = if_ok_so c.give_back.result _ _ _
+      run = if_ok_so c.push_reply.result _ _ _
           (λ notice back final_is s i files reached there places limit small session. (
             file_calls (drop 80 request) replied.0 replied.2,
             calls_of_answer c.args.given.now old one replied.1 c.reply.new.handle before after c.in_ok-request_len.field-0-0
@@ -51,7 +51,7 @@ returns g c =
                 c.take_table.new.handle
                 replied.1 c.reply.new.handle before after
                 c.in_ok-request_len.field-0-0 c.in_ok-request_len.request_len c.in_ok-request_len.field-0-2 c.args.session request replied.0
-                replied.2 notice c.requires.goes (calls_of walks.0 c.args.given.now, walks.1)
+                replied.2 notice c.requires.goes (given_so_far walks.0 c.args.given.now, walks.1)
                 (ap (λ (w : ChainHandle). w.state) c.in_ok-table.ensures.taken)
                 replied.3 replied.4
                 (subst (λ (st : state.ChainState). (room behind : List ℕ) → (acts : List Act) × (last : ℕ)
@@ -68,5 +68,5 @@ returns g c =
                   so.there ∙ ap (λ (q : QueueState). Some (live_of q)) (sym final_is),
                 ),
           ))
-          c.give_back.ensures.back c.give_back.ensures.queue;
+          c.push_reply.ensures.back c.push_reply.ensures.queue;
     }

@@ -13,7 +13,7 @@ use Rattle.fs_chain.specs.Whole.{ByEntries, ChainAnswer, ChainBy, after_chain, s
 use Rattle.fs_chain.specs.WholeListings.{EndsThere, listing_calls}
 use Rattle.fs_chain.specs.declared.decoding.Decoded.TheVariants as asks
 use Rattle.worked_callers.specs.ChainCalls.{both_entries}
-use Rattle.worked_callers.specs.Notified.{calls_of}
+use Rattle.worked_callers.specs.Notified.{given_so_far}
 use Rattle.worked_callers.proofs.CalledBy.{calls_by}
 use Rattle.worked_callers.proofs.CallsSuit.{listed_suits}
 use Rattle.worked_callers.proofs.Served.{if_ok_so, more_taken, queue_stays, taken_so}
@@ -42,7 +42,7 @@ returns g c =
     let session = c.args.session in
     let request = c.args.request.now in
     let walked = c.in_ok-request_len.ensures.given in
-    let given = calls_of walked.0 c.args.given.now in
+    let given = given_so_far walked.0 c.args.given.now in
     let call = c.in_ok-ask_call.ensures.asked in
     let told = c.in_ok-_len.ensures in
     let head = c.in_ok-request_len.field-0-0 in
@@ -61,7 +61,7 @@ returns g c =
     c.in_ok-request_len.ensures.walked in
     let in_order = stays.0 ∙ c.requires.none_out in
     record {
-      step = if_ok_so c.give_back.result _ _ _
+      step = if_ok_so c.push_reply.result _ _ _
           (λ notice back session_is i m files first in_session. (
             call.0,
             c.in_ok-_len._len,
@@ -107,5 +107,5 @@ returns g c =
                   ),
             ),
           ))
-          c.give_back.ensures.back c.give_back.ensures.session;
+          c.push_reply.ensures.back c.push_reply.ensures.session;
     }

@@ -9,7 +9,7 @@ use Rattle.fs_live.specs.Handles.{live_of}
 use Rattle.fs_live.specs.Live.{LiveEvent, calls_in, event_acts}
 use Rattle.fs_live.specs.Serial.{IsAtRest, plain, return_in}
 use Rattle.worked_callers.specs.Events.{IsServedChain}
-use Rattle.worked_callers.specs.Notified.{calls_of}
+use Rattle.worked_callers.specs.Notified.{given_so_far}
 use Rattle.worked_callers.proofs.CalledBy.{calls_of_answer}
 use Rattle.worked_callers.proofs.NamedEvents.{served_named}
 use Rattle.worked_callers.proofs.Served.{if_ok_so, more_taken, taken_so}
@@ -39,7 +39,7 @@ returns g c =
     let request = c.args.request.now in
     let calls = file_calls (drop 80 request) replied.0 replied.2 in
     record {
-      step = if_ok_so c.give_back.result _ _ _
+      step = if_ok_so c.push_reply.result _ _ _
           (λ notice back final_is s i files here none session. (
             calls,
             calls_of_answer c.args.given.now old one replied.1 c.reply.new.handle before after c.in_ok-request_len.field-0-0
@@ -49,7 +49,7 @@ returns g c =
                 let so = served_beside may handles.ends_pop handles.decodes_request handles.calls handles.pushes_chain old one one replied.1
                 c.reply.new.handle before after
                 c.in_ok-request_len.field-0-0 c.in_ok-request_len.request_len c.in_ok-request_len.field-0-2 c.args.session request replied.0
-                replied.2 notice c.requires.goes (calls_of walks.0 c.args.given.now, walks.1) refl
+                replied.2 notice c.requires.goes (given_so_far walks.0 c.args.given.now, walks.1) refl
                 replied.3 replied.4 back s i files here.reached here.there here.places here.limit here.small session files_run in
                 let r = so.single in
                 let rest : IsAtRest (live_of before) = (c.requires.by_flags, c.requires.none_out) in (
@@ -71,5 +71,5 @@ returns g c =
                       (plain so.end (after_stores m (stores_among (event_acts (return_in r)))))) so.queue_is law.0),
                 ),
           ))
-          c.give_back.ensures.back c.give_back.ensures.queue;
+          c.push_reply.ensures.back c.push_reply.ensures.queue;
     }

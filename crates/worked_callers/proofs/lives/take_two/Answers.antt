@@ -7,7 +7,7 @@ use Rattle.fs_live.specs.Handles.{live_of}
 use Rattle.fs_live.specs.Live.{Happens, LiveEvent, LiveRun, OutChain, EndsPop, after_pop, new_chain}
 use Rattle.fs_live.specs.Runs.{events_on, tickets_on}
 use Rattle.fs_live.specs.Several.{InFlightId, heads_taken}
-use Rattle.worked_callers.specs.Notified.{calls_of}
+use Rattle.worked_callers.specs.Notified.{given_so_far}
 use Rattle.worked_callers.proofs.NamedEvents.{popped_by, told_so}
 use Rattle.worked_callers.proofs.TakenTwo.{goes_still, took_so, two_takes}
 use Rattle.worked_callers.proofs.lives.take_two.Goals as goal
@@ -25,7 +25,8 @@ returns g c =
     let more = c.walk_chain-2.new.handle.descriptors.items in
     record {
       out = λ s i none there places places' limit limit'.
-          let one = c.law_handles.ensures.ends_pop s i (calls_of first.given.0 c.args.given.now) c.args.first.now c.walk_chain.new.handle
+          let one = c.law_handles.ensures.ends_pop s i (given_so_far first.given.0 c.args.given.now) c.args.first.now
+          c.walk_chain.new.handle
           before mid
           (says.Chain head c.in_ok-head.field-0-1 c.in_ok-head.field-0-2)
           there places limit c.requires.goes tt first.given.1 tt in
@@ -33,7 +34,7 @@ returns g c =
           let took = took_so may s s₁ i one.0 ds one.2 head c.in_ok-head.field-0-1 c.in_ok-head.field-0-2 one.3 one.4 in
           let goes = goes_still c.args.first.now c.walk_chain.new.handle before mid head c.in_ok-head.field-0-1 c.in_ok-head.field-0-2
           c.requires.goes first.walked in
-          let two = c.law_handles.ensures.ends_pop s₁ i (calls_of second.given.0 c.args.more.now) c.args.second.now
+          let two = c.law_handles.ensures.ends_pop s₁ i (given_so_far second.given.0 c.args.more.now) c.args.second.now
           c.walk_chain-2.new.handle
           mid
           c.walk_chain-2.new.queue

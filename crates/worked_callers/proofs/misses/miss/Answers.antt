@@ -10,7 +10,7 @@ use Rattle.fs_chain.specs.declared.loads.LoadOutcome as went
 use Rattle.fs_chain.specs.declared.loads.LoadOutcome.TheVariants as wents
 use Rattle.fs_chain.specs.declared.popping.PopOutcome.TheVariants as says
 use Rattle.worked_callers.specs.ChainCalls.{ArePopLoads}
-use Rattle.worked_callers.specs.Notified.{calls_of}
+use Rattle.worked_callers.specs.Notified.{given_so_far}
 use Rattle.worked_callers.proofs.Served.{if_ok}
 use Rattle.worked_callers.proofs.misses.miss.Goals as goal
 
@@ -22,7 +22,7 @@ returns-clause-missed c =
     let after = c.walk_by.new.queue in
     if_ok c.walk_by.result _ _
     (λ told walked range access is events.
-    let given = calls_of walked.0 c.args.given.now in
+    let given = given_so_far walked.0 c.args.given.now in
     let walks = subst (λ (t : went.LoadOutcome). WalksBy given old new before after t) is walked.1 in
     let m = c.law_misses.ensures.missed given range access old new before after c.requires.goes events walks in (
       m.0,

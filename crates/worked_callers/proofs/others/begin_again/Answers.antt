@@ -13,7 +13,7 @@ returns g c =
     let after = c.reset.new.self in
     record {
       stands = λ start now es i none even run there out some few waits.
-          let stood = c.law_runs.ensures.stands start now es i (live_of before) none even run there out in
+          let stood = c.law_runs.ensures.positions start now es i (live_of before) none even run there out in
           let law = c.law_handles.ensures.resets_queue now i before after before.layout before.next_avail before.max_in_flight
           before.event_index
           None there c.reset.ensures some few stood.0.1 waits in

@@ -3,10 +3,10 @@ use Rattle.plain_machine.specs.StepBy.{Act}
 use Rattle.fs_chain.specs.Events.{tells_of}
 use Rattle.fs_chain.specs.Queues.{gave}
 use Rattle.fs_chain.specs.declared.queue.QueueState.{QueueState}
-use Rattle.fs_live.specs.Others.{GoesBackOwn}
+use Rattle.fs_live.specs.Others.{PushedOwn}
 use Rattle.worked_callers.proofs.OthersBeside.{own_goes_back}
 use Rattle.worked_callers.proofs.Served.{if_ok, on_ok_more}
-use Rattle.worked_callers.proofs.others.give_own_back.Goals as goal
+use Rattle.worked_callers.proofs.others.push_own.Goals as goal
 
 pub returns : goal.returns
 returns c =
@@ -16,7 +16,7 @@ returns c =
     record {
       back = if_ok c.pushed.result _ _
           (λ notice told room reply last.
-          subst (λ (n : Bool). (acts : List Act) × GoesBackOwn q room reply st acts last n) (sym (told ∙ same))
+          subst (λ (n : Bool). (acts : List Act) × PushedOwn q room reply st acts last n) (sym (told ∙ same))
           (own_goes_back st q _ c.in_ok-_stores._stores (0 ∷ 0 ∷ []) room reply last c.in_ok-_stores.ensures.ok refl
           c.in_ok-_stores.ensures.stores))
           c.pushed.ensures.tells;

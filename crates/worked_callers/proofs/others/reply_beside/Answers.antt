@@ -20,12 +20,12 @@ returns g c =
     let same : n ≡ length c.args.request.now = grind (arith, nat_tests, test) in
     let taken = more_taken one.state _ _ (λ out is. is ∙ same) (taken_so old one before after head n r c.requires.goes walked) in
     record {
-      run = if_ok_so c.give_own_back.result _ _ _
+      run = if_ok_so c.push_own.result _ _ _
           (λ notice back final_is.
           replied_beside may handles.ends_pop handles.replies_own_bytes handles.pushes_own c.args.given.now old one
           c.reply.new.self before after
-          c.give_own_back.new.queue head n r _ c.args.request.now c.args.bytes.now notice c.requires.goes
+          c.push_own.new.queue head n r _ c.args.request.now c.args.bytes.now notice c.requires.goes
           c.in_ok-request_len.ensures.given
           taken c.in_ok-reply.ensures.ok c.in_ok-reply.ensures.kept back final_is)
-          c.give_own_back.ensures.back c.give_own_back.ensures.queue;
+          c.push_own.ensures.back c.push_own.ensures.queue;
     }

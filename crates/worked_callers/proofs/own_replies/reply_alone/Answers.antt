@@ -26,12 +26,12 @@ returns g c =
     let same : n ≡ length request = grind (arith, nat_tests, test) in
     let taken = more_taken one.state _ _ (λ out is. is ∙ same) (taken_so old one before after head n r c.requires.goes walked) in
     record {
-      alone = if_ok_so c.give_own_back.result _ _ _
+      alone = if_ok_so c.push_own.result _ _ _
           (λ notice back final_is s i here none.
           subst (λ (q : QueueState). EndsAlone may s i given old before q request bytes notice) (sym final_is)
           (ended_alone may handles.ends_pop handles.replies_own_bytes handles.pushes_own given old one c.reply.new.self before
           after head n r _ request
           bytes notice c.requires.goes c.in_ok-request_len.ensures.given taken c.in_ok-reply.ensures.ok c.in_ok-reply.ensures.kept back
           c.law_runs.ensures.queue queues.once queues.used queues.one c.requires.none_out s i here none))
-          c.give_own_back.ensures.back c.give_own_back.ensures.queue;
+          c.push_own.ensures.back c.push_own.ensures.queue;
     }

@@ -36,13 +36,13 @@ returns g c =
     let four = c.reply.new.self in
     let before = c.args.queue.now in
     let after = c.walk_chain.new.queue in
-    let final = c.give_own_back.new.queue in
+    let final = c.push_own.new.queue in
     let given = c.args.given.now in
     let asked = c.in_ok-ask_call.ensures.asked in
     let request = c.args.request.now in
     let bytes = c.args.bytes.now in
     record {
-      step = if_ok_so c.give_own_back.result _ _ _
+      step = if_ok_so c.push_own.result _ _ _
           (λ notice back final_is s i here session. (
             asked.0,
             two,
@@ -64,5 +64,5 @@ returns g c =
                 g.row.G.Denot (IsRepliedInstead s i given old before request bytes calls notice) whole.1 c.law_runs.ensures.own
                 here.reached),
           ))
-          c.give_own_back.ensures.back c.give_own_back.ensures.queue;
+          c.push_own.ensures.back c.push_own.ensures.queue;
     }

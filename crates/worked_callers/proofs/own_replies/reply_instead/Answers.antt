@@ -31,13 +31,13 @@ returns g c =
     let four = c.reply.new.self in
     let before = c.args.queue.now in
     let after = c.walk_chain.new.queue in
-    let final = c.give_own_back.new.queue in
+    let final = c.push_own.new.queue in
     let given = c.args.given.now in
     let asked = c.in_ok-ask_call.ensures.asked in
     let request = c.args.request.now in
     let bytes = c.args.bytes.now in
     record {
-      step = if_ok_so c.give_own_back.result _ _ _
+      step = if_ok_so c.push_own.result _ _ _
           (λ notice back final_is s i here session.
           let so = replied_asked may handles.ends_pop handles.decodes_request handles.held handles.replies_instead
           handles.pushes_own given old one two three
@@ -50,5 +50,5 @@ returns g c =
           (IsRepliedInstead s i given old before request bytes [] notice)) (sym final_is)
           (as_step may s i before (gave after) request bytes [] notice so.0
           g.row.G.Denot (IsRepliedInstead s i given old before request bytes [] notice) so.1 c.law_runs.ensures.own here.reached))
-          c.give_own_back.ensures.back c.give_own_back.ensures.queue;
+          c.push_own.ensures.back c.push_own.ensures.queue;
     }

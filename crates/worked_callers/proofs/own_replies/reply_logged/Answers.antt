@@ -18,7 +18,7 @@ returns g c =
     let two = c.reply.new.self in
     let before = c.args.queue.now in
     let after = c.walk_chain.new.queue in
-    let final = c.give_own_back.new.queue in
+    let final = c.push_own.new.queue in
     let head = c.in_ok-request_len.field-0-0 in
     let n = c.in_ok-request_len.request_len in
     let r = c.in_ok-request_len.field-0-2 in
@@ -34,7 +34,7 @@ returns g c =
     let ok = c.in_ok-reply.ensures.ok in
     let kept = c.in_ok-reply.ensures.kept in
     record {
-      step = if_ok_so c.give_own_back.result _ _ _
+      step = if_ok_so c.push_own.result _ _ _
           (λ notice back final_is s i here.
           subst
           (λ (q : QueueState). ReturnsAsStep g.row.G.Denot may s i before q request bytes [] notice
@@ -48,8 +48,8 @@ returns g c =
           r _ request bytes
           notice goes by taken ok kept back s i here)
           runs.own here.reached))
-          c.give_own_back.ensures.back c.give_own_back.ensures.queue;
-      reports = if_ok_so c.give_own_back.result _ _ _
+          c.push_own.ensures.back c.push_own.ensures.queue;
+      reports = if_ok_so c.push_own.result _ _ _
           (λ notice back final_is s i here.
           let whole = replied_fetched may handles.ends_pop handles.replies_own_bytes handles.pushes_own given old one two before
           after head n r _
@@ -64,12 +64,12 @@ returns g c =
             told.1,
             told.2,
           ))
-          c.give_own_back.ensures.back c.give_own_back.ensures.queue;
-      log = if_ok_so c.give_own_back.result _ _ _
+          c.push_own.ensures.back c.push_own.ensures.queue;
+      log = if_ok_so c.push_own.result _ _ _
           (λ notice back final_is s i here.
           subst (λ (q : QueueState). LogsOwn may s i given old before q request bytes notice) (sym final_is)
           (logged may handles.ends_pop handles.replies_own_bytes handles.pushes_own given old one two before after head n r _
           request bytes notice goes
           by taken ok kept back runs.log s i here))
-          c.give_own_back.ensures.back c.give_own_back.ensures.queue;
+          c.push_own.ensures.back c.push_own.ensures.queue;
     }

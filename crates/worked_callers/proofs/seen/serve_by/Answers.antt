@@ -14,7 +14,7 @@ use Rattle.fs_chain.specs.Walks.{course_of}
 use Rattle.fs_chain.specs.Whole.{ChainBy, GoesBackBy, WalksBy, after_chain, data_behind, file_calls, step_loads}
 use Rattle.fs_chain.specs.declared.loads.LoadOutcome.TheVariants as wents
 use Rattle.fs_chain.specs.declared.popping.PopOutcome.TheVariants as says
-use Rattle.worked_callers.specs.Notified.{calls_of}
+use Rattle.worked_callers.specs.Notified.{given_so_far}
 use Rattle.worked_callers.proofs.CalledBy.{calls_of_answer}
 use Rattle.worked_callers.proofs.Served.{if_ok, if_ok_so, more_taken, queue_keeps, taken_so, told_before}
 use Rattle.worked_callers.proofs.seen.serve_by.Goals as goal
@@ -40,7 +40,7 @@ returns g c =
     let request = c.args.request.now in
     let seen = c.args.seen in
     let walked = c.in_ok-request_len.ensures.given in
-    let given = calls_of walked.0 c.args.given.now in
+    let given = given_so_far walked.0 c.args.given.now in
     let replied = c.in_ok-reply.ensures.replied in
     let head = c.in_ok-request_len.field-0-0 in
     let lens : ℕ × ℕ = (c.in_ok-request_len.request_len, c.in_ok-request_len.field-0-2) in
@@ -70,15 +70,15 @@ returns g c =
       returns = back;
     } in
     record {
-      told = if_ok c.give_back_by.result _ _
+      told = if_ok c.push_by.result _ _
           (λ told back.
           let goes = back room (data_behind replied.2) in
           let law = c.law_chains.ensures.told.of_chain given request calls goes.0 goes.1 head told.0 old new before session
           c.requires.goes (by goes.0 goes.1 told.0 goes.2) in
           let so = told_before before.layout before back_queue goes.2.stores goes.2.flags told.0 keeps.0 keeps.1 law in
           (subst (λ (bs : List ℕ). told.0 ≡ tells_of before bs) goes.3 so.0, sym goes.4 ∙ so.1))
-          c.give_back_by.ensures.back;
-      answered = if_ok_so c.give_back_by.result _ _ _
+          c.push_by.ensures.back;
+      answered = if_ok_so c.push_by.result _ _ _
           (λ told back session_is i m files limit is. (
             calls,
             are_calls,
@@ -104,8 +104,8 @@ returns g c =
                       law.6)),
                 ),
           ))
-          c.give_back_by.ensures.back c.give_back_by.ensures.session;
-      step = if_ok_so c.give_back_by.result _ _ _
+          c.push_by.ensures.back c.push_by.ensures.session;
+      step = if_ok_so c.push_by.result _ _ _
           (λ told back session_is i m files alone first is. (
             calls,
             are_calls,
@@ -130,8 +130,8 @@ returns g c =
                       (after_chain m i q new.session.options.0 files)) goes.3 law.7),
                 ),
           ))
-          c.give_back_by.ensures.back c.give_back_by.ensures.session;
-      memory = if_ok_so c.give_back_by.result _ _ _
+          c.push_by.ensures.back c.push_by.ensures.session;
+      memory = if_ok_so c.push_by.result _ _ _
           (λ told back session_is i m files h alone first is loaded apart. (
             calls,
             are_calls,
@@ -152,5 +152,5 @@ returns g c =
                   law.4,
                 ),
           ))
-          c.give_back_by.ensures.back c.give_back_by.ensures.session;
+          c.push_by.ensures.back c.push_by.ensures.session;
     }

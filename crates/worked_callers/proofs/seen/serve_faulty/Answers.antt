@@ -8,7 +8,7 @@ use Rattle.fs_chain.specs.Events.{tells_of}
 use Rattle.fs_chain.specs.Walks.{course_of}
 use Rattle.fs_chain.specs.Whole.{FaultyChainBy, after_chain, step_loads}
 use Rattle.fs_chain.specs.declared.popping.PopOutcome.TheVariants as says
-use Rattle.worked_callers.specs.Notified.{calls_of}
+use Rattle.worked_callers.specs.Notified.{given_so_far}
 use Rattle.worked_callers.proofs.Served.{if_ok, queue_keeps, told_before}
 use Rattle.worked_callers.proofs.seen.serve_faulty.Goals as goal
 
@@ -19,7 +19,7 @@ returns g c =
     let before = c.args.queue.now in
     let back_queue = c.walk_faulty.new.queue in
     let walked = c.in_ok-walk_faulty.ensures.given in
-    let given = calls_of walked.0 c.args.given.now in
+    let given = given_so_far walked.0 c.args.given.now in
     let head = c.in_ok-walk_faulty.field-0-0 in
     let fault = c.in_ok-walk_faulty.field-0-1 in
     let q = queue_of (course_of before old.limit) in
@@ -27,7 +27,7 @@ returns g c =
     c.in_ok-walk_faulty.ensures.walked in
     let there = at_position before.layout before.next_used in
     record {
-      told = if_ok c.give_back_by.result _ _
+      told = if_ok c.push_by.result _ _
           (λ told back.
           let goes = back [] [] in
           let run : FaultyChainBy given fault goes.0 goes.1 head told.0 old before =
@@ -35,8 +35,8 @@ returns g c =
           let law = c.law_chains.ensures.told.of_faulty given fault goes.0 goes.1 head told.0 old before c.requires.goes run in
           let so = told_before before.layout before back_queue goes.2.stores goes.2.flags told.0 keeps.0 keeps.1 law in
           (subst (λ (bs : List ℕ). told.0 ≡ tells_of before bs) goes.3 so.0, sym goes.4 ∙ so.1))
-          c.give_back_by.ensures.back;
-      answered = if_ok c.give_back_by.result _ _
+          c.push_by.ensures.back;
+      answered = if_ok c.push_by.result _ _
           (λ told back i m.
           let goes = back [] [] in
           let e : Effects = record { acts = goes.0; last = goes.1 } in
@@ -55,8 +55,8 @@ returns g c =
                 (subst (λ (n : ℕ). ReturnsFaultyBy m i (at_position before.layout n) head fault [] law.3 (tells goes.2.flags) e
                 (after_chain m i (at_position before.layout n) m.options m.files)) keeps.0 law.4),
           ))
-          c.give_back_by.ensures.back;
-      step = if_ok c.give_back_by.result _ _
+          c.push_by.ensures.back;
+      step = if_ok c.push_by.result _ _
           (λ told back i m alone first.
           let goes = back [] [] in
           let run : FaultyChainBy given fault goes.0 goes.1 head told.0 old before =
@@ -75,5 +75,5 @@ returns g c =
                 (record { acts = goes.0; last = goes.1 })
                 (after_chain m i q m.options m.files)) goes.3 law.6,
           ))
-          c.give_back_by.ensures.back;
+          c.push_by.ensures.back;
     }

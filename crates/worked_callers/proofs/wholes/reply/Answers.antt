@@ -8,7 +8,7 @@ use Rattle.virtiofsd_fuse.specs.Serving.{setting}
 use Rattle.plain_machine.specs.Step.{EachSuits}
 use Rattle.fs_chain.specs.Decoding.{TellsMeaning}
 use Rattle.fs_chain.specs.declared.decoding.Decoded as told
-use Rattle.fs_chain.specs.Whole.{HasReply, NoAnswer, OneAnswer, file_calls}
+use Rattle.fs_chain.specs.Whole.{IsRepliedBy, NoAnswer, OneAnswer, file_calls}
 use Rattle.worked_callers.proofs.CallsSuit.{forget_suits, of_taken, suits_by}
 use Rattle.worked_callers.proofs.Served.{both_taken, more_taken, whole_front}
 use Rattle.worked_callers.proofs.wholes.reply.Goals as goal
@@ -40,7 +40,7 @@ returns-in-Ok c =
         more_taken st _ _
             (λ out both. (both.0, front, both.1 request both.0 front, c.in_ok-decode.ensures.same.1, c.in_ok-decode.ensures.session))
             (both_taken st _ _ c.requires.taken c.in_ok-decode.ensures.tells),
-        subst (λ (t : told.Decoded). HasReply t mid given new) (sym c.in-Call.is)
+        subst (λ (t : told.Decoded). IsRepliedBy t mid given new) (sym c.in-Call.is)
             (c.in-Ok.ensures.taken.0, c.requires.data, c.in-Ok.ensures.stays.1, c.in-Ok.ensures.given),
         refl,
         (refl, refl),
@@ -63,7 +63,7 @@ returns-in-Nothing c =
         more_taken st _ _
             (λ out both. (both.0, front, both.1 request both.0 front, c.in_ok-decode.ensures.same.1, c.in_ok-decode.ensures.session))
             (both_taken st _ _ c.requires.taken c.in_ok-decode.ensures.tells),
-        subst (λ (t : told.Decoded). HasReply t mid NoAnswer mid) (sym c.in-Nothing.is) refl,
+        subst (λ (t : told.Decoded). IsRepliedBy t mid NoAnswer mid) (sym c.in-Nothing.is) refl,
         refl,
         tt,
         subst (λ (t : told.Decoded). EachSuits (file_calls (drop 80 request) t NoAnswer)) (sym c.in-Nothing.is) tt,
@@ -84,7 +84,7 @@ returns-in-Fault c =
         more_taken st _ _
             (λ out both. (both.0, front, both.1 request both.0 front, c.in_ok-decode.ensures.same.1, c.in_ok-decode.ensures.session))
             (both_taken st _ _ c.requires.taken c.in_ok-decode.ensures.tells),
-        subst (λ (t : told.Decoded). HasReply t mid NoAnswer mid) (sym c.in-Fault.is) refl,
+        subst (λ (t : told.Decoded). IsRepliedBy t mid NoAnswer mid) (sym c.in-Fault.is) refl,
         refl,
         tt,
         subst (λ (t : told.Decoded). EachSuits (file_calls (drop 80 request) t NoAnswer)) (sym c.in-Fault.is) tt,

@@ -3,9 +3,9 @@ use Rattle.std.proofs.lemmas.Bool.Decides.{nat_tests}
 use Rattle.fs_chain.specs.declared.chain_handle.ChainHandle.{ChainHandle}
 use Rattle.fs_chain.specs.declared.decoding.Decoded.TheVariants as asks
 use Rattle.worked_callers.proofs.CalledBy.{decodes_by}
-use Rattle.worked_callers.proofs.LostAsked.{lost_asked}
+use Rattle.worked_callers.proofs.AbandonedAsked.{lost_asked}
 use Rattle.worked_callers.proofs.Served.{more_taken, taken_so}
-use Rattle.worked_callers.proofs.losses.lose_asked.Goals as goal
+use Rattle.worked_callers.proofs.abandoned.abandon_asked.Goals as goal
 
 pub ask_call-requires : goal.ask_call-requires
 ask_call-requires g c =

@@ -11,7 +11,7 @@ ghost use Rattle.fs_chain.specs.declared.state.ChainState.TheVariants as at;
 ghost use Rattle.fs_live.specs.Handles.{IsReached, IsSessionOf, live_of};
 ghost use Rattle.fs_live.specs.Live.{LiveEvent, LiveRun, LiveState, calls_among};
 ghost use Rattle.worked_callers.specs.ChainCalls.{DecodesPopped};
-ghost use Rattle.worked_callers.specs.Events.{IsLostChain};
+ghost use Rattle.worked_callers.specs.Events.{IsAbandonedAsked};
 
 use crate::listings::ask_call;
 use crate::wholes::walk_chain;
@@ -23,7 +23,7 @@ use server_phases::Session;
 
 /// Decodes a chain's request and frees its handle. The error that is returned is the refusal of the late
 /// answer. In the run the chain is abandoned: once after the file system's answer, and once without it.
-pub fn lose_asked<F: FileSystem>(
+pub fn abandon_asked<F: FileSystem>(
     handle: &mut ChainHandle,
     queue: &mut QueueState,
     given: &[&[u8]],
@@ -45,7 +45,7 @@ pub fn lose_asked<F: FileSystem>(
         × DecodesPopped given.now handle.old queue.old session request.now (asks.Call made) asked
         × ((es : List LiveEvent) × (end : LiveState F)
         × LiveRun F.may s es end
-        × IsLostChain s i given.now handle.old queue.old request.now [] es
+        × IsAbandonedAsked s i given.now handle.old queue.old request.now [] es
         × (calls_among es ≡ [])
         × (slice_get end.queues i ≡ Some (live_of queue.new)))
         × ((answer : file.FileAnswer) (files : F)
@@ -53,7 +53,7 @@ pub fn lose_asked<F: FileSystem>(
         → F.may s.files (call_of (drop 80 request.now) made) answer files
         → (es : List LiveEvent) × (end : LiveState F)
         × LiveRun F.may s es end
-        × IsLostChain s i given.now handle.old queue.old request.now
+        × IsAbandonedAsked s i given.now handle.old queue.old request.now
         ((call_of (drop 80 request.now) made, answer) ∷ []) es
         × (calls_among es ≡ (call_of (drop 80 request.now) made, answer) ∷ [])
         × (end.files ≡ files)

@@ -1,5 +1,5 @@
 use Rattle.worked_callers.proofs.OthersBeside.{lost_beside}
-use Rattle.worked_callers.proofs.others.lose_beside.Goals as goal
+use Rattle.worked_callers.proofs.others.abandon_beside.Goals as goal
 
 pub returns-clause-run : goal.returns-clause-run
 returns-clause-run g c =

@@ -15,7 +15,7 @@ use Rattle.fs_live.specs.Live.{EndsPop, after_pop}
 use Rattle.worked_callers.proofs.Looks.{keeps_queue}
 use Rattle.worked_callers.proofs.NamedEvents.{idle_is}
 use Rattle.worked_callers.proofs.Served.{if_ok}
-use Rattle.worked_callers.proofs.among.look_amid_return.Goals as goal
+use Rattle.worked_callers.proofs.among.look_among_returns.Goals as goal
 
 pub returns : goal.returns
 returns g c =
@@ -24,7 +24,7 @@ returns g c =
     let new = c.pop-2.new.self in
     let before = c.args.queue.now in
     let left = c.pop.new.queue in
-    let now = c.give_back.new.queue in
+    let now = c.push_reply.new.queue in
     let after = c.pop-2.new.queue in
     let index = c.args.index.now in
     let told = c.in_ok-begun.begun in

@@ -5,7 +5,7 @@ use Rattle.fs_chain.specs.Queues.{gave}
 use Rattle.fs_chain.specs.Whole.{GoesBackBy}
 use Rattle.fs_chain.specs.declared.queue.QueueState.{QueueState}
 use Rattle.worked_callers.proofs.Served.{goes_back, if_ok, on_ok_more}
-use Rattle.worked_callers.proofs.wholes.give_back.Goals as goal
+use Rattle.worked_callers.proofs.wholes.push_reply.Goals as goal
 
 pub returns-clause-back : goal.returns-clause-back
 returns-clause-back c =

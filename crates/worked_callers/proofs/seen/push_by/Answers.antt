@@ -4,7 +4,7 @@ use Rattle.fs_chain.specs.Events.{tells_of}
 use Rattle.fs_chain.specs.Whole.{GoesBackBy}
 use Rattle.fs_chain.specs.declared.queue.QueueState.{QueueState}
 use Rattle.worked_callers.proofs.Served.{goes_back_by}
-use Rattle.worked_callers.proofs.seen.give_back_by.Goals as goal
+use Rattle.worked_callers.proofs.seen.push_by.Goals as goal
 
 pub returns-in-Ok-clause-back : goal.returns-in-Ok-clause-back
 returns-in-Ok-clause-back c =

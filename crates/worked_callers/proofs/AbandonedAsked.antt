@@ -22,8 +22,8 @@ use Rattle.fs_live.specs.Live.{after_answer}
 use Rattle.fs_live.specs.Live.{after_decoding}
 use Rattle.fs_live.specs.Live.{after_abandoning, after_pop, asked_chain, calls_among, new_chain}
 use Rattle.fs_live.specs.Others.{HandleAbandons}
-use Rattle.worked_callers.specs.Events.{IsLostChain}
-use Rattle.worked_callers.specs.Notified.{IsWalkedBy, calls_of}
+use Rattle.worked_callers.specs.Events.{IsAbandonedAsked}
+use Rattle.worked_callers.specs.Notified.{IsWalkedBy, given_so_far}
 use Rattle.worked_callers.proofs.NamedEvents.{popped_by, told_so}
 use Rattle.worked_callers.proofs.ServedBeside.{chain_is, reached_by}
 
@@ -39,18 +39,19 @@ module _ {F : Type 0} (may : May F) (walks_law : HandleEndsPop may) (asks_law : 
   pub lost_asked : (s : LiveState F) (i : ℕ) → IsReached may s → slice_get s.queues i ≡ Some (live_of before) →
       s.places ≡ places_in old.regions → s.limit ≡ old.limit → s.limit ≤ 2 ^ 31 →
       IsSessionOf s session →
-      ((es : List LiveEvent) × (end : LiveState F) × LiveRun may s es end × IsLostChain s i given old before request [] es
+      ((es : List LiveEvent) × (end : LiveState F) × LiveRun may s es end × IsAbandonedAsked s i given old before request [] es
       × (calls_among es ≡ [])
       × (slice_get end.queues i ≡ Some (live_of after)))
       × ((answer : FileAnswer) (files : F) → IsTrue (suits call answer) → may s.files call answer files →
       (es : List LiveEvent) × (end : LiveState F) × LiveRun may s es end
-      × IsLostChain s i given old before request ((call, answer) ∷ []) es
+      × IsAbandonedAsked s i given old before request ((call, answer) ∷ []) es
       × (calls_among es ≡ (call, answer) ∷ []) × (end.files ≡ files)
       × (slice_get end.queues i ≡ Some (live_of after)))
   lost_asked s i reached there places limit small in_session =
       let q = live_of before in
       let ds = one.descriptors.items in
-      let walk = walks_law s i (calls_of walks.0 given) old one before after (says.Chain head n r) there places limit goes tt walks.1 tt in
+      let walk = walks_law s i (given_so_far walks.0 given) old one before after (says.Chain head n r) there places limit goes tt
+      walks.1 tt in
       let loaded = walk.0 in
       let is = chain_is ds walk.2 head n r walk.3 in
       let came = step.Chain head None in
@@ -90,7 +91,7 @@ module _ {F : Type 0} (may : May F) (walks_law : HandleEndsPop may) (asks_law : 
               options = s.options;
               calls = [];
               asked = refl;
-              waits = sym asking.0.tells;
+              pending = sym asking.0.tells;
               is_one = fits;
               files = files;
               may_so = so;
