@@ -55,8 +55,8 @@ pub fn look_after_refusal<F: FileSystem>(
     }
 }
 
-/// A pop between whose calls another handle returns a chain of the same queue. It makes few loads. If it finds
-/// no chain available, it is an event, and leaves the queue as that return did.
+/// A pop between whose calls another handle returns a chain of the same queue. It makes few loads. If it
+/// finds no chain available, it is an event, and leaves the queue as that return did.
 pub fn look_among_returns<F: FileSystem>(
     handle: &mut ChainHandle,
     other: &mut ChainHandle,

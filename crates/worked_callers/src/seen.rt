@@ -57,8 +57,8 @@ pub fn push_by(
 /// Serves a chain without data in its answer, not a listing. Beside other chains of its queue, it is answered
 /// as by a machine whose queue is at the position of the push. If it is in flight alone, it is a step by the
 /// two bytes seen. Take a memory that has all loaded bytes, and in which the start of the reply buffer never
-/// overlaps its rest. Over it the chain is the machine's step. Returns whether the driver is notified, and the
-/// address of the two bytes.
+/// overlaps its rest. Over it the chain is the machine's step. Returns whether the driver is notified, and
+/// the address of the two bytes.
 pub fn serve_by<F: FileSystem>(
     handle: &mut ChainHandle,
     queue: &mut QueueState,
