@@ -59,20 +59,20 @@ numbered! {
         /// The queue stopped before. Reset it.
         Stopped = 1, "the queue stopped before";
         /// The available index lies in no region. It stops the queue.
-        AvailIndexUnreachable = 2, "the available index is unreachable";
+        AvailIndexUnreachable = 2, "the available index can't be read";
         /// More chains are available than the queue holds (VIRTIO 1.2, 2.7.6). It stops the queue.
         AvailTooFar = 3, "more chains are available than the queue holds";
         /// An entry of the available ring lies in no region. It stops the queue.
-        RingEntryUnreachable = 4, "an entry of the available ring is unreachable";
+        RingEntryUnreachable = 4, "the available ring's entry can't be read";
         /// The available ring names a descriptor that the table doesn't have. It stops the queue.
         HeadOutOfTable = 5, "a chain's head is out of the descriptor table";
         /// The used ring, or `avail_event` at its end, lies in no region. It stops the queue.
-        UsedUnreachable = 6, "the used ring is unreachable";
+        UsedUnreachable = 6, "the used ring can't be written";
         /// The available flags, or `used_event` of a queue with an event index, lie in no region.
         /// It stops the queue.
-        AvailFlagsUnreachable = 7, "the available flags or used_event are unreachable";
+        AvailFlagsUnreachable = 7, "the available flags, or used_event, can't be read";
         /// A descriptor of the table lies in no region. It stops the queue.
-        DescriptorUnreachable = 8, "a descriptor is unreachable";
+        DescriptorUnreachable = 8, "a descriptor can't be read";
         /// An allocation failed; call again later. The driver doesn't notify again for a chain that
         /// is available.
         OutOfMemory = 9, "out of memory";
@@ -95,7 +95,7 @@ numbered! {
         /// Another chain of the queue is being returned.
         Pushing = 78, "another chain of the queue is being returned";
         /// A late answer: it is to a call of an earlier chain.
-        OtherCall = 79, "an answer of a call that is gone";
+        OtherCall = 79, "a late answer, to a call of an earlier chain";
         /// A record that ends early.
         RecordTruncated = 81, "the record ends early";
         /// Bytes that aren't a record.
@@ -103,11 +103,11 @@ numbered! {
         /// A record of a version that the library doesn't read.
         RecordBadVersion = 83, "the record's version isn't known";
         /// A record with no queue, or with more than 64.
-        RecordBadCount = 84, "the record's number of queues is none that it may be";
+        RecordBadCount = 84, "the record has no queue, or more than 64";
         /// A record whose reserved bytes aren't zero.
         RecordBadReserved = 85, "the record's reserved bytes aren't zero";
         /// A record with a queue whose numbers no queue can have.
-        RecordBadQueue = 86, "a queue of the record is none";
+        RecordBadQueue = 86, "a queue of the record is invalid";
         /// A record with unknown options.
         RecordBadOptions = 87, "the record's options aren't known";
         /// An allocation failed; call again later.
@@ -168,17 +168,17 @@ numbered! {
         /// A descriptor with an indirect table has a `next` too (2.7.5.3.1).
         IndirectWithNext = 4, "an indirect descriptor has a next one";
         /// An indirect table has a descriptor with an indirect table (2.7.5.3.1).
-        IndirectNested = 5, "an indirect table names another one";
+        IndirectNested = 5, "an indirect table has an indirect descriptor";
         /// An indirect table's length isn't that of a number of descriptors (2.7.5.3).
         IndirectLength = 6, "an indirect table has a wrong length";
         /// An indirect table lies in no region.
-        TableUnreachable = 7, "an indirect table is unreachable";
+        TableUnreachable = 7, "an indirect table can't be read";
         /// The request or the reply buffer has more bytes than the device's limit.
         OverLimit = 8, "the request or the reply buffer is over the limit";
         /// Bytes of the request lie in no region.
-        RequestUnreachable = 9, "the request is unreachable";
+        RequestUnreachable = 9, "the request can't be read";
         /// Bytes of the reply buffer lie in no region.
-        RoomUnreachable = 10, "the reply buffer is unreachable";
+        RoomUnreachable = 10, "the reply buffer can't be written";
     }
 }
 
