@@ -1,5 +1,6 @@
 -- A chain that is popped and decoded, and lost while its call is pending.
-use Rattle.std.proofs.Common.{◌≡◌, ℕ, ◌≤◌, ◌^◌, List, [], ◌∷◌, ◌++◌, Some, None, slice_get, refl, subst, sym, ap, ◌∙◌}
+use Rattle.std.proofs.Common.{◌≡◌, ℕ, ◌≤◌, ◌^◌, List, [], ◌∷◌, ◌++◌, Some, None, slice_get, refl, subst, sym, ap, ◌∙◌, inl, inr}
+use Rattle.std.specs.Prelude.{Option}
 use Rattle.std.specs.Borrow.{Bor}
 use Rattle.std.specs.Prelude.{drop, IsTrue}
 use Rattle.fs_regions.specs.Places.{places_in}
@@ -10,7 +11,14 @@ use Rattle.fuse_values.specs.Values.{call_of}
 use Rattle.fuse_values.specs.declared.call.FileCall as made_call
 use Rattle.virtiofsd_fuse.specs.Serving.{May}
 use Rattle.server_phases.specs.declared.session.Session.{Session}
+use Rattle.fuse_values.specs.declared.answer.FileAnswer as value
+use Rattle.fs_chain.specs.Answers.{AnswerFails, IsNotTaken}
+use Rattle.fs_chain.specs.Serials.{serial_error}
 use Rattle.fs_chain.specs.Whole.{IsDecodedBy}
+use Rattle.fs_chain.specs.declared.error.ChainError.{ChainError}
+use Rattle.fs_chain.specs.declared.error.ChainError.TheVariants as error
+use Rattle.fs_chain.specs.declared.state.ChainState as state
+use Rattle.fs_chain.specs.declared.state.ChainState.TheVariants as at
 use Rattle.fs_chain.specs.declared.decoding.Decoded.TheVariants as asks
 use Rattle.fs_chain.specs.declared.loads.LoadOutcome.TheVariants as wents
 use Rattle.fs_chain.specs.declared.queue.QueueState.{QueueState}
@@ -26,6 +34,21 @@ use Rattle.worked_callers.specs.Events.{IsAbandonedAsked}
 use Rattle.worked_callers.specs.Notified.{IsWalkedBy, given_so_far}
 use Rattle.worked_callers.proofs.NamedEvents.{popped_by, told_so}
 use Rattle.worked_callers.proofs.ServedBeside.{chain_is, reached_by}
+
+abbrev error_in : Option ChainError → ChainError
+error_in None = error.WrongOrder
+error_in (Some e) = e
+
+-- a free handle refuses each answer as one in a wrong order
+pub late_refused : (w : ChainHandle) (serial : ℕ) (answer : value.FileAnswer) (e : ChainError) → w.state ≡ at.Free
+    → IsNotTaken w serial answer e → e ≡ error.WrongOrder
+late_refused w serial answer e free refused =
+    let none : serial_error w.state w.serial serial ≡ Some error.WrongOrder =
+    ap (λ (st : state.ChainState). serial_error st w.serial serial) free in
+    elim refused [
+      | inl first ↦ ap error_in (sym first ∙ none)
+      | inr later ↦ subst (λ (st : state.ChainState). AnswerFails st answer e) free later.1
+    ]
 
 module _ {F : Type 0} (may : May F) (walks_law : HandleEndsPop may) (asks_law : HandleDecodesRequest may)
     (abandons_law : HandleAbandons may) (given : List (Bor (List ℕ)))

@@ -8,8 +8,7 @@ use Rattle.fs_chain.specs.Whole.{WantsBytes}
 use Rattle.fs_chain.specs.declared.chain_handle.ChainHandle.{ChainHandle}
 use Rattle.fs_chain.specs.declared.loads.LoadOutcome as went
 use Rattle.fs_chain.specs.declared.queue.QueueState.{QueueState}
-use Rattle.fs_notify.specs.Amid.{WalksAmid}
-use Rattle.worked_callers.specs.Notified.{given_so_far}
+use Rattle.worked_callers.specs.Notified.{IsRefusedCall, WalksPast, given_so_far}
 
 abbrev pub none : Bor (List ℕ)
 none = record { ref_ptr = (0, 0); now = [] }
@@ -34,10 +33,13 @@ calls_next bytes k bs within is =
     ap (λ (n : ℕ). given_so_far n bytes) one ∙ calls_more bytes k within ∙ ap (λ (l : List ℕ). l ∷ given_so_far k bytes) (sym is)
 
 -- one call more, before which another was refused
-pub amid_more : (bytes : List (Bor (List ℕ))) (k : ℕ) (bs : List ℕ) (old w v new : ChainHandle) (before q found after : QueueState)
-    (earlier told : went.LoadOutcome) → k < length bytes → WalksAmid (given_so_far k bytes) old w before q earlier → WantsBytes earlier
-    → IsSame w v → found ≡ q → GoesSo v found bs told new after → bs ≡ (get_or bytes k none).now
-    → WalksAmid (given_so_far (k + 1) bytes) old new before after told
-amid_more bytes k bs old w v new before q found after earlier told within walks wants same left goes is =
-    subst (λ (given : List (List ℕ)). WalksAmid given old new before after told) (sym (calls_next bytes k bs within is))
-    (w, v, q, earlier, walks, wants, same, subst (λ (j : QueueState). GoesSo v j bs told new after) left goes)
+pub amid_more : (bytes : List (Bor (List ℕ))) (k : ℕ) (bs wrong : List ℕ) (old w v new : ChainHandle) (before q found after : QueueState)
+    (earlier told : went.LoadOutcome) → k < length bytes → WalksPast wrong (given_so_far k bytes) old w before q earlier →
+    WantsBytes earlier
+    → IsRefusedCall w q wrong → IsSame w v → found ≡ q → GoesSo v found bs told new after → bs ≡ (get_or bytes k none).now
+    → WalksPast wrong (given_so_far (k + 1) bytes) old new before after told
+amid_more bytes k bs wrong old w v new before q found after earlier told within walks wants refused same left goes is =
+    subst (λ (given : List (List ℕ)). WalksPast wrong given old new before after told) (sym (calls_next bytes k bs within is)) (
+      (w, v, q, earlier, walks.0, wants, same, subst (λ (j : QueueState). GoesSo v j bs told new after) left goes),
+      (walks.1, refused),
+    )

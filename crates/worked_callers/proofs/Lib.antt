@@ -1,12 +1,15 @@
 pub mod CalledBy
 pub mod CallsSuit
 pub mod Ended
+pub mod FaultyInOrder
 pub mod FilledRuns
 pub mod GivenBytes
 pub mod InARowRun
+pub mod LoadedFlags
 pub mod Looks
 pub mod AbandonedAsked
 pub mod MappedAmid
+pub mod MissedEvent
 pub mod ModelActs
 pub mod MovedAmid
 pub mod NamedEvents
@@ -15,5 +18,10 @@ pub mod OwnRuns
 pub mod Served
 pub mod ServedBeside
 pub mod ServedCrossed
+pub mod ServedSteps
 pub mod StaysAlike
+pub mod StoppedAmid
 pub mod TakenTwo
+pub mod TookQueue
+pub mod TurnServed
+pub mod WorkedReturns

@@ -1,10 +1,13 @@
 -- The first call of a pop.
-use Rattle.std.proofs.Common.{◌≡◌, ℕ, [], List, None, Some, subst}
+use Rattle.std.proofs.Common.{◌≡◌, ℕ, [], List, None, Some, subst, ap, ◌∙◌}
 use Rattle.fs_queue.specs.Chain.{Descriptor}
 use Rattle.fs_regions.specs.declared.step.CourseStep as comes
 use Rattle.fs_regions.specs.declared.step.CourseStep.TheVariants as step
-use Rattle.fs_chain.specs.Walks.{queue_after, told_of}
-use Rattle.fs_chain.specs.Whole.{BeginsPopBy, WantsBytes}
+use Rattle.fs_queue.specs.declared.fault.QueueError.{QueueError}
+use Rattle.fs_chain.specs.Queues.{pop_id_of}
+use Rattle.fs_chain.specs.Walks.{HasEvents, course_of, queue_after, state_after, told_of}
+use Rattle.fs_chain.specs.Whole.{BeginsPopBy, WalksBy, WantsBytes}
+use Rattle.fs_chain.specs.declared.state.ChainState.TheVariants as at
 use Rattle.fs_chain.specs.declared.loads.LoadOutcome as went
 use Rattle.fs_chain.specs.declared.loads.LoadOutcome.TheVariants as wents
 use Rattle.fs_chain.specs.declared.queue.QueueState.{QueueState}
@@ -12,6 +15,7 @@ use Rattle.fs_chain.specs.declared.popping.PopOutcome as walked
 use Rattle.fs_chain.specs.declared.popping.PopOutcome.TheVariants as says
 use Rattle.fs_chain.specs.declared.chain_handle.ChainHandle.{ChainHandle}
 use Rattle.fs_chain.proofs.WholeWalks.{walk_comes}
+use Rattle.worked_callers.proofs.NamedEvents.{idle_is, refusal_is}
 
 abbrev IsALoad : walked.PopOutcome → Type 0
 IsALoad (says.Load n) = Unit {0}
@@ -38,3 +42,26 @@ keeps_queue old new before after (wents.On (says.Missing range access)) goes wan
 keeps_queue old new before after (wents.On (says.Refused e)) goes wants by = absurd wants
 keeps_queue old new before after (wents.On (says.Chain head n r)) goes wants by = absurd wants
 keeps_queue old new before after (wents.On (says.Faulty head fault)) goes wants by = absurd wants
+
+-- a pop that found no chain leaves the queue, and frees the handle
+pub idle_leaves : (given : List (List ℕ)) (old new : ChainHandle) (before after : QueueState) → before.stopped ≡ None
+    → WalksBy given old new before after (wents.On says.Idle) → (new.state ≡ at.Free) × (after ≡ before)
+idle_leaves given old new before after goes walks =
+    let ds = new.descriptors.items in
+    let made = walk_comes given old new before after says.Idle goes tt walks in
+    let is = idle_is ds made.2.0 made.2.1.0 in (
+      made.2.1.1 ∙ ap (λ (k : comes.CourseStep). state_after (course_of before old.limit) (pop_id_of before) ds k) is,
+      made.2.1.2 ∙ ap (λ (k : comes.CourseStep). queue_after before k) is,
+    )
+
+-- a pop that was refused stops the queue, and frees the handle
+pub refusal_leaves : (given : List (List ℕ)) (e : QueueError) (old new : ChainHandle) (before after : QueueState) → before.stopped ≡ None
+    → HasEvents old before → WalksBy given old new before after (wents.On (says.Refused e))
+    → (new.state ≡ at.Free) × (after ≡ record before { stopped = Some e })
+refusal_leaves given e old new before after goes events walks =
+    let ds = new.descriptors.items in
+    let made = walk_comes given old new before after (says.Refused e) goes events walks in
+    let is = refusal_is ds made.2.0 e made.2.1.0 in (
+      made.2.1.1 ∙ ap (λ (k : comes.CourseStep). state_after (course_of before old.limit) (pop_id_of before) ds k) is,
+      made.2.1.2 ∙ ap (λ (k : comes.CourseStep). queue_after before k) is,
+    )

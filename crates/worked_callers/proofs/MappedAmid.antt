@@ -23,32 +23,34 @@ use Rattle.fs_live.specs.Live.{PushesChain, RepliesOwnBytes, EndsPop, after_push
 use Rattle.fs_live.specs.Others.{PushedOwn, HandlePushesOwn, HandleRemaps, HandleRepliesOwnBytes, IsOwn}
 use Rattle.fs_live.specs.Several.{LiveQueue, took}
 use Rattle.fs_live.proofs.Queues.{same_some, there_same}
-use Rattle.worked_callers.specs.Events.{IsRepliedChain}
+use Rattle.worked_callers.specs.Events.{IsRepliedChain, loaded_flags}
 use Rattle.worked_callers.specs.Notified.{IsWalkedBy, given_so_far}
+use Rattle.worked_callers.proofs.LoadedFlags.{pushed_own}
 use Rattle.worked_callers.proofs.NamedEvents.{popped_by, told_so}
 use Rattle.worked_callers.proofs.OthersBeside.{own_kept}
 use Rattle.worked_callers.proofs.ServedBeside.{chain_is, reached_by, taken_of}
 
 pub mapped_amid :
-    {F : Type 0} (may : May F) (walks_law : HandleEndsPop may) (maps_law : HandleRemaps may) (replies_law : HandleRepliesOwnBytes may)
-    (returns_law : HandlePushesOwn may) (given : List (Bor (List ℕ))) (old one two other : ChainHandle)
-    (before after final : QueueState) (head n r serial : ℕ) (request reply : List ℕ) (notice : Bool) → before.stopped ≡ None
+    {F : Type 0} (may : May F) (m : Memory) (walks_law : HandleEndsPop may) (maps_law : HandleRemaps may)
+    (replies_law : HandleRepliesOwnBytes may) (returns_law : HandlePushesOwn may) (given : List (Bor (List ℕ)))
+    (old one two other : ChainHandle) (before after final : QueueState) (head n r serial : ℕ) (request reply : List ℕ)
+    (notice : Bool) → before.stopped ≡ None
     → IsWalkedBy given old one before after (wents.On (says.Chain head n r))
     → FromTaken one.state (λ out. out.request_len ≡ length request) → own_error one.state one.serial serial (length reply) ≡ None
     → IfUnanswered one.state (λ out. two ≡ record one { state = at.HasReply out (own_reply (length reply)) })
-    → ((room bytes : List ℕ) (last : ℕ) → (acts : List Act) × PushedOwn after room bytes two.state acts last notice)
-    → final ≡ gave after → (s : LiveState F) (i : ℕ) → IsReached may s → s.outs ≡ []
+    → ((room bytes : List ℕ) (last : ℕ) → (acts : List Act) × (back : PushedOwn after room bytes two.state acts last notice)
+    × (back.flags ≡ loaded_flags))
+    → final ≡ gave after → places_in other.regions ≡ m → (s : LiveState F) (i : ℕ) → IsReached may s → s.outs ≡ []
     → slice_get s.queues i ≡ Some (live_of before) → s.places ≡ places_in old.regions → s.limit ≡ old.limit → s.limit ≤ 2 ^ 31
-    → KeepsReturns s.places (places_in other.regions) (live_of before)
+    → KeepsReturns s.places m (live_of before)
     → (es : List LiveEvent) × (end : LiveState F) × LiveRun may s es end
-    × IsRepliedChain s i given old before (Remaps (places_in other.regions) ∷ []) request reply notice es
+    × IsRepliedChain s i given old before (Remaps m ∷ []) request reply notice es
     × (calls_among es ≡ []) × (end.outs ≡ []) × (slice_get end.queues i ≡ Some (live_of final))
-    × (end.places ≡ places_in other.regions)
-mapped_amid {F} may walks_law maps_law replies_law returns_law given old one two other before after final head n r serial request reply
-    notice goes walks len clear is_kept back final_is s i reached none there places limit small
+    × (end.places ≡ m)
+mapped_amid {F} may m walks_law maps_law replies_law returns_law given old one two other before after final head n r serial request reply
+    notice goes walks len clear is_kept back final_is m_is s i reached none there places limit small
     keeps =
     let q = live_of before in
-    let m : Memory = places_in other.regions in
     let ds = one.descriptors.items in
     let walk = walks_law s i (given_so_far walks.0 given) old one before after (says.Chain head n r) there places limit goes tt
     walks.1 tt in
@@ -70,31 +72,34 @@ mapped_amid {F} may walks_law maps_law replies_law returns_law given old one two
     let all : AllByRecursion (KeepsQueue s₁ m) s₁.outs =
     subst (λ (outs : List OutChain). AllByRecursion (KeepsQueue s₁ m) (outs ++ c ∷ [])) (sym none) (keeps_c, tt) in
     let s₂ : LiveState F = record s₁ { places = m } in
-    let mapped : Happens may s₁ (Remaps m) s₂ = maps_law s₁ other (inr all) in
+    let mapped : Happens may s₁ (Remaps m) s₂ =
+    subst (λ (x : Memory). AllByRecursion (KeepsQueue s₁ x) s₁.outs → Happens may s₁ (Remaps x) (record s₁ { places = x })) m_is
+    (λ stay. maps_law s₁ other (inr stay)) all in
     let reached₂ = reached_by may s₁ s₂ (Remaps m) (reached_by may s s₁ (EndsPop i loaded ds came) reached first) mapped in
     let replied = replies_law s₂ c s.outs [] one serial s.options request reply reached₂ small refl refl held len clear in
     let d : OutChain = record c { phase = Own request reply } in
     let s₃ : LiveState F = after_own s₂ s.outs [] c request reply s.options in
     let own : IsOwn d reply two.state = own_kept one.state one two d reply replied.1 is_kept in
     let goes_back = back (room_of d) reply 0 in
-    let next_used = returns_law s₃ d s.outs [] two.state after request reply goes_back.0 0 notice refl there₁
+    let returned = returns_law s₃ d s.outs [] two.state after request reply goes_back.0 0 notice refl there₁
     (taken_of before after goes taken_is) refl own goes_back.1 in
+    let next_used = pushed_own may s₃ s.outs [] d after goes_back.0 0 notice goes_back.1.stores two.state (room_of d) reply goes_back.1
+    goes_back.2 returned in
     let s₄ : LiveState F = after_push s₃ s.outs [] d (live_of after) in (
       EndsPop i loaded ds came ∷ Remaps m ∷ RepliesOwnBytes c request reply s.options
-          ∷ PushesChain d next_used.0 notice 0 next_used.1 next_used.2 ∷ [],
+          ∷ PushesChain d next_used.0 notice 0 next_used.1 loaded_flags ∷ [],
       s₄,
-      (s₁, first, (s₂, mapped, (s₃, replied.0, (s₄, next_used.4, refl)))),
+      (s₁, first, (s₂, mapped, (s₃, replied.0, (s₄, next_used.2, refl)))),
       (
         c,
         s.options,
         next_used.0,
         next_used.1,
-        next_used.2,
         popped_by s i given old one before after head n r ds loaded walks walk.1 (told_so ds (says.Chain head n r) walk.2 came walk.3 is),
         refl,
       ),
       refl,
       ap (λ (outs : List OutChain). outs ++ []) none,
-      next_used.5 ∙ ap (λ (k : QueueState). Some (live_of k)) (sym final_is),
+      next_used.3 ∙ ap (λ (k : QueueState). Some (live_of k)) (sym final_is),
       refl,
     )

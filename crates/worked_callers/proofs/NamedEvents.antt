@@ -81,7 +81,6 @@ served_named may s i given old one before after head n r walks request calls not
   so.exchange,
   so.stored_last,
   so.used,
-  so.seen,
   popped_by s i given old one before after head n r one.descriptors.items so.loaded walks so.loads so.told_is,
   so.es_are,
 )

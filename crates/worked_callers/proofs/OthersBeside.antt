@@ -43,8 +43,10 @@ use Rattle.fs_live.specs.Others.{HandleRepliesOwnBytes, IfOut}
 use Rattle.fs_live.specs.Others.{IsOwn, recorded}
 use Rattle.fs_live.specs.Several.{took}
 use Rattle.fs_live.proofs.Queues.{same_some, there_same}
-use Rattle.worked_callers.specs.Events.{IsAbandonedChain, IsGivenUpChain, IsRepliedChain}
+use Rattle.worked_callers.specs.ChainCalls.{stop_of}
+use Rattle.worked_callers.specs.Events.{IsAbandonedChain, IsGivenUpChain, IsRepliedChain, loaded_flags}
 use Rattle.worked_callers.specs.Notified.{IsWalkedBy, given_so_far}
+use Rattle.worked_callers.proofs.LoadedFlags.{pushed_own}
 use Rattle.worked_callers.proofs.NamedEvents.{popped_by, told_so}
 use Rattle.worked_callers.proofs.ServedBeside.{chain_is, held_later, reached_by, taken_of}
 
@@ -127,10 +129,12 @@ lost_beside {F} may walks_law abandons_law given old one before after head n r g
 -- a chain that its caller replied to goes back by what push told, with his bytes
 pub own_goes_back : (st : state.ChainState) (q : QueueState) (len : ℕ) (s : PushStores) (flags room reply : List ℕ) (last : ℕ) →
     return_error st q len ≡ None → length flags ≡ 2 →
-    IfHasReply st (λ out reply. PushesBy q out reply s) → (acts : List Act) × PushedOwn q room reply st acts last (tells_of q flags)
+    IfHasReply st (λ out reply. PushesBy q out reply s) →
+    (acts : List Act) × (back : PushedOwn q room reply st acts last (tells_of q flags)) × (back.flags ≡ flags)
 own_goes_back (at.HasReply out r) q len s flags room reply last can two back = (
   return_acts (reply_stores room reply last ++ stores_of s.used) flags,
   record { stores = s; flags = flags; flags_len = two; returns = (back, refl); notified = refl },
+  refl,
 )
 own_goes_back at.Free q len s flags room reply last can two back = absurd (cc)
 own_goes_back (at.Walking course pop_id walk) q len s flags room reply last can two back = absurd (cc)
@@ -164,7 +168,8 @@ pub replied_beside : {F : Type 0} (may : May F) (walks_law : HandleEndsPop may) 
     → IsWalkedBy given old one before after (wents.On (says.Chain head n r))
     → FromTaken one.state (λ out. out.request_len ≡ length request) → own_error one.state one.serial serial (length reply) ≡ None
     → IfUnanswered one.state (λ out. two ≡ record one { state = at.HasReply out (own_reply (length reply)) })
-    → ((room bytes : List ℕ) (last : ℕ) → (acts : List Act) × PushedOwn after room bytes two.state acts last notice) → final ≡ gave after
+    → ((room bytes : List ℕ) (last : ℕ) → (acts : List Act) × (back : PushedOwn after room bytes two.state acts last notice)
+    × (back.flags ≡ loaded_flags)) → final ≡ gave after
     → (s : LiveState F) (i : ℕ)
     → IsReached may s → slice_get s.queues i ≡ Some (live_of before) → s.places ≡ places_in old.regions → s.limit ≡ old.limit
     → s.limit ≤ 2 ^ 31
@@ -196,13 +201,15 @@ replied_beside {F} may walks_law replies_law returns_law given old one two befor
     let taken_is : took q ≡ live_of after =
     same_some (took q) (live_of after) (sym (there_same s.queues i i (λ _. took q) q refl there) ∙ there₁) in
     let goes_back = back (room_of d) reply 0 in
-    let next_used = returns_law s₂ d s.outs [] two.state after request reply goes_back.0 0 notice refl there₁
+    let returned = returns_law s₂ d s.outs [] two.state after request reply goes_back.0 0 notice refl there₁
     (taken_of before after goes taken_is) refl own goes_back.1 in
+    let next_used = pushed_own may s₂ s.outs [] d after goes_back.0 0 notice goes_back.1.stores two.state (room_of d) reply goes_back.1
+    goes_back.2 returned in
     let s₃ : LiveState F = after_push s₂ s.outs [] d (live_of after) in (
-      EndsPop i loaded ds came ∷ RepliesOwnBytes c request reply s.options ∷ PushesChain d next_used.0 notice 0 next_used.1 next_used.2
+      EndsPop i loaded ds came ∷ RepliesOwnBytes c request reply s.options ∷ PushesChain d next_used.0 notice 0 next_used.1 loaded_flags
           ∷ [],
       s₃,
-      (s₁, first, (s₂, replied.0, (s₃, next_used.4, refl))),
+      (s₁, first, (s₂, replied.0, (s₃, next_used.2, refl))),
       refl,
       append-nil s.outs,
       changed_twice s.queues i (took q) (live_of (gave after))
@@ -215,7 +222,6 @@ replied_beside {F} may walks_law replies_law returns_law given old one two befor
         s.options,
         next_used.0,
         next_used.1,
-        next_used.2,
         popped_by s i given old one before after head n r ds loaded walks walk.1 (told_so ds (says.Chain head n r) walk.2 came walk.3 is),
         refl,
       ),
@@ -246,6 +252,11 @@ on_ok_any (Ok a) P p = p
 on_ok_any (Err e) P p = tt
 
 -- ---- moves
+
+-- a queue is stopped if the record's was
+pub stop_is : (stopped : Bool) → is_some (stop_of stopped) ≡ stopped
+stop_is true = refl
+stop_is false = refl
 
 -- a queue that is begun by that of a record stands as that
 pub begun_by : (q : QueueState) (layout : QueueLayout) (read : Queue) (stopped : Option QueueError) → layout.size ≡ read.size →

@@ -56,9 +56,10 @@ use Rattle.fs_live.specs.Several.{heads_taken, returning, took}
 use Rattle.fs_live.specs.Several as several
 use Rattle.fs_live.proofs.Moved.{joined}
 use Rattle.fs_live.proofs.Queues.{same_some, there_same}
-use Rattle.worked_callers.specs.Events.{IsRepliedChain, IsRepliedInstead}
+use Rattle.worked_callers.specs.Events.{IsRepliedChain, IsRepliedInstead, loaded_flags}
 use Rattle.worked_callers.specs.Notified.{IsWalkedBy, given_so_far}
 use Rattle.worked_callers.specs.OwnReplies.{EndsAlone, IsAt, LogsOwn, ReturnsOwn, ReturnsAsStep}
+use Rattle.worked_callers.proofs.LoadedFlags.{pushed_own}
 use Rattle.worked_callers.proofs.NamedEvents.{popped_by, told_so}
 use Rattle.worked_callers.proofs.OthersBeside.{changed_twice, own_kept}
 use Rattle.worked_callers.proofs.ServedBeside.{calls_of_both, chain_is, reached_by, run_more, taken_of}
@@ -105,7 +106,8 @@ module _ {F : Type 0} (may : May F) (returns_law : HandlePushesOwn may) (before 
       → s₁.limit ≡ s.limit → s₁.page_size ≡ s.page_size
       → Happens may s₁ (RepliesOwnBytes c request reply options) (after_own s₁ s.outs [] c request reply options)
       → IsOwn (record c { phase = Own request reply }) reply st
-      → ((room bytes : List ℕ) (last : ℕ) → (acts : List Act) × PushedOwn after room bytes st acts last notice)
+      → ((room bytes : List ℕ) (last : ℕ) → (acts : List Act) × (back : PushedOwn after room bytes st acts last notice)
+      × (back.flags ≡ loaded_flags))
       → ReturnsOwn may s c.queue before (gave after) request reply calls notice
   replied_from s s₁ c st earlier calls options run calls_are outs there there₁ queues taken places limit page_size replies own back =
       let q = live_of before in
@@ -120,7 +122,9 @@ module _ {F : Type 0} (may : May F) (returns_law : HandlePushesOwn may) (before 
       let laid : d.taken ≡ queue_of (course_of (record after { next_avail = d.taken.position }) 0) =
       subst (λ (k : Queue). k ≡ queue_of (course_of (record after { next_avail = k.position }) 0)) (sym taken)
       (taken_of before after goes taken_is) in
-      let returned = returns_law s₂ d s.outs [] st after request reply goes_back.0 0 notice refl there₁ laid refl own goes_back.1 in
+      let made_by = returns_law s₂ d s.outs [] st after request reply goes_back.0 0 notice refl there₁ laid refl own goes_back.1 in
+      let returned = pushed_own may s₂ s.outs [] d after goes_back.0 0 notice goes_back.1.stores st (room_of d) reply goes_back.1
+      goes_back.2 made_by in
       let s₃ : LiveState F = after_push s₂ s.outs [] d (live_of after) in
       record {
         earlier = earlier ++ replied ∷ [];
@@ -136,9 +140,8 @@ module _ {F : Type 0} (may : May F) (returns_law : HandlePushesOwn may) (before 
         page_size_is = page_size;
         exchange = returned.0;
         used = returned.1;
-        seen = returned.2;
         end = s₃;
-        returns = returned.4;
+        returns = returned.2;
         outs_are = append-nil s.outs;
         queues_are = ap (λ (l : List LiveQueue). changed_at l i (λ _. live_of (gave after))) queues
             ∙ changed_twice s.queues i (took q) (live_of (gave after));
@@ -149,7 +152,7 @@ module _ {F : Type 0} (may : May F) (returns_law : HandlePushesOwn may) (before 
 module _ {F : Type 0} (may : May F) (s : LiveState F) (i : ℕ) (before after : QueueState) (request reply : List ℕ) (calls : Calls)
     (notice : Bool) (r : ReturnsOwn may s i before after request reply calls notice) where
   pub as_step : (G : Type 0) (named : List LiveEvent → Type 0)
-      → named (r.earlier ++ PushesChain r.chain r.exchange notice 0 r.used r.seen ∷ []) → OwnIsReturned G may → IsReached may s
+      → named (r.earlier ++ PushesChain r.chain r.exchange notice 0 r.used loaded_flags ∷ []) → OwnIsReturned G may → IsReached may s
       → ReturnsAsStep G may s i before after request reply calls notice named
   as_step G named is_named law reached = (
     r,
@@ -163,7 +166,7 @@ module _ {F : Type 0} (may : May F) (s : LiveState F) (i : ℕ) (before after : 
           queue = subst (λ (j : ℕ). slice_get m.queues j ≡ Some r.chain.taken) (sym r.queue_is)
               (queue ∙ ap (λ (q : Queue). Some q) (sym r.taken_is));
         } in
-        law reached.0 r.now r.end (reached.1 ++ r.earlier) r.chain r.exchange notice 0 r.used r.seen request reply m reached.2
+        law reached.0 r.now r.end (reached.1 ++ r.earlier) r.chain r.exchange notice 0 r.used loaded_flags request reply m reached.2
         (joined may reached.0 s r.now reached.1 r.earlier reached.3 r.run) r.returns r.phase_is is,
   )
 
@@ -173,10 +176,10 @@ module _ {F : Type 0} (may : May F) (s : LiveState F) (i : ℕ) (before after : 
       (subst (λ (p : Phase). PushedWith r.now.page_size r.chain p r.exchange) r.phase_is r.returns.goes)
 
   pub reports : ReturnsTell may → (w : LiveQueue) × (slice_get r.now.queues r.chain.queue ≡ Some w)
-      × (reported_by r.now (PushesChain r.chain r.exchange notice 0 r.used r.seen)
+      × (reported_by r.now (PushesChain r.chain r.exchange notice 0 r.used loaded_flags)
       ≡ returned_addresses (returning w) r.chain.head (room_of r.chain) reply)
   reports law =
-      let told = law r.now r.end r.chain r.exchange notice 0 r.used r.seen r.returns in
+      let told = law r.now r.end r.chain r.exchange notice 0 r.used loaded_flags r.returns in
       (told.0, told.1, told.2 ∙ ap (λ (bs : List ℕ). returned_addresses (returning told.0) r.chain.head (room_of r.chain) bs) reply_is)
 
 -- ---- a request that wasn't decoded
@@ -195,7 +198,8 @@ module _ {F : Type 0} (may : May F) (walks_law : HandleEndsPop may) (replies_law
     (len : FromTaken one.state (λ out. out.request_len ≡ length request))
     (clear : own_error one.state one.serial serial (length reply) ≡ None)
     (kept : IfUnanswered one.state (λ out. two ≡ record one { state = at.HasReply out (own_reply (length reply)) }))
-    (back : (room bytes : List ℕ) (last : ℕ) → (acts : List Act) × PushedOwn after room bytes two.state acts last notice) where
+    (back : (room bytes : List ℕ) (last : ℕ) → (acts : List Act) × (back : PushedOwn after room bytes two.state acts last notice)
+    × (back.flags ≡ loaded_flags)) where
   abbrev pub replied_fetched : (s : LiveState F) (i : ℕ) → IsAt may s i old before
       → ReturnsOwn may s i before (gave after) request reply [] notice
   replied_fetched s i here =
@@ -214,7 +218,7 @@ module _ {F : Type 0} (may : May F) (walks_law : HandleEndsPop may) (replies_law
   pub fetched_named : (s : LiveState F) (i : ℕ) (here : IsAt may s i old before)
       → IsRepliedChain s i given old before [] request reply notice
       ((replied_fetched s i here).earlier ++ PushesChain (replied_fetched s i here).chain (replied_fetched s i here).exchange notice 0
-      (replied_fetched s i here).used (replied_fetched s i here).seen ∷ [])
+      (replied_fetched s i here).used loaded_flags ∷ [])
   fetched_named s i here =
       let ds = one.descriptors.items in
       let pop = popped may walks_law old one before after head n r goes (given_so_far walks.0 given, walks.1) s i here in
@@ -223,7 +227,6 @@ module _ {F : Type 0} (may : May F) (walks_law : HandleEndsPop may) (replies_law
         s.options,
         whole.exchange,
         whole.used,
-        whole.seen,
         popped_by s i given old one before after head n r ds pop.loaded walks pop.loads pop.told_is,
         refl,
       )
@@ -241,7 +244,7 @@ module _ {F : Type 0} (may : May F) (walks_law : HandleEndsPop may) (replies_law
       let replied = replies_law s₁ c s.outs [] one serial s.options request reply (reached_by may s s₁ walked here.reached pop.happens)
       here.small refl refl pop.held len clear in
       let whole = replied_fetched s i here in
-      let returned : LiveEvent = PushesChain whole.chain whole.exchange notice 0 whole.used whole.seen in (
+      let returned : LiveEvent = PushesChain whole.chain whole.exchange notice 0 whole.used loaded_flags in (
         whole,
         c,
         s.options,
@@ -275,14 +278,14 @@ module _ {F : Type 0} (may : May F) (walks_law : HandleEndsPop may) (replies_law
       let replied = replies_law s₁ c s.outs [] one serial s.options request reply (reached_by may s s₁ walked here.reached pop.happens)
       here.small refl refl pop.held len clear in
       let whole = replied_fetched s i here in
-      let returned : LiveEvent = PushesChain whole.chain whole.exchange notice 0 whole.used whole.seen in
+      let returned : LiveEvent = PushesChain whole.chain whole.exchange notice 0 whole.used loaded_flags in
       let es : List LiveEvent = walked ∷ told ∷ returned ∷ [] in
       let run : LiveRun may s es whole.end = (s₁, pop.happens, (whole.now, replied.0, (whole.end, whole.returns, refl))) in
       let ticket : InFlightId = (whole.chain.taken.position, whole.chain.head) in
       let events : List QueueEvent =
       several.PopsOne head ∷ several.PushesOne ticket (length whole.exchange.reply) whole.used ∷ [] in
       let are : events_on i es ≡ events = both_events i head pop.loaded ds c whole.chain request reply s.options whole.exchange notice
-      whole.used whole.seen (eq-eqb i i refl) (eq-eqb i i refl) in
+      whole.used loaded_flags (eq-eqb i i refl) (eq-eqb i i refl) in
       let queue = runs s whole.end es i q here.there (tt, (tt, (tt, tt))) run in
       let alone : RunsOver (going q) [] (events_on i es) (going queue.0) (tickets_on i whole.end.outs) =
       subst (λ (outs : List InFlightId). RunsOver (going q) outs (events_on i es) (going queue.0) (tickets_on i whole.end.outs)) none
@@ -332,14 +335,15 @@ module _ {F : Type 0} (may : May F) (walks_law : HandleEndsPop may) (asks_law : 
     (keeps : (out : InFlight) → IfOut two.state (λ o. o ≡ out) → IfOut three.state (λ o. o ≡ out))
     (clear : own_error three.state three.serial serial (length reply) ≡ None)
     (kept : IfUnanswered three.state (λ out. four ≡ record three { state = at.HasReply out (own_reply (length reply)) }))
-    (back : (room bytes : List ℕ) (last : ℕ) → (acts : List Act) × PushedOwn after room bytes four.state acts last notice) where
+    (back : (room bytes : List ℕ) (last : ℕ) → (acts : List Act) × (back : PushedOwn after room bytes four.state acts last notice)
+    × (back.flags ≡ loaded_flags)) where
   abbrev call : FileCall
   call = call_of (drop 80 request) made
 
   pub replied_asked : (s : LiveState F) (i : ℕ) → IsAt may s i old before → IsSessionOf s session
       → (whole : ReturnsOwn may s i before (gave after) request reply [] notice)
       × IsRepliedInstead s i given old before request reply [] notice
-      (whole.earlier ++ PushesChain whole.chain whole.exchange notice 0 whole.used whole.seen ∷ [])
+      (whole.earlier ++ PushesChain whole.chain whole.exchange notice 0 whole.used loaded_flags ∷ [])
   replied_asked s i here in_session =
       let q = live_of before in
       let ds = one.descriptors.items in
@@ -371,7 +375,6 @@ module _ {F : Type 0} (may : May F) (walks_law : HandleEndsPop may) (asks_law : 
           s.options,
           whole.exchange,
           whole.used,
-          whole.seen,
           popped_by s i given old one before after head n r ds pop.loaded walks pop.loads pop.told_is,
           refl,
         ),
@@ -381,7 +384,7 @@ module _ {F : Type 0} (may : May F) (walks_law : HandleEndsPop may) (asks_law : 
       → IsTrue (suits call answer) → may s.files call answer files
       → (whole : ReturnsOwn may s i before (gave after) request reply ((call, answer) ∷ []) notice)
       × IsRepliedInstead s i given old before request reply ((call, answer) ∷ []) notice
-      (whole.earlier ++ PushesChain whole.chain whole.exchange notice 0 whole.used whole.seen ∷ [])
+      (whole.earlier ++ PushesChain whole.chain whole.exchange notice 0 whole.used loaded_flags ∷ [])
   replied_answered s i here in_session answer files fits so =
       let q = live_of before in
       let ds = one.descriptors.items in
@@ -432,7 +435,6 @@ module _ {F : Type 0} (may : May F) (walks_law : HandleEndsPop may) (asks_law : 
           s₃.options,
           whole.exchange,
           whole.used,
-          whole.seen,
           popped_by s i given old one before after head n r ds pop.loaded walks pop.loads pop.told_is,
           refl,
         ),

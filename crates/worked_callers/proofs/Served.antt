@@ -108,24 +108,7 @@ more_taken (at.Pushing out) P Q more p = p
 pub whole_front : (request : List ℕ) → IsRequestFront request request
 whole_front request = take_all (length request) request (omega arith)
 
--- a chain whose reply is known goes back by what push told
-pub goes_back : (st : state.ChainState) (q : QueueState) (len : ℕ) (s : PushStores) (flags room behind : List ℕ) →
-    return_error st q len ≡ None → length flags ≡ 2 →
-    IfHasReply st (λ out reply. PushesBy q out reply s) →
-    (acts : List Act) × (last : ℕ) × GoesBackBy q room behind st acts last (tells_of q flags)
-goes_back (at.HasReply out reply) q len s flags room behind can two back = (
-  push_acts room reply behind s flags,
-  front_len reply,
-  record { stores = s; flags = flags; flags_len = two; returns = (back, (refl, refl)); notified = refl },
-)
-goes_back at.Free q len s flags room behind can two back = absurd (cc)
-goes_back (at.Walking course pop_id walk) q len s flags room behind can two back = absurd (cc)
-goes_back (at.Taken out) q len s flags room behind can two back = absurd (cc)
-goes_back (at.Waits out w) q len s flags room behind can two back = absurd (cc)
-goes_back (at.Lists out l) q len s flags room behind can two back = absurd (cc)
-goes_back (at.Pushing out) q len s flags room behind can two back = absurd (cc)
-
--- these two bytes were loaded there
+-- a chain whose reply is known goes back by what push told, and these two bytes were loaded
 pub goes_back_by : (st : state.ChainState) (q : QueueState) (len : ℕ) (s : PushStores) (flags room behind : List ℕ) →
     return_error st q len ≡ None → length flags ≡ 2 →
     IfHasReply st (λ out reply. PushesBy q out reply s) →

@@ -69,8 +69,9 @@ use Rattle.fs_live.specs.Serial.{IsOfChain, Single, events_in}
 use Rattle.fs_live.specs.Several.{LiveQueue, took}
 use Rattle.fs_live.proofs.Alone.{all_both}
 use Rattle.fs_live.proofs.Queues.{same_some, there_same}
-use Rattle.worked_callers.specs.Events.{IsFaultyChain, answer_events}
+use Rattle.worked_callers.specs.Events.{IsFaultyChain, answer_events, loaded_flags}
 use Rattle.worked_callers.specs.Notified.{IsWalkedBy, given_so_far}
+use Rattle.worked_callers.proofs.LoadedFlags.{pushed_with}
 
 -- ---- runs
 
@@ -242,13 +243,12 @@ pub record ServedRun {F : Type 0} (may : May F) (s : LiveState F) (i : ℕ) (old
   pub exchange : Exchange
   pub stored_last : ℕ
   pub used : List Store
-  pub seen : List ℕ
   pub es_are : es ≡ EndsPop i loaded one.descriptors.items (step.Chain head None)
       ∷ DecodesRequest (new_chain s i (live_of before) loaded one.descriptors.items head None) request told_calls
       ∷ (answer_events (new_chain s i (live_of before) loaded one.descriptors.items head None) request s.options [] calls
       ++ PushesChain
       (asked_chain (new_chain s i (live_of before) loaded one.descriptors.items head None) request s.options calls) exchange notice
-      stored_last used seen ∷ [])
+      stored_last used loaded_flags ∷ [])
 
 module _ {F : Type 0} (may : May F) (walks_law : HandleEndsPop may) (asks_law : HandleDecodesRequest may) (calls_law : HandleCalls may)
     (returns_law : HandlePushesChain may) (old one later two three : ChainHandle)
@@ -257,7 +257,8 @@ module _ {F : Type 0} (may : May F) (walks_law : HandleEndsPop may) (asks_law : 
     (walks : IsWalked old one before after (wents.On (says.Chain head n r))) (same : later.state ≡ one.state)
     (asked : IsDecodedBy later session request request made two)
     (has : IsRepliedBy made two given three) (back : (room behind : List ℕ)
-    → (acts : List Act) × (last : ℕ) × GoesBackBy after room behind three.state acts last notice) where
+    → (acts : List Act) × (last : ℕ) × (back : GoesBackBy after room behind three.state acts last notice)
+    × (back.flags ≡ loaded_flags)) where
   pub served_beside : (s : LiveState F) (i : ℕ) (files : F) → IsReached may s → slice_get s.queues i ≡ Some (live_of before)
       → s.places ≡ places_in old.regions → s.limit ≡ old.limit
       → s.limit ≤ 2 ^ 31 → IsSessionOf s session → FileRun may s.files (file_calls (drop 80 request) made given) files
@@ -291,19 +292,21 @@ module _ {F : Type 0} (may : May F) (walks_law : HandleEndsPop may) (asks_law : 
       let kept₃ : IsKept ans.end.page_size s.options request d made two =
       subst (λ (p : ℕ). IsKept p s.options request d made two) (sym ans.page_size)
       (kept_on s.page_size s.options request c [] calls made two kept) in
-      let next_used = returns_law ans.end d s.outs [] two three after request s.options made given goes_back.0 goes_back.1 notice ans.outs
+      let returned = returns_law ans.end d s.outs [] two three after request s.options made given goes_back.0 goes_back.1 notice ans.outs
       there₃ (taken_of before after goes taken_is) refl
       (each_suits may s.files files calls run) kept₃ has goes_back.2 in
-      let last = PushesChain d next_used.0 notice goes_back.1 next_used.1 next_used.2 in
+      let next_used = pushed_with may ans.end s.outs [] d after goes_back.0 goes_back.1 notice goes_back.2.stores three.state (room_of d)
+      (data_behind given) goes_back.2 goes_back.3 returned in
+      let last = PushesChain d next_used.0 notice goes_back.1 next_used.1 loaded_flags in
       let s₄ : LiveState F = after_push ans.end s.outs [] d (live_of after) in
       record {
         es = EndsPop i loaded ds (step.Chain head None) ∷ DecodesRequest c request (calls_decoded (drop 80 request) made)
             ∷ (ans.es ++ last ∷ []);
         end = s₄;
-        run = (s₁, first, (s₂, asking.0, run_more may s₂ ans.end s₄ ans.es last ans.run next_used.4));
+        run = (s₁, first, (s₂, asking.0, run_more may s₂ ans.end s₄ ans.es last ans.run next_used.2));
         calls_are = calls_of_both ans.es (last ∷ []) ∙ append-nil (calls_among ans.es) ∙ ans.calls;
         outs = append-nil s.outs;
-        there = next_used.5;
+        there = next_used.3;
         anew = (tt, (tt, all_both (NoReset i) ans.es (last ∷ []) (ans.anew i) (tt, tt)));
         single = record {
           queue = i;
@@ -317,12 +320,12 @@ module _ {F : Type 0} (may : May F) (walks_law : HandleEndsPop may) (asks_law : 
           notice = notice;
           last = goes_back.1;
           used = next_used.1;
-          seen = next_used.2;
+          seen = loaded_flags;
         };
         queue_is = refl;
         of_chain = (tt, ans.of_chain);
         single_calls = refl;
-        single_run = (s₁, first, (s₂, asking.0, run_more may s₂ ans.end s₄ ans.es last ans.run next_used.4));
+        single_run = (s₁, first, (s₂, asking.0, run_more may s₂ ans.end s₄ ans.es last ans.run next_used.2));
         single_is = refl;
         loaded = loaded;
         loads = walk.1;
@@ -331,7 +334,6 @@ module _ {F : Type 0} (may : May F) (walks_law : HandleEndsPop may) (asks_law : 
         exchange = next_used.0;
         stored_last = goes_back.1;
         used = next_used.1;
-        seen = next_used.2;
         es_are = ap
             (λ (es : List LiveEvent). EndsPop i loaded ds (step.Chain head None)
             ∷ DecodesRequest c request (calls_decoded (drop 80 request) made) ∷ (es ++ last ∷ [])) ans.es_are;
@@ -362,7 +364,8 @@ pub faulty_beside : {F : Type 0} (may : May F) (walks_law : HandleEndsPop may) (
     (before after final : QueueState) (head : ℕ) (fault : ChainFault)
     (notice : Bool) → before.stopped ≡ None → IsWalkedBy given old one before after (wents.On (says.Faulty head fault))
     → later.state ≡ one.state
-    → ((room behind : List ℕ) → (acts : List Act) × (last : ℕ) × GoesBackBy after room behind later.state acts last notice)
+    → ((room behind : List ℕ) → (acts : List Act) × (last : ℕ) × (back : GoesBackBy after room behind later.state acts last notice)
+    × (back.flags ≡ loaded_flags))
     → final ≡ gave after → (s : LiveState F) (i : ℕ) → slice_get s.queues i ≡ Some (live_of before)
     → s.places ≡ places_in old.regions → s.limit ≡ old.limit
     → (es : List LiveEvent) × (end : LiveState F) × LiveRun may s es end × IsFaultyChain s i given old before notice es
@@ -386,23 +389,24 @@ faulty_beside {F} may walks_law faulty_law given old one later before after fina
     let taken_is : took q ≡ live_of after =
     same_some (took q) (live_of after) (sym (there_same s.queues i i (λ _. took q) q refl there) ∙ there₁) in
     let goes_back = back [] [] in
-    let next_used = faulty_law s₁ c s.outs [] later after fault goes_back.0 goes_back.1 notice refl there₁
+    let returned = faulty_law s₁ c s.outs [] later after fault goes_back.0 goes_back.1 notice refl there₁
     (taken_of before after goes taken_is) refl (faulty_later s.limit c one later same held) goes_back.2 in
+    let next_used = pushed_with may s₁ s.outs [] c after goes_back.0 goes_back.1 notice goes_back.2.stores later.state [] []
+    goes_back.2 goes_back.3 returned in
     let s₂ : LiveState F = after_push s₁ s.outs [] c (live_of after) in
-    let exchange_is : next_used.0 ≡ faulty head fault = next_used.4.goes in (
-      EndsPop i loaded ds came ∷ PushesChain c next_used.0 notice goes_back.1 next_used.1 next_used.2 ∷ [],
+    let exchange_is : next_used.0 ≡ faulty head fault = next_used.2.goes in (
+      EndsPop i loaded ds came ∷ PushesChain c next_used.0 notice goes_back.1 next_used.1 loaded_flags ∷ [],
       s₂,
-      (s₁, first, (s₂, next_used.4, refl)),
+      (s₁, first, (s₂, next_used.2, refl)),
       (
         c,
         fault,
         goes_back.1,
         next_used.1,
-        next_used.2,
         ((walks.0, one, after, walks.1, walk.1), refl),
-        ap (λ (x : Exchange). EndsPop i loaded ds came ∷ PushesChain c x notice goes_back.1 next_used.1 next_used.2 ∷ []) exchange_is,
+        ap (λ (x : Exchange). EndsPop i loaded ds came ∷ PushesChain c x notice goes_back.1 next_used.1 loaded_flags ∷ []) exchange_is,
       ),
       refl,
       append-nil s.outs,
-      next_used.5 ∙ ap (λ (q : QueueState). Some (live_of q)) (sym final_is),
+      next_used.3 ∙ ap (λ (q : QueueState). Some (live_of q)) (sym final_is),
     )

@@ -28,8 +28,9 @@ use Rattle.fs_live.specs.Live.{after_push}
 use Rattle.fs_live.specs.Live.{after_pop, asked_chain, calls_among, new_chain, room_of}
 use Rattle.fs_live.specs.Several.{LiveQueue, took}
 use Rattle.fs_live.proofs.Queues.{same_some, there_same}
-use Rattle.worked_callers.specs.Events.{AreCrossedChains, answer_events}
+use Rattle.worked_callers.specs.Events.{AreCrossedChains, answer_events, loaded_flags}
 use Rattle.worked_callers.specs.Notified.{IsWalkedBy, given_so_far}
+use Rattle.worked_callers.proofs.LoadedFlags.{pushed_with}
 use Rattle.worked_callers.proofs.NamedEvents.{popped_by, told_so}
 use Rattle.worked_callers.proofs.TakenTwo.{goes_still}
 use Rattle.worked_callers.proofs.ServedBeside.{answered_all, calls_of_both, chain_is, each_suits, kept_on, reached_by, taken_of}
@@ -41,7 +42,8 @@ run_both {F} may s mid after [] fs run more = subst (λ (k : LiveState F). LiveR
 run_both may s mid after (x ∷ es) fs run more = (run.0, run.1, run_both may run.0 mid after es fs run.2 more)
 
 -- a chain that goes back after another one was taken of its queue is of the queue's layout still
-late_of : (before mid after : QueueState) → before.stopped ≡ None → took (live_of before) ≡ live_of mid → took (live_of mid) ≡ live_of after
+pub late_of : (before mid after : QueueState) → before.stopped ≡ None → took (live_of before) ≡ live_of mid
+    → took (live_of mid) ≡ live_of after
     → (live_of before).queue ≡ queue_of (course_of (record (gave after) { next_avail = (live_of before).queue.position }) 0)
 late_of before mid after goes one two =
     taken_of before mid goes one ∙ ap (λ (k : LiveQueue). record (k.queue) { position = before.next_avail; stopped = false }) two
@@ -54,8 +56,10 @@ module _ {F : Type 0} (may : May F) (walks_law : HandleEndsPop may) (asks_law : 
     (walks' : IsWalkedBy bytes' old' two mid after (wents.On (says.Chain head' n' r')))
     (asked : IsDecodedBy one session request request made one₂) (asked' : IsDecodedBy two session' request' request' made' two₂)
     (has : IsRepliedBy made one₂ given one₃) (has' : IsRepliedBy made' two₂ given' two₃)
-    (back : (room behind : List ℕ) → (acts : List Act) × (last : ℕ) × GoesBackBy (gave after) room behind one₃.state acts last notice)
-    (back' : (room behind : List ℕ) → (acts : List Act) × (last : ℕ) × GoesBackBy after room behind two₃.state acts last notice') where
+    (back : (room behind : List ℕ) → (acts : List Act) × (last : ℕ)
+    × (back : GoesBackBy (gave after) room behind one₃.state acts last notice) × (back.flags ≡ loaded_flags))
+    (back' : (room behind : List ℕ) → (acts : List Act) × (last : ℕ) × (back : GoesBackBy after room behind two₃.state acts last notice')
+    × (back.flags ≡ loaded_flags)) where
   abbrev late : Calls
   late = file_calls (drop 80 request) made given
 
@@ -125,10 +129,12 @@ module _ {F : Type 0} (may : May F) (walks_law : HandleEndsPop may) (asks_law : 
       let kept₄ : IsKept ans'.end.page_size s.options request' e' made' two₂ =
       subst (λ (p : ℕ). IsKept p s.options request' e' made' two₂) (sym ans'.page_size)
       (kept_on s.page_size s.options request' c' [] early made' two₂ kept') in
-      let returned' = returns_law ans'.end e' others [] two₂ two₃ after request' s.options made' given' goes_back'.0 goes_back'.1
+      let made_by' = returns_law ans'.end e' others [] two₂ two₃ after request' s.options made' given' goes_back'.0 goes_back'.1
       notice' ans'.outs
       (ap (λ (l : List LiveQueue). slice_get l i) ans'.queues_are ∙ there₂) (taken_of mid after goes' taken') refl
       (each_suits may s.files between early run') kept₄ has' goes_back'.2 in
+      let returned' = pushed_with may ans'.end others [] e' after goes_back'.0 goes_back'.1 notice' goes_back'.2.stores two₃.state
+      (room_of e') (data_behind given') goes_back'.2 goes_back'.3 made_by' in
       let s₅ : LiveState F = after_push ans'.end others [] e' (live_of after) in
       let kept₅ : IsKept s₅.page_size s.options request d made one₂ =
       subst (λ (p : ℕ). IsKept p s.options request d made one₂) (sym ans'.page_size) kept in
@@ -140,13 +146,15 @@ module _ {F : Type 0} (may : May F) (walks_law : HandleEndsPop may) (asks_law : 
       let kept₆ : IsKept ans.end.page_size s.options request e made one₂ =
       subst (λ (p : ℕ). IsKept p s.options request e made one₂) (sym (ans.page_size ∙ ans'.page_size))
       (kept_on s.page_size s.options request c [] late made one₂ kept) in
-      let next_used = returns_law ans.end e s.outs [] one₂ one₃ (gave after) request s.options made given goes_back.0 goes_back.1
+      let made_by = returns_law ans.end e s.outs [] one₂ one₃ (gave after) request s.options made given goes_back.0 goes_back.1
       notice ans.outs
-      (ap (λ (l : List LiveQueue). slice_get l i) ans.queues_are ∙ returned'.5) (late_of before mid after goes taken taken') refl
+      (ap (λ (l : List LiveQueue). slice_get l i) ans.queues_are ∙ returned'.3) (late_of before mid after goes taken taken') refl
       (each_suits may between files late run) kept₆ has goes_back.2 in
+      let next_used = pushed_with may ans.end s.outs [] e (gave after) goes_back.0 goes_back.1 notice goes_back.2.stores one₃.state
+      (room_of e) (data_behind given) goes_back.2 goes_back.3 made_by in
       let s₆ : LiveState F = after_push ans.end s.outs [] e (live_of (gave after)) in
-      let last' = PushesChain e' returned'.0 notice' goes_back'.1 returned'.1 returned'.2 in
-      let last = PushesChain e next_used.0 notice goes_back.1 next_used.1 next_used.2 in
+      let last' = PushesChain e' returned'.0 notice' goes_back'.1 returned'.1 loaded_flags in
+      let last = PushesChain e next_used.0 notice goes_back.1 next_used.1 loaded_flags in
       let ends : List LiveEvent = ans.es ++ last ∷ [] in (
         EndsPop i walk.0 ds came ∷ EndsPop i walk'.0 ds' came' ∷ asks ∷ asks' ∷ (ans'.es ++ last' ∷ ends),
         s₆,
@@ -163,7 +171,7 @@ module _ {F : Type 0} (may : May F) (walks_law : HandleEndsPop may) (asks_law : 
                 s₄,
                 asking'.0,
                 run_both may s₄ ans'.end s₆ ans'.es (last' ∷ ends) ans'.run
-                    (s₅, returned'.4, run_both may s₅ ans.end s₆ ans.es (last ∷ []) ans.run (s₆, next_used.4, refl)),
+                    (s₅, returned'.2, run_both may s₅ ans.end s₆ ans.es (last ∷ []) ans.run (s₆, next_used.2, refl)),
               ),
             ),
           ),
@@ -174,13 +182,11 @@ module _ {F : Type 0} (may : May F) (walks_law : HandleEndsPop may) (asks_law : 
           next_used.0,
           goes_back.1,
           next_used.1,
-          next_used.2,
           c',
           calls_decoded (drop 80 request') made',
           returned'.0,
           goes_back'.1,
           returned'.1,
-          returned'.2,
           popped_by s i bytes old one before mid head n r ds walk.0 walks walk.1 (told_so ds (says.Chain head n r) walk.2 came walk.3 is),
           popped_by s i bytes' old' two mid after head' n' r' ds' walk'.0 walks' walk'.1
               (told_so ds' (says.Chain head' n' r') walk'.2 came' walk'.3 is'),
@@ -194,5 +200,5 @@ module _ {F : Type 0} (may : May F) (walks_law : HandleEndsPop may) (asks_law : 
         calls_of_both ans'.es (last' ∷ ends) ∙ ap (λ (l : Calls). l ++ calls_among ends) ans'.calls
             ∙ ap (λ (l : Calls). early ++ l) (calls_of_both ans.es (last ∷ []) ∙ append-nil (calls_among ans.es) ∙ ans.calls),
         append-nil s.outs,
-        next_used.5 ∙ ap (λ (q : QueueState). Some (live_of q)) (sym final_is),
+        next_used.3 ∙ ap (λ (q : QueueState). Some (live_of q)) (sym final_is),
       )

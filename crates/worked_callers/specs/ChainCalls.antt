@@ -1,5 +1,6 @@
 -- The calls of a chain that is served, and the loads of its pop.
-use Rattle.std.specs.Prelude.{◌≡◌, ℕ, List, [], ◌∷◌, drop, length}
+use Rattle.std.specs.Prelude.{◌≡◌, ℕ, Bool, List, [], ◌∷◌, drop, length, Option, Some, None}
+use Rattle.std.specs.Prelude.{if◌then◌else◌}
 use Rattle.std.specs.Borrow.{Bor}
 use Rattle.fuse_fs.specs.Answers.{listed}
 use Rattle.fuse_fs.specs.declared.answers.Entry.{Entry}
@@ -9,10 +10,16 @@ use Rattle.fuse_values.specs.declared.answer.FileAnswer.TheVariants as value
 use Rattle.server_phases.specs.declared.session.Session.{Session}
 use Rattle.server_phases.specs.Gathering.{Brought}
 use Rattle.plain_machine.specs.Step.{Calls, EachSuits}
+use Rattle.fs_queue.specs.Queue.{Queue}
+use Rattle.fs_queue.specs.declared.fault.QueueError.{QueueError}
+use Rattle.fs_queue.specs.declared.fault.QueueError.TheVariants.{Stopped}
+use Rattle.fs_queue.specs.declared.layout.QueueLayout.{QueueLayout}
+use Rattle.fs_regions.specs.Places.{Mapped}
 use Rattle.fs_regions.specs.Walks.{Loaded}
+use Rattle.fs_chain.specs.Queues.{reset_to}
 use Rattle.fs_chain.specs.Whole.{ByEntries, ChainAnswer, IsRepliedBy, IsDecodedBy, LoadsOf, NoAnswer}
 use Rattle.fs_chain.specs.Whole.{OneAnswer}
-use Rattle.fs_chain.specs.Whole.{WalksBy, file_calls}
+use Rattle.fs_chain.specs.Whole.{BeginsPopBy, WalksBy, WantsBytes, file_calls}
 use Rattle.fs_chain.specs.declared.answering.Replied.{Replied}
 use Rattle.fs_chain.specs.declared.chain_handle.ChainHandle.{ChainHandle}
 use Rattle.fs_chain.specs.declared.decoding.Decoded as told
@@ -72,3 +79,32 @@ ArePopLoads given old before told loaded =
     (n : ℕ) × (new : ChainHandle) × (after : QueueState)
     × (walks : WalksBy (given_so_far n given) old new before after told)
     × LoadsOf (given_so_far n given) old new before after told walks loaded
+
+-- the first call of a pop asks for bytes, and the queue stays as it is
+abbrev pub BeginsAndWants : (old new : ChainHandle) → QueueState → Type 0
+BeginsAndWants old new q = (told : went.LoadOutcome) × BeginsPopBy old new q q told × WantsBytes told
+
+-- a handle has this memory and this limit, and is otherwise as before
+abbrev pub HasMemory : (old new : ChainHandle) → Mapped → (limit : ℕ) → Type 0
+HasMemory old new regions limit =
+    (new.regions ≡ regions)
+    × (new.limit ≡ limit)
+    × (new.state ≡ old.state)
+    × (new.part ≡ old.part)
+    × (new.session ≡ old.session)
+    × (new.serial ≡ old.serial)
+    × (new.list_len ≡ old.list_len)
+
+-- the error with which a queue is stopped, if it is: a record doesn't have another
+abbrev pub stop_of : (stopped : Bool) → Option QueueError
+stop_of stopped = if stopped then Some Stopped else None
+
+-- a queue is reset from that of a record: to its areas and its position, and stopped if it was
+abbrev pub IsResetBy : Queue → (before after : QueueState) → Type 0
+IsResetBy read before after =
+    (layout : QueueLayout)
+    × (layout.size ≡ read.size)
+    × (layout.desc ≡ read.desc)
+    × (layout.avail ≡ read.avail)
+    × (layout.used ≡ read.used)
+    × (after ≡ record (reset_to before layout read.position) { stopped = stop_of read.stopped })

@@ -37,6 +37,10 @@ IsPoppedChain s i given old before fault c =
 
 -- ---- a chain's events
 
+-- the two bytes that the caller of these pushes passes as loaded: available flags 0, or used_event 0
+abbrev pub loaded_flags : List ℕ
+loaded_flags = 0 ∷ 0 ∷ []
+
 -- a decoded chain, the first calls of which were answered, receives the answers of the later ones
 abbrev pub answer_events :
     OutChain → (request : List ℕ) → (options : ℕ) → (earlier later : Calls) → List LiveEvent
@@ -52,12 +56,11 @@ abbrev pub IsServedChain : {F : Type 0} → LiveState F → (i : ℕ) → (given
     List LiveEvent → Type 0
 IsServedChain s i given old before request calls notice es =
     (c : OutChain) × (told : List FileCall) × (x : Exchange) × (last : ℕ) × (used : List Store)
-    × (seen : List ℕ)
     × IsPoppedChain s i given old before None c
     × (es
     ≡ pop_event c None ∷ DecodesRequest c request told
     ∷ (answer_events c request s.options [] calls
-    ++ PushesChain (asked_chain c request s.options calls) x notice last used seen ∷ []))
+    ++ PushesChain (asked_chain c request s.options calls) x notice last used loaded_flags ∷ []))
 
 -- two chains of queue i are popped, the second one from a queue in between, and both are decoded. The second
 -- one is answered and pushed, and then the first one
@@ -66,25 +69,37 @@ abbrev pub AreCrossedChains : {F : Type 0} → LiveState F → (i : ℕ) → (gi
     (late early : Calls) → (notice notice' : Bool) → List LiveEvent → Type 0
 AreCrossedChains s i given given' old old' before left request request' late early notice notice' es =
     (c : OutChain) × (told : List FileCall) × (x : Exchange) × (last : ℕ) × (used : List Store)
-    × (seen : List ℕ)
     × (c' : OutChain) × (told' : List FileCall) × (x' : Exchange) × (last' : ℕ) × (used' : List Store)
-    × (seen' : List ℕ)
     × IsPoppedChain s i given old before None c
     × IsPoppedChain s i given' old' left None c'
     × (es
     ≡ pop_event c None ∷ pop_event c' None ∷ DecodesRequest c request told ∷ DecodesRequest c' request' told'
     ∷ (answer_events c' request' s.options [] early
-    ++ PushesChain (asked_chain c' request' s.options early) x' notice' last' used' seen'
+    ++ PushesChain (asked_chain c' request' s.options early) x' notice' last' used' loaded_flags
     ∷ (answer_events c request s.options [] late
-    ++ PushesChain (asked_chain c request s.options late) x notice last used seen ∷ [])))
+    ++ PushesChain (asked_chain c request s.options late) x notice last used loaded_flags ∷ [])))
 
 -- a chain of queue i is popped with a fault, and pushed with no reply
 abbrev pub IsFaultyChain : {F : Type 0} → LiveState F → (i : ℕ) → (given : List (Bor (List ℕ))) →
     (old : ChainHandle) → (before : QueueState) → (notice : Bool) → List LiveEvent → Type 0
 IsFaultyChain s i given old before notice es =
-    (c : OutChain) × (why : ChainFault) × (last : ℕ) × (used : List Store) × (seen : List ℕ)
+    (c : OutChain) × (why : ChainFault) × (last : ℕ) × (used : List Store)
     × IsPoppedChain s i given old before (Some why) c
-    × (es ≡ pop_event c (Some why) ∷ PushesChain c (faulty c.head why) notice last used seen ∷ [])
+    × (es ≡ pop_event c (Some why) ∷ PushesChain c (faulty c.head why) notice last used loaded_flags ∷ [])
+
+-- two faulty chains of queue i are popped, the second one from a queue in between. They are pushed in the
+-- order of their pops
+abbrev pub AreFaultyInOrder : {F : Type 0} → LiveState F → (i : ℕ) → (given given' : List (Bor (List ℕ))) →
+    (old old' : ChainHandle) → (before left : QueueState) → (notice notice' : Bool) → List LiveEvent → Type 0
+AreFaultyInOrder s i given given' old old' before left notice notice' es =
+    (c : OutChain) × (why : ChainFault) × (last : ℕ) × (used : List Store)
+    × (c' : OutChain) × (why' : ChainFault) × (last' : ℕ) × (used' : List Store)
+    × IsPoppedChain s i given old before (Some why) c
+    × IsPoppedChain s i given' old' left (Some why') c'
+    × (es
+    ≡ pop_event c (Some why) ∷ pop_event c' (Some why')
+    ∷ PushesChain c (faulty c.head why) notice last used loaded_flags
+    ∷ PushesChain c' (faulty c'.head why') notice' last' used' loaded_flags ∷ [])
 
 -- a chain of queue i is popped, and given up
 abbrev pub IsGivenUpChain : {F : Type 0} → LiveState F → (i : ℕ) → (given : List (Bor (List ℕ))) →
@@ -118,12 +133,12 @@ abbrev pub IsRepliedChain : {F : Type 0} → LiveState F → (i : ℕ) → (give
     (old : ChainHandle) → (before : QueueState) → (between : List LiveEvent) → (request reply : List ℕ) →
     (notice : Bool) → List LiveEvent → Type 0
 IsRepliedChain s i given old before between request reply notice es =
-    (c : OutChain) × (options : ℕ) × (x : Exchange) × (used : List Store) × (seen : List ℕ)
+    (c : OutChain) × (options : ℕ) × (x : Exchange) × (used : List Store)
     × IsPoppedChain s i given old before None c
     × (es
     ≡ pop_event c None
     ∷ (between ++ RepliesOwnBytes c request reply options
-    ∷ PushesChain (record c { phase = Own request reply }) x notice 0 used seen ∷ []))
+    ∷ PushesChain (record c { phase = Own request reply }) x notice 0 used loaded_flags ∷ []))
 
 -- a chain of queue i is popped and decoded from this request. After these calls its caller replies with bytes
 -- of its own, and the chain is pushed
@@ -132,13 +147,12 @@ abbrev pub IsRepliedInstead : {F : Type 0} → LiveState F → (i : ℕ) → (gi
     List LiveEvent → Type 0
 IsRepliedInstead s i given old before request reply calls notice es =
     (c : OutChain) × (told : List FileCall) × (options : ℕ) × (x : Exchange) × (used : List Store)
-    × (seen : List ℕ)
     × IsPoppedChain s i given old before None c
     × (es
     ≡ pop_event c None ∷ DecodesRequest c request told
     ∷ (answer_events c request s.options [] calls
     ++ RepliesOwnBytes (asked_chain c request s.options calls) request reply options
-    ∷ PushesChain (record c { phase = Own request reply }) x notice 0 used seen ∷ []))
+    ∷ PushesChain (record c { phase = Own request reply }) x notice 0 used loaded_flags ∷ []))
 
 -- ---- a pop that leads to no chain
 
@@ -149,6 +163,15 @@ IsPopRefusedByLoads i given old before e es =
     (loaded : Loaded) × (ds : List Descriptor)
     × ArePopLoads given old before (wents.On (says.Refused e)) loaded
     × (es ≡ EndsPop i loaded ds (step.Refused e) ∷ [])
+
+-- the one event of a pop of queue i by the first of these bytes, which finds no chain
+abbrev pub FindsNoChain :
+    (i : ℕ) → (given : List (Bor (List ℕ))) → (old : ChainHandle) → (before : QueueState) → List LiveEvent →
+    Type 0
+FindsNoChain i given old before es =
+    (loaded : Loaded) × (ds : List Descriptor)
+    × ArePopLoads given old before (wents.On says.Idle) loaded
+    × (es ≡ EndsPop i loaded ds step.Idle ∷ [])
 
 -- these loads are those of a pop by these bytes, the last ones first, which has this result. Other handles
 -- may have changed the queue between its calls

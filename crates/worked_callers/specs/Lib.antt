@@ -4,3 +4,6 @@ pub mod InARow
 pub mod Notified
 pub mod OverMemory
 pub mod OwnReplies
+pub mod ServedSteps
+pub mod Turns
+pub mod WorkedRuns

@@ -3,7 +3,9 @@ use Rattle.std.specs.Prelude.{◌≡◌, ℕ, List, [], ◌∷◌, Option, Some,
 use Rattle.std.specs.Borrow.{Bor}
 use Rattle.std.specs.Int.{w16, to_le_bytes}
 use Rattle.fs_regions.specs.Walks.{Loaded}
+use Rattle.fs_chain.specs.Loads.{RefusesWalk}
 use Rattle.fs_chain.specs.Whole.{LoadsOf, WalksBy}
+use Rattle.fs_chain.specs.declared.error.ChainError.{ChainError}
 use Rattle.fs_chain.specs.declared.event_index.NotificationStore.{NotificationStore}
 use Rattle.fs_chain.specs.declared.loads.LoadOutcome as went
 use Rattle.fs_chain.specs.declared.loads.LoadOutcome.TheVariants as wents
@@ -46,17 +48,39 @@ PopsWithIndex given old new before after told P =
     × IsIndex loaded index
     × P index
 
--- a pop, some calls of which may have been refused, that was given the first of these bytes has this result
-abbrev pub IsWalkedAmid : List (Bor (List ℕ)) → (old new : ChainHandle) → (before after : QueueState) →
-    went.LoadOutcome → Type 0
-IsWalkedAmid bytes old new before after told =
-    (n : ℕ) × WalksAmid (given_so_far n bytes) old new before after told
+-- a call of the pop with these bytes is refused
+abbrev pub IsRefusedCall : ChainHandle → QueueState → (bytes : List ℕ) → Type 0
+IsRefusedCall w q bytes = (e : ChainError) × RefusesWalk w q bytes e
+
+-- before each call of such a pop that has bytes, a call with these other bytes was refused
+abbrev pub RefusesBetween : (wrong : List ℕ) → (given : List (List ℕ)) → (old new : ChainHandle) →
+    (before after : QueueState) → (told : went.LoadOutcome) → WalksAmid given old new before after told →
+    Type 0
+RefusesBetween wrong [] old new before after told walks = Unit {0}
+RefusesBetween wrong (bs ∷ given) old new before after told walks =
+    RefusesBetween wrong given old walks.0 before walks.2 walks.3 walks.4
+    × IsRefusedCall walks.0 walks.2 wrong
+
+-- a pop by these bytes, the last ones first, has this result. Before each call with bytes a call with these
+-- other bytes was refused
+abbrev pub WalksPast : (wrong : List ℕ) → (given : List (List ℕ)) → (old new : ChainHandle) →
+    (before after : QueueState) → went.LoadOutcome → Type 0
+WalksPast wrong given old new before after told =
+    (walks : WalksAmid given old new before after told)
+    × RefusesBetween wrong given old new before after told walks
+
+-- such a pop that was given the first of these bytes has this result
+abbrev pub IsWalkedAmid : (wrong : List ℕ) → List (Bor (List ℕ)) → (old new : ChainHandle) →
+    (before after : QueueState) → went.LoadOutcome → Type 0
+IsWalkedAmid wrong bytes old new before after told =
+    (n : ℕ) × WalksPast wrong (given_so_far n bytes) old new before after told
 
 -- such a pop has a result whose loaded index satisfies P
-abbrev pub PopsAmid : (given : List (List ℕ)) → (old new : ChainHandle) → (before after : QueueState) →
-    PopOutcome → (ℕ → Type 0) → Type 0
-PopsAmid given old new before after told P =
+abbrev pub PopsAmid : (wrong : List ℕ) → (given : List (List ℕ)) → (old new : ChainHandle) →
+    (before after : QueueState) → PopOutcome → (ℕ → Type 0) → Type 0
+PopsAmid wrong given old new before after told P =
     (walks : WalksAmid given old new before after (wents.On told))
+    × RefusesBetween wrong given old new before after (wents.On told) walks
     × (loaded : Loaded)
     × LoadsAmid given old new before after (wents.On told) walks loaded
     × (index : ℕ)

@@ -19,7 +19,7 @@ use Rattle.fs_live.specs.Live.{room_of}
 use Rattle.fs_live.specs.Runs.{IsAReturn, events_on, going, tickets_on, reported_by}
 use Rattle.fs_live.specs.Several.{LiveQueue, StoresAsTaken, UsedFrom, heads_ended, heads_taken, returning}
 use Rattle.fs_live.specs.Several.{returns_among}
-use Rattle.worked_callers.specs.Events.{IsPoppedChain, IsRepliedChain, pop_event}
+use Rattle.worked_callers.specs.Events.{IsPoppedChain, IsRepliedChain, loaded_flags, pop_event}
 
 -- a state that a run reaches. Its queue i, mappings and limit, of at most 2^31, are those of the caller's
 -- queue and handle
@@ -48,9 +48,8 @@ pub record ReturnsOwn {F : Type 0} (may : May F) (s : LiveState F) (i : ℕ) (be
   pub page_size_is : now.page_size ≡ s.page_size
   pub exchange : Exchange
   pub used : List Store
-  pub seen : List ℕ
   pub end : LiveState F
-  pub returns : Happens may now (PushesChain chain exchange notice 0 used seen) end
+  pub returns : Happens may now (PushesChain chain exchange notice 0 used loaded_flags) end
   pub outs_are : end.outs ≡ s.outs
   pub queues_are : end.queues ≡ changed_at s.queues i (λ _. live_of after)
 
@@ -61,7 +60,7 @@ abbrev pub ReturnsAsStep : {F : Type 0} → (G : Type 0) → (may : May F) → (
     (named : List LiveEvent → Type 0) → Type 0
 ReturnsAsStep {F} G may s i before after request reply calls notice named =
     (r : ReturnsOwn may s i before after request reply calls notice)
-    × named (r.earlier ++ PushesChain r.chain r.exchange notice 0 r.used r.seen ∷ [])
+    × named (r.earlier ++ PushesChain r.chain r.exchange notice 0 r.used loaded_flags ∷ [])
     × ((m : State G) →
     location m.memory ≡ location s.places →
     m.limit ≡ s.limit →
@@ -69,7 +68,7 @@ ReturnsAsStep {F} G may s i before after request reply calls notice named =
     slice_get m.queues i ≡ Some (live_of before).queue →
     (w : LiveQueue)
     × (slice_get r.now.queues r.chain.queue ≡ Some w)
-    × IsAReturn m r.now.limit w r.chain request reply r.exchange 0 r.used r.seen)
+    × IsAReturn m r.now.limit w r.chain request reply r.exchange 0 r.used loaded_flags)
 
 -- the addresses that the return reports are those that the plain machine's step writes
 abbrev pub ReportsOwn : {F : Type 0} → (may : May F) → (s : LiveState F) → (i : ℕ) →
@@ -78,10 +77,10 @@ abbrev pub ReportsOwn : {F : Type 0} → (may : May F) → (s : LiveState F) →
 ReportsOwn {F} may s i given old before after request reply notice =
     (r : ReturnsOwn may s i before after request reply [] notice)
     × IsRepliedChain s i given old before [] request reply notice
-    (r.earlier ++ PushesChain r.chain r.exchange notice 0 r.used r.seen ∷ [])
+    (r.earlier ++ PushesChain r.chain r.exchange notice 0 r.used loaded_flags ∷ [])
     × (w : LiveQueue)
     × (slice_get r.now.queues r.chain.queue ≡ Some w)
-    × (reported_by r.now (PushesChain r.chain r.exchange notice 0 r.used r.seen)
+    × (reported_by r.now (PushesChain r.chain r.exchange notice 0 r.used loaded_flags)
     ≡ returned_addresses (returning w) r.chain.head (room_of r.chain) reply)
 
 -- the addresses that the guest writes
@@ -101,7 +100,7 @@ LogsOwn {F} may s i given old before after request reply notice =
     × IsPoppedChain s i given old before None c
     × (let popped = pop_event c None in
     let replied = RepliesOwnBytes c request reply options in
-    let returned = PushesChain r.chain r.exchange notice 0 r.used r.seen in
+    let returned = PushesChain r.chain r.exchange notice 0 r.used loaded_flags in
     (r.earlier ≡ popped ∷ replied ∷ [])
     × (r.chain ≡ record c { phase = Own request reply })
     × ((first second third last : List (ℕ × ℕ)) (m : Memory) →
@@ -123,7 +122,7 @@ abbrev pub EndsAlone : {F : Type 0} → (may : May F) → (s : LiveState F) → 
     (request reply : List ℕ) → (notice : Bool) → Type 0
 EndsAlone {F} may s i given old before after request reply notice =
     (r : ReturnsOwn may s i before after request reply [] notice)
-    × (let es = r.earlier ++ PushesChain r.chain r.exchange notice 0 r.used r.seen ∷ [] in
+    × (let es = r.earlier ++ PushesChain r.chain r.exchange notice 0 r.used loaded_flags ∷ [] in
     IsRepliedChain s i given old before [] request reply notice es
     × LiveRun may s es r.end
     × (heads_taken (events_on i es) ≡ r.chain.head ∷ [])

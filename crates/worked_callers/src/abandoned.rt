@@ -1,11 +1,13 @@
 //! A handle that is freed while the call of its chain is pending, and the call's late answer.
 
-ghost use Rattle.std.specs.Prelude.{◌≡◌, ◌≤◌, ◌^◌, ℕ, [], ◌∷◌, drop, IsTrue, List, None, OnOk, Some};
+ghost use Rattle.std.specs.Prelude.{◌≡◌, ◌≤◌, ◌^◌, ℕ, [], ◌∷◌, drop, IfOk, IsTrue, List, None, OnOk};
+ghost use Rattle.std.specs.Prelude.{Some};
 ghost use Rattle.std.specs.Prelude.{slice_get};
 ghost use Rattle.fs_regions.specs.Places.{places_in};
 ghost use Rattle.fuse_fs.specs.Calls as file;
 ghost use Rattle.fuse_values.specs.Values.{call_of};
 ghost use Rattle.fuse_values.specs.declared.call.FileCall as value;
+ghost use Rattle.fs_chain.specs.Queues.{took};
 ghost use Rattle.fs_chain.specs.declared.decoding.Decoded.TheVariants as asks;
 ghost use Rattle.fs_chain.specs.declared.state.ChainState.TheVariants as at;
 ghost use Rattle.fs_live.specs.Handles.{IsReached, IsSessionOf, live_of};
@@ -21,8 +23,9 @@ use fuse_fs::FileSystem;
 use fuse_values::FileAnswer;
 use server_phases::Session;
 
-/// Decodes a chain's request and frees its handle. The error that is returned is the refusal of the late
-/// answer. In the run the chain is abandoned: once after the file system's answer, and once without it.
+/// Decodes a chain's request and frees its handle. The late answer is then refused with `WrongOrder`, which
+/// is returned: no call is pending. In the run the chain is abandoned: once after the file system's answer,
+/// and once without it.
 pub fn abandon_asked<F: FileSystem>(
     handle: &mut ChainHandle,
     queue: &mut QueueState,
@@ -33,6 +36,8 @@ pub fn abandon_asked<F: FileSystem>(
 ) -> Result<ChainError, ChainError>
     requires free { handle.old.state ≡ at.Free }
     requires goes { queue.old.stopped ≡ None }
+    ensures late { IfOk result (λ error. error ≡ ChainError.WrongOrder) }
+    ensures queue { OnOk result (queue.new ≡ took queue.old) }
     ensures again { OnOk result (handle.new.state ≡ at.Free) }
     ensures run { OnOk result ((s : LiveState F) (i : ℕ)
         → IsReached F.may s

@@ -1,28 +1,35 @@
 //! Pops some calls of which are refused, as acts of the model in which no notification is lost (crate
 //! `notify`).
 
-ghost use Rattle.std.specs.Prelude.{◌≡◌, ◌<◌, ◌^◌, ℕ, false, IfOk, IsTrue, None, OnOk};
-ghost use Rattle.fs_chain.specs.Loads.{IsSame};
+ghost use Rattle.std.specs.Prelude.{◌≡◌, ◌<◌, ◌^◌, ℕ, false, IfErr, IfOk, IsTrue, None, OnOk};
+ghost use Rattle.std.specs.Prelude.{length};
+ghost use Rattle.fs_chain.specs.Loads.{GoesSo, IsSame};
+ghost use Rattle.fs_chain.specs.Whole.{WantsBytes};
+ghost use Rattle.fs_chain.specs.declared.loads.LoadOutcome as went;
 ghost use Rattle.fs_chain.specs.declared.popping.PopOutcome.{PopOutcome};
 ghost use Rattle.fs_chain.specs.declared.state.ChainState.TheVariants as at;
 ghost use Rattle.notify.specs.Threads.{Rearmer, SleepsNow, TakesOne, ThreadedQueue, Walker, after_act};
 ghost use Rattle.notify.specs.Threads.{may_act};
 ghost use Rattle.fs_notify.specs.Takers.{IsOf, ways_of};
-ghost use Rattle.worked_callers.specs.Notified.{IsWalkedAmid, PopsAmid, given_so_far};
+ghost use Rattle.worked_callers.specs.Notified.{IsRefusedCall, IsWalkedAmid, PopsAmid, WalksPast};
+ghost use Rattle.worked_callers.specs.Notified.{given_so_far};
 
 use crate::takers::are_counted;
 use crate::wholes::wants_bytes;
 use fs_chain::{ChainError, ChainHandle, LoadOutcome, PopOutcome, QueueState};
 use fs_notify::law_takers;
 
-/// A call that is refused. Fails with `BadArgument` if it isn't.
+/// A call with these bytes that is refused. Fails with `BadArgument` if it isn't.
 pub fn refuse(
     handle: &mut ChainHandle,
     queue: &mut QueueState,
     wrong: &[u8],
 ) -> Result<(), ChainError>
+    ensures refused { OnOk result (IsRefusedCall handle.old queue.old wrong.now) }
     ensures same { OnOk result (IsSame handle.old handle.new) }
     ensures queue { OnOk result (queue.new ≡ queue.old) }
+    ensures taken { IfErr result (λ e. (e ≡ ChainError.BadArgument) × ((told : went.LoadOutcome)
+        × GoesSo handle.old queue.old wrong.now told handle.new queue.new)) }
 {
     match handle.pop(queue, wrong) {
         Ok(_) => Err(ChainError::BadArgument),
@@ -31,7 +38,7 @@ pub fn refuse(
 }
 
 /// A pop with these bytes, one call for each, as long as it asks for bytes. Before each of them a call with
-/// other bytes is refused.
+/// these other bytes is refused. If it asks for more in the end, it was given all of them.
 pub fn walk_amid(
     handle: &mut ChainHandle,
     queue: &mut QueueState,
@@ -39,8 +46,11 @@ pub fn walk_amid(
     given: &[&[u8]],
 ) -> Result<LoadOutcome, ChainError>
     requires free { handle.old.state ≡ at.Free }
-    ensures { IfOk result (λ told.
-        IsWalkedAmid given.now handle.old handle.new queue.old queue.new told) }
+    ensures walks { IfOk result (λ told.
+        IsWalkedAmid wrong.now given.now handle.old handle.new queue.old queue.new told) }
+    ensures all { IfOk result (λ told. WantsBytes told
+        → WalksPast wrong.now (given_so_far (length given.now) given.now) handle.old handle.new queue.old
+        queue.new told) }
 {
     let mut told = handle.pop(queue, &[])?;
     for bytes in given {
@@ -69,7 +79,8 @@ pub fn sleep_amid(
         → s.holder ≡ Rearmer
         → s.hidden ≡ false
         → s.index < 2 ^ 16
-        → PopsAmid (given_so_far n given.now) handle.old handle.new queue.old queue.new PopOutcome.Idle
+        → PopsAmid wrong.now (given_so_far n given.now) handle.old handle.new queue.old queue.new
+        PopOutcome.Idle
         (λ index. s.index ≡ index
         → IsTrue (may_act (ways_of queue.old) s SleepsNow)
         × IsOf queue.new (after_act (ways_of queue.old) s SleepsNow)))) }
@@ -96,7 +107,7 @@ pub fn take_amid(
         × ((s : ThreadedQueue)
         → IsOf queue.old s
         → s.holder ≡ Walker
-        → PopsAmid (given_so_far n given.now) handle.old handle.new queue.old queue.new
+        → PopsAmid wrong.now (given_so_far n given.now) handle.old handle.new queue.old queue.new
         (PopOutcome.Chain c.0 c.1 c.2)
         (λ index. s.known ≡ index
         → IsTrue (may_act (ways_of queue.old) s TakesOne)

@@ -1,17 +1,22 @@
 //! Pops in a run between whose calls other handles changed the queue, or a call of which was refused.
 
-ghost use Rattle.std.specs.Prelude.{◌≡◌, ◌≤◌, ◌+◌, ℕ, [], ◌∷◌, IfOk, List, None, Ok, Some, slice_get};
+ghost use Rattle.std.specs.Prelude.{◌≡◌, ◌≤◌, ◌+◌, ℕ, [], ◌∷◌, Bool, IfErr, IfOk, List, None, Ok};
+ghost use Rattle.std.specs.Prelude.{OnErr, OnOk, Some, slice_get};
 ghost use Rattle.fs_queue.specs.declared.fault.QueueError.{QueueError};
 ghost use Rattle.fs_regions.specs.Places.{places_in};
-ghost use Rattle.fs_chain.specs.Loads.{HasNoPlace, came};
+ghost use Rattle.plain_machine.specs.StepBy.{Act};
+ghost use Rattle.fs_chain.specs.Loads.{GoesSo, HasNoPlace, IsSame, RefusesWalk, came};
 ghost use Rattle.fs_chain.specs.Orders.{IsWalking};
 ghost use Rattle.fs_chain.specs.Queues.{gave};
+ghost use Rattle.fs_chain.specs.Whole.{GoesBackBy};
 ghost use Rattle.fs_chain.specs.declared.state.ChainState.TheVariants as at;
 ghost use Rattle.fs_chain.specs.declared.popping.PopOutcome.{PopOutcome};
 ghost use Rattle.fs_live.specs.Among.{WalksAmong, load_count_among};
 ghost use Rattle.fs_live.specs.Handles.{live_of};
 ghost use Rattle.fs_live.specs.Live.{RefusesPop, Happens, LiveEvent, LiveRun, LiveState};
-ghost use Rattle.worked_callers.specs.Events.{IsIdlePop};
+ghost use Rattle.worked_callers.specs.ChainCalls.{BeginsAndWants};
+ghost use Rattle.worked_callers.specs.Events.{IsIdlePop, loaded_flags};
+ghost use Rattle.worked_callers.specs.Notified.{IsRefusedCall};
 
 use crate::wholes::{push_reply, wants_bytes};
 use fs_chain::{ChainError, ChainHandle, LoadOutcome, PopOutcome, QueueState};
@@ -30,6 +35,11 @@ pub fn look_after_refusal<F: FileSystem>(
 ) -> Result<LoadOutcome, ChainError>
     requires free { handle.old.state ≡ at.Free }
     requires goes { queue.old.stopped ≡ None }
+    ensures calls { IfOk result (λ told. (w : ChainHandle) × (v : ChainHandle)
+        × BeginsAndWants handle.old w queue.old
+        × IsRefusedCall w queue.old wrong.now
+        × IsSame w v
+        × GoesSo v queue.old index.now told handle.new queue.new) }
     ensures idle { result ≡ Ok (LoadOutcome.On PopOutcome.Idle)
         → (s : LiveState F) (i : ℕ)
         → slice_get s.queues i ≡ Some (live_of queue.old)
@@ -55,8 +65,8 @@ pub fn look_after_refusal<F: FileSystem>(
     }
 }
 
-/// A pop between whose calls another handle returns a chain of the same queue. It makes few loads. If it
-/// finds no chain available, it is an event, and leaves the queue as that return did.
+/// A pop between whose calls another handle returns its chain, which is of the same queue. The pop makes few
+/// loads. If it finds no chain available, it is an event, and leaves the queue as that return did.
 pub fn look_among_returns<F: FileSystem>(
     handle: &mut ChainHandle,
     other: &mut ChainHandle,
@@ -65,10 +75,17 @@ pub fn look_among_returns<F: FileSystem>(
 ) -> Result<LoadOutcome, ChainError>
     requires free { handle.old.state ≡ at.Free }
     requires goes { queue.old.stopped ≡ None }
-    ensures few { IfOk result (λ told. (given : List (List ℕ)) × (now : QueueState)
-        × (walks : WalksAmong given handle.old handle.new queue.old now queue.new told)
-        × (load_count_among given handle.old handle.new queue.old now queue.new told walks
-        ≤ queue.old.layout.size + 4)) }
+    ensures pushed { OnOk result ((room behind : List ℕ) → (acts : List Act) × (last : ℕ) × (notice : Bool)
+        × (back : GoesBackBy queue.old room behind other.old.state acts last notice)
+        × (back.flags ≡ loaded_flags)) }
+    ensures freed { OnOk result (other.new.state ≡ at.Free) }
+    ensures calls { IfOk result (λ told. (w : ChainHandle)
+        × BeginsAndWants handle.old w queue.old
+        × GoesSo w (gave queue.old) index.now told handle.new queue.new) }
+    ensures few { IfOk result (λ told.
+        (walks : WalksAmong (index.now ∷ []) handle.old handle.new queue.old (gave queue.old) queue.new told)
+        × (load_count_among (index.now ∷ []) handle.old handle.new queue.old (gave queue.old) queue.new told
+        walks ≤ queue.old.layout.size + 4)) }
     ensures idle { result ≡ Ok (LoadOutcome.On PopOutcome.Idle)
         → (s : LiveState F) (i : ℕ)
         → slice_get s.queues i ≡ Some (live_of (gave queue.old))
@@ -88,13 +105,16 @@ pub fn look_among_returns<F: FileSystem>(
     handle.pop(queue, index)
 }
 
-/// A pop that finds its queue stopped meanwhile is refused. It leaves the run's queue as it leaves the
-/// `QueueState`.
+/// The next call of a pop. If the pop finds its queue stopped meanwhile, it is refused. The handle is free
+/// then, and the queue stays as it is, in the run too.
 pub fn find_stopped<F: FileSystem>(
     handle: &mut ChainHandle,
     queue: &mut QueueState,
     bytes: &[u8],
 ) -> Result<LoadOutcome, ChainError>
+    ensures goes { IfOk result (λ told. GoesSo handle.old queue.old bytes.now told handle.new queue.new) }
+    ensures error { IfErr result (RefusesWalk handle.old queue.old bytes.now) }
+    ensures same { OnErr result (IsSame handle.old handle.new × (queue.new ≡ queue.old)) }
     ensures stopped { (told : PopOutcome) (why : QueueError)
         → result ≡ Ok (LoadOutcome.On told)
         → IsWalking handle.old.state
@@ -102,6 +122,8 @@ pub fn find_stopped<F: FileSystem>(
         → (s : LiveState F) (i : ℕ)
         → slice_get s.queues i ≡ Some (live_of queue.old)
         → (told ≡ PopOutcome.Refused QueueError.Stopped)
+        × (handle.new.state ≡ at.Free)
+        × (queue.new ≡ queue.old)
         × (next : LiveState F)
         × Happens F.may s (RefusesPop i QueueError.Stopped) next
         × (slice_get next.queues i ≡ Some (live_of queue.new)) }

@@ -7,6 +7,7 @@ ghost use Rattle.fuse_fs.specs.Calls.{Bytes, FileRun};
 ghost use Rattle.fuse_values.specs.Values.{call_of};
 ghost use Rattle.fuse_values.specs.declared.call.FileCall as value;
 ghost use Rattle.fs_chain.specs.Answers.{CanBeGiven, IfWaits};
+ghost use Rattle.fs_chain.specs.Queues.{gave, took};
 ghost use Rattle.fs_chain.specs.Whole.{ByEntries, IsAnsweredBy};
 ghost use Rattle.fs_chain.specs.WholeListings.{EndsThere, listing_calls};
 ghost use Rattle.fs_chain.specs.declared.answering.Replied.{Replied};
@@ -53,6 +54,8 @@ pub fn read_beside<F: FileSystem>(
 ) -> Result<bool, ChainError>
     requires free { handle.old.state ≡ at.Free }
     requires goes { queue.old.stopped ≡ None }
+    ensures again { OnOk result (handle.new.state ≡ at.Free) }
+    ensures queue { OnOk result (queue.new ≡ gave (took queue.old)) }
     ensures run { IfOk result (λ notice. (s : LiveState F) (i : ℕ) (files : F)
         → IsReached F.may s
         → slice_get s.queues i ≡ Some (live_of queue.old)
@@ -95,6 +98,8 @@ pub fn list_beside<F: FileSystem>(
 ) -> Result<bool, ChainError>
     requires free { handle.old.state ≡ at.Free }
     requires goes { queue.old.stopped ≡ None }
+    ensures again { OnOk result (handle.new.state ≡ at.Free) }
+    ensures queue { OnOk result (queue.new ≡ gave (took queue.old)) }
     ensures run { IfOk result (λ notice. (s : LiveState F) (i : ℕ) (files : F)
         → IsReached F.may s
         → slice_get s.queues i ≡ Some (live_of queue.old)

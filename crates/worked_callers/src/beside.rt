@@ -12,6 +12,7 @@ ghost use Rattle.fuse_values.specs.declared.call.FileCall as value;
 ghost use Rattle.virtiofsd_fuse.specs.Grammar.{meaning};
 ghost use Rattle.server_phases.specs.Answering.{TellsBytes};
 ghost use Rattle.fs_chain.specs.Events.{event_miss, store_of};
+ghost use Rattle.fs_chain.specs.Queues.{gave, took};
 ghost use Rattle.fs_chain.specs.Walks.{HasEvents};
 ghost use Rattle.fs_chain.specs.Whole.{IsWalked, WalksBy};
 ghost use Rattle.fs_chain.specs.declared.decoding.Decoded.TheVariants as asks;
@@ -51,6 +52,8 @@ pub fn serve_beside<F: FileSystem>(
     requires free { handle.old.state ≡ at.Free }
     requires goes { queue.old.stopped ≡ None }
     requires data { TellsBytes [] answer }
+    ensures again { OnOk result (handle.new.state ≡ at.Free) }
+    ensures queue { OnOk result (queue.new ≡ gave (took queue.old)) }
     ensures run { IfOk result (λ notice. (s : LiveState F) (i : ℕ) (files : F)
         → IsReached F.may s
         → slice_get s.queues i ≡ Some (live_of queue.old)
@@ -188,6 +191,7 @@ pub fn take_faulty(
     given: &[&[u8]],
 ) -> Result<(u16, ChainFault), ChainError>
     requires free { handle.old.state ≡ at.Free }
+    ensures queue { OnOk result (queue.new ≡ took queue.old) }
     ensures walked { IfOk result (λ c. IsWalked handle.old handle.new queue.old queue.new
         (LoadOutcome.On (PopOutcome.Faulty c.0 c.1))) }
     ensures given { IfOk result (λ c. IsWalkedBy given.now handle.old handle.new queue.old queue.new
@@ -207,6 +211,8 @@ pub fn push_faulty_beside<F: FileSystem>(
 ) -> Result<bool, ChainError>
     requires free { handle.old.state ≡ at.Free }
     requires goes { queue.old.stopped ≡ None }
+    ensures again { OnOk result (handle.new.state ≡ at.Free) }
+    ensures queue { OnOk result (queue.new ≡ gave (took queue.old)) }
     ensures run { IfOk result (λ notice. (s : LiveState F) (i : ℕ)
         → slice_get s.queues i ≡ Some (live_of queue.old)
         → s.places ≡ places_in handle.old.regions

@@ -1,11 +1,13 @@
 //! Two chains of one queue, with a handle each: both requests are decoded, and the second chain is answered
 //! and returned before the first one.
 
-ghost use Rattle.std.specs.Prelude.{◌≡◌, ◌≤◌, ◌^◌, ℕ, ◌∷◌, ◌++◌, drop, IfOk, List, None, Some, slice_get};
+ghost use Rattle.std.specs.Prelude.{◌≡◌, ◌≤◌, ◌^◌, ℕ, ◌∷◌, ◌++◌, drop, IfOk, List, None, OnOk, Some};
+ghost use Rattle.std.specs.Prelude.{slice_get};
 ghost use Rattle.fs_regions.specs.Places.{places_in};
 ghost use Rattle.fuse_fs.specs.Calls.{Bytes, FileRun};
 ghost use Rattle.fuse_values.specs.Values.{call_of};
 ghost use Rattle.fuse_values.specs.declared.call.FileCall as value;
+ghost use Rattle.fs_chain.specs.Queues.{gave, took};
 ghost use Rattle.fs_chain.specs.declared.answering.Replied.{Replied};
 ghost use Rattle.fs_chain.specs.declared.state.ChainState.TheVariants as at;
 ghost use Rattle.plain_machine.specs.Step.{Calls};
@@ -46,6 +48,8 @@ pub fn serve_crossed<F: FileSystem>(
     requires first_free { first.old.state ≡ at.Free }
     requires second_free { second.old.state ≡ at.Free }
     requires goes { queue.old.stopped ≡ None }
+    ensures again { OnOk result ((first.new.state ≡ at.Free) × (second.new.state ≡ at.Free)) }
+    ensures queue { OnOk result (queue.new ≡ gave (gave (took (took queue.old)))) }
     ensures run { IfOk result (λ notices. (s : LiveState F) (i : ℕ)
         → IsReached F.may s
         → slice_get s.queues i ≡ Some (live_of queue.old)

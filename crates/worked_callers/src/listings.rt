@@ -11,6 +11,8 @@ ghost use Rattle.plain_machine.specs.Step.{Exchange, Exchanged, State};
 ghost use Rattle.plain_machine.specs.StepBy.{Effects, StepBy};
 ghost use Rattle.fs_queue.specs.Loads.{Load};
 ghost use Rattle.fs_regions.specs.Walks.{Loaded, queue_of};
+ghost use Rattle.fs_chain.specs.Events.{tells_of};
+ghost use Rattle.fs_chain.specs.Queues.{gave, took};
 ghost use Rattle.fs_chain.specs.Walks.{course_of};
 ghost use Rattle.fs_chain.specs.Whole.{ByEntries, FromTaken, IsDecodedBy, IsMachineBefore, IsSession};
 ghost use Rattle.fs_chain.specs.Whole.{LackPlaces, after_chain, step_loads};
@@ -20,6 +22,7 @@ ghost use Rattle.fs_chain.specs.declared.loads.LoadOutcome.TheVariants as wents;
 ghost use Rattle.fs_chain.specs.declared.popping.PopOutcome.TheVariants as says;
 ghost use Rattle.fs_chain.specs.declared.state.ChainState.TheVariants as at;
 ghost use Rattle.worked_callers.specs.ChainCalls.{AreCallsBy, ArePopLoads, both_entries};
+ghost use Rattle.worked_callers.specs.Events.{loaded_flags};
 
 use crate::wholes::{push_reply, walk_chain};
 use fs_chain::laws::law_chains;
@@ -107,6 +110,9 @@ pub fn serve_two<F: FileSystem>(
     requires goes { queue.old.stopped ≡ None }
     requires none_out { queue.old.next_used ≡ queue.old.next_avail }
     requires by_flags { queue.old.event_index ≡ false }
+    ensures again { OnOk result (handle.new.state ≡ at.Free) }
+    ensures queue { OnOk result (queue.new ≡ gave (took queue.old)) }
+    ensures told { IfOk result (λ notice. notice ≡ tells_of queue.old loaded_flags) }
     ensures step { IfOk result (λ notice. (i : ℕ) (m : State F) (files : F)
         → IsMachineBefore handle.old queue.old i m
         → IsSession session m

@@ -1,12 +1,14 @@
 //! Runs of pops and returns on one queue, and of chains one after another.
 
-ghost use Rattle.std.specs.Prelude.{◌≡◌, ◌<◌, ◌^◌, ℕ, [], ◌∷◌, false, IfOk, List, Some, None, slice_get};
+ghost use Rattle.std.specs.Prelude.{◌≡◌, ◌<◌, ◌^◌, ℕ, [], ◌∷◌, false, IfOk, List, OnOk, Some, None};
+ghost use Rattle.std.specs.Prelude.{slice_get};
 ghost use Rattle.vm_memory.specs.Memory.{Memory};
 ghost use Rattle.fs_queue.specs.Returning.{Store, next_position};
 ghost use Rattle.plain_machine.specs.Run.{KickRun};
 ghost use Rattle.plain_machine.specs.Step.{Calls, Exchanged, Step};
 ghost use Rattle.plain_machine.specs.StepBy.{after_stores, stores_among};
 ghost use Rattle.server_phases.specs.Answering.{TellsBytes};
+ghost use Rattle.fs_chain.specs.Queues.{gave, took};
 ghost use Rattle.fs_chain.specs.declared.state.ChainState.TheVariants as at;
 ghost use Rattle.fs_live.specs.Handles.{IsSessionOf, live_of};
 ghost use Rattle.fs_live.specs.Live.{LiveRun, LiveState, event_acts};
@@ -77,6 +79,8 @@ pub fn serve_single<F: FileSystem>(
     requires none_out { queue.old.next_used ≡ queue.old.next_avail }
     requires by_flags { queue.old.event_index ≡ false }
     requires data { TellsBytes [] answer }
+    ensures again { OnOk result (handle.new.state ≡ at.Free) }
+    ensures queue { OnOk result (queue.new ≡ gave (took queue.old)) }
     ensures step { IfOk result (λ notice. (s : LiveState F) (i : ℕ) (files : F)
         → IsAt F.may s i handle.old queue.old
         → s.outs ≡ []

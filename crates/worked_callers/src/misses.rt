@@ -1,6 +1,7 @@
 //! A pop that misses addresses of an IOMMU's table is no step. The bytes for which a pop asks are mapped.
 
 ghost use Rattle.std.specs.Prelude.{◌≡◌, ◌<◌, ◌≤◌, ◌+◌, [], false, true, IfOk, List, None, Some};
+ghost use Rattle.std.specs.Prelude.{length};
 ghost use Rattle.vm_iotlb.specs.declared.iova.IovaRange.{IovaRange};
 ghost use Rattle.vm_iotlb.specs.declared.permissions.Permissions.{Permissions};
 ghost use Rattle.vm_memory_core.specs.Window.{Window};
@@ -11,9 +12,10 @@ ghost use Rattle.fs_regions.specs.Walks.{Loaded, Misses, queue_of};
 ghost use Rattle.fs_chain.specs.Events.{event_fault, event_miss};
 ghost use Rattle.fs_chain.specs.Loads.{IsLoadWindow, came};
 ghost use Rattle.fs_chain.specs.Walks.{DropsDescriptors, HasEvents, IsAllBut, course_of};
-ghost use Rattle.fs_chain.specs.Whole.{WantsBytes};
+ghost use Rattle.fs_chain.specs.Whole.{WalksBy, WantsBytes};
 ghost use Rattle.fs_chain.specs.declared.state.ChainState.TheVariants as at;
 ghost use Rattle.worked_callers.specs.ChainCalls.{ArePopLoads};
+ghost use Rattle.worked_callers.specs.Notified.{IsWalkedBy, given_so_far};
 
 use crate::wholes::walk_by;
 use fs_chain::laws::{law_chains, law_misses};
@@ -30,6 +32,11 @@ pub fn miss(
 ) -> Result<LoadOutcome, ChainError>
     requires free { handle.old.state ≡ at.Free }
     requires goes { queue.old.stopped ≡ None }
+    ensures given { IfOk result (λ told.
+        IsWalkedBy given.now handle.old handle.new queue.old queue.new told) }
+    ensures all { IfOk result (λ told. WantsBytes told
+        → WalksBy (given_so_far (length given.now) given.now) handle.old handle.new queue.old
+        queue.new told) }
     ensures missed { IfOk result (λ told. (range : IovaRange) (access : Permissions)
         → told ≡ LoadOutcome.On (PopOutcome.Missing range access)
         → HasEvents handle.old queue.old
@@ -67,6 +74,10 @@ pub fn find_window<F: FileSystem>(
 ) -> Result<(LoadOutcome, bool), ChainError>
     requires free { handle.old.state ≡ at.Free }
     requires goes { queue.old.stopped ≡ None }
+    ensures given { IfOk result (λ r.
+        IsWalkedBy given.now handle.old handle.new queue.old queue.new r.0) }
+    ensures all { IfOk result (λ r. WantsBytes r.0
+        → WalksBy (given_so_far (length given.now) given.now) handle.old handle.new queue.old queue.new r.0) }
     ensures found { IfOk result (λ r. r.1 ≡ true
         → (w : Window) × IsLoadWindow handle.new (came handle.new) w) }
     ensures none { IfOk result (λ r. r.1 ≡ false → WantsBytes r.0 → ⊥) }

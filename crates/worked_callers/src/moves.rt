@@ -1,13 +1,17 @@
 //! A device that moves to another host between two chains: a record of it is made here and read there.
 
 ghost use Rattle.std.specs.Prelude.{◌≡◌, ◌≤◌, ◌^◌, ℕ, [], ◌∷◌, ◌++◌, Bool, IfOk, IfSome, List, None, OnOk};
+ghost use Rattle.std.specs.Prelude.{length};
 ghost use Rattle.std.specs.Io.KnownBytes.{Appends, Consumes};
-ghost use Rattle.fs_record.specs.Record.{HasKnownBits, IsRecord, Version};
+ghost use Rattle.fs_queue.specs.Queue as ring;
+ghost use Rattle.fs_record.specs.Record.{HasKnownBits, IsRecord, Second, Version};
 ghost use Rattle.fs_regions.specs.Places.{places_in};
+ghost use Rattle.fs_chain.specs.Queues.{gave, took};
 ghost use Rattle.fs_chain.specs.declared.state.ChainState.TheVariants as at;
 ghost use Rattle.fs_live.specs.Handles.{IsReached, live_of};
-ghost use Rattle.fs_live.specs.Live.{LiveEvent, LiveRun, LiveState, MovesDevice};
+ghost use Rattle.fs_live.specs.Live.{Happens, LiveEvent, LiveRun, LiveState, MovesDevice};
 ghost use Rattle.fs_live.specs.Others.{recorded};
+ghost use Rattle.worked_callers.specs.ChainCalls.{IsResetBy};
 ghost use Rattle.worked_callers.specs.Events.{IsRepliedChain};
 
 use crate::crossed::ChainBytes;
@@ -26,9 +30,9 @@ pub fn save_one<S: RecordSink>(
     queue: &QueueState,
 ) -> Result<(), ChainError>
     requires known { HasKnownBits options.0 }
-    ensures { OnOk result ((sent : List ℕ) × (v : Version)
+    ensures { OnOk result ((sent : List ℕ)
         × Appends (S.sent sink.old) (S.sent sink.new) sent
-        × IsRecord sent v options.0 (recorded queue.now ∷ [])) }
+        × IsRecord sent (Second 4096 0x101000) options.0 (recorded queue.now ∷ [])) }
 {
     let saved = [Queue::resume(queue.layout, queue.next_avail, queue.stopped.is_some())];
     match save_record(sink, options, &saved, 4096, 0x101000) {
@@ -39,7 +43,8 @@ pub fn save_one<S: RecordSink>(
 
 /// The queue of a list of one; None for any other list.
 pub fn only(queues: &[Queue]) -> Option<&Queue>
-    ensures { IfSome result (λ q. queues.now ≡ q.now ∷ []) }
+    ensures one { IfSome result (λ q. queues.now ≡ q.now ∷ []) }
+    ensures others { result ≡ None → length queues.now ≡ 1 → ⊥ }
 {
     if queues.len() == 1 {
         Some(&queues[0])
@@ -64,8 +69,8 @@ pub fn restore_one<T: RecordSource>(
 }
 
 /// A chain is returned here, and a record is made here and read there. The queue there is reset from it, and
-/// a chain is returned there. If the bytes that are read are those that were put, that is a run, in which the
-/// queue goes on where it was.
+/// a chain is returned there. If the bytes that are read are the record that was made, that is a run, in
+/// which the queue goes on where it was.
 pub fn move_amid<F: FileSystem, S: RecordSink, T: RecordSource>(
     alloc: Global,
     here: &mut ChainHandle,
@@ -83,7 +88,18 @@ pub fn move_amid<F: FileSystem, S: RecordSink, T: RecordSource>(
     requires goes { queue.old.stopped ≡ None }
     requires some { 1 ≤ moved.old.max_in_flight }
     requires known { HasKnownBits options.0 }
-    ensures run { IfOk result (λ notice. (s : LiveState F)
+    ensures again { OnOk result ((here.new.state ≡ at.Free) × (there.new.state ≡ at.Free)) }
+    ensures queue { OnOk result (queue.new ≡ gave (took queue.old)) }
+    ensures run { IfOk result (λ notice.
+        (sent : List ℕ) × (taken : List ℕ) × (v : Version) × (left : ℕ) × (read : ring.Queue)
+        × (begun : QueueState)
+        × Appends (S.sent sink.old) (S.sent sink.new) sent
+        × IsRecord sent (Second 4096 0x101000) options.0 (recorded queue.new ∷ [])
+        × Consumes (T.left source.old) (T.left source.new) taken
+        × IsRecord taken v left (read ∷ [])
+        × IsResetBy read moved.old begun
+        × (moved.new ≡ gave (took begun))
+        × ((s : LiveState F)
         → IsReached F.may s
         → s.outs ≡ []
         → s.queues ≡ live_of queue.old ∷ []
@@ -92,17 +108,17 @@ pub fn move_amid<F: FileSystem, S: RecordSink, T: RecordSource>(
         → s.limit ≡ here.old.limit
         → s.limit ≡ there.old.limit
         → s.limit ≤ 2 ^ 31
-        → (sent : List ℕ) × (taken : List ℕ)
-        × Appends (S.sent sink.old) (S.sent sink.new) sent
-        × Consumes (T.left source.old) (T.left source.new) taken
-        × (taken ≡ sent
+        → taken ≡ sent
         → (es : List LiveEvent) × (end : LiveState F)
         × LiveRun F.may s es end
         × (early : List LiveEvent) × (late : List LiveEvent)
-        × (told : Bool) × (mid : LiveState F) × (begun : QueueState)
+        × (told : Bool) × (before : LiveState F) × (mid : LiveState F)
         × (es ≡ early ++ MovesDevice (places_in there.old.regions) (live_of begun ∷ []) ∷ late)
+        × LiveRun F.may s early before
         × IsRepliedChain s 0 one.now.given.now here.old queue.old []
         one.now.request.now one.now.bytes.now told early
+        × (before.queues ≡ live_of queue.new ∷ [])
+        × Happens F.may before (MovesDevice (places_in there.old.regions) (live_of begun ∷ [])) mid
         × LiveRun F.may mid late end
         × IsRepliedChain mid 0 two.now.given.now there.old begun []
         two.now.request.now two.now.bytes.now notice late

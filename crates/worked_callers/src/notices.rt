@@ -1,8 +1,10 @@
 //! With VIRTIO_F_EVENT_IDX the driver is notified of a returned chain just if the used index passes
 //! used_event (VIRTIO 1.2, 2.7.7.2).
 
-ghost use Rattle.std.specs.Prelude.{◌≡◌, IfOk, true};
+ghost use Rattle.std.specs.Prelude.{◌≡◌, IfOk, OnOk, true};
 ghost use Rattle.fs_queue.specs.Returning.{next_position};
+ghost use Rattle.fs_chain.specs.Queues.{gave};
+ghost use Rattle.fs_chain.specs.declared.state.ChainState.TheVariants as at;
 ghost use Rattle.fs_live.specs.Handles.{live_of};
 ghost use Rattle.fs_live.specs.Several.{passes, returning};
 
@@ -18,7 +20,9 @@ pub fn notify_by_event(
     used_event: u16,
 ) -> Result<bool, ChainError>
     requires by_event { queue.old.event_index ≡ true }
-    ensures { IfOk result (λ notice. notice
+    ensures again { OnOk result (handle.new.state ≡ at.Free) }
+    ensures queue { OnOk result (queue.new ≡ gave queue.old) }
+    ensures told { IfOk result (λ notice. notice
         ≡ passes used_event queue.old.next_used (next_position (returning (live_of queue.old)))) }
 {
     law_queues();

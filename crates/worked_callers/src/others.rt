@@ -5,14 +5,15 @@
 //! - setting other regions
 //! - resetting a queue to its own position
 
-ghost use Rattle.std.specs.Prelude.{◌≡◌, ◌≤◌, ◌^◌, ℕ, [], ◌∷◌, IfOk, is_some, List, None, OnOk, Some};
+ghost use Rattle.std.specs.Prelude.{◌≡◌, ◌≤◌, ◌^◌, ℕ, [], ◌∷◌, IfErr, IfOk, List, None, OnErr, OnOk, Some};
 ghost use Rattle.std.specs.Prelude.{slice_get};
 ghost use Rattle.std.specs.List.{AllByRecursion};
 ghost use Rattle.vm_memory.specs.Memory.{Memory};
 ghost use Rattle.vm_memory_core.specs.Host.{changed_at};
 ghost use Rattle.fs_record.specs.Record.{IsRecord, Version};
 ghost use Rattle.fs_regions.specs.Places.{places_in};
-ghost use Rattle.fs_chain.specs.Queues.{gave};
+ghost use Rattle.fs_chain.specs.Orders.{memory_error};
+ghost use Rattle.fs_chain.specs.Queues.{gave, reset_to, took, untook};
 ghost use Rattle.fs_chain.specs.declared.state.ChainState.TheVariants as at;
 ghost use Rattle.plain_machine.specs.StepBy.{Act};
 ghost use Rattle.fs_live.specs.Handles.{IsReached, live_of};
@@ -22,7 +23,9 @@ ghost use Rattle.fs_live.specs.Live.{Remaps};
 ghost use Rattle.fs_live.specs.Live.{calls_among};
 ghost use Rattle.fs_live.specs.Others.{PushedOwn, recorded};
 ghost use Rattle.fs_live.specs.Runs.{HasNoneInFlight, tickets_on};
+ghost use Rattle.worked_callers.specs.ChainCalls.{HasMemory, IsResetBy, stop_of};
 ghost use Rattle.worked_callers.specs.Events.{IsAbandonedChain, IsGivenUpChain, IsRepliedChain};
+ghost use Rattle.worked_callers.specs.Events.{loaded_flags};
 
 use crate::wholes::walk_chain;
 use fs_chain::{ChainError, ChainHandle, QueueState};
@@ -40,6 +43,8 @@ pub fn drop_beside<F: FileSystem>(
 ) -> Result<(), ChainError>
     requires free { handle.old.state ≡ at.Free }
     requires goes { queue.old.stopped ≡ None }
+    ensures again { OnOk result (handle.new.state ≡ at.Free) }
+    ensures queue { OnOk result (queue.new ≡ untook (took queue.old)) }
     ensures run { OnOk result ((s : LiveState F) (i : ℕ)
         → slice_get s.queues i ≡ Some (live_of queue.old)
         → s.places ≡ places_in handle.old.regions
@@ -63,6 +68,7 @@ pub fn abandon_beside<F: FileSystem>(
 ) -> Result<(), ChainError>
     requires free { handle.old.state ≡ at.Free }
     requires goes { queue.old.stopped ≡ None }
+    ensures queue { OnOk result (queue.new ≡ took queue.old) }
     ensures run { OnOk result ((s : LiveState F) (i : ℕ)
         → slice_get s.queues i ≡ Some (live_of queue.old)
         → s.places ≡ places_in handle.old.regions
@@ -79,12 +85,14 @@ pub fn abandon_beside<F: FileSystem>(
     Ok(())
 }
 
-/// Returns a chain that its caller replied to, with the caller's bytes, to a driver that enabled the
-/// notification.
+/// Returns a chain that its caller replied to, with the caller's bytes. The bytes that it passes as loaded
+/// are available flags 0, or used_event 0.
 pub fn push_own(handle: &mut ChainHandle, queue: &mut QueueState) -> Result<bool, ChainError>
     ensures back { IfOk result (λ notice. (room reply : List ℕ) (last : ℕ) → (acts : List Act)
-        × PushedOwn queue.old room reply handle.old.state acts last notice) }
+        × (back : PushedOwn queue.old room reply handle.old.state acts last notice)
+        × (back.flags ≡ loaded_flags)) }
     ensures queue { OnOk result (queue.new ≡ gave queue.old) }
+    ensures again { OnOk result (handle.new.state ≡ at.Free) }
 {
     let mut front = [0u8; 160];
     let _stores = handle.push(queue, &mut front)?;
@@ -102,6 +110,8 @@ pub fn reply_beside<F: FileSystem>(
 ) -> Result<bool, ChainError>
     requires free { handle.old.state ≡ at.Free }
     requires goes { queue.old.stopped ≡ None }
+    ensures again { OnOk result (handle.new.state ≡ at.Free) }
+    ensures queue { OnOk result (queue.new ≡ gave (took queue.old)) }
     ensures run { IfOk result (λ notice. (s : LiveState F) (i : ℕ)
         → IsReached F.may s
         → slice_get s.queues i ≡ Some (live_of queue.old)
@@ -128,17 +138,22 @@ pub fn reply_beside<F: FileSystem>(
     push_own(handle, queue)
 }
 
-/// Setting other regions while no chain is in flight is the event `Remaps`.
+/// Sets other regions and another limit. While no chain is in flight, that is the event `Remaps` of just
+/// these regions. It fails if the handle isn't free, or if the limit is out of range.
 pub fn map_beside<F: FileSystem>(
     handle: &mut ChainHandle,
     regions: GuestMap,
     limit: u32,
 ) -> Result<(), ChainError>
+    ensures error { IfErr result (λ e. memory_error handle.old.state limit ≡ Some e) }
+    ensures same { OnErr result (handle.new ≡ handle.old) }
+    ensures ok { OnOk result (memory_error handle.old.state limit ≡ None) }
+    ensures set { OnOk result (HasMemory handle.old handle.new regions limit) }
     ensures maps { OnOk result ((s : LiveState F)
         → s.outs ≡ []
         → (next : LiveState F)
-        × Happens F.may s (Remaps (places_in handle.new.regions)) next
-        × (next.places ≡ places_in handle.new.regions)
+        × Happens F.may s (Remaps (places_in regions)) next
+        × (next.places ≡ places_in regions)
         × (next.queues ≡ s.queues)) }
 {
     law_handles::<F>();
@@ -148,7 +163,7 @@ pub fn map_beside<F: FileSystem>(
 /// A record keeps whether a queue was stopped, but not the error that stopped it: `Stopped` is returned for
 /// it.
 pub fn stopped_by(read: &Queue) -> Option<QueueError>
-    ensures { is_some result ≡ read.now.stopped }
+    ensures { result ≡ stop_of read.now.stopped }
 {
     if read.is_stopped() {
         Some(QueueError::Stopped)
@@ -162,6 +177,7 @@ pub fn stopped_by(read: &Queue) -> Option<QueueError>
 pub fn begin_by_record<F: FileSystem>(queue: &mut QueueState, read: &Queue)
     requires some { 1 ≤ queue.old.max_in_flight }
     requires few { queue.old.max_in_flight ≤ read.now.size }
+    ensures begins { IsResetBy read.now queue.old queue.new }
     ensures moves { (s : LiveState F) (here : QueueState) (m : Memory) (bytes : List ℕ) (v v' : Version)
         (options : ℕ)
         → s.outs ≡ []
@@ -189,7 +205,8 @@ pub fn begin_by_record<F: FileSystem>(queue: &mut QueueState, read: &Queue)
 /// The queue goes on as if it weren't reset.
 pub fn begin_again<F: FileSystem>(queue: &mut QueueState)
     requires goes { queue.old.stopped ≡ None }
-    ensures stands { (start now : LiveState F) (es : List LiveEvent) (i : ℕ)
+    ensures begins { queue.new ≡ reset_to queue.old queue.old.layout queue.old.next_avail }
+    ensures goes_on { (start now : LiveState F) (es : List LiveEvent) (i : ℕ)
         → start.outs ≡ []
         → AllByRecursion HasNoneInFlight start.queues
         → LiveRun F.may start es now

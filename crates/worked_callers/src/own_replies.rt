@@ -1,7 +1,8 @@
 //! Replies of the caller's own bytes: to a request that wasn't decoded, instead of the answer to a pending
 //! call, and amid a listing. Each is returned as the plain machine's step returns a reply.
 
-ghost use Rattle.std.specs.Prelude.{ℕ, [], ◌∷◌, drop, IfOk, IsTrue};
+ghost use Rattle.std.specs.Prelude.{ℕ, [], ◌∷◌, drop, IfOk, IsTrue, OnOk};
+ghost use Rattle.fs_chain.specs.Queues.{gave, took};
 ghost use Rattle.fs_chain.specs.declared.decoding.Decoded.TheVariants as asks;
 ghost use Rattle.fs_chain.specs.declared.state.ChainState.TheVariants as at;
 ghost use Rattle.fuse_fs.specs.Calls as file;
@@ -34,6 +35,8 @@ pub fn reply_logged<F: FileSystem, G: FileSystem>(
 ) -> Result<bool, ChainError>
     requires free { handle.old.state ≡ at.Free }
     requires goes { queue.old.stopped ≡ None }
+    ensures again { OnOk result (handle.new.state ≡ at.Free) }
+    ensures queue { OnOk result (queue.new ≡ gave (took queue.old)) }
     ensures step { IfOk result (λ notice. (s : LiveState F) (i : ℕ)
         → IsAt F.may s i handle.old queue.old
         → ReturnsAsStep G F.may s i queue.old queue.new request.now bytes.now [] notice
@@ -68,6 +71,8 @@ pub fn reply_alone<F: FileSystem>(
     requires free { handle.old.state ≡ at.Free }
     requires goes { queue.old.stopped ≡ None }
     requires none_out { queue.old.next_used ≡ queue.old.next_avail }
+    ensures again { OnOk result (handle.new.state ≡ at.Free) }
+    ensures queue { OnOk result (queue.new ≡ gave (took queue.old)) }
     ensures alone { IfOk result (λ notice. (s : LiveState F) (i : ℕ)
         → IsAt F.may s i handle.old queue.old
         → tickets_on i s.outs ≡ []
@@ -97,6 +102,8 @@ pub fn reply_instead<F: FileSystem, G: FileSystem>(
 ) -> Result<bool, ChainError>
     requires free { handle.old.state ≡ at.Free }
     requires goes { queue.old.stopped ≡ None }
+    ensures again { OnOk result (handle.new.state ≡ at.Free) }
+    ensures queue { OnOk result (queue.new ≡ gave (took queue.old)) }
     ensures step { IfOk result (λ notice. (s : LiveState F) (i : ℕ)
         → IsAt F.may s i handle.old queue.old
         → IsSessionOf s session
@@ -130,6 +137,8 @@ pub fn reply_amid_listing<F: FileSystem, G: FileSystem>(
 ) -> Result<bool, ChainError>
     requires free { handle.old.state ≡ at.Free }
     requires goes { queue.old.stopped ≡ None }
+    ensures again { OnOk result (handle.new.state ≡ at.Free) }
+    ensures queue { OnOk result (queue.new ≡ gave (took queue.old)) }
     ensures step { IfOk result (λ notice. (s : LiveState F) (i : ℕ)
         → IsAt F.may s i handle.old queue.old
         → IsSessionOf s session

@@ -1,11 +1,13 @@
 //! Other regions while a chain is in flight: the chain keeps the mappings of its own pop, and the next pops
 //! use the new regions.
 
-ghost use Rattle.std.specs.Prelude.{◌≡◌, ◌≤◌, ◌^◌, ℕ, [], ◌∷◌, IfOk, List, None, Some, slice_get};
+ghost use Rattle.std.specs.Prelude.{◌≡◌, ◌≤◌, ◌^◌, ℕ, [], ◌∷◌, IfOk, List, None, OnOk, Some, slice_get};
 ghost use Rattle.fs_regions.specs.Places.{places_in};
+ghost use Rattle.fs_chain.specs.Queues.{gave, took};
 ghost use Rattle.fs_chain.specs.declared.state.ChainState.TheVariants as at;
 ghost use Rattle.fs_live.specs.Handles.{IsReached, live_of};
 ghost use Rattle.fs_live.specs.Live.{KeepsReturns, LiveEvent, LiveRun, LiveState, Remaps, calls_among};
+ghost use Rattle.worked_callers.specs.ChainCalls.{HasMemory};
 ghost use Rattle.worked_callers.specs.Events.{IsRepliedChain};
 
 use crate::others::push_own;
@@ -29,6 +31,9 @@ pub fn map_amid<F: FileSystem>(
 ) -> Result<bool, ChainError>
     requires free { first.old.state ≡ at.Free }
     requires goes { queue.old.stopped ≡ None }
+    ensures set { OnOk result (HasMemory second.old second.new regions 0x101000) }
+    ensures again { OnOk result (first.new.state ≡ at.Free) }
+    ensures queue { OnOk result (queue.new ≡ gave (took queue.old)) }
     ensures run { IfOk result (λ notice. (s : LiveState F) (i : ℕ)
         → IsReached F.may s
         → s.outs ≡ []
@@ -36,15 +41,15 @@ pub fn map_amid<F: FileSystem>(
         → s.places ≡ places_in first.old.regions
         → s.limit ≡ first.old.limit
         → s.limit ≤ 2 ^ 31
-        → KeepsReturns s.places (places_in second.new.regions) (live_of queue.old)
+        → KeepsReturns s.places (places_in regions) (live_of queue.old)
         → (es : List LiveEvent) × (end : LiveState F)
         × LiveRun F.may s es end
-        × IsRepliedChain s i given.now first.old queue.old (Remaps (places_in second.new.regions) ∷ [])
+        × IsRepliedChain s i given.now first.old queue.old (Remaps (places_in regions) ∷ [])
         request.now bytes.now notice es
         × (calls_among es ≡ [])
         × (end.outs ≡ [])
         × (slice_get end.queues i ≡ Some (live_of queue.new))
-        × (end.places ≡ places_in second.new.regions)) }
+        × (end.places ≡ places_in regions)) }
 {
     law_handles::<F>();
     let (_, request_len, _) = walk_chain(first, queue, given)?;

@@ -17,6 +17,7 @@ ghost use Rattle.fs_queue.specs.declared.fault.ChainFault.{ChainFault};
 ghost use Rattle.fs_regions.specs.Places.{memory_over, places_in};
 ghost use Rattle.fs_regions.specs.Walks.{Loaded, OffersBy, queue_of};
 ghost use Rattle.fs_chain.specs.Events.{seen_at, tells_of};
+ghost use Rattle.fs_chain.specs.Queues.{gave, took};
 ghost use Rattle.fs_chain.specs.Walks.{course_of};
 ghost use Rattle.fs_chain.specs.Whole.{GoesBackBy, IsMachineBefore, IsSession, IsToldByMemory, IsWalked};
 ghost use Rattle.fs_chain.specs.Whole.{LackPlaces, after_chain, step_loads};
@@ -40,6 +41,8 @@ pub fn push_by(
     queue: &mut QueueState,
     seen: [u8; 2],
 ) -> Result<(bool, u64), ChainError>
+    ensures again { OnOk result (handle.new.state ≡ at.Free) }
+    ensures queue { OnOk result (queue.new ≡ gave queue.old) }
     ensures back { IfOk result (λ told. (room behind : List ℕ) → (acts : List Act) × (last : ℕ)
         × (back : GoesBackBy queue.old room behind handle.old.state acts last told.0)
         × (back.flags ≡ seen)
@@ -71,6 +74,8 @@ pub fn serve_by<F: FileSystem>(
     requires free { handle.old.state ≡ at.Free }
     requires goes { queue.old.stopped ≡ None }
     requires data { TellsBytes [] answer }
+    ensures again { OnOk result (handle.new.state ≡ at.Free) }
+    ensures queue { OnOk result (queue.new ≡ gave (took queue.old)) }
     ensures told { IfOk result (λ told. (told.0 ≡ tells_of queue.old seen)
         × (told.1 ≡ seen_at queue.old.event_index queue.old.layout)) }
     ensures answered { IfOk result (λ told. (i : ℕ) (m : State F) (files : F)
@@ -144,6 +149,7 @@ pub fn walk_faulty(
     given: &[&[u8]],
 ) -> Result<(u16, ChainFault), ChainError>
     requires free { handle.old.state ≡ at.Free }
+    ensures queue { OnOk result (queue.new ≡ took queue.old) }
     ensures walked { IfOk result (λ c. IsWalked handle.old handle.new queue.old queue.new
         (LoadOutcome.On (PopOutcome.Faulty c.0 c.1))) }
     ensures given { IfOk result (λ c. IsWalkedBy given.now handle.old handle.new queue.old queue.new
@@ -165,6 +171,8 @@ pub fn serve_faulty<F: FileSystem>(
 ) -> Result<(bool, u64), ChainError>
     requires free { handle.old.state ≡ at.Free }
     requires goes { queue.old.stopped ≡ None }
+    ensures again { OnOk result (handle.new.state ≡ at.Free) }
+    ensures queue { OnOk result (queue.new ≡ gave (took queue.old)) }
     ensures told { IfOk result (λ told. (told.0 ≡ tells_of queue.old seen)
         × (told.1 ≡ seen_at queue.old.event_index queue.old.layout)) }
     ensures answered { IfOk result (λ told. (i : ℕ) (m : State F)

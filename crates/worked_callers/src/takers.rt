@@ -2,8 +2,9 @@
 //! (crate `notify`).
 
 ghost use Rattle.std.specs.Prelude.{◌≡◌, ◌<◌, ◌^◌, ℕ, false, IfOk, IsTrue, [], ◌∷◌, None, OnOk, option_map};
-ghost use Rattle.std.specs.Prelude.{Err};
+ghost use Rattle.std.specs.Prelude.{Err, IfErr, OnErr};
 ghost use Rattle.fs_chain.specs.Events.{store_of};
+ghost use Rattle.fs_chain.specs.Loads.{GoesSo, IsSame, RefusesWalk};
 ghost use Rattle.fs_chain.specs.declared.error.ChainError.{ChainError};
 ghost use Rattle.fs_chain.specs.declared.popping.PopOutcome.{PopOutcome};
 ghost use Rattle.fs_chain.specs.declared.chain_handle.ChainHandle.{ChainHandle};
@@ -153,13 +154,16 @@ pub fn drop_one(
     handle.give_up(queue)
 }
 
-/// A pop that is refused because as many chains are in flight as may be. The model's thread, which stored its
-/// wish, sleeps then too.
+/// The first call of a pop. If it is refused because as many chains are in flight as may be, the model's
+/// thread, which stored its wish, sleeps too.
 pub fn find_full(
     handle: &mut ChainHandle,
     queue: &mut QueueState,
 ) -> Result<LoadOutcome, ChainError>
     requires free { handle.old.state ≡ at.Free }
+    ensures goes { IfOk result (λ told. GoesSo handle.old queue.old [] told handle.new queue.new) }
+    ensures error { IfErr result (RefusesWalk handle.old queue.old []) }
+    ensures same { OnErr result (IsSame handle.old handle.new × (queue.new ≡ queue.old)) }
     ensures full { result ≡ Err ChainError.ChainInFlight
         → (s : ThreadedQueue)
         → IsOf queue.old s

@@ -1,6 +1,7 @@
 //! The calls of a handle from the start of a pop on are a step of the plain machine.
 
 ghost use Rattle.std.specs.Prelude.{◌≡◌, ℕ, List, [], drop, length, None, Some, Ok, IfOk, OnOk, true};
+ghost use Rattle.std.specs.Prelude.{false};
 ghost use Rattle.server_phases.specs.Answering.{TellsBytes};
 ghost use Rattle.plain_machine.specs.Step.{EachSuits, Idle, Refused, State, with_queue};
 ghost use Rattle.plain_machine.specs.StepBy.{Act, StepBy};
@@ -11,15 +12,17 @@ ghost use Rattle.fs_queue.specs.declared.fault.QueueError.{QueueError};
 ghost use Rattle.fs_regions.specs.Places.{places_in};
 ghost use Rattle.fs_regions.specs.Walks.{Loaded, queue_of};
 ghost use Rattle.fs_chain.specs.Events.{event_fault, event_miss};
-ghost use Rattle.fs_chain.specs.Queues.{gave};
+ghost use Rattle.fs_chain.specs.Queues.{gave, took};
 ghost use Rattle.fs_chain.specs.Walks.{HasEvents, course_of};
 ghost use Rattle.fs_chain.specs.Whole.{FromTaken, ChainAnswer, GoesBackBy, IsRepliedBy, IsDecodedBy};
-ghost use Rattle.fs_chain.specs.Whole.{IsMachineBefore, IsWalked, LackPlaces, WantsBytes, data_behind};
+ghost use Rattle.fs_chain.specs.Whole.{IsMachineBefore, IsWalked, LackPlaces, WalksBy, WantsBytes};
+ghost use Rattle.fs_chain.specs.Whole.{data_behind};
 ghost use Rattle.fs_chain.specs.Whole.{file_calls, no_effects, step_loads};
 ghost use Rattle.fs_chain.specs.declared.decoding.Decoded as told;
 ghost use Rattle.fs_chain.specs.declared.state.ChainState.TheVariants as at;
 ghost use Rattle.worked_callers.specs.ChainCalls.{ArePopLoads, HasThisAnswer};
-ghost use Rattle.worked_callers.specs.Notified.{IsWalkedBy};
+ghost use Rattle.worked_callers.specs.Events.{loaded_flags};
+ghost use Rattle.worked_callers.specs.Notified.{IsWalkedBy, given_so_far};
 
 use fs_chain::laws::law_chains;
 use fs_chain::{ChainError, ChainHandle, Decoded, LoadOutcome, PopOutcome, QueueState};
@@ -29,7 +32,8 @@ use server_phases::Session;
 
 /// Whether a call of `pop` asks for bytes.
 pub fn wants_bytes(told: &LoadOutcome) -> bool
-    ensures { result ≡ true → WantsBytes told.now }
+    ensures yes { result ≡ true → WantsBytes told.now }
+    ensures no { result ≡ false → WantsBytes told.now → ⊥ }
 {
     matches!(
         told,
@@ -37,7 +41,8 @@ pub fn wants_bytes(told: &LoadOutcome) -> bool
     )
 }
 
-/// A pop with these bytes, one call for each, as long as it asks for bytes.
+/// A pop with these bytes, one call for each, as long as it asks for bytes. If it asks for more in the end,
+/// it was given all of them.
 #[tactic(auto, using(fs_chain::proofs::WholeWalks::begins_by, fs_chain::proofs::WholeWalks::goes_on_by))]
 pub fn walk_by(
     handle: &mut ChainHandle,
@@ -48,6 +53,9 @@ pub fn walk_by(
     ensures walks { IfOk result (λ told. IsWalked handle.old handle.new queue.old queue.new told) }
     ensures given { IfOk result (λ told.
         IsWalkedBy given.now handle.old handle.new queue.old queue.new told) }
+    ensures all { IfOk result (λ told. WantsBytes told
+        → WalksBy (given_so_far (length given.now) given.now) handle.old handle.new queue.old
+        queue.new told) }
 {
     let mut told = handle.pop(queue, &[])?;
     for bytes in given {
@@ -68,10 +76,17 @@ pub fn look<F: FileSystem>(
     given: &[&[u8]],
 ) -> Result<LoadOutcome, ChainError>
     requires free { handle.old.state ≡ at.Free }
+    ensures given { IfOk result (λ told.
+        IsWalkedBy given.now handle.old handle.new queue.old queue.new told) }
+    ensures all { IfOk result (λ told. WantsBytes told
+        → WalksBy (given_so_far (length given.now) given.now) handle.old handle.new queue.old
+        queue.new told) }
     ensures idle { result ≡ Ok (LoadOutcome.On PopOutcome.Idle)
         → (i : ℕ) (m : State F)
         → IsMachineBefore handle.old queue.old i m
-        → (loaded : Loaded) × (lost : List Load)
+        → (handle.new.state ≡ at.Free)
+        × (queue.new ≡ queue.old)
+        × (loaded : Loaded) × (lost : List Load)
         × ArePopLoads given.now handle.old queue.old (LoadOutcome.On PopOutcome.Idle) loaded
         × LackPlaces handle.old queue.old loaded lost
         × StepBy F.may m i (step_loads loaded lost []) [] Idle no_effects m }
@@ -79,7 +94,9 @@ pub fn look<F: FileSystem>(
         → result ≡ Ok (LoadOutcome.On (PopOutcome.Refused e))
         → IsMachineBefore handle.old queue.old i m
         → HasEvents handle.old queue.old
-        → (loaded : Loaded) × (lost : List Load)
+        → (handle.new.state ≡ at.Free)
+        × (queue.new ≡ record queue.old { stopped = Some e })
+        × (loaded : Loaded) × (lost : List Load)
         × ArePopLoads given.now handle.old queue.old (LoadOutcome.On (PopOutcome.Refused e)) loaded
         × LackPlaces handle.old queue.old loaded lost
         × StepBy F.may m i (step_loads loaded lost []) [] (Refused (device.Queue e)) no_effects
@@ -103,6 +120,7 @@ pub fn walk_chain(
     given: &[&[u8]],
 ) -> Result<(u16, usize, usize), ChainError>
     requires free { handle.old.state ≡ at.Free }
+    ensures queue { OnOk result (queue.new ≡ took queue.old) }
     ensures walked { IfOk result (λ c. IsWalked handle.old handle.new queue.old queue.new
         (LoadOutcome.On (PopOutcome.Chain c.0 c.1 c.2))) }
     ensures given { IfOk result (λ c. IsWalkedBy given.now handle.old handle.new queue.old queue.new
@@ -150,12 +168,15 @@ pub fn reply(
     }
 }
 
-/// Returns a chain whose reply is known, to a driver that enabled the notification.
+/// Returns a chain whose reply is known. The bytes that it passes as loaded are available flags 0, or
+/// used_event 0.
 pub fn push_reply(handle: &mut ChainHandle, queue: &mut QueueState) -> Result<bool, ChainError>
     ensures back { IfOk result (λ notice. (room behind : List ℕ) → (acts : List Act) × (last : ℕ)
-        × GoesBackBy queue.old room behind handle.old.state acts last notice) }
+        × (back : GoesBackBy queue.old room behind handle.old.state acts last notice)
+        × (back.flags ≡ loaded_flags)) }
     ensures session { OnOk result (handle.new.session ≡ handle.old.session) }
     ensures queue { OnOk result (queue.new ≡ gave queue.old) }
+    ensures again { OnOk result (handle.new.state ≡ at.Free) }
 {
     let mut front = [0u8; 160];
     let _stores = handle.push(queue, &mut front)?;

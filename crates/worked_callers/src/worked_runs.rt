@@ -1,31 +1,26 @@
-//! Chains of the worked runs, each by itself.
+//! Chains of the worked runs, each by itself. The runs' events are named.
 
 ghost use Rattle.std.specs.Prelude.{◌≡◌, [], ◌∷◌, ◌++◌, List, Some, slice_get, true};
-ghost use Rattle.fs_queue.specs.Loads.{Load};
-ghost use Rattle.fuse_fs.specs.Calls.{Destroy, Done, Failed, FileRun, Wants};
+ghost use Rattle.fuse_fs.specs.Calls.{Destroy, Done, Failed, Wants};
 ghost use Rattle.plain_machine.specs.Examples.{blank};
-ghost use Rattle.plain_machine.specs.Step.{Exchanged, State};
-ghost use Rattle.plain_machine.specs.StepBy.{Effects, StepBy};
 ghost use Rattle.fs_live.specs.InitBeside as init;
-ghost use Rattle.fs_live.specs.Live.{LiveEvent, LiveRun, LiveState, MovesDevice, room_of};
-ghost use Rattle.fs_live.specs.Overlap.{at_positions, first_answered, first_exchange, state};
+ghost use Rattle.fs_live.specs.Live.{Happens, LiveEvent, LiveRun, LiveState, MovesDevice, room_of};
+ghost use Rattle.fs_live.specs.Overlap.{at_positions, first_answered, first_exchange, first_used, state};
 ghost use Rattle.fs_live.specs.Rewritten as rewritten;
-ghost use Rattle.fs_live.specs.Runs.{EachIsTold, IsBefore, ReturnHasPlaces, after_alone, chain_loads};
-ghost use Rattle.fs_live.specs.Runs.{has_places};
+ghost use Rattle.fs_live.specs.Runs.{EachIsTold, ReturnHasPlaces, has_places};
 ghost use Rattle.fs_live.specs.Several.{LiveQueue};
+ghost use Rattle.worked_callers.specs.WorkedRuns.{ReturnsAsAStep, init_events, overlap_events};
+ghost use Rattle.worked_callers.specs.WorkedRuns.{overlap_return, rewritten_events};
 
 use fs_live::{law_examples, law_runs};
 use fuse_fs::FileSystem;
 
 /// DESTROY's chain, after which another one was popped and returned, is a step by its own loads.
 pub fn overlapped<F: FileSystem>()
-    ensures { (before after : F) → F.may before Destroy Done after → (now : LiveState F)
-        × ((m : State F) (files : F)
-        → IsBefore now first_answered m
-        → FileRun F.may m.files ((Destroy, Done) ∷ []) files
-        → (lost : List Load) × (e : Effects)
-        × StepBy F.may m 0 (chain_loads first_answered lost) ((Destroy, Done) ∷ [])
-        (Exchanged first_exchange true) e (after_alone m first_answered files)) }
+    ensures { (before after : F)
+        → F.may before Destroy Done after
+        → ReturnsAsAStep F.may (state before (at_positions 0 0) 1 []) overlap_events
+        (state after (at_positions 2 2) 0 []) first_answered first_exchange first_used }
 {
     law_examples::<F>();
     law_runs::<F, F>();
@@ -35,7 +30,10 @@ pub fn overlapped<F: FileSystem>()
 pub fn placed<F: FileSystem>()
     ensures { (before after : F)
         → F.may before Destroy Done after
-        → (now : LiveState F) × (w : LiveQueue)
+        → (now : LiveState F)
+        × LiveRun F.may (state before (at_positions 0 0) 1 []) overlap_events now
+        × Happens F.may now overlap_return (state after (at_positions 2 2) 0 [])
+        × (w : LiveQueue)
         × (slice_get now.queues 0 ≡ Some w)
         × ReturnHasPlaces now.places w
         × ReturnHasPlaces blank w
@@ -47,13 +45,11 @@ pub fn placed<F: FileSystem>()
 
 /// The chain whose ring's entry was rewritten is a step by its loads.
 pub fn kept<F: FileSystem>()
-    ensures { (before after : F) → F.may before rewritten.told Done after → (now : LiveState F)
-        × ((m : State F) (files : F)
-        → IsBefore now rewritten.first_answered m
-        → FileRun F.may m.files ((rewritten.told, Done) ∷ []) files
-        → (lost : List Load) × (e : Effects)
-        × StepBy F.may m 0 (chain_loads rewritten.first_answered lost) ((rewritten.told, Done) ∷ [])
-        (Exchanged rewritten.exchange true) e (after_alone m rewritten.first_answered files)) }
+    ensures { (before after : F)
+        → F.may before rewritten.told Done after
+        → ReturnsAsAStep F.may (state before (rewritten.at_positions 0 0) 0 []) rewritten_events
+        (state after (rewritten.stopped_at 1 1) 0 []) rewritten.first_answered rewritten.exchange
+        rewritten.used }
 {
     law_examples::<F>();
     law_runs::<F, F>();
@@ -64,13 +60,8 @@ pub fn asked_before<F: FileSystem>()
     ensures { (before between after : F)
         → F.may before init.starts (Wants 0) between
         → F.may between init.looks (Failed 2) after
-        → (now : LiveState F)
-        × ((m : State F) (files : F)
-        → IsBefore now init.first_answered m
-        → FileRun F.may m.files ((init.looks, Failed 2) ∷ []) files
-        → (lost : List Load) × (e : Effects)
-        × StepBy F.may m 0 (chain_loads init.first_answered lost) ((init.looks, Failed 2) ∷ [])
-        (Exchanged init.first_exchange true) e (after_alone m init.first_answered files)) }
+        → ReturnsAsAStep F.may (state before (at_positions 0 0) 0 []) init_events
+        (state after (at_positions 2 2) 1 []) init.first_answered init.first_exchange init.first_used }
 {
     law_examples::<F>();
     law_runs::<F, F>();
@@ -83,10 +74,10 @@ pub fn moved<F: FileSystem>()
         → F.may before Destroy Done after
         → (later : List LiveEvent) (end : LiveState F)
         → LiveRun F.may (state after (at_positions 2 2) 0 []) later end
-        → (es : List LiveEvent)
-        × LiveRun F.may (state before (at_positions 0 0) 1 [])
+        → (let es = overlap_events ++ overlap_return ∷ [] in
+        LiveRun F.may (state before (at_positions 0 0) 1 [])
         (es ++ MovesDevice blank (at_positions 2 2 ∷ []) ∷ later) end
-        × LiveRun F.may (state before (at_positions 0 0) 1 []) (es ++ later) end }
+        × LiveRun F.may (state before (at_positions 0 0) 1 []) (es ++ later) end) }
 {
     law_examples::<F>();
     law_runs::<F, F>();
@@ -96,9 +87,9 @@ pub fn moved<F: FileSystem>()
 pub fn marked<F: FileSystem>()
     ensures { (before after : F)
         → F.may before Destroy Done after
-        → (es : List LiveEvent) × (run : LiveRun F.may (state before (at_positions 0 0) 1 []) es
+        → (run : LiveRun F.may (state before (at_positions 0 0) 1 []) (overlap_events ++ overlap_return ∷ [])
         (state after (at_positions 2 2) 0 []))
-        × EachIsTold F.may (state before (at_positions 0 0) 1 []) es
+        × EachIsTold F.may (state before (at_positions 0 0) 1 []) (overlap_events ++ overlap_return ∷ [])
         (state after (at_positions 2 2) 0 []) run }
 {
     law_examples::<F>();

@@ -3,7 +3,7 @@ use Rattle.std.proofs.lemmas.Bool.Decides.{nat_tests}
 use Rattle.fs_chain.specs.declared.chain_handle.ChainHandle.{ChainHandle}
 use Rattle.fs_chain.specs.declared.decoding.Decoded.TheVariants as asks
 use Rattle.worked_callers.proofs.CalledBy.{decodes_by}
-use Rattle.worked_callers.proofs.AbandonedAsked.{lost_asked}
+use Rattle.worked_callers.proofs.AbandonedAsked.{late_refused, lost_asked}
 use Rattle.worked_callers.proofs.Served.{more_taken, taken_so}
 use Rattle.worked_callers.proofs.abandoned.abandon_asked.Goals as goal
 
@@ -28,7 +28,9 @@ returns-in-Err g c =
     c.walk_chain.new.queue c.in_ok-request_len.field-0-0 c.in_ok-request_len.request_len c.in_ok-request_len.field-0-2 c.args.session
     c.args.request.now (asks.Call asked.0) c.in_ok-request_len.ensures.given asked.1 in
     record {
+      late = late_refused c.abandon.new.self _ c.args.late c.in-Err.error c.abandon.ensures.0.3 c.in-Err.ensures.refused;
       again = ap (λ (w : ChainHandle). w.state) c.in-Err.ensures.same ∙ c.abandon.ensures.0.3;
+      queue = c.in_ok-request_len.ensures.queue;
       run = λ s i reached there places limit small session.
           let so = lost_asked may handles.ends_pop handles.decodes_request handles.abandons c.args.given.now c.args.handle.now
           c.walk_chain.new.handle

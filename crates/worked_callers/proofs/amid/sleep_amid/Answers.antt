@@ -13,13 +13,14 @@ returns-in-On-Idle c =
     let q = c.args.queue.now in
     let after = c.walk_amid.new.queue in
     let given = c.args.given.now in
+    let wrong = c.args.wrong.now in
     let told : c.in_ok-walk_amid.field-0 ≡ wents.On says.Idle =
     c.in-On-Idle.is ∙ ap (λ (o : walked.PopOutcome). wents.On o) c.in-On-Idle.field-0-is in
-    let by : IsWalkedAmid given old new q after (wents.On says.Idle) =
-    subst (λ (t : went.LoadOutcome). IsWalkedAmid given old new q after t) told c.in_ok-walk_amid.ensures in (
+    let by : IsWalkedAmid wrong given old new q after (wents.On says.Idle) =
+    subst (λ (t : went.LoadOutcome). IsWalkedAmid wrong given old new q after t) told c.in_ok-walk_amid.ensures.walks in (
       by.0,
       λ s is asker shown fits.
           let none = c.law_takers.ensures.none_amid (given_so_far by.0 given) old new q after s c.are_counted.ensures fits c.requires.goes
-          by.1 is asker shown in
-          (by.1, none.0, none.1, none.2, none.3, none.4),
+          by.1.0 is asker shown in
+          (by.1.0, by.1.1, none.0, none.1, none.2, none.3, none.4),
     )

@@ -13,15 +13,16 @@ returns-in-On-Chain c =
     let q = c.args.queue.now in
     let after = c.walk_amid.new.queue in
     let given = c.args.given.now in
+    let wrong = c.args.wrong.now in
     let chain : walked.PopOutcome = says.Chain c.in-On-Chain.head c.in-On-Chain.request_len c.in-On-Chain.room_len in
     let told : c.in_ok-head.field-0 ≡ wents.On chain =
     c.in-On-Chain.is ∙ ap (λ (o : walked.PopOutcome). wents.On o) c.in-On-Chain.field-0-is in
-    let by : IsWalkedAmid given old new q after (wents.On chain) =
-    subst (λ (t : went.LoadOutcome). IsWalkedAmid given old new q after t) told c.in_ok-head.ensures in (
+    let by : IsWalkedAmid wrong given old new q after (wents.On chain) =
+    subst (λ (t : went.LoadOutcome). IsWalkedAmid wrong given old new q after t) told c.in_ok-head.ensures.walks in (
       by.0,
       λ s is walker.
           let took = c.law_takers.ensures.takes_amid (given_so_far by.0 given) old new q after chain s c.are_counted.ensures
           c.requires.goes tt
-          by.1 is walker in
-          (by.1, took.0, took.1, took.2, took.3, took.4),
+          by.1.0 is walker in
+          (by.1.0, by.1.1, took.0, took.1, took.2, took.3, took.4),
     )

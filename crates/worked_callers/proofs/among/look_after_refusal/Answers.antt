@@ -1,6 +1,6 @@
 use Rattle.std.proofs.Common.{◌≡◌, true, [], ◌∷◌, Some, Ok, Result, IfOk, refl, subst, sym, ap, ◌∙◌}
 use Rattle.fs_regions.specs.declared.step.CourseStep as comes
-use Rattle.fs_chain.specs.Loads.{GoesSo}
+use Rattle.fs_chain.specs.Loads.{GoesSo, RefusesWalk}
 use Rattle.fs_chain.specs.Whole.{BeginsPopBy, WantsBytes}
 use Rattle.fs_chain.specs.declared.error.ChainError.{ChainError}
 use Rattle.fs_chain.specs.declared.loads.LoadOutcome.{LoadOutcome}
@@ -14,6 +14,7 @@ use Rattle.fs_live.specs.Handles.{live_of}
 use Rattle.fs_live.specs.Live.{EndsPop, after_pop}
 use Rattle.worked_callers.proofs.Looks.{keeps_queue}
 use Rattle.worked_callers.proofs.NamedEvents.{idle_is}
+use Rattle.worked_callers.proofs.Served.{if_ok}
 use Rattle.worked_callers.proofs.among.look_after_refusal.Goals as goal
 
 pub returns-in-Err : goal.returns-in-Err
@@ -30,14 +31,25 @@ returns-in-Err g c =
     let told = c.in_ok-begun.begun in
     let first : BeginsPopBy old w before left told = (c.requires.free, c.in_ok-begun.ensures.goes) in
     let yes : c.wants_bytes.result ≡ true = Prim.search in
-    let wants : WantsBytes told = c.wants_bytes.ensures yes in
-    let same : now ≡ before = c.in-Err.ensures.same.1 ∙ keeps_queue old w before left told c.requires.goes wants first in
+    let wants : WantsBytes told = c.wants_bytes.ensures.yes yes in
+    let kept : left ≡ before = keeps_queue old w before left told c.requires.goes wants first in
+    let same : now ≡ before = c.in-Err.ensures.same.1 ∙ kept in
     let walks_so : (out : walked.PopOutcome) → c.pop-in-Err.result ≡ Ok (wents.On out) →
     WalksAmong (index ∷ []) old new before now after (wents.On out) = λ out is.
     let goes : GoesSo v now index (wents.On out) new after =
     subst (λ (r : Result LoadOutcome ChainError). IfOk r (λ went. GoesSo v now index went new after)) is c.pop-in-Err.ensures.goes in
     (w, v, before, left, told, (refl, first), wants, c.in-Err.ensures.same.0, goes) in
     record {
+      calls = if_ok c.pop-in-Err.result _ _
+          (λ out goes. (
+            w,
+            v,
+            (told, subst (λ (q : QueueState). BeginsPopBy old w before q told) kept first, wants),
+            (c.in-Err.field-0, subst (λ (q : QueueState). RefusesWalk w q c.args.wrong.now c.in-Err.field-0) kept c.in-Err.ensures.error),
+            c.in-Err.ensures.same.0,
+            subst (λ (q : QueueState). GoesSo v q index out new after) same goes,
+          ))
+          c.pop-in-Err.ensures.goes;
       idle = λ is s i there places limit.
           let walks = walks_so says.Idle is in
           let law = c.law_handles.ensures.ends_pop_among s i (index ∷ []) old new before now after says.Idle

@@ -14,6 +14,7 @@ use Rattle.worked_callers.proofs.CallsSuit.{listed_suits}
 use Rattle.worked_callers.proofs.NamedEvents.{served_named}
 use Rattle.worked_callers.proofs.Served.{if_ok_so, more_taken, taken_so}
 use Rattle.worked_callers.proofs.ServedBeside.{served_beside}
+use Rattle.worked_callers.proofs.TookQueue.{gave_took}
 use Rattle.worked_callers.proofs.answers.list_beside.Goals as goal
 
 pub ask_call-requires : goal.ask_call-requires
@@ -76,4 +77,6 @@ returns g c =
             ),
           ))
           c.push_reply.ensures.back c.push_reply.ensures.queue;
+      again = c.push_reply.ensures.again;
+      queue = gave_took c.push_reply.result _ _ _ c.in_ok-request_len.ensures.queue c.push_reply.ensures.queue;
     }

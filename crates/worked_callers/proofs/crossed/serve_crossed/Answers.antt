@@ -6,11 +6,12 @@ use Rattle.fuse_values.specs.declared.answer.FileAnswer.TheVariants as value
 use Rattle.server_phases.specs.Answering.{forget_if_any}
 use Rattle.plain_machine.specs.Step.{Calls}
 use Rattle.plain_machine.specs.StepBy.{Act}
-use Rattle.fs_chain.specs.Queues.{gave}
+use Rattle.fs_chain.specs.Queues.{gave, took}
 use Rattle.fs_chain.specs.Whole.{ChainAnswer, GoesBackBy}
 use Rattle.fs_chain.specs.declared.decoding.Decoded.TheVariants as asks
 use Rattle.fs_chain.specs.declared.queue.QueueState.{QueueState}
 use Rattle.worked_callers.specs.ChainCalls.{with_data}
+use Rattle.worked_callers.specs.Events.{loaded_flags}
 use Rattle.worked_callers.proofs.CalledBy.{calls_by}
 use Rattle.worked_callers.proofs.CallsSuit.{answered_suits}
 use Rattle.worked_callers.proofs.Served.{more_taken, taken_so}
@@ -86,6 +87,9 @@ returns g c =
     c.in_ok-second_len.ensures.given call'.1 told'.1 suit' in
     let st = replied.state in
     record {
+      again = (c.in_ok-late.ensures.again, c.in_ok-early.ensures.again);
+      queue = c.in_ok-late.ensures.queue
+          ∙ ap gave (c.in_ok-early.ensures.queue ∙ ap gave (c.in_ok-second_len.ensures.queue ∙ ap took c.in_ok-first_len.ensures.queue));
       run = λ s i reached there places places' limit limit' small in_session in_session'. (
         call.0,
         told.0,
@@ -107,7 +111,8 @@ returns g c =
               c.in_ok-first_len.ensures.given
               c.in_ok-second_len.ensures.given call.1 call'.1 told.1 told'.1
               (subst (λ (k : QueueState). (room behind : List ℕ) →
-              (acts : List Act) × (last : ℕ) × GoesBackBy k room behind st acts last c.in_ok-late.late) c.in_ok-early.ensures.queue
+              (acts : List Act) × (last : ℕ) × (back : GoesBackBy k room behind st acts last c.in_ok-late.late)
+              × (back.flags ≡ loaded_flags)) c.in_ok-early.ensures.queue
               c.in_ok-late.ensures.back) c.in_ok-early.ensures.back c.push_reply-2.new.queue
               (c.in_ok-late.ensures.queue ∙ ap gave c.in_ok-early.ensures.queue)
               s i between files reached there places places' limit limit' small

@@ -7,11 +7,13 @@ use Rattle.fs_chain.specs.declared.chain_handle.ChainHandle.{ChainHandle}
 use Rattle.fs_chain.specs.declared.queue.QueueState.{QueueState}
 use Rattle.fs_chain.specs.declared.state.ChainState as state
 use Rattle.fs_live.specs.Handles.{live_of}
+use Rattle.worked_callers.specs.Events.{loaded_flags}
 use Rattle.worked_callers.specs.Notified.{given_so_far}
 use Rattle.worked_callers.proofs.CalledBy.{calls_of_answer}
 use Rattle.worked_callers.proofs.NamedEvents.{served_named}
 use Rattle.worked_callers.proofs.Served.{if_ok_so, more_taken, taken_so}
 use Rattle.worked_callers.proofs.ServedBeside.{served_beside}
+use Rattle.worked_callers.proofs.TookQueue.{gave_took}
 use Rattle.worked_callers.proofs.lent.serve_lent.Goals as goal
 
 pub reply-requires-clause-taken : goal.reply-requires-clause-taken
@@ -55,7 +57,7 @@ returns g c =
                 (ap (λ (w : ChainHandle). w.state) c.in_ok-table.ensures.taken)
                 replied.3 replied.4
                 (subst (λ (st : state.ChainState). (room behind : List ℕ) → (acts : List Act) × (last : ℕ)
-                × GoesBackBy after room behind st acts last notice)
+                × (back : GoesBackBy after room behind st acts last notice) × (back.flags ≡ loaded_flags))
                 (ap (λ (w : ChainHandle). w.state) c.in_ok-lend_table.ensures.lent) back)
                 s i files reached there places limit small session files_run in (
                   so.es,
@@ -69,4 +71,6 @@ returns g c =
                 ),
           ))
           c.push_reply.ensures.back c.push_reply.ensures.queue;
+      again = c.push_reply.ensures.again;
+      queue = gave_took c.push_reply.result _ _ _ c.in_ok-request_len.ensures.queue c.push_reply.ensures.queue;
     }

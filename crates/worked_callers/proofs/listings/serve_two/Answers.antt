@@ -1,5 +1,5 @@
 use Rattle.std.specs.Prelude.{drop}
-use Rattle.std.proofs.Common.{◌≡◌, ℕ, Bool, List, true, length, refl, sym, subst, take, ◌∙◌, arith}
+use Rattle.std.proofs.Common.{◌≡◌, ℕ, Bool, List, [], true, length, refl, sym, subst, ap, take, ◌∙◌, arith}
 use Rattle.std.proofs.lemmas.Bool.Decides.{nat_tests}
 use Rattle.fuse_values.specs.Values.{call_of}
 use Rattle.fs_queue.specs.Taking.{addresses_of, writable}
@@ -8,15 +8,19 @@ use Rattle.server_phases.specs.Gathering.{Brought}
 use Rattle.server_phases.specs.declared.session.Session.{Session}
 use Rattle.plain_machine.specs.Step.{Calls, Exchanged}
 use Rattle.plain_machine.specs.StepBy.{StepBy}
+use Rattle.fs_chain.specs.Events.{tells_of}
 use Rattle.fs_chain.specs.Walks.{course_of}
 use Rattle.fs_chain.specs.Whole.{ByEntries, ChainAnswer, ChainBy, after_chain, step_loads}
 use Rattle.fs_chain.specs.WholeListings.{EndsThere, listing_calls}
 use Rattle.fs_chain.specs.declared.decoding.Decoded.TheVariants as asks
+use Rattle.fs_chain.specs.declared.queue.QueueState.{QueueState}
 use Rattle.worked_callers.specs.ChainCalls.{both_entries}
+use Rattle.worked_callers.specs.Events.{loaded_flags}
 use Rattle.worked_callers.specs.Notified.{given_so_far}
 use Rattle.worked_callers.proofs.CalledBy.{calls_by}
 use Rattle.worked_callers.proofs.CallsSuit.{listed_suits}
-use Rattle.worked_callers.proofs.Served.{if_ok_so, more_taken, queue_stays, taken_so}
+use Rattle.worked_callers.proofs.Served.{if_ok, if_ok_so, more_taken, queue_stays, taken_so}
+use Rattle.worked_callers.proofs.TookQueue.{gave_took}
 use Rattle.worked_callers.proofs.listings.serve_two.Goals as goal
 
 pub ask_call-requires : goal.ask_call-requires
@@ -61,6 +65,12 @@ returns g c =
     c.in_ok-request_len.ensures.walked in
     let in_order = stays.0 ∙ c.requires.none_out in
     record {
+      told = if_ok c.push_reply.result _ _
+          (λ notice back.
+          let goes = back [] [] in
+          goes.2.notified ∙ ap (λ (flags : List ℕ). tells_of back_queue flags) goes.3
+          ∙ ap (λ (k : QueueState). tells_of k loaded_flags) c.in_ok-request_len.ensures.queue)
+          c.push_reply.ensures.back;
       step = if_ok_so c.push_reply.result _ _ _
           (λ notice back session_is i m files first in_session. (
             call.0,
@@ -108,4 +118,6 @@ returns g c =
             ),
           ))
           c.push_reply.ensures.back c.push_reply.ensures.session;
+      again = c.push_reply.ensures.again;
+      queue = gave_took c.push_reply.result _ _ _ c.in_ok-request_len.ensures.queue c.push_reply.ensures.queue;
     }

@@ -1,14 +1,14 @@
 use Rattle.std.proofs.Common.{◌≡◌, ◌≤◌, ◌^◌, ℕ, List, [], ◌∷◌, ◌++◌, Some, slice_get, refl, subst, sym, ap, ◌∙◌}
 use Rattle.vm_memory_core.specs.Host.{changed_at}
 use Rattle.fs_queue.specs.Queue.{Queue}
-use Rattle.fs_record.specs.Record.{IsRecord}
+use Rattle.fs_record.specs.Record.{IsRecord, Second}
 use Rattle.fs_regions.specs.Places.{places_in}
 use Rattle.fs_live.specs.Handles.{live_of}
 use Rattle.fs_live.specs.Live.{LiveEvent, MovesDevice}
 use Rattle.fs_live.specs.Others.{recorded}
 use Rattle.fs_live.specs.Several.{LiveQueue}
 use Rattle.worked_callers.proofs.MovedAmid.{reached_run}
-use Rattle.worked_callers.proofs.Served.{if_ok}
+use Rattle.worked_callers.proofs.Served.{if_ok_so, on_ok, on_ok_more}
 use Rattle.worked_callers.proofs.ServedBeside.{reached_by}
 use Rattle.worked_callers.proofs.ServedCrossed.{run_both}
 use Rattle.worked_callers.proofs.moves.move_amid.Goals as goal
@@ -24,26 +24,37 @@ returns g c =
     let m = places_in c.args.there.now.regions in
     let q = c.in-Some.read.now in
     let read_options = c.in_ok-restored.field-0-0.0 in
+    let version = Second 4096 0x101000 in
+    let taken_is : IsRecord found.0 found.1 read_options (q ∷ []) =
+    subst (λ (qs : List Queue). IsRecord found.0 found.1 read_options qs) (sym c.deref.ensures.value ∙ c.in-Some.ensures.one) found.3 in
     record {
-      run = if_ok c.reply_beside-2.result _ _
-          (λ notice last s reached none queues options places limit limit' small. (
+      again = on_ok_more c.reply_beside-2.result _ _ (λ is. (c.in_ok-_told.ensures.again, is)) c.reply_beside-2.ensures.again;
+      queue = on_ok c.reply_beside-2.result _ c.in_ok-_told.ensures.queue;
+      run = if_ok_so c.reply_beside-2.result _ _ _
+          (λ notice last whole. (
             saved.0,
             found.0,
+            found.1,
+            read_options,
+            q,
+            begun,
+            saved.1,
             saved.2,
             found.2,
-            λ same.
+            taken_is,
+            c.begin_by_record.ensures.begins,
+            whole,
+            λ s reached none queues options places limit limit' small same.
                 let one = c.in_ok-_told.ensures.run s 0 reached (ap (λ (l : List LiveQueue). slice_get l 0) queues) places
                 limit small in
                 let s₁ = one.1 in
                 let queues₁ : s₁.queues ≡ live_of left ∷ [] =
                 one.5 ∙ ap (λ (l : List LiveQueue). changed_at l 0 (λ _. live_of left)) queues in
-                let made : IsRecord saved.0 saved.1 s₁.options (recorded left ∷ []) =
-                subst (λ (o : ℕ). IsRecord saved.0 saved.1 o (recorded left ∷ [])) (sym (one.6 ∙ options)) saved.3 in
+                let made : IsRecord saved.0 version s₁.options (recorded left ∷ []) =
+                subst (λ (o : ℕ). IsRecord saved.0 version o (recorded left ∷ [])) (sym (one.6 ∙ options)) saved.2 in
                 let read : IsRecord saved.0 found.1 read_options (q ∷ []) =
-                subst (λ (bytes : List ℕ). IsRecord bytes found.1 read_options (q ∷ [])) same
-                (subst (λ (qs : List Queue). IsRecord found.0 found.1 read_options qs)
-                (sym c.deref.ensures.value ∙ c.in-Some.ensures) found.3) in
-                let moved = c.begin_by_record.ensures.moves s₁ left m saved.0 saved.1 found.1 read_options (one.4 ∙ none) queues₁
+                subst (λ (bytes : List ℕ). IsRecord bytes found.1 read_options (q ∷ [])) same taken_is in
+                let moved = c.begin_by_record.ensures.moves s₁ left m saved.0 version found.1 read_options (one.4 ∙ none) queues₁
                 made read in
                 let s₂ = moved.1 in
                 let event : LiveEvent = MovesDevice m (live_of begun ∷ []) in
@@ -57,10 +68,13 @@ returns g c =
                   one.0,
                   two.0,
                   c.in_ok-_told._told,
+                  s₁,
                   s₂,
-                  begun,
                   refl,
+                  one.2,
                   one.9,
+                  queues₁,
+                  moved.2,
                   two.2,
                   two.9,
                   two.4 ∙ moved.5,
@@ -69,5 +83,5 @@ returns g c =
                   two.8 ∙ moved.4,
                 ),
           ))
-          c.reply_beside-2.ensures.run;
+          c.reply_beside-2.ensures.run c.reply_beside-2.ensures.queue;
     }

@@ -2,7 +2,7 @@ use Rattle.std.proofs.Common.{Bool, List, ℕ, [], ◌∷◌, ◌≡◌, ◌∙�
 use Rattle.std.specs.Io.KnownBytes.{Appends}
 use Rattle.fs_queue.specs.Queue.{Queue}
 use Rattle.fs_queue.specs.WalkingView.{at_position}
-use Rattle.fs_record.specs.Record.{IsRecord, Second, Version, record_bytes}
+use Rattle.fs_record.specs.Record.{IsRecord, Second, record_bytes}
 use Rattle.fs_live.specs.Others.{recorded}
 use Rattle.worked_callers.proofs.moves.save_one.Goals as goal
 
@@ -12,11 +12,10 @@ returns-in-Ok g c =
     let v = Second 4096 0x101000 in
     let same : c.resume.result ≡ recorded q =
     c.resume.ensures ∙ ap (λ (b : Bool). record (at_position q.layout q.next_avail) { stopped = b }) c.is_some.ensures in
-    subst (λ (k : Queue). (sent : List ℕ) × (v' : Version)
+    subst (λ (k : Queue). (sent : List ℕ)
     × Appends (g.S.RecordSink.sent c.args.sink.now) (g.S.RecordSink.sent c.save_record.new.sink) sent
-    × IsRecord sent v' c.args.options.0 (k ∷ [])) same (
+    × IsRecord sent v c.args.options.0 (k ∷ [])) same (
       record_bytes v c.args.options.0 (c.resume.result ∷ []),
-      v,
       c.in-Ok.ensures.goes_out.0,
       (refl, (omega arith, omega arith), c.in-Ok.ensures.savable),
     )

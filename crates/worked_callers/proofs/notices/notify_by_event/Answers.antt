@@ -18,5 +18,9 @@ returns c =
     let same : from_le_bytes w16 bytes ≡ event = from_le_bytes-to_le_bytes_2 event small in
     let law : wants w bytes ≡ passes (from_le_bytes w16 bytes) w.next_used (next_position (returning w)) =
     c.law_queues.ensures.event w bytes c.requires.by_event (Prim.search) (subst (λ (n : ℕ). n < 2 ^ 16) (sym same) small) in
-    back.2.notified ∙ ap (λ (flags : List ℕ). tells_of q flags) (back.3 ∙ c.to_le_bytes-bytes.ensures)
-    ∙ subst (λ (n : ℕ). wants w bytes ≡ passes n w.next_used (next_position (returning w))) same law
+    record {
+      again = c.in_ok-notice.ensures.again;
+      queue = c.in_ok-notice.ensures.queue;
+      told = back.2.notified ∙ ap (λ (flags : List ℕ). tells_of q flags) (back.3 ∙ c.to_le_bytes-bytes.ensures)
+          ∙ subst (λ (n : ℕ). wants w bytes ≡ passes n w.next_used (next_position (returning w))) same law;
+    }

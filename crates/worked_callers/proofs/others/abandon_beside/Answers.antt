@@ -10,3 +10,6 @@ returns-clause-run g c =
 
 pub returns-clause-again : goal.returns-clause-again
 returns-clause-again g c = c.abandon.ensures.0.3
+
+pub returns-clause-queue : goal.returns-clause-queue
+returns-clause-queue g c = c.in_ok-_len.ensures.queue

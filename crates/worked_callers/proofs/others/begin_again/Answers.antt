@@ -12,7 +12,8 @@ returns g c =
     let before = c.args.queue.now in
     let after = c.reset.new.self in
     record {
-      stands = λ start now es i none even run there out some few waits.
+      begins = c.reset.ensures;
+      goes_on = λ start now es i none even run there out some few waits.
           let stood = c.law_runs.ensures.positions start now es i (live_of before) none even run there out in
           let law = c.law_handles.ensures.resets_queue now i before after before.layout before.next_avail before.max_in_flight
           before.event_index

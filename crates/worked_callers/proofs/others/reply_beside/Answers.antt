@@ -2,6 +2,7 @@ use Rattle.std.proofs.Common.{◌≡◌, length, ◌∙◌, arith}
 use Rattle.std.proofs.lemmas.Bool.Decides.{nat_tests}
 use Rattle.worked_callers.proofs.OthersBeside.{replied_beside}
 use Rattle.worked_callers.proofs.Served.{if_ok_so, more_taken, taken_so}
+use Rattle.worked_callers.proofs.TookQueue.{gave_took}
 use Rattle.worked_callers.proofs.others.reply_beside.Goals as goal
 
 pub returns : goal.returns
@@ -28,4 +29,6 @@ returns g c =
           c.in_ok-request_len.ensures.given
           taken c.in_ok-reply.ensures.ok c.in_ok-reply.ensures.kept back final_is)
           c.push_own.ensures.back c.push_own.ensures.queue;
+      again = c.push_own.ensures.again;
+      queue = gave_took c.push_own.result _ _ _ c.in_ok-request_len.ensures.queue c.push_own.ensures.queue;
     }

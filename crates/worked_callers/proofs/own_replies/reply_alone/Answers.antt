@@ -4,6 +4,7 @@ use Rattle.fs_chain.specs.declared.queue.QueueState.{QueueState}
 use Rattle.worked_callers.specs.OwnReplies.{EndsAlone}
 use Rattle.worked_callers.proofs.OwnRuns.{ended_alone}
 use Rattle.worked_callers.proofs.Served.{if_ok_so, more_taken, taken_so}
+use Rattle.worked_callers.proofs.TookQueue.{gave_took}
 use Rattle.worked_callers.proofs.own_replies.reply_alone.Goals as goal
 
 pub returns : goal.returns
@@ -34,4 +35,6 @@ returns g c =
           bytes notice c.requires.goes c.in_ok-request_len.ensures.given taken c.in_ok-reply.ensures.ok c.in_ok-reply.ensures.kept back
           c.law_runs.ensures.queue queues.once queues.used queues.one c.requires.none_out s i here none))
           c.push_own.ensures.back c.push_own.ensures.queue;
+      again = c.push_own.ensures.again;
+      queue = gave_took c.push_own.result _ _ _ c.in_ok-request_len.ensures.queue c.push_own.ensures.queue;
     }

@@ -11,6 +11,7 @@ use Rattle.worked_callers.specs.OwnReplies.{ReturnsAsStep}
 use Rattle.worked_callers.proofs.CalledBy.{decodes_by}
 use Rattle.worked_callers.proofs.OwnRuns.{as_step, entry_keeps, replied_answered}
 use Rattle.worked_callers.proofs.Served.{if_ok_so, more_taken, taken_so}
+use Rattle.worked_callers.proofs.TookQueue.{gave_took}
 use Rattle.worked_callers.proofs.own_replies.reply_amid_listing.Goals as goal
 
 pub ask_call-requires : goal.ask_call-requires
@@ -65,4 +66,6 @@ returns g c =
                 here.reached),
           ))
           c.push_own.ensures.back c.push_own.ensures.queue;
+      again = c.push_own.ensures.again;
+      queue = gave_took c.push_own.result _ _ _ c.in_ok-request_len.ensures.queue c.push_own.ensures.queue;
     }

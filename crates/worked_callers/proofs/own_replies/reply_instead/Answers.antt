@@ -6,6 +6,7 @@ use Rattle.worked_callers.specs.Events.{IsRepliedInstead}
 use Rattle.worked_callers.specs.OwnReplies.{ReturnsAsStep}
 use Rattle.worked_callers.proofs.OwnRuns.{as_step, replied_asked}
 use Rattle.worked_callers.proofs.Served.{if_ok_so, more_taken, taken_so}
+use Rattle.worked_callers.proofs.TookQueue.{gave_took}
 use Rattle.worked_callers.proofs.own_replies.reply_instead.Goals as goal
 
 pub ask_call-requires : goal.ask_call-requires
@@ -51,4 +52,6 @@ returns g c =
           (as_step may s i before (gave after) request bytes [] notice so.0
           g.row.G.Denot (IsRepliedInstead s i given old before request bytes [] notice) so.1 c.law_runs.ensures.own here.reached))
           c.push_own.ensures.back c.push_own.ensures.queue;
+      again = c.push_own.ensures.again;
+      queue = gave_took c.push_own.result _ _ _ c.in_ok-request_len.ensures.queue c.push_own.ensures.queue;
     }

@@ -6,6 +6,7 @@ use Rattle.worked_callers.specs.Events.{IsRepliedChain}
 use Rattle.worked_callers.specs.OwnReplies.{LogsOwn, ReportsOwn, ReturnsAsStep}
 use Rattle.worked_callers.proofs.OwnRuns.{as_step, fetched_named, logged, replied_fetched, reports}
 use Rattle.worked_callers.proofs.Served.{if_ok_so, more_taken, taken_so}
+use Rattle.worked_callers.proofs.TookQueue.{gave_took}
 use Rattle.worked_callers.proofs.own_replies.reply_logged.Goals as goal
 
 pub returns : goal.returns
@@ -72,4 +73,6 @@ returns g c =
           request bytes notice goes
           by taken ok kept back runs.log s i here))
           c.push_own.ensures.back c.push_own.ensures.queue;
+      again = c.push_own.ensures.again;
+      queue = gave_took c.push_own.result _ _ _ c.in_ok-request_len.ensures.queue c.push_own.ensures.queue;
     }

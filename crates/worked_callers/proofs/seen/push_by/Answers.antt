@@ -1,7 +1,9 @@
 use Rattle.std.proofs.Common.{◌≡◌, ℕ, Bool, List, length, sym, subst, ap, ◌∙◌}
 use Rattle.plain_machine.specs.StepBy.{Act}
 use Rattle.fs_chain.specs.Events.{tells_of}
+use Rattle.fs_chain.specs.Queues.{gave}
 use Rattle.fs_chain.specs.Whole.{GoesBackBy}
+use Rattle.fs_chain.specs.declared.chain_handle.ChainHandle.{ChainHandle}
 use Rattle.fs_chain.specs.declared.queue.QueueState.{QueueState}
 use Rattle.worked_callers.proofs.Served.{goes_back_by}
 use Rattle.worked_callers.proofs.seen.push_by.Goals as goal
@@ -19,3 +21,9 @@ returns-in-Ok-clause-back c =
     × (back.stores.seen_at ≡ s.seen_at))
     (sym (c.in-Ok.ensures.tells ∙ same))
     (goes_back_by st q _ s seen room behind c.in_ok-stores.ensures.ok two c.in_ok-stores.ensures.stores)
+
+pub returns-in-Ok-clause-again : goal.returns-in-Ok-clause-again
+returns-in-Ok-clause-again c = ap (λ (w : ChainHandle). w.state) c.in-Ok.ensures.free
+
+pub returns-in-Ok-clause-queue : goal.returns-in-Ok-clause-queue
+returns-in-Ok-clause-queue c = c.in-Ok.ensures.queue ∙ ap gave c.in_ok-stores.ensures.queue

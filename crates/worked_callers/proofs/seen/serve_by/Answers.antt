@@ -17,6 +17,7 @@ use Rattle.fs_chain.specs.declared.popping.PopOutcome.TheVariants as says
 use Rattle.worked_callers.specs.Notified.{given_so_far}
 use Rattle.worked_callers.proofs.CalledBy.{calls_of_answer}
 use Rattle.worked_callers.proofs.Served.{if_ok, if_ok_so, more_taken, queue_keeps, taken_so, told_before}
+use Rattle.worked_callers.proofs.TookQueue.{gave_took}
 use Rattle.worked_callers.proofs.seen.serve_by.Goals as goal
 
 pub reply-requires-clause-taken : goal.reply-requires-clause-taken
@@ -153,4 +154,6 @@ returns g c =
                 ),
           ))
           c.push_by.ensures.back c.push_by.ensures.session;
+      again = c.push_by.ensures.again;
+      queue = gave_took c.push_by.result _ _ _ c.in_ok-request_len.ensures.queue c.push_by.ensures.queue;
     }

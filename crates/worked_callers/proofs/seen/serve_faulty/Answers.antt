@@ -10,6 +10,7 @@ use Rattle.fs_chain.specs.Whole.{FaultyChainBy, after_chain, step_loads}
 use Rattle.fs_chain.specs.declared.popping.PopOutcome.TheVariants as says
 use Rattle.worked_callers.specs.Notified.{given_so_far}
 use Rattle.worked_callers.proofs.Served.{if_ok, queue_keeps, told_before}
+use Rattle.worked_callers.proofs.TookQueue.{gave_took}
 use Rattle.worked_callers.proofs.seen.serve_faulty.Goals as goal
 
 pub returns : goal.returns
@@ -76,4 +77,6 @@ returns g c =
                 (after_chain m i q m.options m.files)) goes.3 law.6,
           ))
           c.push_by.ensures.back;
+      again = c.push_by.ensures.again;
+      queue = gave_took c.push_by.result _ _ _ c.in_ok-walk_faulty.ensures.queue c.push_by.ensures.queue;
     }

@@ -16,6 +16,9 @@ returns c =
     let q = c.args.queue.now in
     let after = c.pop.new.queue in
     record {
+      goes = c.pop.ensures.goes;
+      error = c.pop.ensures.error;
+      same = c.pop.ensures.same;
       full = λ is s of asker shown.
           let why : RefusesWalk old q [] error.ChainInFlight =
           subst (λ (r : Result LoadOutcome ChainError). IfErr r (RefusesWalk old q [])) is c.pop.ensures.error in

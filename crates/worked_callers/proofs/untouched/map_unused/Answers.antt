@@ -15,9 +15,13 @@ returns c =
     let unused = c.uses.ensures.unused c.if-uses.false c.requires.out in
     let done = c.in_ok-set_mapping.ensures in
     record {
-      mapped = λ is. done.2;
+      unused = λ not. unused;
+      mapped = λ is. done;
       used = λ is. absurd (cc);
       stays = λ is.
           stays_alike old (mapped iova target n access old) new ds done.2
           (c.law_others_stay.ensures iova n target access old ds unused).1;
     }
+
+pub returns-in_err-set_mapping-clause-unused : goal.returns-in_err-set_mapping-clause-unused
+returns-in_err-set_mapping-clause-unused c not = c.uses.ensures.unused c.if-uses.false c.requires.out

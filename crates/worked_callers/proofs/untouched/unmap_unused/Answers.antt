@@ -14,7 +14,11 @@ returns c =
     let unused = c.uses.ensures.unused c.if-uses.false c.requires.out in
     let done = c.in_ok-invalidate_mapping.ensures in
     record {
-      removed = λ is. done.1;
+      unused = λ not. unused;
+      removed = λ is. done;
       used = λ is. absurd (cc);
       stays = λ is. stays_alike old (unmapped iova n old) new ds done.1 (c.law_others_stay.ensures iova n 0 Read old ds unused).0;
     }
+
+pub returns-in_err-invalidate_mapping-clause-unused : goal.returns-in_err-invalidate_mapping-clause-unused
+returns-in_err-invalidate_mapping-clause-unused c not = c.uses.ensures.unused c.if-uses.false c.requires.out

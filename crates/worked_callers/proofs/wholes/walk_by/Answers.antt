@@ -6,7 +6,7 @@ use Rattle.worked_callers.proofs.wholes.walk_by.Goals as goal
 
 pub loop-bytes-preserved : goal.loop-bytes-preserved
 loop-bytes-preserved c =
-    let wants = c.if-not-wants_bytes.ensures refl in
+    let wants = c.if-not-wants_bytes.ensures.yes refl in
     let call = c.in_ok-told-2.ensures.goes in (
       goes_on_by c.args.handle.now c.loop-bytes.handle c.pop-in-loop-bytes.new.self c.args.queue.now c.loop-bytes.queue
           c.pop-in-loop-bytes.new.queue
@@ -16,3 +16,6 @@ loop-bytes-preserved c =
           (sym (calls_next c.args.given.now c.loop-bytes.bytes-index _ c.loop-bytes-test.true (search rules)))
           (c.loop-bytes.handle, c.loop-bytes.queue, c.loop-bytes.told, c.loop-bytes.invariant.1, wants, call),
     )
+
+pub returns-then-not-wants_bytes-clause-all : goal.returns-then-not-wants_bytes-clause-all
+returns-then-not-wants_bytes-clause-all c wants = absurd (c.if-not-wants_bytes.ensures.no refl wants)

@@ -1,53 +1,12 @@
-use Rattle.std.proofs.Common.{[], ◌∷◌, List, true, None, refl}
-use Rattle.fs_regions.specs.declared.step.CourseStep.TheVariants as step
-use Rattle.fuse_fs.specs.Calls.{Failed, Wants}
-use Rattle.virtiofsd_fuse.specs.Examples.{le16}
-use Rattle.fs_live.specs.InitBeside.{
-  first,
-  first_answered,
-  first_asked,
-  first_exchange,
-  first_loads,
-  first_table,
-  first_used,
-  init,
-  lookup,
-  looks,
-  second,
-  second_answered,
-  second_asked,
-  second_exchange,
-  second_loads,
-  second_table,
-  second_used,
-  starts,
-}
-use Rattle.fs_live.specs.Live.{DecodesRequest, LiveEvent, LiveRun, PushesChain, ReceivesAnswer, EndsPop}
+use Rattle.std.proofs.Common.{[], refl}
+use Rattle.fs_live.specs.InitBeside.{first_answered, first_exchange, first_used}
 use Rattle.fs_live.specs.Overlap.{at_positions, state}
+use Rattle.worked_callers.specs.WorkedRuns.{init_events}
+use Rattle.worked_callers.proofs.WorkedReturns.{returns_as_a_step}
 use Rattle.worked_callers.proofs.worked_runs.asked_before.Goals as goal
 
 pub returns : goal.returns
 returns g c before between after starting looking =
-    let may = g.F.FileSystemBase.may in
-    let one = c.law_examples.ensures.init before between after starting looking in
-    let two = one.2 in
-    let three = two.2 in
-    let four = three.2 in
-    let five = four.2 in
-    let six = five.2 in
-    let seven = six.2 in
-    let eight = seven.2 in
-    let start = state before (at_positions 0 0) 0 [] in
-    let es : List LiveEvent =
-    EndsPop 0 first_loads first_table (step.Chain 0 None) ∷ DecodesRequest first lookup (looks ∷ [])
-    ∷ EndsPop 0 second_loads second_table (step.Chain 2 None) ∷ DecodesRequest second init (starts ∷ [])
-    ∷ ReceivesAnswer second_asked starts (Wants 0) ∷ PushesChain second_answered second_exchange true 0 second_used (le16 0)
-    ∷ ReceivesAnswer first_asked looks (Failed 2) ∷ [] in
-    let run : LiveRun may start es seven.0 =
-    (one.0, one.1, (two.0, two.1, (three.0, three.1, (four.0, four.1, (five.0, five.1, (six.0, six.1, (seven.0, seven.1, refl))))))) in (
-      seven.0,
-      λ m files first calls.
-          let law = c.law_runs.ensures.step start seven.0 eight.0 es first_answered first_exchange true 0 first_used (le16 0) m files refl
-          run eight.1 tt first calls in
-          (law.2.lost, _, law.2.step),
-    )
+    returns_as_a_step g.F.FileSystemBase.may c.law_runs.ensures.step (state before (at_positions 0 0) 0 [])
+    (state after (at_positions 2 2) 1 []) init_events first_answered first_exchange first_used refl tt
+    (c.law_examples.ensures.init before between after starting looking)

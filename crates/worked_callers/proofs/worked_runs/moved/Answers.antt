@@ -1,13 +1,9 @@
-use Rattle.std.proofs.Common.{arith, [], ◌∷◌, List, true, None, refl}
-use Rattle.fs_regions.specs.declared.step.CourseStep.TheVariants as step
-use Rattle.fuse_fs.specs.Calls.{Destroy, Done}
-use Rattle.virtiofsd_fuse.specs.Examples.{le16}
+use Rattle.std.proofs.Common.{arith, [], ◌∷◌, ◌++◌, List, refl}
 use Rattle.plain_machine.specs.Examples.{blank}
-use Rattle.fs_live.specs.Live.{DecodesRequest, Happens, LiveEvent, LiveRun, MovesDevice, PushesChain, ReceivesAnswer, EndsPop}
-use Rattle.fs_live.specs.Overlap.{at_positions, destroy, first, first_answered, first_asked, first_exchange, first_loads, first_table}
-use Rattle.fs_live.specs.Overlap.{first_used}
-use Rattle.fs_live.specs.Overlap.{second, second_asked, second_exchange, second_loads, second_table, second_used, state, unknown}
+use Rattle.fs_live.specs.Live.{Happens, LiveEvent, LiveRun, MovesDevice}
+use Rattle.fs_live.specs.Overlap.{at_positions, state}
 use Rattle.fs_live.proofs.Moved.{joined}
+use Rattle.worked_callers.specs.WorkedRuns.{overlap_events, overlap_return}
 use Rattle.worked_callers.proofs.worked_runs.moved.Goals as goal
 
 pub returns : goal.returns
@@ -15,13 +11,9 @@ returns g c before after so later end more =
     let may = g.F.FileSystemBase.may in
     let start = state before (at_positions 0 0) 1 [] in
     let now = state after (at_positions 2 2) 0 [] in
-    let es : List LiveEvent =
-    EndsPop 0 first_loads first_table (step.Chain 0 None) ∷ DecodesRequest first destroy (Destroy ∷ [])
-    ∷ EndsPop 0 second_loads second_table (step.Chain 2 None) ∷ DecodesRequest second unknown []
-    ∷ PushesChain second_asked second_exchange true 0 second_used (le16 0) ∷ ReceivesAnswer first_asked Destroy Done
-    ∷ PushesChain first_answered first_exchange true 0 first_used (le16 0) ∷ [] in
+    let es : List LiveEvent = overlap_events ++ overlap_return ∷ [] in
     let run : LiveRun may start es now = c.law_examples.ensures.overlap before after so in
     let moves : Happens may now (MovesDevice blank (at_positions 2 2 ∷ [])) now =
     record { none_out = refl; same = refl; even = ((refl, omega arith), tt); few = ((omega arith, omega arith), tt); state = refl } in
     let law = c.law_runs.ensures.moves start now now es blank (at_positions 2 2 ∷ []) refl ((refl, omega arith), tt) run moves refl in
-    (es, joined may start now end es (MovesDevice blank (at_positions 2 2 ∷ []) ∷ later) run (now, moves, more), law.3 refl later end more)
+    (joined may start now end es (MovesDevice blank (at_positions 2 2 ∷ []) ∷ later) run (now, moves, more), law.3 refl later end more)

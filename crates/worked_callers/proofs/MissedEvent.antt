@@ -1,0 +1,41 @@
+-- used_event is missed if the table maps nothing.
+use Rattle.std.proofs.Common.{arith, ◌≡◌, ℕ, ◌+◌, ◌≤◌, Bool, List, [], ◌∷◌, Some, refl}
+use Rattle.std.specs.Prelude.{◌&&◌, ◌^◌, false, true, nat_le, nat_lt}
+use Rattle.std.proofs.lemmas.Bool.Decides.{nat_tests}
+use Rattle.vm_iotlb.specs.AddressRuns.{missing, run_of, runs}
+use Rattle.vm_iotlb.specs.Ranges.{table_kept}
+use Rattle.vm_iotlb.specs.declared.permissions.Permissions.TheVariants.{Read, Write}
+use Rattle.vm_memory.specs.Layout.{Region}
+use Rattle.vm_memory.specs.Memory.{addresses, reach}
+use Rattle.fs_queue.specs.declared.fault.QueueError.TheVariants.{AvailFlagsUnreachable}
+use Rattle.fs_regions.specs.Misses.{Area, first_miss, last_page}
+use Rattle.fs_regions.specs.Places.{Mapped, places_in}
+use Rattle.fs_chain.specs.Events.{avail_event_at, event_fault, event_miss, used_event_at}
+use Rattle.fs_chain.specs.declared.queue.QueueState.{QueueState}
+
+-- regions behind a table without mappings
+abbrev pub behind_none : List Region → Mapped
+behind_none layout = record { layout = layout; table = Some [] }
+
+never : (b : Bool) → (b && false) ≡ false
+never true = refl
+never false = refl
+
+first_missed : (layout : List Region) (a : ℕ) (rest : List Area) → nat_le (a + 2) last_page ≡ true
+    → first_miss (places_in (behind_none layout)) (record { from = a; len = 2; access = Read } ∷ rest) ≡ Some (run_of a 2, Read)
+unfolding missing runs table_kept
+first_missed layout a rest low = rw low refl
+
+none_reached : (layout : List Region) (a : ℕ) → reach (places_in (behind_none layout)) Read a 2 ≡ false
+unfolding addresses table_kept
+none_reached layout a = never (nat_lt (a + 2) (2 ^ 64))
+
+pub missed_event : (layout : List Region) (q : QueueState) → q.event_index ≡ true → used_event_at q.layout + 2 ≤ last_page
+    → (event_fault (places_in (behind_none layout)) q ≡ Some AvailFlagsUnreachable)
+    × (event_miss (places_in (behind_none layout)) q ≡ Some (run_of (used_event_at q.layout) 2, Read))
+missed_event layout q event low =
+    let at = used_event_at q.layout in
+    let test : nat_le (at + 2) last_page ≡ true = grind (arith, nat_tests) in (
+      rw event (rw (none_reached layout at) refl),
+      rw event (first_missed layout at (record { from = avail_event_at q.layout; len = 2; access = Write } ∷ []) test),
+    )

@@ -1,0 +1,100 @@
+-- The queue after a pop that led to a chain.
+use Rattle.std.proofs.Common.{◌≡◌, ℕ, List, [], ◌∷◌, Option, Some, None, Result, Ok, Err, OnOk, refl, subst, ap, ◌∙◌}
+use Rattle.std.specs.Prelude.{true, if◌then◌else◌, Bool}
+use Rattle.fs_queue.specs.declared.fault.ChainFault.{ChainFault}
+use Rattle.fs_queue.specs.declared.fault.QueueError.{QueueError}
+use Rattle.fs_queue.specs.declared.fault.QueueError.TheVariants as stop
+use Rattle.fs_regions.specs.declared.step.CourseStep as comes
+use Rattle.fs_chain.specs.Loads.{whole}
+use Rattle.fs_chain.specs.Orders.{is_out, load_len}
+use Rattle.fs_chain.specs.Queues.{gave, took, untook}
+use Rattle.fs_chain.specs.Walks.{BeginsPop, BeginsUnless, WalksFrom, WalksOn, queue_after}
+use Rattle.fs_chain.specs.Whole.{BeginsPopBy, FromTaken, IsWalked, WalksBy, WantsBytes}
+use Rattle.fs_chain.specs.declared.chain_handle.ChainHandle.{ChainHandle}
+use Rattle.fs_chain.specs.declared.loads.LoadOutcome as went
+use Rattle.fs_chain.specs.declared.loads.LoadOutcome.TheVariants as wents
+use Rattle.fs_chain.specs.declared.popping.PopOutcome as walked
+use Rattle.fs_chain.specs.declared.popping.PopOutcome.TheVariants as says
+use Rattle.fs_chain.specs.declared.queue.QueueState.{QueueState}
+use Rattle.fs_chain.specs.declared.state.InFlight.{InFlight}
+use Rattle.fs_chain.specs.declared.state.ChainState as state
+use Rattle.fs_chain.specs.declared.state.ChainState.TheVariants as at
+use Rattle.fs_chain.proofs.WholeChains.{faulty_is}
+use Rattle.fs_chain.proofs.WholeWalks.{walk_comes}
+use Rattle.fs_live.proofs.Popped.{begins_whole}
+use Rattle.worked_callers.proofs.ServedBeside.{chain_is}
+
+-- ---- a stopped queue
+
+no_load : (w : ChainHandle) → w.state ≡ at.Free → load_len w.state ≡ 0
+no_load w free = ap load_len free
+
+whole_of_none : (w : ChainHandle) → w.state ≡ at.Free → whole w [] ≡ []
+whole_of_none w free = rw (no_load w free) refl
+
+-- its pops are refused by their first call
+refused_first : (old new : ChainHandle) (before after : QueueState) (told : went.LoadOutcome) (why : QueueError)
+    → before.stopped ≡ Some why → BeginsPopBy old new before after told → told ≡ wents.On (says.Refused stop.Stopped)
+refused_first old new before after wents.Part why is by = absurd (begins_whole old before new after by.0 by.1)
+refused_first old new before after (wents.On told) why is by =
+    let walks : WalksOn [] old new before after told =
+    subst (λ (bs : List ℕ). WalksOn bs old new before after told) (whole_of_none old by.0) by.1.4 in
+    let begins : BeginsPop old new before after told =
+    subst (λ (s : state.ChainState). WalksFrom s [] old new before after told) by.0 walks in
+    let unless : BeginsUnless (Some why) old new before after told =
+    subst (λ (s : Option QueueError). BeginsUnless s old new before after told) is begins in
+    ap (λ (k : walked.PopOutcome). wents.On k) unless.0
+
+refused_pop : (given : List (List ℕ)) (old new : ChainHandle) (before after : QueueState) (told : went.LoadOutcome) (why : QueueError)
+    → before.stopped ≡ Some why → WalksBy given old new before after told → told ≡ wents.On (says.Refused stop.Stopped)
+refused_pop [] old new before after told why is walks = refused_first old new before after told why is walks
+refused_pop (bs ∷ given) old new before after told why is walks =
+    absurd (subst WantsBytes (refused_pop given old walks.0 before walks.1 walks.2 why is walks.3) walks.4)
+
+-- ---- the queue
+
+abbrev IsTaken : went.LoadOutcome → Type 0
+IsTaken (wents.On (says.Chain head n r)) = Unit {0}
+IsTaken (wents.On (says.Faulty head fault)) = Unit {0}
+IsTaken _ = ⊥
+
+never_stopped : (old new : ChainHandle) (before after : QueueState) (told : went.LoadOutcome) (stopped : Option QueueError)
+    → before.stopped ≡ stopped → IsWalked old new before after told → IsTaken told → before.stopped ≡ None
+never_stopped old new before after told None is walked taken = is
+never_stopped old new before after told (Some why) is walked taken =
+    absurd (subst IsTaken (refused_pop walked.0 old new before after told why is walked.1) taken)
+
+-- after a chain
+pub took_chain : (old new : ChainHandle) (before after : QueueState) (head n r : ℕ)
+    → IsWalked old new before after (wents.On (says.Chain head n r)) → after ≡ took before
+took_chain old new before after head n r walked =
+    let goes = never_stopped old new before after (wents.On (says.Chain head n r)) before.stopped refl walked tt in
+    let came = walk_comes walked.0 old new before after (says.Chain head n r) goes tt walked.1 in
+    let is = chain_is new.descriptors.items came.2.0 head n r came.2.1.0 in
+    came.2.1.2 ∙ ap (λ (k : comes.CourseStep). queue_after before k) is
+
+-- after a faulty chain
+pub took_faulty : (old new : ChainHandle) (before after : QueueState) (head : ℕ) (fault : ChainFault)
+    → IsWalked old new before after (wents.On (says.Faulty head fault)) → after ≡ took before
+took_faulty old new before after head fault walked =
+    let goes = never_stopped old new before after (wents.On (says.Faulty head fault)) before.stopped refl walked tt in
+    let came = walk_comes walked.0 old new before after (says.Faulty head fault) goes tt walked.1 in
+    let is = faulty_is new.descriptors.items came.2.0 head fault came.2.1.0 in
+    came.2.1.2 ∙ ap (λ (k : comes.CourseStep). queue_after before k) is
+
+-- after the chain's push
+pub gave_took : {A E : Type 0} (r : Result A E) (before mid after : QueueState) → mid ≡ took before → OnOk r (after ≡ gave mid)
+    → OnOk r (after ≡ gave (took before))
+gave_took (Ok a) before mid after took_is gave_is = gave_is ∙ ap gave took_is
+gave_took (Err e) before mid after took_is gave_is = tt
+
+taken_is_out : (st : state.ChainState) (P : InFlight → Type 0) → FromTaken st P → is_out st ≡ true
+taken_is_out (at.Taken out) P taken = refl
+taken_is_out st P taken = absurd taken
+
+-- after the chain is given up
+pub untook_took : {A E : Type 0} (r : Result A E) (st : state.ChainState) (P : InFlight → Type 0) (before mid after : QueueState)
+    → FromTaken st P → mid ≡ took before → OnOk r (after ≡ (if is_out st then untook mid else mid)) → OnOk r (after ≡ untook (took before))
+untook_took (Ok a) st P before mid after taken took_is left =
+    left ∙ ap (λ (b : Bool). if b then untook mid else mid) (taken_is_out st P taken) ∙ ap untook took_is
+untook_took (Err e) st P before mid after taken took_is left = tt

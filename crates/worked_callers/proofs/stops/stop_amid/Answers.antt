@@ -1,0 +1,33 @@
+use Rattle.std.proofs.Common.{subst}
+use Rattle.fs_chain.specs.Loads.{GoesSo}
+use Rattle.fs_chain.specs.declared.loads.LoadOutcome as went
+use Rattle.fs_chain.specs.declared.loads.LoadOutcome.TheVariants as wents
+use Rattle.fs_chain.specs.declared.popping.PopOutcome.TheVariants as says
+use Rattle.fs_chain.specs.declared.queue.QueueState.{QueueState}
+use Rattle.worked_callers.specs.Notified.{IsWalkedBy}
+use Rattle.worked_callers.proofs.StoppedAmid.{stopped_amid}
+use Rattle.worked_callers.proofs.stops.stop_amid.Goals as goal
+
+pub returns-in-On : goal.returns-in-On
+returns-in-On g c =
+    let given = c.args.given.now in
+    let bytes = c.args.bytes.now in
+    let first = c.args.first.now in
+    let one = c.begin_pop.new.handle in
+    let new = c.pop.new.self in
+    let second = c.args.second.now in
+    let two = c.pop_refused.new.handle in
+    let before = c.args.queue.now in
+    let mid = c.pop_refused.new.queue in
+    let after = c.pop.new.queue in
+    let begun = c.in_ok-begin_pop.ensures in
+    let why = c.in_ok-why.why in
+    let walks = subst (λ (q : QueueState). IsWalkedBy given second two q mid (wents.On (says.Refused why))) begun.queue
+    c.in_ok-why.ensures.given in
+    let goes = subst (λ (out : went.LoadOutcome). GoesSo one mid bytes out new after) c.in-On.is c.in_ok-told.ensures.goes in
+    record {
+      stopped = λ s i there places places' limit.
+          stopped_amid g.F.FileSystemBase.may c.law_handles.ensures.ends_pop c.law_handles.ensures.finds_stopped given bytes first
+          one new second two before mid after why c.in-On.told c.requires.goes begun.events begun.walks walks goes s i there places places'
+          limit;
+    }

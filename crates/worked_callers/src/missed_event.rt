@@ -1,0 +1,39 @@
+//! A queue with the event index whose used_event no table maps: a pop misses it.
+
+ghost use Rattle.std.specs.Prelude.{◌≡◌, ◌≤◌, ◌+◌, [], IfOk, None, true};
+ghost use Rattle.vm_iotlb.specs.AddressRuns.{run_of};
+ghost use Rattle.vm_iotlb.specs.declared.permissions.Permissions.{Permissions};
+ghost use Rattle.fs_regions.specs.Misses.{last_page};
+ghost use Rattle.fs_chain.specs.Events.{used_event_at};
+ghost use Rattle.fs_chain.specs.declared.state.ChainState.TheVariants as at;
+
+use fs_chain::laws::law_misses;
+use fs_chain::{ChainError, ChainHandle, LoadOutcome, PopOutcome, QueueState};
+use fs_regions::{GuestMap, GuestRegions};
+use std::alloc::Global;
+use vm_memory_core::Iotlb;
+
+/// Pops a queue with the event index, with a handle whose table maps nothing. The pop misses the two bytes of
+/// used_event, before any load. The queue stays as it was, and the handle is free.
+pub fn miss_used_event(
+    alloc: Global,
+    handle: &mut ChainHandle,
+    queue: &mut QueueState,
+    regions: GuestRegions,
+) -> Result<LoadOutcome, ChainError>
+    requires free { handle.old.state ≡ at.Free }
+    requires goes { queue.old.stopped ≡ None }
+    requires event_index { queue.old.event_index ≡ true }
+    requires low { used_event_at queue.old.layout + 2 ≤ last_page }
+    ensures missed { IfOk result (λ told.
+        (told ≡ LoadOutcome.On
+        (PopOutcome.Missing (run_of (used_event_at queue.old.layout) 2) Permissions.Read))
+        × (queue.new ≡ queue.old)
+        × (handle.new.state ≡ at.Free)
+        × (handle.new.descriptors.items ≡ [])
+        × (handle.new.part.items ≡ [])) }
+{
+    law_misses();
+    handle.set_memory(GuestMap::behind(regions, Iotlb::new(alloc)), 0x101000)?;
+    handle.pop(queue, &[])
+}

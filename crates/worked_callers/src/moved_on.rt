@@ -1,0 +1,141 @@
+//! A device without chains in flight goes on as if nothing had happened: after it moved to another host, or
+//! after its queue was reset to its own position.
+
+ghost use Rattle.std.specs.Prelude.{◌≡◌, ◌≤◌, ◌^◌, ℕ, [], ◌∷◌, ◌++◌, Bool, IfOk, List, None, Some, slice_get};
+ghost use Rattle.std.specs.Prelude.{OnOk, true};
+ghost use Rattle.std.specs.List.{AllByRecursion};
+ghost use Rattle.std.specs.Io.KnownBytes.{Appends, Consumes};
+ghost use Rattle.fs_record.specs.Record.{HasKnownBits};
+ghost use Rattle.fs_regions.specs.Places.{places_in};
+ghost use Rattle.fs_chain.specs.Queues.{gave, reset_to, took};
+ghost use Rattle.fs_chain.specs.declared.state.ChainState.TheVariants as at;
+ghost use Rattle.fs_live.specs.Handles.{IsReached, live_of};
+ghost use Rattle.fs_live.specs.Live.{Happens, LiveEvent, LiveRun, LiveState, MovesDevice, Remaps};
+ghost use Rattle.fs_live.specs.Live.{ResetsQueue};
+ghost use Rattle.fs_live.specs.Runs.{HasNoneInFlight, untold};
+ghost use Rattle.worked_callers.specs.Events.{IsRepliedChain};
+ghost use Rattle.worked_callers.specs.OwnReplies.{IsAt};
+
+use crate::crossed::ChainBytes;
+use crate::moves::{only, restore_one, save_one};
+use crate::others::{begin_again, begin_by_record, reply_beside};
+use crate::takers::are_counted;
+use fs_chain::{ChainError, ChainHandle, QueueState};
+use fs_live::law_runs;
+use fs_record::{RecordSink, RecordSource};
+use fuse_base::FsOptions;
+use fuse_fs::FileSystem;
+use std::alloc::Global;
+
+/// Whether two queues agree on the parts that no record has: how many chains may be in flight, and the event
+/// index.
+pub fn agree_besides_record(one: &QueueState, two: &QueueState) -> bool
+    ensures { result ≡ true → untold (live_of one.now) ≡ untold (live_of two.now) }
+{
+    one.max_in_flight == two.max_in_flight && one.event_index == two.event_index
+}
+
+/// A chain is returned here, the device moves by its record, and a chain is returned there. The events are
+/// those of a device that didn't move and whose guest's memory got the mappings of the other host. Over the
+/// same mappings they are those of both chains alone.
+pub fn move_and_go_on<F: FileSystem, S: RecordSink, T: RecordSource>(
+    alloc: Global,
+    here: &mut ChainHandle,
+    there: &mut ChainHandle,
+    queue: &mut QueueState,
+    moved: &mut QueueState,
+    options: FsOptions,
+    sink: &mut S,
+    source: &mut T,
+    one: &ChainBytes<'_>,
+    two: &ChainBytes<'_>,
+) -> Result<bool, ChainError>
+    requires here_free { here.old.state ≡ at.Free }
+    requires there_free { there.old.state ≡ at.Free }
+    requires goes { queue.old.stopped ≡ None }
+    requires none_out { queue.old.next_used ≡ queue.old.next_avail }
+    requires some { 1 ≤ moved.old.max_in_flight }
+    requires known { HasKnownBits options.0 }
+    ensures again { OnOk result ((here.new.state ≡ at.Free) × (there.new.state ≡ at.Free)) }
+    ensures queue { OnOk result (queue.new ≡ gave (took queue.old)) }
+    ensures moves { IfOk result (λ notice. (s : LiveState F)
+        → IsReached F.may s
+        → s.outs ≡ []
+        → s.queues ≡ live_of queue.old ∷ []
+        → s.options ≡ options.0
+        → s.places ≡ places_in here.old.regions
+        → s.limit ≡ here.old.limit
+        → s.limit ≡ there.old.limit
+        → s.limit ≤ 2 ^ 31
+        → (sent : List ℕ) × (taken : List ℕ)
+        × Appends (S.sent sink.old) (S.sent sink.new) sent
+        × Consumes (T.left source.old) (T.left source.new) taken
+        × (taken ≡ sent
+        → (early : List LiveEvent) × (late : List LiveEvent) × (told : Bool)
+        × (mid : LiveState F) × (begun : QueueState) × (end : LiveState F)
+        × IsRepliedChain s 0 one.now.given.now here.old queue.old []
+        one.now.request.now one.now.bytes.now told early
+        × IsRepliedChain mid 0 two.now.given.now there.old begun []
+        two.now.request.now two.now.bytes.now notice late
+        × LiveRun F.may s
+        (early ++ MovesDevice (places_in there.old.regions) (live_of begun ∷ []) ∷ late) end
+        × LiveRun F.may s (early ++ Remaps (places_in there.old.regions) ∷ late) end
+        × (places_in there.old.regions ≡ places_in here.old.regions → LiveRun F.may s (early ++ late) end)
+        × (end.queues ≡ live_of moved.new ∷ []))) }
+{
+    law_runs::<F, F>();
+    are_counted(queue);
+    let _told = reply_beside::<F>(here, queue, one.given, one.request, one.bytes)?;
+    save_one(sink, options, queue)?;
+    let (_, restored) = restore_one(alloc, source)?;
+    let Some(read) = only(&restored) else {
+        return Err(ChainError::BadArgument);
+    };
+    let layout = read.layout();
+    if layout.size() < moved.max_in_flight {
+        return Err(ChainError::BadArgument);
+    }
+    begin_by_record::<F>(moved, read);
+    if moved.stopped.is_some() {
+        return Err(ChainError::WrongOrder);
+    }
+    if !agree_besides_record(moved, queue) {
+        return Err(ChainError::BadArgument);
+    }
+    reply_beside::<F>(there, moved, two.given, two.request, two.bytes)
+}
+
+/// Pops the one chain in flight, returns it with bytes of the caller's own, and resets its queue to its own
+/// position, as after GET_VRING_BASE and SET_VRING_BASE. The reset is an event that changes nothing.
+pub fn reply_and_reset<F: FileSystem>(
+    handle: &mut ChainHandle,
+    queue: &mut QueueState,
+    given: &[&[u8]],
+    request: &[u8],
+    bytes: &[u8],
+) -> Result<bool, ChainError>
+    requires free { handle.old.state ≡ at.Free }
+    requires goes { queue.old.stopped ≡ None }
+    ensures again { OnOk result (handle.new.state ≡ at.Free) }
+    ensures queue { OnOk result (let left = gave (took queue.old) in
+        queue.new ≡ reset_to left left.layout left.next_avail) }
+    ensures positions { IfOk result (λ notice. (s : LiveState F) (i : ℕ)
+        → IsAt F.may s i handle.old queue.old
+        → s.outs ≡ []
+        → AllByRecursion HasNoneInFlight s.queues
+        → (es : List LiveEvent) × (end : LiveState F)
+        × LiveRun F.may s es end
+        × IsRepliedChain s i given.now handle.old queue.old [] request.now bytes.now notice es
+        × Happens F.may end (ResetsQueue i (live_of queue.new)) end
+        × (slice_get end.queues i ≡ Some (live_of queue.new))) }
+{
+    let notice = reply_beside::<F>(handle, queue, given, request, bytes)?;
+    if queue.stopped.is_some() {
+        return Err(ChainError::WrongOrder);
+    }
+    if queue.max_in_flight < 1 || queue.layout.size() < queue.max_in_flight {
+        return Err(ChainError::BadArgument);
+    }
+    begin_again::<F>(queue);
+    Ok(notice)
+}
