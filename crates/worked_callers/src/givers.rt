@@ -4,6 +4,7 @@ ghost use Rattle.std.specs.Prelude.{◌≡◌, ◌≤◌, ◌+◌, ◌||◌, ℕ
 ghost use Rattle.std.specs.Int.{w16, to_le_bytes};
 ghost use Rattle.fs_queue.specs.Returning.{Store};
 ghost use Rattle.fs_queue.specs.ReturningView.{stores_of};
+ghost use Rattle.fs_chain.specs.declared.state.ChainState.TheVariants as at;
 ghost use Rattle.notify.specs.Kicks as kicks;
 ghost use Rattle.notify.specs.Kicks.{NotifyState, Runs, ahead};
 ghost use Rattle.notify.specs.Threads.{ReturnsChains, ThreadedQueue, Walker, after_act, may_act};
@@ -21,6 +22,7 @@ pub fn push_one(
     queue: &mut QueueState,
     seen: u16,
 ) -> Result<(bool, PushStores), ChainError>
+    ensures again { OnOk result (handle.new.state ≡ at.Free) }
     ensures returns { OnOk result ((s : ThreadedQueue)
         → IsOf queue.old s
         → s.holder ≡ Walker

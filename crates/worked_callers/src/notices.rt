@@ -1,9 +1,12 @@
 //! With VIRTIO_F_EVENT_IDX the driver is notified of a returned chain just if the used index passes
 //! used_event (VIRTIO 1.2, 2.7.7.2).
 
-ghost use Rattle.std.specs.Prelude.{◌≡◌, IfOk, OnOk, true};
+ghost use Rattle.std.specs.Prelude.{◌≡◌, ℕ, IfOk, List, OnOk, true};
+ghost use Rattle.std.specs.Int.{w16, to_le_bytes};
+ghost use Rattle.plain_machine.specs.StepBy.{Act};
 ghost use Rattle.fs_queue.specs.Returning.{next_position};
 ghost use Rattle.fs_chain.specs.Queues.{gave};
+ghost use Rattle.fs_chain.specs.Whole.{GoesBackBy};
 ghost use Rattle.fs_chain.specs.declared.state.ChainState.TheVariants as at;
 ghost use Rattle.fs_live.specs.Handles.{live_of};
 ghost use Rattle.fs_live.specs.Several.{passes, returning};
@@ -22,6 +25,9 @@ pub fn notify_by_event(
     requires by_event { queue.old.event_index ≡ true }
     ensures again { OnOk result (handle.new.state ≡ at.Free) }
     ensures queue { OnOk result (queue.new ≡ gave queue.old) }
+    ensures back { IfOk result (λ notice. (room behind : List ℕ) → (acts : List Act) × (last : ℕ)
+        × (back : GoesBackBy queue.old room behind handle.old.state acts last notice)
+        × (back.flags ≡ to_le_bytes w16 used_event)) }
     ensures told { IfOk result (λ notice. notice
         ≡ passes used_event queue.old.next_used (next_position (returning (live_of queue.old)))) }
 {

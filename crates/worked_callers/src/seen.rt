@@ -120,7 +120,7 @@ pub fn serve_by<F: FileSystem>(
         → (calls : Calls)
         × AreCallsOf given.now handle.old queue.old session request.now answer calls
         × (FileRun F.may m.files calls files
-        → (x : Exchange) × (acts : List Act) × (back : QueueState)
+        → (x : Exchange) × (acts : List Act)
         × (x.request ≡ request.now)
         × Step F.may (record m { memory = memory_over h handle.old.regions }) i calls
         (Exchanged x (wants_notice (after_stores (memory_over h handle.old.regions) (stores_among acts))
@@ -130,8 +130,8 @@ pub fn serve_by<F: FileSystem>(
         { memory = after_stores (memory_over h handle.old.regions) (stores_among acts) })
         × IsToldByMemory (memory_over h handle.old.regions)
         (after_stores (memory_over h handle.old.regions) (stores_among acts))
-        (queue_of (course_of queue.old handle.old.limit)) back
-        (seen_at back.event_index queue.old.layout) acts told.0)) }
+        (queue_of (course_of queue.old handle.old.limit)) (took queue.old)
+        (seen_at queue.old.event_index queue.old.layout) acts told.0)) }
 {
     law_chains::<F>();
     let (_, request_len, _) = walk_chain(handle, queue, given)?;

@@ -4,6 +4,7 @@ use Rattle.std.proofs.lemmas.Nat.{from_le_bytes-to_le_bytes_2}
 use Rattle.fs_chain.specs.Events.{tells_of}
 use Rattle.fs_chain.specs.Orders.{end_error}
 use Rattle.fs_chain.specs.Queues.{gave}
+use Rattle.fs_chain.specs.declared.chain_handle.ChainHandle.{ChainHandle}
 use Rattle.fs_chain.specs.declared.queue.QueueState.{QueueState}
 use Rattle.notify.specs.Threads.{ReturnsChains, after_act}
 use Rattle.fs_notify.specs.Takers.{IsOf, ways_of}
@@ -27,6 +28,7 @@ returns-in-Ok c =
     c.in-Ok.ensures.tells ∙ ap (λ (k : QueueState). tells_of k c.to_le_bytes-bytes.result) queue_is
     ∙ ap (λ (bs : List ℕ). tells_of pushing bs) c.to_le_bytes-bytes.ensures in
     record {
+      again = ap (λ (w : ChainHandle). w.state) c.in-Ok.ensures.free;
       returns = λ s of walker.
           let law = c.law_takers.ensures.returns pushing st s counted ok of walker in
           (law.0, subst (λ (k : QueueState). IsOf k (after_act (ways_of q) s (ReturnsChains 1))) (sym last_is) law.1);

@@ -21,6 +21,9 @@ returns c =
     record {
       again = c.in_ok-notice.ensures.again;
       queue = c.in_ok-notice.ensures.queue;
+      back = λ room behind.
+          let goes = c.in_ok-notice.ensures.back room behind in
+          (goes.0, goes.1, goes.2, goes.3 ∙ c.to_le_bytes-bytes.ensures);
       told = back.2.notified ∙ ap (λ (flags : List ℕ). tells_of q flags) (back.3 ∙ c.to_le_bytes-bytes.ensures)
           ∙ subst (λ (n : ℕ). wants w bytes ≡ passes n w.next_used (next_position (returning w))) same law;
     }

@@ -9,11 +9,12 @@ use Rattle.fs_regions.specs.Walks.{queue_of}
 use Rattle.server_phases.specs.declared.session.Session.{Session}
 use Rattle.plain_machine.specs.Step.{Exchanged, Step}
 use Rattle.plain_machine.specs.StepBy.{Act, AnswersBy, Effects, StepBy, after_stores, stores_among}
-use Rattle.fs_chain.specs.Events.{tells_of}
+use Rattle.fs_chain.specs.Events.{seen_at, tells_of}
 use Rattle.fs_chain.specs.Walks.{course_of}
-use Rattle.fs_chain.specs.Whole.{ChainBy, GoesBackBy, WalksBy, after_chain, data_behind, file_calls, step_loads}
+use Rattle.fs_chain.specs.Whole.{ChainBy, GoesBackBy, IsToldByMemory, WalksBy, after_chain, data_behind, file_calls, step_loads}
 use Rattle.fs_chain.specs.declared.loads.LoadOutcome.TheVariants as wents
 use Rattle.fs_chain.specs.declared.popping.PopOutcome.TheVariants as says
+use Rattle.fs_chain.specs.declared.queue.QueueState.{QueueState}
 use Rattle.worked_callers.specs.Notified.{given_so_far}
 use Rattle.worked_callers.proofs.CalledBy.{calls_of_answer}
 use Rattle.worked_callers.proofs.Served.{if_ok, if_ok_so, more_taken, queue_keeps, taken_so, told_before}
@@ -146,11 +147,11 @@ returns g c =
                 refl (apart walked.0 popped_handle back_queue (wents.On popped) goes.1 walked.1) in (
                   law.0,
                   goes.0,
-                  back_queue,
                   law.2,
                   subst (λ (s : Session). Step may (record m { memory = memory }) i calls (Exchanged law.0 (wants_notice left q))
                       (record (after_chain m i q s.options.0 files) { memory = left })) (sym session_is) law.3,
-                  law.4,
+                  subst (λ (k : QueueState). IsToldByMemory memory left q k (seen_at k.event_index before.layout) goes.0 told.0)
+                      c.in_ok-request_len.ensures.queue law.4,
                 ),
           ))
           c.push_by.ensures.back c.push_by.ensures.session;
