@@ -1,7 +1,7 @@
 //! Calls of a handle as events of a run, beside any other chains in flight and a guest that writes.
 
-ghost use Rattle.std.specs.Prelude.{◌≡◌, ◌≤◌, ◌+◌, ◌^◌, ℕ, [], ◌∷◌, ◌++◌, drop, false, IfOk, IfSome, length};
-ghost use Rattle.std.specs.Prelude.{List, None, Ok, OnOk, Some, slice_get, true};
+ghost use Rattle.std.specs.Prelude.{◌≡◌, ◌≤◌, ◌+◌, ◌^◌, ℕ, [], ◌∷◌, ◌++◌, drop, false, IfOk, IfSome};
+ghost use Rattle.std.specs.Prelude.{length, List, None, Ok, OnOk, Some, option_map, slice_get, true};
 ghost use Rattle.std.specs.List.{AllByRecursion};
 ghost use Rattle.fs_queue.specs.declared.fault.QueueError.{QueueError};
 ghost use Rattle.fs_regions.specs.Places.{places_in};
@@ -11,8 +11,8 @@ ghost use Rattle.fuse_values.specs.Values.{call_of};
 ghost use Rattle.fuse_values.specs.declared.call.FileCall as value;
 ghost use Rattle.virtiofsd_fuse.specs.Grammar.{meaning};
 ghost use Rattle.server_phases.specs.Answering.{TellsBytes};
-ghost use Rattle.fs_chain.specs.Events.{event_miss, store_of};
-ghost use Rattle.fs_chain.specs.Queues.{gave, took};
+ghost use Rattle.fs_chain.specs.Events.{event_miss, notification_store, store_of};
+ghost use Rattle.fs_chain.specs.Queues.{gave, reset_to, took};
 ghost use Rattle.fs_chain.specs.Walks.{HasEvents};
 ghost use Rattle.fs_chain.specs.Whole.{IsWalked, WalksBy};
 ghost use Rattle.fs_chain.specs.declared.decoding.Decoded.TheVariants as asks;
@@ -27,7 +27,7 @@ ghost use Rattle.fs_live.specs.Live.{room_of};
 ghost use Rattle.fs_live.specs.Live.{pop_refusal};
 ghost use Rattle.fs_live.specs.Runs.{EachStoresThere, events_on, going, tickets_on};
 ghost use Rattle.fs_live.specs.Several.{LiveQueue, RunsOver, UsedFrom, returns_among};
-ghost use Rattle.worked_callers.specs.Notified.{IsWalkedBy};
+ghost use Rattle.worked_callers.specs.Notified.{IsWalkedBy, given_so_far};
 ghost use Rattle.worked_callers.specs.ChainCalls.{AreCallsOf};
 ghost use Rattle.worked_callers.specs.Events.{IsFaultyChain, IsPopRefusedByLoads, IsServedChain};
 
@@ -134,7 +134,7 @@ pub fn walk_to_end(
     }
 }
 
-/// A pop makes few loads, of any bytes.
+/// A pop by these bytes makes few loads, of any bytes.
 pub fn walk_in_few_loads<F: FileSystem>(
     handle: &mut ChainHandle,
     queue: &mut QueueState,
@@ -142,9 +142,11 @@ pub fn walk_in_few_loads<F: FileSystem>(
 ) -> Result<PopOutcome, ChainError>
     requires free { handle.old.state ≡ at.Free }
     requires goes { queue.old.stopped ≡ None }
-    ensures few { IfOk result (λ told. (loads : List (List ℕ))
-        × (walks : WalksBy loads handle.old handle.new queue.old queue.new (LoadOutcome.On told))
-        × (load_count loads handle.old handle.new queue.old queue.new (LoadOutcome.On told) walks
+    ensures few { IfOk result (λ told. (n : ℕ)
+        × (walks : WalksBy (given_so_far n given.now) handle.old handle.new queue.old queue.new
+        (LoadOutcome.On told))
+        × (load_count (given_so_far n given.now) handle.old handle.new queue.old queue.new
+        (LoadOutcome.On told) walks
         ≤ queue.old.layout.size + 4)) }
 {
     law_handles::<F>();
@@ -159,6 +161,8 @@ pub fn refuse_beside<F: FileSystem>(
 ) -> Result<PopOutcome, ChainError>
     requires free { handle.old.state ≡ at.Free }
     requires goes { queue.old.stopped ≡ None }
+    ensures given { IfOk result (λ told.
+        IsWalkedBy given.now handle.old handle.new queue.old queue.new (LoadOutcome.On told)) }
     ensures loaded { (e : QueueError)
         → result ≡ Ok (PopOutcome.Refused e)
         → (s : LiveState F) (i : ℕ)
@@ -231,6 +235,7 @@ pub fn push_faulty_beside<F: FileSystem>(
 
 /// The device's store before it sleeps is an event, if its address is mapped, and stays where it may be.
 pub fn sleep_beside<F: FileSystem>(queue: &QueueState, wanted: bool) -> Option<NotificationStore>
+    ensures told { option_map store_of result ≡ notification_store queue.now wanted }
     ensures sleeps { IfSome result (λ store. (s : LiveState F) (i : ℕ)
         → slice_get s.queues i ≡ Some (live_of queue.now)
         → StoreIsMapped s.places store.address
@@ -244,6 +249,7 @@ pub fn sleep_beside<F: FileSystem>(queue: &QueueState, wanted: bool) -> Option<N
 
 /// The reset of a queue is an event, once no call of its chains is pending.
 pub fn begin_beside<F: FileSystem>(queue: &mut QueueState, layout: QueueLayout, position: u16)
+    ensures reset { queue.new ≡ reset_to queue.old layout position }
     ensures begins { (s : LiveState F) (i : ℕ)
         → slice_get s.queues i ≡ Some (live_of queue.old)
         → 1 ≤ queue.old.max_in_flight

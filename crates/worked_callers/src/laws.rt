@@ -1,6 +1,6 @@
 //! The outcome of a pop's call is the offer of each memory over the handle's regions that has the loads.
 
-ghost use Rattle.std.specs.Prelude.{◌≡◌, [], None, Some, IfOk, IfSome, length};
+ghost use Rattle.std.specs.Prelude.{◌≡◌, [], None, Some, IfErr, IfNone, IfOk, IfSome, OnErr, length};
 ghost use Rattle.vm_memory.specs.Memory.{Memory};
 ghost use Rattle.vm_memory_core.specs.Host.{Host};
 ghost use Rattle.fs_queue.specs.Chain.{entry_address};
@@ -15,7 +15,7 @@ ghost use Rattle.fs_regions.specs.declared.entries.EntriesWalk.{EntriesWalk};
 ghost use Rattle.fs_regions.specs.declared.walk.QueueWalk.{QueueWalk};
 ghost use Rattle.fs_regions.specs.declared.walk.QueueWalk.TheVariants as asks;
 ghost use Rattle.fs_chain.specs.Laws.{GoesOnByLoads, TellsOffer};
-ghost use Rattle.fs_chain.specs.Loads.{whole};
+ghost use Rattle.fs_chain.specs.Loads.{GoesSo, IsSame, RefusesWalk, whole};
 ghost use Rattle.fs_chain.specs.Walks.{RefusalHasEvents, course_of, told_of};
 ghost use Rattle.fs_chain.specs.declared.state.ChainState.TheVariants as at;
 ghost use Rattle.fs_chain.specs.declared.state.PopId.{PopId};
@@ -29,6 +29,12 @@ pub fn begin(
     handle: &mut ChainHandle,
     queue: &mut QueueState,
 ) -> Result<Option<PopOutcome>, ChainError>
+    ensures goes { IfOk result (λ on. IfSome on (λ told.
+        GoesSo handle.old queue.old [] (LoadOutcome.On told) handle.new queue.new)) }
+    ensures part { IfOk result (λ on. IfNone on
+        (GoesSo handle.old queue.old [] LoadOutcome.Part handle.new queue.new)) }
+    ensures error { IfErr result (RefusesWalk handle.old queue.old []) }
+    ensures same { OnErr result (IsSame handle.old handle.new × (queue.new ≡ queue.old)) }
     ensures offered { IfOk result (λ on. IfSome on (λ told. (h : Host)
         → queue.old.stopped ≡ None
         → RefusalHasEvents told handle.old queue.old

@@ -8,6 +8,7 @@ returns g c =
     let before = c.args.queue.now in
     let after = c.reset.new.self in
     record {
+      reset = c.reset.ensures;
       begins = λ s i there some few none.
           let law = c.law_handles.ensures.resets_queue s i before after c.args.layout c.args.position before.max_in_flight
           before.event_index None

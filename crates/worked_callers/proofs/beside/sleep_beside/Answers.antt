@@ -8,6 +8,7 @@ pub returns : goal.returns
 returns g c =
     let may = g.F.FileSystemBase.may in
     record {
+      told = c.notification_store.ensures;
       sleeps = sleep_is may c.args.queue.now c.args.wanted c.notification_store.result c.law_handles.ensures.stores_notification
           c.law_runs.ensures.stores c.notification_store.ensures;
     }

@@ -1,4 +1,5 @@
 use Rattle.fs_chain.specs.declared.loads.LoadOutcome.TheVariants as wents
+use Rattle.worked_callers.specs.Notified.{given_so_far}
 use Rattle.worked_callers.proofs.Served.{if_ok}
 use Rattle.worked_callers.proofs.beside.walk_in_few_loads.Goals as goal
 
@@ -9,7 +10,11 @@ returns g c =
     let before = c.args.queue.now in
     let after = c.walk_to_end.new.queue in
     record {
-      few = if_ok c.walk_to_end.result _ _ (λ told walks.
-          (walks.0, walks.1, c.law_handles.ensures.loads walks.0 old new before after (wents.On told) c.requires.goes walks.1))
-          c.walk_to_end.ensures.walked;
+      few = if_ok c.walk_to_end.result _ _ (λ told walks. (
+        walks.0,
+        walks.1,
+        c.law_handles.ensures.loads (given_so_far walks.0 c.args.given.now) old new before after (wents.On told) c.requires.goes
+            walks.1,
+      ))
+          c.walk_to_end.ensures.given;
     }
