@@ -1,5 +1,5 @@
 -- Data in the reply buffer of a chain that was popped.
-use Rattle.std.proofs.Common.{◌≡◌, ◌≤◌, ◌%◌, ◌^◌, ℕ, true, List, [], ◌∷◌, drop, length, take, Some, None, refl}
+use Rattle.std.proofs.Common.{◌≡◌, ◌≤◌, ◌%◌, ◌^◌, ℕ, true, List, [], ◌∷◌, drop, length, take, Some, None, refl, slice_get}
 use Rattle.std.specs.Borrow.{Bor}
 use Rattle.vm_iotlb.specs.declared.permissions.Permissions.TheVariants.{Write}
 use Rattle.vm_memory_core.specs.Window.{Window, places_of}
@@ -31,6 +31,7 @@ module _ {F : Type 0} (may : May F) (walks_law : HandleEndsPop may) (given : Lis
       → (c : OutChain) × (end : LiveState F)
       × IsPoppedChain s i given old before None c
       × LiveRun may s (pop_event c None ∷ FillsBuffer c (data_stores (room_of c) from bytes) ∷ []) end
+      × (slice_get end.queues i ≡ Some (live_of after))
       × (located (location (places_in one.regions) Write) (take (length bytes) (drop from (room_of c)))
       ≡ Some (take (length bytes) (places_of v)))
   filled_window law v window few =
@@ -40,14 +41,15 @@ module _ {F : Type 0} (may : May F) (walks_law : HandleEndsPop may) (given : Lis
       let s₁ : LiveState F = after_pop s i (live_of before) pop.loaded ds (step.Chain head None) in
       let fills = law s₁ c s.outs [] one from v bytes refl tt refl window few in
       let is_popped = popped_by s i given old one before after head n r ds pop.loaded walks pop.loads pop.told_is in
-      (c, s₁, is_popped, (s₁, pop.happens, (s₁, fills.0, refl)), fills.1)
+      (c, s₁, is_popped, (s₁, pop.happens, (s₁, fills.0, refl)), pop.there, fills.1)
 
   pub filled_range : HandleFillsRange may → (guest len : ℕ) → IsRangeFrom true one.descriptors.items from guest len → length bytes ≤ len
       → (c : OutChain) × (mid : LiveState F) × (address : ℕ)
       × IsPoppedChain s i given old before None c
       × (guest ≡ address % 2 ^ 64)
       × (let fills = FillsBuffer c (record { address = address; bytes = bytes } ∷ []) in
-      LiveRun may s (pop_event c None ∷ fills ∷ []) mid × (reported_by mid fills ≡ take (length bytes) (drop from (room_of c))))
+      LiveRun may s (pop_event c None ∷ fills ∷ []) mid × (slice_get mid.queues i ≡ Some (live_of after))
+      × (reported_by mid fills ≡ take (length bytes) (drop from (room_of c))))
   filled_range law guest len range few =
       let ds = one.descriptors.items in
       let pop = popped may walks_law old one before after head n r goes (given_so_far walks.0 given, walks.1) s i here in
@@ -59,5 +61,5 @@ module _ {F : Type 0} (may : May F) (walks_law : HandleEndsPop may) (given : Lis
         fills.0,
         popped_by s i given old one before after head n r ds pop.loaded walks pop.loads pop.told_is,
         fills.1,
-        ((s₁, pop.happens, (s₁, fills.2.0, refl)), fills.2.1),
+        ((s₁, pop.happens, (s₁, fills.2.0, refl)), pop.there, fills.2.1),
       )

@@ -1,19 +1,24 @@
 //! Data that a caller stores in a chain's reply buffer before its reply counts it.
 
-ghost use Rattle.std.specs.Prelude.{◌≡◌, ◌%◌, ◌^◌, ℕ, [], ◌∷◌, drop, IfOk, length, List, None, Some, take};
+ghost use Rattle.std.specs.Prelude.{◌≡◌, ◌%◌, ◌^◌, ℕ, [], ◌∷◌, drop, IfOk, length, List, None, OnOk};
+ghost use Rattle.std.specs.Prelude.{Some, slice_get, take};
 ghost use Rattle.vm_iotlb.specs.declared.permissions.Permissions.TheVariants.{Write};
 ghost use Rattle.vm_memory_core.specs.Window.{places_of};
 ghost use Rattle.vm_memory.specs.Memory.{located, location};
 ghost use Rattle.fs_regions.specs.Places.{places_in};
+ghost use Rattle.fs_chain.specs.Queues.{took};
+ghost use Rattle.fs_chain.specs.declared.popping.PopOutcome.{PopOutcome};
 ghost use Rattle.fs_chain.specs.declared.state.ChainState.TheVariants as at;
 ghost use Rattle.fs_live.specs.Filling.{data_stores};
+ghost use Rattle.fs_live.specs.Handles.{live_of};
 ghost use Rattle.fs_live.specs.Live.{FillsBuffer, LiveRun, LiveState, OutChain, room_of};
 ghost use Rattle.fs_live.specs.Runs.{reported_by};
 ghost use Rattle.worked_callers.specs.Events.{IsPoppedChain, pop_event};
+ghost use Rattle.worked_callers.specs.Notified.{IsWalkedBy};
 ghost use Rattle.worked_callers.specs.OwnReplies.{IsAt};
 
 use crate::wholes::walk_chain;
-use fs_chain::{ChainError, ChainHandle, QueueState};
+use fs_chain::{ChainError, ChainHandle, LoadOutcome, QueueState};
 use fs_live::law_handles;
 use fuse_fs::FileSystem;
 use vm_memory_core::VolatileSlice;
@@ -30,12 +35,17 @@ pub fn fill_window<F: FileSystem>(
 ) -> Result<VolatileSlice, ChainError>
     requires free { handle.old.state ≡ at.Free }
     requires goes { queue.old.stopped ≡ None }
+    ensures queue { OnOk result (queue.new ≡ took queue.old) }
+    ensures walks { OnOk result ((head : ℕ) × (n : ℕ) × (r : ℕ)
+        × IsWalkedBy given.now handle.old handle.new queue.old queue.new
+        (LoadOutcome.On (PopOutcome.Chain head n r))) }
     ensures fills { IfOk result (λ v. (s : LiveState F) (i : ℕ)
         → IsAt F.may s i handle.old queue.old
         → (c : OutChain) × (end : LiveState F)
         × IsPoppedChain s i given.now handle.old queue.old None c
         × LiveRun F.may s
         (pop_event c None ∷ FillsBuffer c (data_stores (room_of c) from bytes.now) ∷ []) end
+        × (slice_get end.queues i ≡ Some (live_of queue.new))
         × (located (location (places_in handle.new.regions) Write)
         (take (length bytes.now) (drop from (room_of c)))
         ≡ Some (take (length bytes.now) (places_of v)))) }
@@ -62,6 +72,10 @@ pub fn fill_range<F: FileSystem>(
 ) -> Result<u64, ChainError>
     requires free { handle.old.state ≡ at.Free }
     requires goes { queue.old.stopped ≡ None }
+    ensures queue { OnOk result (queue.new ≡ took queue.old) }
+    ensures walks { OnOk result ((head : ℕ) × (n : ℕ) × (r : ℕ)
+        × IsWalkedBy given.now handle.old handle.new queue.old queue.new
+        (LoadOutcome.On (PopOutcome.Chain head n r))) }
     ensures fills { IfOk result (λ guest. (s : LiveState F) (i : ℕ)
         → IsAt F.may s i handle.old queue.old
         → (c : OutChain) × (mid : LiveState F) × (address : ℕ)
@@ -69,6 +83,7 @@ pub fn fill_range<F: FileSystem>(
         × (guest ≡ address % 2 ^ 64)
         × (let fills = FillsBuffer c (record { address = address; bytes = bytes.now } ∷ []) in
         LiveRun F.may s (pop_event c None ∷ fills ∷ []) mid
+        × (slice_get mid.queues i ≡ Some (live_of queue.new))
         × (reported_by mid fills ≡ take (length bytes.now) (drop from (room_of c))))) }
 {
     law_handles::<F>();

@@ -2,6 +2,8 @@
 //! notification is lost (crate `notify`).
 
 ghost use Rattle.std.specs.Prelude.{◌≡◌, [], ◌∷◌, IfOk, OnOk};
+ghost use Rattle.fs_chain.specs.Loads.{IsSame, RefusesWalk};
+ghost use Rattle.fs_chain.specs.declared.error.ChainError.{ChainError};
 ghost use Rattle.fs_chain.specs.declared.state.ChainState.TheVariants as at;
 ghost use Rattle.notify.specs.Threads.{ActsOver, SleepsNow, ThreadedQueue, Walker, WishIsThere, Wishes};
 ghost use Rattle.notify.specs.Threads.{after_act};
@@ -23,6 +25,8 @@ pub fn sleep_if_full(
         → IsOf queue.old s
         → s.holder ≡ Walker
         → IsStoredWish queue.old s store) }
+    ensures same { OnOk result (IsSame handle.old handle.new × (queue.new ≡ queue.old)) }
+    ensures refused { OnOk result (RefusesWalk handle.old queue.old [] ChainError.ChainInFlight) }
     ensures sleeps { OnOk result ((s : ThreadedQueue)
         → IsOf queue.old s
         → s.holder ≡ Walker

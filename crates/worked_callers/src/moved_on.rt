@@ -5,14 +5,17 @@ ghost use Rattle.std.specs.Prelude.{◌≡◌, ◌≤◌, ◌^◌, ℕ, [], ◌�
 ghost use Rattle.std.specs.Prelude.{OnOk, true};
 ghost use Rattle.std.specs.List.{AllByRecursion};
 ghost use Rattle.std.specs.Io.KnownBytes.{Appends, Consumes};
-ghost use Rattle.fs_record.specs.Record.{HasKnownBits};
+ghost use Rattle.fs_queue.specs.Queue as ring;
+ghost use Rattle.fs_record.specs.Record.{HasKnownBits, IsRecord, Second, Version};
 ghost use Rattle.fs_regions.specs.Places.{places_in};
 ghost use Rattle.fs_chain.specs.Queues.{gave, reset_to, took};
 ghost use Rattle.fs_chain.specs.declared.state.ChainState.TheVariants as at;
 ghost use Rattle.fs_live.specs.Handles.{IsReached, live_of};
 ghost use Rattle.fs_live.specs.Live.{Happens, LiveEvent, LiveRun, LiveState, MovesDevice, Remaps};
 ghost use Rattle.fs_live.specs.Live.{ResetsQueue};
+ghost use Rattle.fs_live.specs.Others.{recorded};
 ghost use Rattle.fs_live.specs.Runs.{HasNoneInFlight, untold};
+ghost use Rattle.worked_callers.specs.ChainCalls.{IsResetBy};
 ghost use Rattle.worked_callers.specs.Events.{IsRepliedChain};
 ghost use Rattle.worked_callers.specs.OwnReplies.{IsAt};
 
@@ -58,7 +61,16 @@ pub fn move_and_go_on<F: FileSystem, S: RecordSink, T: RecordSource>(
     requires known { HasKnownBits options.0 }
     ensures again { OnOk result ((here.new.state ≡ at.Free) × (there.new.state ≡ at.Free)) }
     ensures queue { OnOk result (queue.new ≡ gave (took queue.old)) }
-    ensures moves { IfOk result (λ notice. (s : LiveState F)
+    ensures moves { IfOk result (λ notice.
+        (sent : List ℕ) × (taken : List ℕ) × (v : Version) × (left : ℕ) × (read : ring.Queue)
+        × (begun : QueueState)
+        × Appends (S.sent sink.old) (S.sent sink.new) sent
+        × IsRecord sent (Second 4096 0x101000) options.0 (recorded queue.new ∷ [])
+        × Consumes (T.left source.old) (T.left source.new) taken
+        × IsRecord taken v left (read ∷ [])
+        × IsResetBy read moved.old begun
+        × (moved.new ≡ gave (took begun))
+        × ((s : LiveState F)
         → IsReached F.may s
         → s.outs ≡ []
         → s.queues ≡ live_of queue.old ∷ []
@@ -67,12 +79,9 @@ pub fn move_and_go_on<F: FileSystem, S: RecordSink, T: RecordSource>(
         → s.limit ≡ here.old.limit
         → s.limit ≡ there.old.limit
         → s.limit ≤ 2 ^ 31
-        → (sent : List ℕ) × (taken : List ℕ)
-        × Appends (S.sent sink.old) (S.sent sink.new) sent
-        × Consumes (T.left source.old) (T.left source.new) taken
-        × (taken ≡ sent
+        → taken ≡ sent
         → (early : List LiveEvent) × (late : List LiveEvent) × (told : Bool)
-        × (mid : LiveState F) × (begun : QueueState) × (end : LiveState F)
+        × (mid : LiveState F) × (end : LiveState F)
         × IsRepliedChain s 0 one.now.given.now here.old queue.old []
         one.now.request.now one.now.bytes.now told early
         × IsRepliedChain mid 0 two.now.given.now there.old begun []

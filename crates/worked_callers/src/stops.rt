@@ -97,6 +97,8 @@ pub fn idle_beside<F: FileSystem>(
 ) -> Result<(), ChainError>
     requires free { handle.old.state ≡ at.Free }
     requires goes { queue.old.stopped ≡ None }
+    ensures given { OnOk result (IsWalkedBy given.now handle.old handle.new queue.old queue.new
+        (LoadOutcome.On PopOutcome.Idle)) }
     ensures run { OnOk result ((s : LiveState F) (i : ℕ)
         → slice_get s.queues i ≡ Some (live_of queue.old)
         → s.places ≡ places_in handle.old.regions

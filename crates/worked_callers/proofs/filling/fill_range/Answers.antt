@@ -11,6 +11,8 @@ returns g c =
     let test = c.if-len-bytes.false in
     let few : length c.args.bytes.now ≤ c.in-Some.len = grind (arith, nat_tests, test) in
     record {
+      queue = c.in_ok-_len.ensures.queue;
+      walks = (c.in_ok-_len.field-0-0, c.in_ok-_len._len, c.in_ok-_len.field-0-2, c.in_ok-_len.ensures.given);
       fills = λ s i here.
           filled_range may handles.ends_pop c.args.given.now c.args.handle.now one c.args.queue.now c.walk_chain.new.queue
           c.in_ok-_len.field-0-0 c.in_ok-_len._len c.in_ok-_len.field-0-2 c.requires.goes c.in_ok-_len.ensures.given

@@ -13,6 +13,8 @@ returns g c =
     let len = c.len.ensures in
     let few : length c.args.bytes.now ≤ v.len = grind (arith, nat_tests, test, len) in
     record {
+      queue = c.in_ok-_len.ensures.queue;
+      walks = (c.in_ok-_len.field-0-0, c.in_ok-_len._len, c.in_ok-_len.field-0-2, c.in_ok-_len.ensures.given);
       fills = λ s i here.
           filled_window may handles.ends_pop c.args.given.now c.args.handle.now one c.args.queue.now c.walk_chain.new.queue
           c.in_ok-_len.field-0-0 c.in_ok-_len._len c.in_ok-_len.field-0-2 c.requires.goes c.in_ok-_len.ensures.given

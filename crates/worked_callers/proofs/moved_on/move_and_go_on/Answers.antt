@@ -11,7 +11,7 @@ use Rattle.fs_live.specs.Others.{recorded}
 use Rattle.fs_live.specs.Runs.{untold}
 use Rattle.fs_live.specs.Several.{LiveQueue}
 use Rattle.worked_callers.proofs.MovedAmid.{reached_run}
-use Rattle.worked_callers.proofs.Served.{if_ok, on_ok, on_ok_more}
+use Rattle.worked_callers.proofs.Served.{if_ok_so, on_ok, on_ok_more}
 use Rattle.worked_callers.proofs.ServedBeside.{reached_by}
 use Rattle.worked_callers.proofs.ServedCrossed.{run_both}
 use Rattle.worked_callers.proofs.moved_on.move_and_go_on.Goals as goal
@@ -28,16 +28,26 @@ returns g c =
     let q = c.in-Some.read.now in
     let read_options = c.in_ok-restored.field-0-0.0 in
     let version = Second 4096 0x101000 in
+    let taken_is : IsRecord found.0 found.1 read_options (q ∷ []) =
+    subst (λ (qs : List Queue). IsRecord found.0 found.1 read_options qs) (sym c.deref.ensures.value ∙ c.in-Some.ensures.one) found.3 in
     record {
       again = on_ok_more c.reply_beside-2.result _ _ (λ is. (c.in_ok-_told.ensures.again, is)) c.reply_beside-2.ensures.again;
       queue = on_ok c.reply_beside-2.result _ c.in_ok-_told.ensures.queue;
-      moves = if_ok c.reply_beside-2.result _ _
-          (λ notice last s reached none queues options places limit limit' small. (
+      moves = if_ok_so c.reply_beside-2.result _ _ _
+          (λ notice last whole. (
             saved.0,
             found.0,
+            found.1,
+            read_options,
+            q,
+            begun,
             saved.1,
+            saved.2,
             found.2,
-            λ same.
+            taken_is,
+            c.begin_by_record.ensures.begins,
+            whole,
+            λ s reached none queues options places limit limit' small same.
                 let one = c.in_ok-_told.ensures.run s 0 reached (ap (λ (l : List LiveQueue). slice_get l 0) queues) places
                 limit small in
                 let s₁ = one.1 in
@@ -46,9 +56,7 @@ returns g c =
                 let made : IsRecord saved.0 version s₁.options (recorded left ∷ []) =
                 subst (λ (o : ℕ). IsRecord saved.0 version o (recorded left ∷ [])) (sym (one.6 ∙ options)) saved.2 in
                 let read : IsRecord saved.0 found.1 read_options (q ∷ []) =
-                subst (λ (bytes : List ℕ). IsRecord bytes found.1 read_options (q ∷ [])) same
-                (subst (λ (qs : List Queue). IsRecord found.0 found.1 read_options qs)
-                (sym c.deref.ensures.value ∙ c.in-Some.ensures.one) found.3) in
+                subst (λ (bytes : List ℕ). IsRecord bytes found.1 read_options (q ∷ [])) same taken_is in
                 let moved = c.begin_by_record.ensures.moves s₁ left m saved.0 version found.1 read_options (one.4 ∙ none) queues₁
                 made read in
                 let s₂ = moved.1 in
@@ -68,7 +76,6 @@ returns g c =
                   two.0,
                   c.in_ok-_told._told,
                   s₂,
-                  begun,
                   two.1,
                   one.9,
                   two.9,
@@ -78,5 +85,5 @@ returns g c =
                   two.5 ∙ ap (λ (l : List LiveQueue). changed_at l 0 (λ _. live_of final)) moved.3,
                 ),
           ))
-          c.reply_beside-2.ensures.run;
+          c.reply_beside-2.ensures.run c.reply_beside-2.ensures.queue;
     }
