@@ -27,7 +27,7 @@ use Rattle.virtiofsd_fuse.specs.Serving.{May, served, setting}
 use Rattle.virtiofsd_fuse.specs.Serving as serving_words
 use Rattle.server_phases.specs.Asking.{IsRequestFront}
 use Rattle.server_phases.specs.declared.session.Session.{Session}
-use Rattle.fs_chain.specs.declared.decoding.Decoded as told
+use Rattle.fs_chain.specs.declared.decoding.Decoded.{Decoded}
 use Rattle.fs_chain.specs.declared.decoding.Decoded.TheVariants as asks
 use Rattle.fs_chain.specs.declared.queue.QueueState.{QueueState}
 use Rattle.fs_chain.specs.declared.pushing.PushStores.{PushStores}
@@ -110,7 +110,7 @@ came_is ds came head n r e = absurd (subst IsAChain e tt)
 -- ---- what was told of the request, and how it was answered
 
 pub told_so : {F : Type 0} (may : May F) (m : State F) (i : ℕ) (kq : QueueState) (request room : List ℕ) (files : F) (s : Session)
-    (out : InFlight) (made : told.Decoded) (asked answered : ChainHandle)
+    (out : InFlight) (made : Decoded) (asked answered : ChainHandle)
     (given : ChainAnswer) (used : PushStores) (flags : List ℕ) (notice : Bool) (acts : List Act) (last : ℕ)
     → m.page_size ≡ s.page_size → m.options ≡ s.options.0 → length room ≡ out.room_len → out.room_len ≤ 2 ^ 31
     → TellsMeaning (setting s.page_size s.options.0 out.room_len) (meaning s.options.0 request out.room_len) (drop 80 request) out

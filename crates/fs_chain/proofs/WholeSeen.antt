@@ -12,7 +12,7 @@ use Rattle.virtiofsd_fuse.specs.Serving.{Setting, setting}
 use Rattle.server_phases.specs.Asking.{IsRequestFront}
 use Rattle.server_phases.specs.declared.session.Session.{Session}
 use Rattle.fs_chain.specs.declared.answering.Replied.{Replied}
-use Rattle.fs_chain.specs.declared.decoding.Decoded as told
+use Rattle.fs_chain.specs.declared.decoding.Decoded.{Decoded}
 use Rattle.fs_chain.specs.declared.decoding.Decoded.TheVariants as asks
 use Rattle.fs_chain.specs.declared.queue.QueueState.{QueueState}
 use Rattle.fs_chain.specs.declared.pushing.PushStores.{PushStores}
@@ -82,7 +82,7 @@ unanswered : (kq : QueueState) (P : ChainReply → PushStores → Type 0) (asked
 unanswered kq P asked answered used same back = subst (λ (w : ChainHandle). FromReplied kq w.state P used) same back
 
 seen_so : (s : Setting) (m : Meaning) (behind : List ℕ) (kq : QueueState) (P : ChainReply → PushStores
-    → Type 0) (out : InFlight) (made : told.Decoded) (asked answered : ChainHandle) (given : ChainAnswer) (used : PushStores)
+    → Type 0) (out : InFlight) (made : Decoded) (asked answered : ChainHandle) (given : ChainAnswer) (used : PushStores)
     → TellsMeaning s m behind out made asked.state → IsRepliedBy made asked given answered → FromReplied kq answered.state P used
     → IsSeenThere kq out used
 seen_so s m behind kq P out (asks.Call c) asked answered (OneAnswer a bytes replied) used meant has back =

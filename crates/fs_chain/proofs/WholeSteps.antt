@@ -18,7 +18,7 @@ use Rattle.virtiofsd_fuse.specs.Serving.{May, Setting, ServedMessage, served, co
 use Rattle.server_phases.specs.declared.answering.Answered.{Answered}
 use Rattle.server_phases.specs.declared.answering.Sent.{Sent}
 use Rattle.server_phases.specs.declared.answering.Sent.TheVariants as sent
-use Rattle.server_phases.specs.Answering.{Gives, TellsBytes, forget_if_any, served_by}
+use Rattle.server_phases.specs.Answering.{Gives, TellsBytes, forget_calls, served_by}
 use Rattle.server_phases.specs.Gathering.{is_list_command}
 use Rattle.server_phases.specs.Waiting.{first_call}
 use Rattle.fs_chain.specs.declared.decoding.Decoded.TheVariants as asks
@@ -40,7 +40,7 @@ first_is_enough s (One unique call) a more not_list = refl
 first_is_enough s (Starts unique capable readahead) a more not_list = refl
 first_is_enough s (Lists unique l) a more not_list = absurd (true≢false not_list)
 
-forgets : (f : Option (Context × ℕ)) → calls_alone (map (λ c. (c, file.Done)) (forget_if_any f)) ≡ forget_if_any f
+forgets : (f : Option (Context × ℕ)) → calls_alone (map (λ c. (c, file.Done)) (forget_calls f)) ≡ forget_calls f
 forgets None = refl
 forgets (Some node) = refl
 
@@ -52,10 +52,10 @@ pub serves_call : (s : Setting) (m : Meaning) (command : FileCommand) (made : ma
 serves_call s m command made bytes behind a given options is call_is not_list gives =
     let calls = file_calls behind (asks.Call made) (OneAnswer a bytes (replied_of given)) in
     ap (λ (x : Meaning). served s x (answers_alone calls)) is
-    ∙ first_is_enough s command (answer_of bytes a) (answers_alone (map (λ c. (c, file.Done)) (forget_if_any given.forget))) not_list
+    ∙ first_is_enough s command (answer_of bytes a) (answers_alone (map (λ c. (c, file.Done)) (forget_calls given.forget))) not_list
     ∙ gives
     ∙ ap (λ (cs : List FileCall). served_by cs options given.sent bytes)
-    (ap (λ (c : FileCall). c ∷ forget_if_any given.forget) (sym call_is)
+    (ap (λ (c : FileCall). c ∷ forget_calls given.forget) (sym call_is)
     ∙ ap (λ (cs : List FileCall). call_of behind made ∷ cs) (sym (forgets given.forget)))
 
 pub by_calls : (cs : List FileCall) (o : ℕ) (x : Sent) (bytes : List ℕ) → (served_by cs o x bytes).calls ≡ cs

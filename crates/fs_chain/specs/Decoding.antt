@@ -12,7 +12,7 @@ use Rattle.server_phases.specs.declared.waiting.Waiting.{Waiting}
 use Rattle.server_phases.specs.Asking.{AsksCall, TellsData, IsDecoded, front_suffices}
 use Rattle.server_phases.specs.Gathering.{IsListingFor, is_list_command}
 use Rattle.server_phases.specs.Waiting.{WaitsFor, first_call}
-use Rattle.fs_chain.specs.declared.decoding.Decoded as told
+use Rattle.fs_chain.specs.declared.decoding.Decoded.{Decoded}
 use Rattle.fs_chain.specs.declared.decoding.Decoded.TheVariants as tells
 use Rattle.fs_chain.specs.declared.state.InFlight.{InFlight}
 use Rattle.fs_chain.specs.declared.state.ChainState as state
@@ -53,7 +53,7 @@ KeepsReply s m bytes out _ = ⊥
 
 -- a request with this meaning has this result, and its chain this state afterwards
 abbrev pub TellsMeaning :
-    Setting → Meaning → (bytes : List ℕ) → InFlight → told.Decoded → state.ChainState → Type 0
+    Setting → Meaning → (bytes : List ℕ) → InFlight → Decoded → state.ChainState → Type 0
 TellsMeaning s m bytes out (tells.Call made) kept = KeepsCall s m bytes made out kept
 TellsMeaning s m bytes out (tells.More wanted) kept = kept ≡ at.Taken out
 TellsMeaning s m bytes out tells.Nothing kept = KeepsReply s m bytes out kept
@@ -71,7 +71,7 @@ abbrev pub wanted : (len whole : ℕ) → ℕ
 wanted len whole = if nat_lt len 80 then min whole 80 else whole
 
 -- how many bytes are needed, if the result asks for more
-abbrev pub wanted_by : told.Decoded → Option ℕ
+abbrev pub wanted_by : Decoded → Option ℕ
 wanted_by (tells.More n) = Some n
 wanted_by _ = None
 

@@ -30,10 +30,10 @@ use Rattle.virtiofsd_fuse.specs.Grammar.{meaning}
 use Rattle.virtiofsd_fuse.specs.Serving.{May, setting}
 use Rattle.server_phases.specs.declared.session.Session.{Session}
 use Rattle.server_phases.specs.Asking.{IsRequestFront}
-use Rattle.server_phases.specs.Answering.{TellsBytes, forget_if_any}
+use Rattle.server_phases.specs.Answering.{TellsBytes, forget_calls}
 use Rattle.server_phases.specs.Gathering.{Brought}
 use Rattle.fs_chain.specs.declared.answering.Replied.{Replied}
-use Rattle.fs_chain.specs.declared.decoding.Decoded as told
+use Rattle.fs_chain.specs.declared.decoding.Decoded.{Decoded}
 use Rattle.fs_chain.specs.declared.decoding.Decoded.TheVariants as asks
 use Rattle.fs_chain.specs.declared.queue.QueueState.{QueueState}
 use Rattle.fs_chain.specs.declared.pushing.PushStores.{PushStores}
@@ -124,7 +124,7 @@ FromTaken _ P = ⊥
 -- the handle decodes, in a session, the first bytes of a request that was loaded. Earlier calls that
 -- returned More changed the session alone
 abbrev pub IsDecodedBy :
-    ChainHandle → Session → (request front : List ℕ) → told.Decoded → ChainHandle → Type 0
+    ChainHandle → Session → (request front : List ℕ) → Decoded → ChainHandle → Type 0
 IsDecodedBy w s request front made w' =
     FromTaken w.state (λ out. (out.request_len ≡ length request)
     × IsRequestFront front request
@@ -152,15 +152,15 @@ pub data ChainAnswer : Type 0 where
 
 -- the file calls of a chain: none; the decoded call with its answer, and the FORGET of an entry that
 -- doesn't fit; or a listing and its look-ups
-abbrev pub file_calls : (behind : List ℕ) → told.Decoded → ChainAnswer → Calls
+abbrev pub file_calls : (behind : List ℕ) → Decoded → ChainAnswer → Calls
 file_calls behind (asks.Call made) (OneAnswer answer bytes replied) =
-    (call_of behind made, answer_of bytes answer) ∷ map (λ c. (c, file.Done)) (forget_if_any replied.forget)
+    (call_of behind made, answer_of bytes answer) ∷ map (λ c. (c, file.Done)) (forget_calls replied.forget)
 file_calls behind (asks.Call made) (ByEntries with_nodes es ending bytes) =
     listing_calls (call_of behind made) with_nodes es ending
 file_calls behind made given = []
 
 -- a chain whose request was decoded has its reply: without a call, or after its call was answered
-abbrev pub IsRepliedBy : told.Decoded → ChainHandle → ChainAnswer → ChainHandle → Type 0
+abbrev pub IsRepliedBy : Decoded → ChainHandle → ChainAnswer → ChainHandle → Type 0
 IsRepliedBy (asks.Call made) w (OneAnswer answer bytes replied) w' = IsAnsweredBy w answer bytes replied w'
 IsRepliedBy (asks.Call made) w (ByEntries with_nodes es ending bytes) w' =
     IsListedBy w with_nodes es ending bytes w'
@@ -226,7 +226,7 @@ pub record ChainBy (given_bytes : List (List ℕ)) (request : List ℕ) (calls :
   pub lens : ℕ × ℕ
   pub walks : WalksBy given_bytes old popped_handle before taken (wents.On (says.Chain head lens.0 lens.1))
   pub front : List ℕ
-  pub made : told.Decoded
+  pub made : Decoded
   pub decoded_handle : ChainHandle
   pub is_asked : IsDecodedBy popped_handle s request front made decoded_handle
   pub given : ChainAnswer

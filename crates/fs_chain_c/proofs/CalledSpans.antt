@@ -6,7 +6,7 @@ use Rattle.server_phases.specs.declared.session.Session.{Session}
 use Rattle.virtiofsd_fuse.specs.Grammar.{meaning}
 use Rattle.virtiofsd_fuse.specs.Serving.{setting}
 use Rattle.fs_chain.specs.declared.chain_handle.ChainHandle.{ChainHandle}
-use Rattle.fs_chain.specs.declared.decoding.Decoded as told
+use Rattle.fs_chain.specs.declared.decoding.Decoded.{Decoded}
 use Rattle.fs_chain.specs.declared.decoding.Decoded.TheVariants as tells
 use Rattle.fs_chain.specs.declared.state.ChainState as state
 use Rattle.fs_chain.specs.declared.state.ChainState.TheVariants as at
@@ -65,7 +65,7 @@ means_call law (at.Taken out) kept s request made small keeps = λ all.
     )
 means_call law _ kept s request made small keeps = tt
 
-means_by : SpansHoldNames → (b asked : ChainHandle) (s : Session) (request : List ℕ) (made : told.Decoded) → length request < 2 ^ 32
+means_by : SpansHoldNames → (b asked : ChainHandle) (s : Session) (request : List ℕ) (made : Decoded) → length request < 2 ^ 32
     → Decodes b s request made asked
     → IfCall made (λ (made : FileCall). IfUndecoded b.state (λ out. out.request_len ≡ length request
     → MeansCall request s.options.0 out.room_len made))

@@ -24,7 +24,7 @@ use Rattle.server_phases.specs.Waiting.{first_call}
 use Rattle.virtiofsd_fuse.specs.DataApart.{begins_a_write, is_write}
 use Rattle.virtiofsd_fuse.specs.Grammar.{Asks, FileCommand, Given, Meaning, given, meaning, one, row}
 use Rattle.virtiofsd_fuse.specs.Serving.{Setting, setting}
-use Rattle.fs_chain.specs.declared.decoding.Decoded as told
+use Rattle.fs_chain.specs.declared.decoding.Decoded.{Decoded}
 use Rattle.fs_chain.specs.declared.decoding.Decoded.TheVariants as tells
 use Rattle.fs_chain.specs.declared.error.ChainError.{ChainError}
 use Rattle.fs_chain.specs.declared.error.ChainError.TheVariants.{BadArgument}
@@ -172,7 +172,7 @@ call_named (at.Taken out) kept s request made other small can keeps wanted =
     (tells_by (front_suffices request out.request_len) _ wanted) keeps
 call_named _ kept s request made other small can keeps wanted = absurd (cc)
 
-told_named : (b asked b' : ChainHandle) (s : Session) (request : List ℕ) (made : told.Decoded) (fields call : FsCall) (status ticket : ℕ)
+told_named : (b asked b' : ChainHandle) (s : Session) (request : List ℕ) (made : Decoded) (fields call : FsCall) (status ticket : ℕ)
     → length request < 2 ^ 32
     → asking.Decodes b s request made asked → TellsAsked asked request made fields status b' → call ≡ record fields { ticket = ticket }
     → IfCall made (λ (made : values.FileCall). HasNames request made call)

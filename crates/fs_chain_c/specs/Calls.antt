@@ -41,8 +41,8 @@ no_attr = record {
 }
 
 -- all fields 0: no file call is made
-abbrev pub no_call : FsCall
-no_call = record {
+abbrev pub empty_call : FsCall
+empty_call = record {
   kind = 0;
   answer = 0;
   opcode = 0;
@@ -101,7 +101,7 @@ flag true = 1
 
 -- a call with this kind of answer, of no process
 abbrev pub made : Opcode → AnswerKind → FsCall
-made o a = record no_call { kind = call_number o; answer = answer_number a }
+made o a = record empty_call { kind = call_number o; answer = answer_number a }
 
 -- the same of a call that a process makes on a node
 abbrev pub made_by : Opcode → AnswerKind → Context → (node : ℕ) → FsCall
@@ -355,14 +355,14 @@ told_call opcode options room
       size = len;
     }
 told_call opcode options room (value.Syncfs context node) = made_by op.Syncfs awaits.Done context node
-told_call opcode options room value.Getlk = no_call
-told_call opcode options room value.Setlk = no_call
-told_call opcode options room value.Setlkw = no_call
-told_call opcode options room value.Bmap = no_call
-told_call opcode options room value.Ioctl = no_call
-told_call opcode options room value.Poll = no_call
-told_call opcode options room value.NotifyReply = no_call
-told_call opcode options room value.TmpFile = no_call
+told_call opcode options room value.Getlk = empty_call
+told_call opcode options room value.Setlk = empty_call
+told_call opcode options room value.Setlkw = empty_call
+told_call opcode options room value.Bmap = empty_call
+told_call opcode options room value.Ioctl = empty_call
+told_call opcode options room value.Poll = empty_call
+told_call opcode options room value.NotifyReply = empty_call
+told_call opcode options room value.TmpFile = empty_call
 
 -- the opcode of a request, and its unique number (struct fuse_in_header); 0 if the request is shorter than 16
 -- bytes

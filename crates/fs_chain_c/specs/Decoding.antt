@@ -12,7 +12,7 @@ use Rattle.server_segments.specs.Errors.{error_number}
 use Rattle.virtiofsd_fuse.specs.Grammar.{known_options, meaning}
 use Rattle.virtiofsd_fuse.specs.Serving.{setting}
 use Rattle.fs_chain.specs.declared.answering.Replied.{Replied}
-use Rattle.fs_chain.specs.declared.decoding.Decoded as told
+use Rattle.fs_chain.specs.declared.decoding.Decoded.{Decoded}
 use Rattle.fs_chain.specs.declared.decoding.Decoded.TheVariants as tells
 use Rattle.fs_chain.specs.declared.error.ChainError.{ChainError}
 use Rattle.fs_chain.specs.declared.error.ChainError.TheVariants.{BadArgument}
@@ -24,7 +24,7 @@ use Rattle.fs_chain.specs.Orders.{ask_error, room_len}
 use Rattle.fs_chain.specs.Walks.{IsAllBut, IsAllButPlace}
 use Rattle.fs_chain_c.specs.declared.call.FsCall.{FsCall}
 use Rattle.fs_chain_c.specs.declared.device.FsDevice.{FsDevice}
-use Rattle.fs_chain_c.specs.Calls.{call_fields, low, no_call, numbered}
+use Rattle.fs_chain_c.specs.Calls.{call_fields, low, empty_call, numbered}
 use Rattle.fs_chain_c.specs.Memory.{IsDevice}
 
 -- ---- an answer
@@ -80,7 +80,7 @@ fault_after status = if status == 35 then error_number EncodeMessage else 0
 
 -- a `ChainHandle` decodes the first bytes of a request in a session, which it keeps. The result is the
 -- meaning of each request that begins with these bytes and is as long as the chain's
-pub record Decodes (w : ChainHandle) (s : Session) (request : List ℕ) (made : told.Decoded)
+pub record Decodes (w : ChainHandle) (s : Session) (request : List ℕ) (made : Decoded)
     (w' : ChainHandle) : Type 0 where
   pub can : ask_error w.state (length request) ≡ None
   pub tells :
@@ -105,7 +105,7 @@ IsDeviceSession d s = (s.page_size ≡ d.page_size) × (s.options.0 ≡ bit_and 
 -- the result of decoding, as C gets it: the call, or the fault of its reply. If more bytes are needed, it is
 -- their count, with 34; if there is no call, nothing; else the fault
 abbrev pub TellsAsked :
-    ChainHandle → (request : List ℕ) → told.Decoded → FsCall → (status : ℕ) → ChainHandle → Type 0
+    ChainHandle → (request : List ℕ) → Decoded → FsCall → (status : ℕ) → ChainHandle → Type 0
 TellsAsked b request (tells.Call made) call status b' =
     (status ≡ 0)
     × (answered : ℕ) × AnswersAtOnce b (answer_unasked made) answered b'
@@ -113,11 +113,11 @@ TellsAsked b request (tells.Call made) call status b' =
       fault = fault_after answered;
     })
 TellsAsked b request (tells.More n) call status b' =
-    (status ≡ 34) × (call ≡ numbered request (record no_call { needed = low n })) × (b' ≡ b)
+    (status ≡ 34) × (call ≡ numbered request (record empty_call { needed = low n })) × (b' ≡ b)
 TellsAsked b request tells.Nothing call status b' =
-    (status ≡ 0) × (call ≡ numbered request no_call) × (b' ≡ b)
+    (status ≡ 0) × (call ≡ numbered request empty_call) × (b' ≡ b)
 TellsAsked b request (tells.Fault e) call status b' =
-    (status ≡ 0) × (call ≡ numbered request (record no_call { fault = error_number e })) × (b' ≡ b)
+    (status ≡ 0) × (call ≡ numbered request (record empty_call { fault = error_number e })) × (b' ≡ b)
 
 -- a request is decoded in the device's session, and the call has the ticket of the chain
 abbrev pub DecodesSo :
@@ -125,7 +125,7 @@ abbrev pub DecodesSo :
 DecodesSo b d request call status b' =
     (s : Session)
     × IsDeviceSession d s
-    × (asked : ChainHandle) × (made : told.Decoded)
+    × (asked : ChainHandle) × (made : Decoded)
     × Decodes b s request made asked
     × (fields : FsCall)
     × TellsAsked asked request made fields status b'
@@ -135,10 +135,10 @@ DecodesSo b d request call status b' =
 abbrev pub DecodesHandle :
     ChainHandle → FsDevice → (request : List ℕ) → FsCall → (status : ℕ) → ChainHandle → Type 0
 DecodesHandle b d request call status b' =
-    ((IsDevice d → ⊥) × (status ≡ chain_error_number BadArgument) × (call ≡ no_call) × (b' ≡ b))
+    ((IsDevice d → ⊥) × (status ≡ chain_error_number BadArgument) × (call ≡ empty_call) × (b' ≡ b))
     ⊎ (IsDevice d
     × (e : ChainError)
     × CannotAsk b request e b'
     × (status ≡ chain_error_number e)
-    × (call ≡ no_call))
+    × (call ≡ empty_call))
     ⊎ (IsDevice d × DecodesSo b d request call status b')

@@ -16,7 +16,7 @@ use Rattle.fs_chain.specs.declared.chain_handle.ChainHandle.{ChainHandle}
 use Rattle.fs_chain_c.specs.declared.call.FsAttr.{FsAttr}
 use Rattle.fs_chain_c.specs.Decoding.{AnswersHandle, DecodesHandle}
 use Rattle.fs_chain_c.specs.Handles.{OnHandle}
-use Rattle.fs_chain_c.specs.Calls.{no_call}
+use Rattle.fs_chain_c.specs.Calls.{empty_call}
 use Rattle.fs_chain_c.specs.declared.call.FsCall.{FsCall}
 use Rattle.fs_chain_c.specs.declared.device.FsDevice.{FsDevice}
 
@@ -118,7 +118,7 @@ abbrev pub AsksChain :
     Option ChainHandle → FsDevice → (request : List ℕ) → (status : ℕ) → FsCall → Option ChainHandle → Type 0
 AsksChain before d request status call after =
     OnHandle (λ b b'. DecodesHandle b d request call status b') ((status ≡ chain_error_number WrongOrder)
-    × (call ≡ no_call)) before after
+    × (call ≡ empty_call)) before after
 
 -- a `ChainHandle` has a reply of `len` bytes that C wrote; nothing else changes
 abbrev pub KeepsOwn : (len : ℕ) → ChainHandle → ChainHandle → Type 0

@@ -7,7 +7,7 @@ use Rattle.fuse_values.specs.declared.received.Label.{Label}
 use Rattle.fuse_values.specs.Values.{call_of, pairs_in}
 use Rattle.server_phases.specs.Waiting.{first_call}
 use Rattle.virtiofsd_fuse.specs.Grammar.{Asks, FileCommand, meaning}
-use Rattle.fs_chain.specs.declared.decoding.Decoded as told
+use Rattle.fs_chain.specs.declared.decoding.Decoded.{Decoded}
 use Rattle.fs_chain.specs.declared.decoding.Decoded.TheVariants as tells
 use Rattle.fs_chain.specs.declared.chain_handle.ChainHandle.{ChainHandle}
 use Rattle.fs_chain_c.specs.declared.call.FsCall.{FsCall}
@@ -74,7 +74,7 @@ SpansHoldNames =
     → HasNames request made (call_fields request options room made)
 
 -- a property of the call, if decoding returned one
-abbrev pub IfCall : told.Decoded → (FileCall → Type 0) → Type 0
+abbrev pub IfCall : Decoded → (FileCall → Type 0) → Type 0
 IfCall (tells.Call made) P = P made
 IfCall _ P = Unit {0}
 

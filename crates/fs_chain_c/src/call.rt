@@ -1,7 +1,7 @@
 //! The file call of a request, with the fields that C gets.
 
 ghost use Rattle.std.specs.Prelude.{◌≡◌, ◌-◌};
-ghost use Rattle.fs_chain_c.specs.Calls.{attr_told, behind, data_len, low, made, made_by, no_call, span};
+ghost use Rattle.fs_chain_c.specs.Calls.{attr_told, behind, data_len, low, made, made_by, empty_call, span};
 
 use crate::answer_kind::{AnswerKind, call_number};
 use fuse_fs::Context;
@@ -226,7 +226,7 @@ const NO_CALL: FsCall = FsCall {
 impl FsCall {
     /// No call.
     pub fn none() -> FsCall
-        ensures { result ≡ no_call }
+        ensures { result ≡ empty_call }
     {
         NO_CALL
     }

@@ -23,7 +23,7 @@ use Rattle.fs_record.specs.Record.{Second, IsRecordFor, IsSavable}
 use Rattle.fs_device.specs.DevicePartsView.{DeviceParts, device_bytes}
 use Rattle.fs_record.specs.Streams.{GoesOut}
 use Rattle.virtiofsd_fuse.specs.Serving.{May}
-use Rattle.fs_device.specs.declared.command.Answer as told
+use Rattle.fs_device.specs.declared.command.Answer as said
 use Rattle.fs_device.specs.declared.command.Command as fetched
 use Rattle.plain_machine.specs.Step.{State}
 use Rattle.plain_machine.specs.Run as run
@@ -104,21 +104,21 @@ put_all (Err x) o e none p =
     absurd (cc)
 
 -- what is left of answers' pages: it leaves the whole, has its places, and the host its shape
-abbrev pub LeftAnswered : (first now whole : Host) → List told.Answer → ℕ → Type 0
+abbrev pub LeftAnswered : (first now whole : Host) → List said.Answer → ℕ → Type 0
 LeftAnswered first now whole answers i = (pages_put now (pages_of_answers (drop i answers)) ≡ whole)
     × HavePlaces (lengths now) (pages_of_answers (drop i answers)) × (shape now ≡ shape first)
 
 -- the pages of the answers from one on are its own and then the others'
-pages_from : (answers : List told.Answer) (i : ℕ) (a : told.Answer) (ps : List Page) → i < length answers → a ≡ get_or answers i a →
+pages_from : (answers : List said.Answer) (i : ℕ) (a : said.Answer) (ps : List Page) → i < length answers → a ≡ get_or answers i a →
     pages_of_answer (answer_of a) ≡ ps →
     pages_of_answers (drop i answers) ≡ ps ++ pages_of_answers (drop (i + 1) answers)
 pages_from answers i a ps lt is has =
     let rest = pages_of_answers (drop (i + 1) answers) in
-    ap pages_of_answers (drop_more answers i a lt) ∙ ap (λ (x : told.Answer). pages_of_answer (answer_of x) ++ rest) (sym is)
+    ap pages_of_answers (drop_more answers i a lt) ∙ ap (λ (x : said.Answer). pages_of_answer (answer_of x) ++ rest) (sym is)
     ∙ ap (λ (l : List Page). l ++ rest) has
 
 -- one answer further
-answered_next : (first now new whole : Host) (answers : List told.Answer) (i : ℕ) (a : told.Answer) (ps : List Page) → i < length answers →
+answered_next : (first now new whole : Host) (answers : List said.Answer) (i : ℕ) (a : said.Answer) (ps : List Page) → i < length answers →
     a ≡ get_or answers i a →
     pages_of_answer (answer_of a) ≡ ps → new ≡ pages_put now ps → shape new ≡ shape now → LeftAnswered first now whole answers i →
     LeftAnswered first new whole answers (i + 1)
@@ -133,7 +133,7 @@ answered_next first now new whole answers i a ps lt is has put same left =
     )
 
 -- an answer with pages, which are put in
-pub answered_put : (first now new whole : Host) (answers : List told.Answer) (i : ℕ) (a : told.Answer) (pages : List HarvestedPage)
+pub answered_put : (first now new whole : Host) (answers : List said.Answer) (i : ℕ) (a : said.Answer) (pages : List HarvestedPage)
     (r : Result (Unit {0}) ApplyError) →
     i < length answers → a ≡ get_or answers i a →
     pages_of_answer (answer_of a) ≡ map page_view pages → r ≡ applied (first_refused (lengths now) 0 (map page_view pages)) →
@@ -148,16 +148,16 @@ answered_put first now new whole answers i a pages r lt is has outcome ok same l
     (put_all r _ outcome (places_front (lengths now) ps rest 0 (there 0)) ok) same left
 
 pub answered_passed :
-    (first now whole : Host) (answers : List told.Answer) (i : ℕ) (a : told.Answer) → i < length answers → a ≡ get_or answers i a →
+    (first now whole : Host) (answers : List said.Answer) (i : ℕ) (a : said.Answer) → i < length answers → a ≡ get_or answers i a →
     pages_of_answer (answer_of a) ≡ [] → LeftAnswered first now whole answers i → LeftAnswered first now whole answers (i + 1)
 unfolding pages_put
 answered_passed first now whole answers i a lt is none left = answered_next first now now whole answers i a [] lt is none refl refl left
 
-pub answered_all : (first now whole : Host) (answers : List told.Answer) (i : ℕ) → length answers ≤ i →
+pub answered_all : (first now whole : Host) (answers : List said.Answer) (i : ℕ) → length answers ≤ i →
     LeftAnswered first now whole answers i → now ≡ whole
 unfolding pages_put
 answered_all first now whole answers i ge left =
-    sym (ap (λ (l : List told.Answer). pages_put now (pages_of_answers l)) (drop_all i answers ge)) ∙ left.0
+    sym (ap (λ (l : List said.Answer). pages_put now (pages_of_answers l)) (drop_all i answers ge)) ∙ left.0
 
 -- ---- runs
 
@@ -196,10 +196,10 @@ abbrev CanFollow : List fetched.Command → Type 0
 CanFollow cs = AllByRecursion (λ c. IsTrue (follows_image (command_of c))) cs
 
 -- commands, each with what it was answered
-abbrev with_answers : List fetched.Command → List told.Answer → List (Command × Answer)
+abbrev with_answers : List fetched.Command → List said.Answer → List (Command × Answer)
 with_answers cs answers = zip (map command_of cs) (map answer_of answers)
 
-all_follow : (cs : List fetched.Command) (answers : List told.Answer) → CanFollow cs →
+all_follow : (cs : List fetched.Command) (answers : List said.Answer) → CanFollow cs →
     AllByRecursion (λ (e : Command × Answer). IsTrue (follows_image e.0)) (with_answers cs answers)
 all_follow [] answers f = tt
 all_follow (c ∷ cs) [] f = tt
@@ -212,7 +212,7 @@ harvest_follows [] last f = (refl, tt)
 harvest_follows (e ∷ events) last f = (f.0, harvest_follows events last f.1)
 
 pub is_run_from_image : {F : Type 0} (may : May F) (s began mid here : State F) (copy : Host) (cs : List fetched.Command)
-    (answers : List told.Answer) (last : List Page) →
+    (answers : List said.Answer) (last : List Page) →
     s.memory.translates ≡ false → HasItsMarks s.memory.host → CanFollow cs →
     Performs may s run.Image [] (run.Copied copy) began → Run may began (with_answers cs answers) mid →
     Performs may mid run.Harvest [] (run.Pages last) here →
@@ -225,7 +225,7 @@ is_run_from_image may s began mid here copy cs answers last off marks follow ima
 }
 
 -- the IOMMU stays off
-pub stays_off : {F : Type 0} (may : May F) (s began mid : State F) (copy : Host) (cs : List fetched.Command) (answers : List told.Answer) →
+pub stays_off : {F : Type 0} (may : May F) (s began mid : State F) (copy : Host) (cs : List fetched.Command) (answers : List said.Answer) →
     CanMoveAgain may →
     s.memory.translates ≡ false → HasItsMarks s.memory.host → CanFollow cs →
     Performs may s run.Image [] (run.Copied copy) began → Run may began (with_answers cs answers) mid → mid.memory.translates ≡ false
@@ -240,19 +240,19 @@ stays_off may s began mid copy cs answers law off marks follow imaged (tolds, di
 
 -- ---- a machine that stays
 
-no_answer : (answers : List told.Answer) → answers ≡ [] → map answer_of answers ≡ []
+no_answer : (answers : List said.Answer) → answers ≡ [] → map answer_of answers ≡ []
 no_answer answers e = ap (map answer_of) e
 
 -- an image was made or refused, and nothing more was done
 pub stays_at_once : {F : Type 0} (may : May F) (s after : State F) (image : Answer) (cs : List fetched.Command)
-    (answers : List told.Answer) → answers ≡ [] → Performs may s run.Image [] image after →
+    (answers : List said.Answer) → answers ≡ [] → Performs may s run.Image [] image after →
     StaysHere may s (map command_of cs) (map answer_of answers) after
 stays_at_once may s after image cs answers empty performs =
     inl (no_answer answers empty, image, ([] ∷ [], one_command may s after (run.Image, image) performs))
 
 -- all was done, and a last harvest made or refused
 pub stays_at_last : {F : Type 0} (may : May F) (s began mid after : State F) (copy : Host) (harvest : Answer) (cs : List fetched.Command)
-    (answers : List told.Answer) → length answers ≡ length cs →
+    (answers : List said.Answer) → length answers ≡ length cs →
     Performs may s run.Image [] (run.Copied copy) began → Run may began (with_answers cs answers) mid →
     Performs may mid run.Harvest [] harvest after →
     StaysHere may s (map command_of cs) (map answer_of answers) after
@@ -261,7 +261,7 @@ stays_at_last may s began mid after copy harvest cs answers count imaged did har
     inr (many, copy, harvest, between may s began mid after (run.Copied copy) harvest (with_answers cs answers) imaged did harvested)
 
 -- all was done, and a last harvest made
-pub stays_after : {F : Type 0} (may : May F) (s here : State F) (copy : Host) (cs : List fetched.Command) (answers : List told.Answer)
+pub stays_after : {F : Type 0} (may : May F) (s here : State F) (copy : Host) (cs : List fetched.Command) (answers : List said.Answer)
     (last : List Page) → length answers ≡ length cs →
     RunsFromImage may s copy (until_harvest (with_answers cs answers) last) here →
     StaysHere may s (map command_of cs) (map answer_of answers) here
@@ -306,7 +306,7 @@ put_whole copy one two xs ys r put same places outcome ok =
     put_all r _ outcome none ok ∙ ap (λ (h : Host). pages_put h ys) put ∙ sym (pages_put-append copy xs ys)
 
 -- the pages of answers and of a last harvest are those that the run answered
-pub all_pages : (cs : List fetched.Command) (answers : List told.Answer) (last : List Page) → length answers ≡ length cs →
+pub all_pages : (cs : List fetched.Command) (answers : List said.Answer) (last : List Page) → length answers ≡ length cs →
     pages_answered (until_harvest (with_answers cs answers) last) ≡ pages_of_answers answers ++ last
 all_pages [] [] last e = append-nil last
 all_pages [] (a ∷ answers) last e = absurd (omega arith)

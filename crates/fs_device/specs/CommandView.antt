@@ -8,7 +8,7 @@ use Rattle.plain_machine.specs.declared.error.DeviceError.{DeviceError}
 use Rattle.plain_machine.specs.declared.error.DeviceError.TheVariants as device
 use Rattle.fs_device.specs.declared.exchange.Exchange as code
 use Rattle.fs_device.specs.declared.command.Command as fetched
-use Rattle.fs_device.specs.declared.command.Answer as told
+use Rattle.fs_device.specs.declared.command.Answer as said
 use Rattle.fs_device.specs.declared.queues.QueueRun.{QueueRun}
 use Rattle.plain_machine.specs.Step.{State, Exchange}
 use Rattle.plain_machine.specs.Run.{Command, GuestRead, GuestWrite, NewBlock, InsertRegion, RemoveRegion}
@@ -43,14 +43,14 @@ command_of fetched.TheVariants.Image = Image
 command_of fetched.TheVariants.Harvest = Harvest
 
 -- an answer, in the plain machine's terms
-abbrev pub answer_of : told.Answer → Answer
-answer_of told.TheVariants.Done = Done
-answer_of (told.TheVariants.Bytes bs) = Bytes bs.items
-answer_of (told.TheVariants.Block number) = NewBlockIs number
-answer_of (told.TheVariants.Served run) = Served (kicked_of run)
-answer_of (told.TheVariants.Copied host) = Copied host
-answer_of (told.TheVariants.Pages pages) = Pages (map page_view pages.items)
-answer_of (told.TheVariants.Refused why) = IsRefused why
+abbrev pub answer_of : said.Answer → Answer
+answer_of said.TheVariants.Done = Done
+answer_of (said.TheVariants.Bytes bs) = Bytes bs.items
+answer_of (said.TheVariants.Block number) = NewBlockIs number
+answer_of (said.TheVariants.Served run) = Served (kicked_of run)
+answer_of (said.TheVariants.Copied host) = Copied host
+answer_of (said.TheVariants.Pages pages) = Pages (map page_view pages.items)
+answer_of (said.TheVariants.Refused why) = IsRefused why
 
 -- a kick of an existing queue lists these exchanges, each with the calls that it made
 abbrev pub KickLists : {F : Type 0} → May F → State F → (queue most : ℕ) → List (Exchange × Bool) →

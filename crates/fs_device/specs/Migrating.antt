@@ -5,7 +5,7 @@ use Rattle.plain_machine.specs.Harvested.{Page}
 use Rattle.fs_device.specs.Applying.{pages_put}
 use Rattle.vm_memory_core.specs.Host.{Host}
 use Rattle.virtiofsd_fuse.specs.Serving.{May}
-use Rattle.fs_device.specs.declared.command.Answer as told
+use Rattle.fs_device.specs.declared.command.Answer as said
 use Rattle.plain_machine.specs.Step.{State}
 use Rattle.plain_machine.specs.Run.{Command, Image, Harvest, Answer, Copied, Pages, Turns, Run, RunTold}
 use Rattle.plain_machine.specs.Run.{with_host}
@@ -13,7 +13,7 @@ use Rattle.fs_device.specs.CommandView.{answer_of}
 use Rattle.fs_device.specs.Moving.{RunsFromImage, pages_answered, pages_of_answer}
 
 -- the pages in these answers, in order
-abbrev pub pages_of_answers : List told.Answer → List Page
+abbrev pub pages_of_answers : List said.Answer → List Page
 pages_of_answers answers = flat_map pages_of_answer (map answer_of answers)
 
 -- the events between an image of the host and a last harvest, and the harvest

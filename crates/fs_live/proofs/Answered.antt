@@ -8,7 +8,7 @@ use Rattle.fuse_values.specs.Answers.{answer_of}
 use Rattle.fuse_values.specs.Values.{call_of}
 use Rattle.fuse_values.specs.declared.answer.FileAnswer as made_answer
 use Rattle.fuse_values.specs.declared.call.FileCall as made_call
-use Rattle.server_phases.specs.Answering.{Gives, TellsBytes, forget_if_any, served_by}
+use Rattle.server_phases.specs.Answering.{Gives, TellsBytes, forget_calls, served_by}
 use Rattle.server_phases.specs.Asking.{IsDecoded as TellsFront, IsRequestFront}
 use Rattle.server_phases.specs.Waiting.{first_call}
 use Rattle.server_phases.specs.declared.answering.Sent.{Sent}
@@ -21,7 +21,7 @@ use Rattle.fs_chain.specs.Decoding.{KeepsCall, KeepsReply, TellsMeaning, asked_o
 use Rattle.fs_chain.specs.Walks.{course_of, out_of}
 use Rattle.fs_chain.specs.Whole.{ByEntries, ChainAnswer, FromTaken, IsRepliedBy, NoAnswer, OneAnswer, file_calls}
 use Rattle.fs_chain.specs.declared.answering.Replied.{Replied}
-use Rattle.fs_chain.specs.declared.decoding.Decoded as told
+use Rattle.fs_chain.specs.declared.decoding.Decoded.{Decoded}
 use Rattle.fs_chain.specs.declared.decoding.Decoded.TheVariants as asks
 use Rattle.fs_chain.specs.declared.state.InFlight.{InFlight}
 use Rattle.fs_chain.specs.declared.state.ChainState as state
@@ -64,7 +64,7 @@ by_reply : (s : Setting) (m : Meaning) (behind : List ℕ) (out : InFlight) (st 
 by_reply s m behind out (at.HasReply kept reply) keeps = by_front s m behind reply.front keeps.2
 by_reply s m behind out st keeps = absurd keeps
 
-told_calls : (s : Setting) (m : Meaning) (behind : List ℕ) (out : InFlight) (made : told.Decoded) (st : state.ChainState) →
+told_calls : (s : Setting) (m : Meaning) (behind : List ℕ) (out : InFlight) (made : Decoded) (st : state.ChainState) →
     IsDecodedWhole made → TellsMeaning s m behind out made st → calls_decoded behind made ≡ (served s m []).calls
 told_calls s m behind out (asks.Call made) st is tells = by_call s m behind made out st tells
 told_calls s m behind out (asks.More n) st is tells = absurd is
@@ -136,7 +136,7 @@ answered_by page_size options n left request bytes made a told out (at.Waits kep
       subst (λ (k : FileCall). IsTrue (suits k (answer_of bytes a))) (sym calls.2) (can command bytes calls.4 data_told).0,
       ap (λ (k : Meaning). (served (setting page_size options n) k (answer_of bytes a ∷ [])).options) calls.1
           ∙ ap (λ (k : ServedMessage). k.options) gives
-          ∙ left_by (first_call command ∷ forget_if_any given.0.forget) left given.0.sent bytes,
+          ∙ left_by (first_call command ∷ forget_calls given.0.forget) left given.0.sent bytes,
     )
 answered_by page_size options n left request bytes made a told out st after keeps waits data_told given can = absurd waits
 
@@ -171,7 +171,7 @@ handle_answers {F} may s c before behind w w' request options made a bytes told 
     )
 
 -- what is served of a request by the calls of a chain that has its reply
-all_served : (page_size options n : ℕ) (m : Meaning) (behind : List ℕ) (made : told.Decoded) (given : ChainAnswer) (out : InFlight)
+all_served : (page_size options n : ℕ) (m : Meaning) (behind : List ℕ) (made : Decoded) (given : ChainAnswer) (out : InFlight)
     (w w' : ChainHandle)
     → (w.session.page_size ≡ page_size) × (w.session.options.0 ≡ options)
     → TellsMeaning (setting page_size options n) m behind out made w.state → IsRepliedBy made w given w'

@@ -13,7 +13,7 @@ use Rattle.fs_chain.specs.Walks.{no_reply}
 use Rattle.fs_chain.specs.Whole.{ByEntries, FromReplied, ChainAnswer, IsRepliedBy, NoAnswer, OneAnswer, file_calls}
 use Rattle.fs_chain.specs.WholeListings.{Ending, IsListedBy}
 use Rattle.fs_chain.specs.declared.answering.Replied.{Replied}
-use Rattle.fs_chain.specs.declared.decoding.Decoded as told
+use Rattle.fs_chain.specs.declared.decoding.Decoded.{Decoded}
 use Rattle.fs_chain.specs.declared.decoding.Decoded.TheVariants as asks
 use Rattle.fs_chain.specs.declared.queue.QueueState.{QueueState}
 use Rattle.fs_chain.specs.declared.pushing.PushStores.{PushStores}
@@ -55,7 +55,7 @@ out_kept s m behind out st keeps = absurd keeps
 unanswered : (out : InFlight) (w w' : ChainHandle) → w' ≡ w → IsOf out w.state → IsOf out w'.state
 unanswered out w w' same is = subst (λ (v : ChainHandle). IsOf out v.state) (sym same) is
 
-pub out_left : (s : Setting) (m : Meaning) (behind : List ℕ) (made : told.Decoded) (given : ChainAnswer) (out : InFlight)
+pub out_left : (s : Setting) (m : Meaning) (behind : List ℕ) (made : Decoded) (given : ChainAnswer) (out : InFlight)
     (w w' : ChainHandle) → TellsMeaning s m behind out made w.state → IsRepliedBy made w given w'
     → IsOf out w'.state
 out_left s m behind (asks.Call made) (OneAnswer a bytes replied) out w w' tells has =
@@ -116,7 +116,7 @@ none_left page_size options n m w w' same now =
     leaves_none (setting page_size options n) m ∙ sym (ap (λ (v : ChainHandle). v.session.options.0) same ∙ now)
 
 -- the handle's session has those that serving leaves
-pub options_left_by : (page_size options n : ℕ) (m : Meaning) (behind : List ℕ) (made : told.Decoded) (given : ChainAnswer) (out : InFlight)
+pub options_left_by : (page_size options n : ℕ) (m : Meaning) (behind : List ℕ) (made : Decoded) (given : ChainAnswer) (out : InFlight)
     (w w' : ChainHandle)
     → (w.session.page_size ≡ page_size) × (w.session.options.0 ≡ options)
     → TellsMeaning (setting page_size options n) m behind out made w.state → IsRepliedBy made w given w'

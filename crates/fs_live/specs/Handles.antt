@@ -28,7 +28,7 @@ use Rattle.fs_chain.specs.Walks.{RefusalHasEvents, course_of, faulty_out, no_rep
 use Rattle.fs_chain.specs.Whole.{ChainAnswer, GoesBackBy, IsRepliedBy, IsAnsweredBy, IsDecodedBy, LoadsOf}
 use Rattle.fs_chain.specs.Whole.{WalksBy, data_behind, file_calls}
 use Rattle.fs_chain.specs.declared.answering.Replied.{Replied}
-use Rattle.fs_chain.specs.declared.decoding.Decoded as told
+use Rattle.fs_chain.specs.declared.decoding.Decoded.{Decoded}
 use Rattle.fs_chain.specs.declared.decoding.Decoded.TheVariants as asks
 use Rattle.fs_chain.specs.declared.event_index.NotificationStore.{NotificationStore}
 use Rattle.fs_chain.specs.declared.loads.LoadOutcome as went
@@ -158,13 +158,13 @@ HandleRefusesPop {F} may =
 -- ---- decoding and answers
 
 -- the calls that a decoding returns, as the calls of a run: none, or the one that is pending
-abbrev pub calls_decoded : (behind : List ℕ) → told.Decoded → List FileCall
+abbrev pub calls_decoded : (behind : List ℕ) → Decoded → List FileCall
 calls_decoded behind (asks.Call made) = call_of behind made ∷ []
 calls_decoded behind _ = []
 
 -- the given bytes were enough to decode the request. A decoding that needs more bytes is no event: the
 -- handle keeps only its session
-abbrev pub IsDecodedWhole : told.Decoded → Type 0
+abbrev pub IsDecodedWhole : Decoded → Type 0
 IsDecodedWhole (asks.More n) = ⊥
 IsDecodedWhole _ = Unit {0}
 
@@ -178,7 +178,7 @@ abbrev pub IsSessionOf : {F : Type 0} → LiveState F → Session → Type 0
 IsSessionOf s session = (session.page_size ≡ s.page_size) × (session.options.0 ≡ s.options)
 
 -- the handle's state after it decoded the request of a chain of a run
-pub record IsKept (page_size options : ℕ) (request : List ℕ) (c : OutChain) (made : told.Decoded)
+pub record IsKept (page_size options : ℕ) (request : List ℕ) (c : OutChain) (made : Decoded)
     (w : ChainHandle) : Type 0 where
   pub out : InFlight
   pub head : out.head ≡ c.head
@@ -193,7 +193,7 @@ pub record IsKept (page_size options : ℕ) (request : List ℕ) (c : OutChain) 
 abbrev pub HandleDecodesRequest : {F : Type 0} → May F → Type 0
 HandleDecodesRequest {F} may =
     (s : LiveState F) (c : OutChain) (before behind : List OutChain) (w w' : ChainHandle) (session : Session)
-    (request front : List ℕ) (made : told.Decoded) →
+    (request front : List ℕ) (made : Decoded) →
     IsReached may s →
     s.limit ≤ 2 ^ 31 →
     s.outs ≡ before ++ c ∷ behind →
@@ -234,7 +234,7 @@ HandleReceivesAnswer {F} may =
 abbrev pub HandleCalls : {F : Type 0} → May F → Type 0
 HandleCalls {F} may =
     (s : LiveState F) (c : OutChain) (before behind : List OutChain) (w w' : ChainHandle) (request : List ℕ)
-    (options : ℕ) (made : told.Decoded) (given : ChainAnswer) (earlier later : Calls) (call : FileCall)
+    (options : ℕ) (made : Decoded) (given : ChainAnswer) (earlier later : Calls) (call : FileCall)
     (answer : FileAnswer) (files : F) →
     s.outs ≡ before ++ c ∷ behind →
     c.phase ≡ Asked request options earlier →
@@ -293,7 +293,7 @@ IsReturn {F} may s before behind c kept acts last notice stores =
 abbrev pub HandlePushesChain : {F : Type 0} → May F → Type 0
 HandlePushesChain {F} may =
     (s : LiveState F) (c : OutChain) (before behind : List OutChain) (w w' : ChainHandle) (kept : QueueState)
-    (request : List ℕ) (options : ℕ) (made : told.Decoded) (given : ChainAnswer) (acts : List Act) (last : ℕ)
+    (request : List ℕ) (options : ℕ) (made : Decoded) (given : ChainAnswer) (acts : List Act) (last : ℕ)
     (notice : Bool) →
     s.outs ≡ before ++ c ∷ behind →
     slice_get s.queues c.queue ≡ Some (live_of kept) →

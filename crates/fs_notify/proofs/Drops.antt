@@ -10,7 +10,7 @@ use Rattle.fs_chain.specs.declared.state.ChainState as state
 use Rattle.fs_chain.specs.declared.state.ChainState.TheVariants as at
 use Rattle.fs_chain.specs.Orders.{end_error}
 use Rattle.fs_chain.specs.Queues.{gave, is_laid_out, is_last, is_out_of, in_flight, untook}
-use Rattle.notify.specs.Threads.{ThreadedQueue, Walker, is_free, walks, has_rearmed}
+use Rattle.notify.specs.Threads.{ThreadedQueue, Walker, is_free, walks, is_rearmer}
 use Rattle.fs_notify.specs.Takers.{DropIsAnAct, FullIsAnAct, ReturnIsAnAct}
 
 -- ---- how many are in flight
@@ -101,7 +101,7 @@ three a b c is so too = rw (is, so, too) refl
 
 pub full : FullIsAnAct
 full q s error is asker shown = (
-  three (has_rearmed s.holder) (not s.hidden) (s.index == s.position || nat_le q.max_in_flight s.out) (ap has_rearmed asker) (ap not shown)
+  three (is_rearmer s.holder) (not s.hidden) (s.index == s.position || nat_le q.max_in_flight s.out) (ap is_rearmer asker) (ap not shown)
       (or_full (s.index == s.position) (nat_le q.max_in_flight s.out) (rw is.1 (full_of (in_flight q) q.max_in_flight error))),
   is,
 )

@@ -43,7 +43,7 @@ use Rattle.fs_chain.specs.Whole.{BeginsPopBy, LoadsOf, WalksBy}
 use Rattle.fs_chain.proofs.WholeChains.{came_is, faulty_is}
 use Rattle.fs_chain.proofs.WholeWalks.{walk_comes}
 use Rattle.notify.specs.Kicks.{ahead}
-use Rattle.notify.specs.Threads.{ThreadedQueue, Walker, Rearmer, walks, has_rearmed, may_act, after_act, TakesOne, SleepsNow}
+use Rattle.notify.specs.Threads.{ThreadedQueue, Walker, Rearmer, walks, is_rearmer, may_act, after_act, TakesOne, SleepsNow}
 use Rattle.notify.proofs.Rings.{ahead_zero}
 use Rattle.fs_notify.specs.Takers.{FindsNoneByWalk, IsCounted, IsIndex, IsOf, SleepsInOrder, TakesByWalk, ways_of}
 
@@ -362,7 +362,7 @@ or_left a b is = rw is refl
 sleeps_so : (q : QueueState) (s : ThreadedQueue) → s.index ≡ s.position → IsOf q s → s.holder ≡ Rearmer → s.hidden ≡ false →
     IsTrue (may_act (ways_of q) s SleepsNow)
 sleeps_so q s none is asker shown =
-    three (has_rearmed s.holder) (not s.hidden) (s.index == s.position || nat_le q.max_in_flight s.out) (ap has_rearmed asker)
+    three (is_rearmer s.holder) (not s.hidden) (s.index == s.position || nat_le q.max_in_flight s.out) (ap is_rearmer asker)
     (ap not shown)
     (or_left (s.index == s.position) (nat_le q.max_in_flight s.out) (same_index s.index s.position none))
 

@@ -6,7 +6,7 @@ use Rattle.plain_machine.specs.Run as run
 use Rattle.plain_machine.specs.Run.{Command, Affects}
 use Rattle.fs_device.specs.CommandView.{command_of}
 use Rattle.fs_device.specs.DeviceView.{exchange_of}
-use Rattle.fs_shared.specs.declared.entry.Outcome as told
+use Rattle.fs_shared.specs.declared.entry.Outcome as outcome
 use Rattle.fs_shared.specs.declared.entry.JournalEntry.{JournalEntry}
 use Rattle.fs_shared.specs.declared.entry.Start.{Start}
 use Rattle.fs_shared.specs.Replay.{Outcome, Done, Served, Stopped, ReplayEntry}
@@ -25,10 +25,10 @@ abbrev pub WouldDo : {F : Type 0} → State F → Command → Type 0
 WouldDo {F} s command = (next : State F) × Affects s command run.Done next
 
 -- the outcome of a call, as a value of the definitions
-abbrev pub came_of : told.Outcome → Outcome
-came_of told.TheVariants.Done = Done
-came_of (told.TheVariants.Served x notice) = Served (exchange_of x) notice
-came_of (told.TheVariants.Stopped e) = Stopped e
+abbrev pub came_of : outcome.Outcome → Outcome
+came_of outcome.TheVariants.Done = Done
+came_of (outcome.TheVariants.Served x notice) = Served (exchange_of x) notice
+came_of (outcome.TheVariants.Stopped e) = Stopped e
 
 -- an entry of the journal, as a value of the definitions
 abbrev pub entry_of : JournalEntry → ReplayEntry

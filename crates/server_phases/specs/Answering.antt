@@ -75,9 +75,9 @@ TellsBytes bytes (value.Bytes len) = len ≡ length bytes
 TellsBytes bytes _ = bytes ≡ []
 
 -- FORGET of 1 for a node and its caller, if there is one
-abbrev pub forget_if_any : Option (Context × ℕ) → List call.FileCall
-forget_if_any None = []
-forget_if_any (Some node) = call.Forget node.0 node.1 1 ∷ []
+abbrev pub forget_calls : Option (Context × ℕ) → List call.FileCall
+forget_calls None = []
+forget_calls (Some node) = call.Forget node.0 node.1 1 ∷ []
 
 -- the calls that were made, the options, and the reply, whose data behind the front are `bytes`
 abbrev pub served_by : List call.FileCall → (options : ℕ) → Sent → (bytes : List ℕ) → ServedMessage
@@ -90,7 +90,7 @@ served_by calls options sent.NoRoom bytes =
 abbrev pub Gives : Setting → FileCommand → (bytes : List ℕ) → FileAnswer → Answered → (options : ℕ) → Type 0
 Gives s command bytes answer given options =
     commanded s command (answer_of bytes answer ∷ [])
-    ≡ served_by (first_call command ∷ forget_if_any given.forget) options given.sent bytes
+    ≡ served_by (first_call command ∷ forget_calls given.forget) options given.sent bytes
 
 -- FORGET of 1 for the entry in an answer, if the call answers an entry
 abbrev pub back_by : Bool → Context → call.FileAnswer → List call.FileCall

@@ -8,7 +8,7 @@ ghost use Rattle.server_replies.specs.WholeReplies.{reply_bytes, told_bytes};
 ghost use Rattle.server_calls.specs.Requests.{entry_node, forget_node};
 ghost use Rattle.virtiofsd_fuse.specs.Serving.{replied, undone};
 ghost use Rattle.server_phases.specs.Answering.{TellsBytes, takes, tells_nothing, fails_never, brings_entry};
-ghost use Rattle.server_phases.specs.Answering.{back_by, forget_if_any, served_by, is_too_long};
+ghost use Rattle.server_phases.specs.Answering.{back_by, forget_calls, served_by, is_too_long};
 
 use crate::waiting::{Awaits, Waiting};
 use bitflags::Flags;
@@ -114,7 +114,7 @@ fn entry_node(answer: &FileAnswer) -> Option<u64>
 
 // The caller and the node to forget, if the answer has an entry.
 fn back_of(waiting: &Waiting, answer: &FileAnswer) -> Option<(Context, u64)>
-    ensures { forget_if_any result
+    ensures { forget_calls result
         ≡ back_by (brings_entry waiting.now.awaits) waiting.now.context (answer_of [] answer.now) }
 {
     if !brings_entry(&waiting.awaits) {
@@ -150,8 +150,8 @@ fn brings_entry(awaits: &Awaits) -> bool
 // The front if it fits, else the node to forget.
 pub(crate) fn placed(front: Front, room: usize, back: Option<(Context, u64)>) -> Answered
     ensures { (options : ℕ) (call : FileCall)
-        → replied room (call ∷ undone room front (forget_if_any back)) options front
-        ≡ served_by (call ∷ forget_if_any result.forget) options result.sent [] }
+        → replied room (call ∷ undone room front (forget_calls back)) options front
+        ≡ served_by (call ∷ forget_calls result.forget) options result.sent [] }
 {
     if room < front.bytes().len() {
         Answered {
@@ -172,7 +172,7 @@ pub(crate) fn answered_without_data(waiting: &Waiting, answer: FileAnswer) -> An
         let told = told_bytes (tells_nothing waiting.now.awaits) waiting.now.unique (answer_of [] answer) in
         let back = back_by (brings_entry waiting.now.awaits) waiting.now.context (answer_of [] answer) in
         (options : ℕ) (call : FileCall) → replied room (call ∷ undone room told back) options told
-        ≡ served_by (call ∷ forget_if_any result.forget) options result.sent [] }
+        ≡ served_by (call ∷ forget_calls result.forget) options result.sent [] }
 {
     let back = back_of(waiting, &answer);
     placed(front_of(waiting, answer), waiting.room, back)
@@ -192,7 +192,7 @@ pub(crate) fn data_answered(unique: u64, room: usize, len: usize) -> Answered
     requires { nat_le (16 + len) room && nat_le (2 ^ 32) (16 + len) ≡ false }
     ensures { (options : ℕ) (call : FileCall) (bytes : List ℕ) → len ≡ length bytes
         → replied room (call ∷ undone room (reply_bytes unique bytes) []) options (reply_bytes unique bytes)
-        ≡ served_by (call ∷ forget_if_any result.forget) options result.sent bytes }
+        ≡ served_by (call ∷ forget_calls result.forget) options result.sent bytes }
 {
     match has_room(room, len) {
         true => Answered {
@@ -228,7 +228,7 @@ pub(crate) fn is_too_long(room: usize, answer: &FileAnswer) -> bool
 pub(crate) fn placed_alone(front: Front, room: usize) -> Answered
     ensures { (options : ℕ) (call : FileCall)
         → replied room (call ∷ []) options front
-        ≡ served_by (call ∷ forget_if_any result.forget) options result.sent [] }
+        ≡ served_by (call ∷ forget_calls result.forget) options result.sent [] }
 {
     placed(front, room, None)
 }

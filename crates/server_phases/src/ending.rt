@@ -6,7 +6,7 @@ ghost use Rattle.fuse_fs.specs.Calls.{FileCall, Init, suits};
 ghost use Rattle.fuse_values.specs.Answers.{answer_of};
 ghost use Rattle.virtiofsd_fuse.specs.Grammar.{FileCommand, known_options};
 ghost use Rattle.virtiofsd_fuse.specs.Serving.{setting, replied, start_options, start_answered};
-ghost use Rattle.server_phases.specs.Answering.{Gives, TellsBytes, takes, forget_if_any, served_by, data_of};
+ghost use Rattle.server_phases.specs.Answering.{Gives, TellsBytes, takes, forget_calls, served_by, data_of};
 ghost use Rattle.server_phases.specs.Answering.{init_offer_of, leaves_options, is_too_long, IsRefusedFor};
 ghost use Rattle.server_phases.specs.Waiting.{WaitsFor, first_call};
 
@@ -69,7 +69,7 @@ impl Session {
         ensures gives { replied room (Init capable.0 ∷ [])
             (start_options self.old.options.0 capable.0 (answer_of [] answer.now))
             (start_answered self.old.page_size unique capable.0 readahead (answer_of [] answer.now))
-            ≡ served_by (Init capable.0 ∷ forget_if_any result.forget) self.new.options.0 result.sent [] }
+            ≡ served_by (Init capable.0 ∷ forget_calls result.forget) self.new.options.0 result.sent [] }
         ensures page_size { self.new.page_size ≡ self.old.page_size }
     {
         match answer {

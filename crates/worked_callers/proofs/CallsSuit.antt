@@ -15,7 +15,7 @@ use Rattle.virtiofsd_fuse.specs.Grammar.{FileCommand, Lists, Meaning, One, Start
 use Rattle.virtiofsd_fuse.specs.Serving.{Setting, setting}
 use Rattle.server_phases.specs.declared.listing.Listing.{Listing}
 use Rattle.server_phases.specs.declared.session.Session.{Session}
-use Rattle.server_phases.specs.Answering.{TellsBytes, forget_if_any}
+use Rattle.server_phases.specs.Answering.{TellsBytes, forget_calls}
 use Rattle.server_phases.specs.Asking.{IsRequestFront}
 use Rattle.server_phases.specs.Gathering.{Brought, IsListingFor, is_looked_up}
 use Rattle.server_phases.specs.Waiting.{first_call}
@@ -52,7 +52,7 @@ suits_by s m behind bytes made a out (at.Waits kept w) keeps waits told can =
 suits_by s m behind bytes made a out st keeps waits told can = absurd waits
 
 -- so does the FORGET of an entry that doesn't fit
-pub forget_suits : (node : Option (Context × ℕ)) → EachSuits (map (λ c. (c, file.Done)) (forget_if_any node))
+pub forget_suits : (node : Option (Context × ℕ)) → EachSuits (map (λ c. (c, file.Done)) (forget_calls node))
 forget_suits None = tt
 forget_suits (Some node) = (refl, tt)
 

@@ -20,7 +20,7 @@ use Rattle.fs_chain.specs.Events.{notification_store, store_of}
 use Rattle.fs_chain.specs.Queues.{gave}
 use Rattle.fs_chain.specs.Walks.{course_of, told_of}
 use Rattle.fs_chain.specs.Whole.{ChainAnswer, GoesBackBy, IsRepliedBy, IsDecodedBy, IsWalked, LoadsOf, data_behind, file_calls}
-use Rattle.fs_chain.specs.declared.decoding.Decoded as told
+use Rattle.fs_chain.specs.declared.decoding.Decoded.{Decoded}
 use Rattle.fs_chain.specs.declared.decoding.Decoded.TheVariants as asks
 use Rattle.fs_chain.specs.declared.event_index.NotificationStore.{NotificationStore}
 use Rattle.fs_chain.specs.declared.loads.LoadOutcome.TheVariants as wents
@@ -125,13 +125,13 @@ each_suits may files files' [] run = tt
 each_suits may files files' (step ∷ calls) run = (run.1, each_suits may run.0 files' calls run.3)
 
 -- what was asked is told, where there is a reply to it
-pub told_with_reply : (made : told.Decoded) (w w' : ChainHandle) (given : ChainAnswer) → IsRepliedBy made w given w' → IsDecodedWhole made
+pub told_with_reply : (made : Decoded) (w w' : ChainHandle) (given : ChainAnswer) → IsRepliedBy made w given w' → IsDecodedWhole made
 told_with_reply (asks.Call made) w w' given has = tt
 told_with_reply (asks.More n) w w' given has = absurd has
 told_with_reply asks.Nothing w w' given has = tt
 told_with_reply (asks.Fault e) w w' given has = tt
 
-pub kept_on : (page_size options : ℕ) (request : List ℕ) (c : OutChain) (earlier more : Calls) (made : told.Decoded) (w : ChainHandle)
+pub kept_on : (page_size options : ℕ) (request : List ℕ) (c : OutChain) (earlier more : Calls) (made : Decoded) (w : ChainHandle)
     → IsKept page_size options request (asked_chain c request options earlier) made w
     → IsKept page_size options request (asked_chain c request options more) made w
 kept_on page_size options request c earlier more made w kept =
@@ -160,7 +160,7 @@ pub record AllAnswered {F : Type 0} (may : May F) (s : LiveState F) (before behi
   pub files_are : end.files ≡ files
   pub es_are : es ≡ answer_events popped request options earlier later
 
-module _ {F : Type 0} (may : May F) (law : HandleCalls may) (w w' : ChainHandle) (request : List ℕ) (options : ℕ) (made : told.Decoded)
+module _ {F : Type 0} (may : May F) (law : HandleCalls may) (w w' : ChainHandle) (request : List ℕ) (options : ℕ) (made : Decoded)
     (given : ChainAnswer) (has : IsRepliedBy made w given w') where
   abbrev pub all : Calls
   all = file_calls (drop 80 request) made given
@@ -252,7 +252,7 @@ pub record ServedRun {F : Type 0} (may : May F) (s : LiveState F) (i : ℕ) (old
 
 module _ {F : Type 0} (may : May F) (walks_law : HandleEndsPop may) (asks_law : HandleDecodesRequest may) (calls_law : HandleCalls may)
     (returns_law : HandlePushesChain may) (old one later two three : ChainHandle)
-    (before after : QueueState) (head n r : ℕ) (session : Session) (request : List ℕ) (made : told.Decoded) (given : ChainAnswer)
+    (before after : QueueState) (head n r : ℕ) (session : Session) (request : List ℕ) (made : Decoded) (given : ChainAnswer)
     (notice : Bool) (goes : before.stopped ≡ None)
     (walks : IsWalked old one before after (wents.On (says.Chain head n r))) (same : later.state ≡ one.state)
     (asked : IsDecodedBy later session request request made two)

@@ -13,7 +13,7 @@ use Rattle.server_phases.specs.declared.session.Session.{Session}
 use Rattle.fs_chain.specs.Queues.{gave}
 use Rattle.fs_chain.specs.Walks.{course_of}
 use Rattle.fs_chain.specs.Whole.{ChainAnswer, GoesBackBy, IsRepliedBy, IsDecodedBy, data_behind, file_calls}
-use Rattle.fs_chain.specs.declared.decoding.Decoded as told
+use Rattle.fs_chain.specs.declared.decoding.Decoded.{Decoded}
 use Rattle.fs_chain.specs.declared.loads.LoadOutcome.TheVariants as wents
 use Rattle.fs_chain.specs.declared.queue.QueueState.{QueueState}
 use Rattle.fs_chain.specs.declared.popping.PopOutcome.TheVariants as says
@@ -51,7 +51,7 @@ late_of before mid after goes one two =
 module _ {F : Type 0} (may : May F) (walks_law : HandleEndsPop may) (asks_law : HandleDecodesRequest may) (calls_law : HandleCalls may)
     (returns_law : HandlePushesChain may) (bytes bytes' : List (Bor (List ℕ))) (old one one₂ one₃ old' two two₂ two₃ : ChainHandle)
     (before mid after : QueueState) (head n r head' n' r' : ℕ) (session session' : Session) (request request' : List ℕ)
-    (made made' : told.Decoded) (given given' : ChainAnswer) (notice notice' : Bool)
+    (made made' : Decoded) (given given' : ChainAnswer) (notice notice' : Bool)
     (goes : before.stopped ≡ None) (walks : IsWalkedBy bytes old one before mid (wents.On (says.Chain head n r)))
     (walks' : IsWalkedBy bytes' old' two mid after (wents.On (says.Chain head' n' r')))
     (asked : IsDecodedBy one session request request made one₂) (asked' : IsDecodedBy two session' request' request' made' two₂)

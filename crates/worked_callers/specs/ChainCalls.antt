@@ -22,7 +22,7 @@ use Rattle.fs_chain.specs.Whole.{OneAnswer}
 use Rattle.fs_chain.specs.Whole.{BeginsPopBy, WalksBy, WantsBytes, file_calls}
 use Rattle.fs_chain.specs.declared.answering.Replied.{Replied}
 use Rattle.fs_chain.specs.declared.chain_handle.ChainHandle.{ChainHandle}
-use Rattle.fs_chain.specs.declared.decoding.Decoded as told
+use Rattle.fs_chain.specs.declared.decoding.Decoded.{Decoded}
 use Rattle.fs_chain.specs.declared.loads.LoadOutcome as went
 use Rattle.fs_chain.specs.declared.loads.LoadOutcome.TheVariants as wents
 use Rattle.fs_chain.specs.declared.popping.PopOutcome.TheVariants as says
@@ -31,7 +31,7 @@ use Rattle.worked_callers.specs.Notified.{IsWalkedBy, given_so_far}
 
 -- a pop that is given the first of these bytes ends with a chain, whose request is decoded with this result
 pub record DecodesPopped (bytes : List (Bor (List ℕ))) (old : ChainHandle) (before : QueueState)
-    (session : Session) (request : List ℕ) (made : told.Decoded) (asked : ChainHandle) : Type 0 where
+    (session : Session) (request : List ℕ) (made : Decoded) (asked : ChainHandle) : Type 0 where
   pub popped : ChainHandle
   pub after : QueueState
   pub head : ℕ
@@ -42,7 +42,7 @@ pub record DecodesPopped (bytes : List (Bor (List ℕ))) (old : ChainHandle) (be
 -- these are the file calls of such a request, for its chain's answer. Each answer suits its call
 pub record AreCallsBy (bytes : List (Bor (List ℕ))) (old : ChainHandle) (before : QueueState)
     (session : Session) (request : List ℕ) (given : ChainAnswer) (calls : Calls) : Type 0 where
-  pub made : told.Decoded
+  pub made : Decoded
   pub asked : ChainHandle
   pub decoded : DecodesPopped bytes old before session request made asked
   pub replied : ChainHandle

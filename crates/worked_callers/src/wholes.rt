@@ -18,7 +18,6 @@ ghost use Rattle.fs_chain.specs.Whole.{FromTaken, ChainAnswer, GoesBackBy, IsRep
 ghost use Rattle.fs_chain.specs.Whole.{IsMachineBefore, IsWalked, LackPlaces, WalksBy, WantsBytes};
 ghost use Rattle.fs_chain.specs.Whole.{data_behind};
 ghost use Rattle.fs_chain.specs.Whole.{file_calls, no_effects, step_loads};
-ghost use Rattle.fs_chain.specs.declared.decoding.Decoded as told;
 ghost use Rattle.fs_chain.specs.declared.state.ChainState.TheVariants as at;
 ghost use Rattle.worked_callers.specs.ChainCalls.{ArePopLoads, HasThisAnswer};
 ghost use Rattle.worked_callers.specs.Events.{loaded_flags};
@@ -147,7 +146,7 @@ pub fn reply(
 ) -> Result<(), ChainError>
     requires taken { FromTaken handle.old.state (λ out. out.request_len ≡ length request.now) }
     requires data { TellsBytes [] answer }
-    ensures replied { OnOk result ((made : told.Decoded) × (asked : ChainHandle) × (given : ChainAnswer)
+    ensures replied { OnOk result ((made : Decoded) × (asked : ChainHandle) × (given : ChainAnswer)
         × IsDecodedBy handle.old session request.now request.now made asked
         × IsRepliedBy made asked given handle.new
         × (data_behind given ≡ [])

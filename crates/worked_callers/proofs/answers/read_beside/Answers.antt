@@ -3,7 +3,7 @@ use Rattle.std.specs.Prelude.{drop, map}
 use Rattle.std.proofs.lemmas.Bool.Decides.{nat_tests}
 use Rattle.fuse_fs.specs.Calls.{Done, FileCall}
 use Rattle.fuse_values.specs.declared.answer.FileAnswer.TheVariants as value
-use Rattle.server_phases.specs.Answering.{forget_if_any}
+use Rattle.server_phases.specs.Answering.{forget_calls}
 use Rattle.plain_machine.specs.Step.{Calls}
 use Rattle.fs_chain.specs.Whole.{ChainAnswer, file_calls}
 use Rattle.fs_chain.specs.declared.decoding.Decoded.TheVariants as asks
@@ -45,7 +45,7 @@ returns g c =
     let call = c.in_ok-ask_call.ensures.asked in
     let told = c.in_ok-give_data.ensures.given in
     let answer : ChainAnswer = with_data bytes told.0 in
-    let more : Calls = map (λ (call : FileCall). (call, Done)) (forget_if_any told.0.forget) in
+    let more : Calls = map (λ (call : FileCall). (call, Done)) (forget_calls told.0.forget) in
     let suit = answered_suits one two three c.args.session request bytes call.0 (value.Bytes (length bytes)) told.0 call.1 told.1
     c.in_ok-give_data.ensures.taken in
     let are_calls = calls_by c.args.given.now old one two three c.args.queue.now c.walk_chain.new.queue c.in_ok-request_len.field-0-0

@@ -3,7 +3,7 @@ use Rattle.std.specs.Prelude.{map}
 use Rattle.std.proofs.lemmas.Bool.Decides.{nat_tests}
 use Rattle.fuse_fs.specs.Calls.{Done, FileCall}
 use Rattle.fuse_values.specs.declared.answer.FileAnswer.TheVariants as value
-use Rattle.server_phases.specs.Answering.{forget_if_any}
+use Rattle.server_phases.specs.Answering.{forget_calls}
 use Rattle.plain_machine.specs.Step.{Calls}
 use Rattle.plain_machine.specs.StepBy.{Act}
 use Rattle.fs_chain.specs.Queues.{gave, took}
@@ -73,8 +73,8 @@ returns g c =
     let told' = c.in_ok-give_data.ensures.given in
     let answer : ChainAnswer = with_data bytes told.0 in
     let answer' : ChainAnswer = with_data bytes' told'.0 in
-    let more : Calls = map (λ (call : FileCall). (call, Done)) (forget_if_any told.0.forget) in
-    let more' : Calls = map (λ (call : FileCall). (call, Done)) (forget_if_any told'.0.forget) in
+    let more : Calls = map (λ (call : FileCall). (call, Done)) (forget_calls told.0.forget) in
+    let more' : Calls = map (λ (call : FileCall). (call, Done)) (forget_calls told'.0.forget) in
     let suit = answered_suits popped asked replied session request bytes call.0 (value.Bytes (length bytes)) told.0 call.1 told.1
     c.in_ok-give_data-2.ensures.taken in
     let suit' = answered_suits popped' asked' replied' session' request' bytes' call'.0 (value.Bytes (length bytes')) told'.0 call'.1

@@ -7,7 +7,7 @@ use Rattle.virtiofsd_fuse.specs.Grammar.{meaning}
 use Rattle.virtiofsd_fuse.specs.Serving.{setting}
 use Rattle.plain_machine.specs.Step.{EachSuits}
 use Rattle.fs_chain.specs.Decoding.{TellsMeaning}
-use Rattle.fs_chain.specs.declared.decoding.Decoded as told
+use Rattle.fs_chain.specs.declared.decoding.Decoded.{Decoded}
 use Rattle.fs_chain.specs.Whole.{IsRepliedBy, NoAnswer, OneAnswer, file_calls}
 use Rattle.worked_callers.proofs.CallsSuit.{forget_suits, of_taken, suits_by}
 use Rattle.worked_callers.proofs.Served.{both_taken, more_taken, whole_front}
@@ -28,7 +28,7 @@ returns-in-Ok c =
     (more_taken st _ _
     (λ out both. suits_by (setting s.page_size s.options.0 out.room_len) (meaning s.options.0 request out.room_len) (drop 80 request) []
     made c.args.answer out mid.state
-    (subst (λ (t : told.Decoded). TellsMeaning (setting s.page_size s.options.0 out.room_len) (meaning s.options.0 request out.room_len)
+    (subst (λ (t : Decoded). TellsMeaning (setting s.page_size s.options.0 out.room_len) (meaning s.options.0 request out.room_len)
     (drop 80 request) out t mid.state) c.in-Call.is (both.1 request both.0 front))
     c.in-Ok.ensures.taken.0 c.requires.data c.in-Ok.ensures.taken.1)
     (both_taken st _ _ c.requires.taken c.in_ok-decode.ensures.tells)) in
@@ -40,11 +40,11 @@ returns-in-Ok c =
         more_taken st _ _
             (λ out both. (both.0, front, both.1 request both.0 front, c.in_ok-decode.ensures.same.1, c.in_ok-decode.ensures.session))
             (both_taken st _ _ c.requires.taken c.in_ok-decode.ensures.tells),
-        subst (λ (t : told.Decoded). IsRepliedBy t mid given new) (sym c.in-Call.is)
+        subst (λ (t : Decoded). IsRepliedBy t mid given new) (sym c.in-Call.is)
             (c.in-Ok.ensures.taken.0, c.requires.data, c.in-Ok.ensures.stays.1, c.in-Ok.ensures.given),
         refl,
         (refl, refl),
-        subst (λ (t : told.Decoded). EachSuits (file_calls (drop 80 request) t given)) (sym c.in-Call.is)
+        subst (λ (t : Decoded). EachSuits (file_calls (drop 80 request) t given)) (sym c.in-Call.is)
             (suits, forget_suits c.in-Ok.field-0.forget),
       );
     }
@@ -63,10 +63,10 @@ returns-in-Nothing c =
         more_taken st _ _
             (λ out both. (both.0, front, both.1 request both.0 front, c.in_ok-decode.ensures.same.1, c.in_ok-decode.ensures.session))
             (both_taken st _ _ c.requires.taken c.in_ok-decode.ensures.tells),
-        subst (λ (t : told.Decoded). IsRepliedBy t mid NoAnswer mid) (sym c.in-Nothing.is) refl,
+        subst (λ (t : Decoded). IsRepliedBy t mid NoAnswer mid) (sym c.in-Nothing.is) refl,
         refl,
         tt,
-        subst (λ (t : told.Decoded). EachSuits (file_calls (drop 80 request) t NoAnswer)) (sym c.in-Nothing.is) tt,
+        subst (λ (t : Decoded). EachSuits (file_calls (drop 80 request) t NoAnswer)) (sym c.in-Nothing.is) tt,
       );
     }
 
@@ -84,9 +84,9 @@ returns-in-Fault c =
         more_taken st _ _
             (λ out both. (both.0, front, both.1 request both.0 front, c.in_ok-decode.ensures.same.1, c.in_ok-decode.ensures.session))
             (both_taken st _ _ c.requires.taken c.in_ok-decode.ensures.tells),
-        subst (λ (t : told.Decoded). IsRepliedBy t mid NoAnswer mid) (sym c.in-Fault.is) refl,
+        subst (λ (t : Decoded). IsRepliedBy t mid NoAnswer mid) (sym c.in-Fault.is) refl,
         refl,
         tt,
-        subst (λ (t : told.Decoded). EachSuits (file_calls (drop 80 request) t NoAnswer)) (sym c.in-Fault.is) tt,
+        subst (λ (t : Decoded). EachSuits (file_calls (drop 80 request) t NoAnswer)) (sym c.in-Fault.is) tt,
       );
     }
