@@ -36,7 +36,7 @@
  *
  * THREADS. Calls may run at the same time if they share only arguments that all of them take as
  * const. Otherwise calls on one chain, queue or device need an order: a lock, or a join. A chain
- * may move between threads. Threads that have a chain and a queue each share only `device`, and an
+ * may move between threads. Threads with chains and queues of their own share only `device` and an
  * IOMMU's table. Use a reader-writer lock: only pk_reply_init and pk_restore write `device`.
  *
  * RULES for the caller. The library can't check them; it does refuse calls in a wrong order.
@@ -54,12 +54,12 @@
  *  5. Use windows only until pk_pushed, pk_drop or pk_abandon. Store only into reply windows.
  *  6. A chain keeps the regions that it was popped with. While it is in flight, leave that memory
  *     mapped, and let new regions map the queue's rings as the old ones did.
- *  7. In a migration log each page that you stored into, after the store and before pk_pushed. Also
- *     log data in the reply buffer that isn't part of the reply. Behind an IOMMU log the pages of
- *     your regions by the host addresses of windows and stores.
+ *  7. During a migration, log each page that you stored into, after the store and before pk_pushed.
+ *     Also log data in the reply buffer that isn't part of the reply. Behind an IOMMU, log the
+ *     pages of your regions by the host addresses of windows and stores.
  *  8. Before a queue is reset (pk_queue_begin, pk_restore), end the loads, stores and file calls of
- *     its chains, and free them with pk_abandon.
- *  9. Answer each decoded chain, unless `answer` is NONE: at least by pk_reply_err(EIO).
+ *     its chains, and free their handles with pk_abandon.
+ *  9. Answer each decoded chain, unless `answer` is NONE: at least with pk_reply_err(EIO).
  * 10. malloc, realloc and free belong to one allocator. No call is made from a signal handler, nor
  *     from the child of a fork of a process with threads.
  *
@@ -71,17 +71,17 @@
  *   - from pk_set_notification to the end of the pop that follows.
  *
  * NOTIFICATIONS. None is lost, of the driver or the device, under these rules and VIRTIO's for the
- * driver (2.7.13, 2.7.14). Brackets have a rule's name in the model of crate notify, which loses a
- * notification without it.
+ * driver (2.7.13, 2.7.14). In brackets is a rule's name in the model of crate notify: without the
+ * rule, a run of the model loses a notification.
  *   - Before a thread sleeps, after its last pop: pk_set_notification(1), the store, a full
- *     barrier, and one more pop. That pop uses no earlier load of the available index (taker_waits,
- *     late). Sleep if it returns PK_IDLE, or if `max_in_flight` are in flight.
+ *     barrier, and one more pop. That pop must load the available index again (taker_waits, late).
+ *     Sleep if it returns PK_IDLE, or if `max_in_flight` are in flight.
  *   - A thread that calls pk_pop or pk_set_notification while another thread of the queue sleeps
- *     does the same before it releases the lock (rearms_again). It does so after any result, and
- *     without EVENT_IDX too, but may then omit the store if the queue's last one was the same. If
- *     its handle holds a chain, it can't pop: then it loads the available index again and compares
- *     it with `next_avail`. If a chain is available, it pops it or wakes a thread, since the driver
- *     doesn't notify again (wakes_another).
+ *     does the same before it releases the lock (rearms_again), after any result. Without EVENT_IDX
+ *     it may omit the store, if the queue's last such store was the same. If its handle holds a
+ *     chain, it can't pop: then it loads the available index again and compares it with
+ *     `next_avail`. If a chain is available, it pops it or wakes a thread, since the driver doesn't
+ *     notify again (wakes_another).
  *   - A thread that pushes or drops a chain pops again, or wakes a thread (walks_after). So does
  *     one that had PK_MISS, once the table has the addresses.
  *   - A push has its full barrier before its load (giver_waits), and is ended before the queue's
@@ -97,7 +97,7 @@
  *
  * STATUSES. 1 to 8: the queue can't be served; 2 to 8 stop it until its reset. 9: an allocation
  * failed. 32 to 63 say how to go on. 64 and more: the call changed no chain, queue or device, and
- * zeroed its results, unless its comment says otherwise. Errors are in the order of their checks.
+ * zeroed its results, unless its comment says otherwise. Errors are listed in the order of checks.
  *
  * PROVED, for any arguments of these types: each function returns, never panics, and accesses only
  * the memory of its arguments. It meets its contract in crates/fs_chain_c: it has the effect of the
@@ -136,7 +136,7 @@ extern "C" {
 #define PK_QUEUES_MAX 64u        /* queues in a saved record */
 #define PK_LOAD_MAX 4096u        /* bytes of the longest load of a pop */
 #define PK_FIRST 80u             /* bytes of a request to load first */
-#define PK_REQUEST_MAX 0x101000u /* bytes: the least limit of a request (struct pk_device) */
+#define PK_REQUEST_MAX 0x101000u /* bytes: the least `limit` of struct pk_device */
 #define PK_FRONT_MAX 160u        /* bytes of the longest front of a reply (CREATE's) */
 #define PK_HEADER 16u            /* bytes of struct fuse_out_header: data lies behind it */
 
@@ -200,7 +200,7 @@ enum pk_request_fault {
     PK_REQUEST_XATTR_SIZE = 9,
 };
 
-/* The file calls. Beside each: its fields of struct pk_call -> the kind of its good answer. All
+/* The file calls. Beside each: its fields of struct pk_call -> the kind of answer on success. All
  * have `unique`; all but INIT, DESTROY and BATCH_FORGET have `node`; all but INIT and DESTROY have
  * `uid`, `gid` and `pid`. With FUSE_ALLOW_IDMAP (Linux 6.12 and later; always agreed on) uid and
  * gid are 0xffffffff, except in calls that make a node. These also have `group`, a supplementary
@@ -248,7 +248,7 @@ enum pk_call_kind {
     PK_CALL_SYNCFS = 50,      /* -> done */
 };
 /* Not passed on: FATTR_LOCKOWNER, and the flags of COPY_FILE_RANGE. */
-/* The kinds of good answers: reply PK_ANSWER_X with pk_reply_x, DONE with pk_reply_err(.., 0).
+/* The kinds of answers on success: PK_ANSWER_X needs pk_reply_x, DONE pk_reply_err(.., 0).
  * NONE: make the call, if there is one, then pk_push. pk_reply_err is allowed for each call that
  * has a reply. GETXATTR and LISTXATTR allow pk_reply_data and pk_reply_xattr: see `answer`. */
 enum pk_answer_kind {
@@ -292,11 +292,11 @@ struct pk_queue {
 /* Resets a queue: then no chain of it is in flight, and it isn't stopped. `next_avail` is the
  * number of SET_VRING_BASE, or 0. Calls with its earlier chains are refused (up to 2^32 resets).
  * Enable notifications next: an earlier device may have left them disabled.
- * Errors: PK_BAD_ARGUMENT (your fields are no queue's). */
+ * Errors: PK_BAD_ARGUMENT (your fields are invalid). */
 uint32_t pk_queue_begin(struct pk_queue *queue, uint16_t next_avail) PK_CHECK;
 
-/* A region of the guest's memory: its guest address, its bytes, and its first byte's address here,
- * to which the library only adds. All three numbers are multiples of 4096. */
+/* A region of the guest's memory: its guest address, its length in bytes, and its host address, to
+ * which the library only adds. All three numbers are multiples of 4096. */
 struct pk_region { uint64_t guest, len; uintptr_t host; };
 
 /* ---------------------------------------------------------------- a chain: pop and drop */
@@ -325,11 +325,11 @@ uint32_t pk_chain_set_memory(struct pk_chain *chain, const struct pk_device *dev
     PK_CHECK PK_READS(3, 4);
 
 /* Frees the handle's memory, and zeroes it. Push its chain before: else the queue counts it as in
- * flight until a reset. Between pk_push and pk_pushed no other chain can be pushed until then. */
+ * flight until a reset. If freed between pk_push and pk_pushed, it blocks pushes until then. */
 void pk_chain_free(struct pk_chain *chain) PK_NONNULL;
 
 /* Sets the ticket of the chain's next pop. Each pop takes the next number, modulo 2^32; the first
- * takes 1 without this call. If handle k of n starts at k * (2^32 / n), it refuses others' answers.
+ * takes 1 without this call. Set handle k of n to k * (2^32 / n): it then refuses others' answers.
  * Errors: PK_WRONG_ORDER (no memory was set); PK_CHAIN_IN_FLIGHT (or a pop is under way). */
 uint32_t pk_chain_set_ticket(struct pk_chain *chain, uint32_t first) PK_CHECK;
 
@@ -351,10 +351,10 @@ struct pk_pop {
  * load the bytes and call again with them, at most 2 * size + 6 times. PK_DONE: it is in flight.
  * PK_IDLE, PK_MISS and errors 1 to 8: the handle is free. PK_MISS leaves the queue as it was. Other
  * errors leave the pop under way; pk_drop ends it.
- * You can omit two loads. In place of the first, the available index, you may pass an earlier one
- * of it over the same memory since the queue's reset, if it isn't `next_avail`. An entry of a table
- * that crosses two regions or mappings has two loads: for the first you may pass the whole entry.
- * Errors: PK_WRONG_ORDER (no memory was set); PK_BAD_ARGUMENT (the queue's fields are no queue's,
+ * You can omit two loads. The first load is the available index: you may pass an earlier value of
+ * it, loaded over the same memory since the queue's reset, if it isn't `next_avail`. An entry of a
+ * table that crosses two regions or mappings has two loads: pass the whole entry for the first.
+ * Errors: PK_WRONG_ORDER (no memory was set); PK_BAD_ARGUMENT (the queue's fields are invalid, such
  * as zeros); PK_WRONG_ORDER (the chain is in flight); PK_BAD_ARGUMENT (`loaded_len` isn't the
  * load's); PK_OTHER_QUEUE (then drop or abandon the pop); PK_CHAIN_IN_FLIGHT; then, in no order,
  * PK_OUT_OF_MEMORY, 1 to 8, PK_NOT_MAPPED. */
@@ -401,7 +401,7 @@ struct pk_iotlb { void *at; uint32_t full; };
 enum pk_access { /* VHOST_ACCESS_ of linux/vhost_types.h */
     PK_ACCESS_NONE = 0, PK_ACCESS_READ = 1, PK_ACCESS_WRITE = 2, PK_ACCESS_READ_WRITE = 3 };
 
-/* Puts an empty table into the place. Errors: PK_OUT_OF_MEMORY (only of zeros). */
+/* Puts an empty table into the place. Errors: PK_OUT_OF_MEMORY (only if the place is zeros). */
 uint32_t pk_iotlb_new(struct pk_iotlb *iotlb) PK_CHECK;
 
 /* Frees the place with its table, and zeroes it. */
@@ -418,7 +418,7 @@ uint32_t pk_iotlb_map(struct pk_iotlb *iotlb, uint64_t iova, uint64_t len, uint6
 
 /* Removes the mappings of `len` I/O addresses, which end at 2^64 at most.
  * Errors: PK_WRONG_ORDER (no table is here); PK_BAD_ARGUMENT (not multiples of 4096; `len` is 0; an
- * end above 2^64); PK_OUT_OF_MEMORY (only if a mapping goes on behind them). */
+ * end above 2^64); PK_OUT_OF_MEMORY (only if a mapping continues after them). */
 uint32_t pk_iotlb_unmap(struct pk_iotlb *iotlb, uint64_t iova, uint64_t len) PK_CHECK;
 
 /* Exchanges the tables of chain and place; each may have none. It allocates nothing. Without a
@@ -507,7 +507,7 @@ struct pk_statfs { /* struct fuse_kstatfs */
 
 /* Each answers the chain's call once. The ticket names the call, so a late answer is refused. They
  * access no guest memory and never return PK_OUT_OF_MEMORY. pk_push returns the reply.
- * Errors: PK_BAD_ARGUMENT (nanoseconds of 10^9 or more, or another errno); PK_WRONG_ORDER (no call
+ * Errors: PK_BAD_ARGUMENT (nanoseconds of 10^9 or more; an invalid errno); PK_WRONG_ORDER (no call
  * is unanswered); PK_OTHER_CALL; PK_OTHER_KIND; the function's own. After an error the call is
  * still unanswered. PK_NO_ROOM is no error. */
 
