@@ -20,12 +20,12 @@ static void signal_event(int fd) {
 /* ------------------------------------------------------------- one chain */
 
 /* From the request to the reply, without the lock: a slow file delays only its own chain. */
-static uint32_t serve_request(struct worker *worker, const struct pk_pop *step) {
+static uint32_t serve_request(struct worker *worker, const struct pk_pop *pop) {
     struct live *live = worker->live;
     struct pk_device device = {PAGE_SIZE, LIMIT, atomic_load(live->options)};
     uint64_t options = device.options;
     struct pk_call call;
-    size_t have = load_front(&worker->chain, step, worker->request);
+    size_t have = load_front(&worker->chain, pop, worker->request);
     uint32_t status = ask(&worker->chain, &device, worker->request, have, &call);
     if (status != PK_DONE) return status;
     status = live->answer(live->files, &worker->chain, &device, &call, worker->request);
@@ -36,10 +36,10 @@ static uint32_t serve_request(struct worker *worker, const struct pk_pop *step) 
 }
 
 /* Pops the next chain. If `max_in_flight` are in flight, the thread that pushes one pops again. */
-static uint32_t take(struct worker *worker, struct pk_pop *step) {
+static uint32_t take(struct worker *worker, struct pk_pop *pop) {
     struct live *live = worker->live;
     uint32_t status =
-        live->refused ? PK_IDLE : take_chain(&worker->chain, &live->queue, &live->offered, step);
+        live->refused ? PK_IDLE : take_chain(&worker->chain, &live->queue, &live->offered, pop);
     uint16_t in_flight = (uint16_t)(live->queue.next_avail - live->queue.next_used);
     if (in_flight > live->most) live->most = in_flight;
     return status == PK_CHAIN_IN_FLIGHT ? PK_IDLE : status;
@@ -72,21 +72,21 @@ static void hand_on(struct worker *worker) {
 /* The lock is held, except while the request is served. */
 static enum found serve_one(struct worker *worker) {
     struct live *live = worker->live;
-    struct pk_pop step;
+    struct pk_pop pop;
     bool notify = false;
-    uint32_t status = take(worker, &step);
+    uint32_t status = take(worker, &pop);
     if (status == PK_IDLE) return NOTHING;
     if (status == PK_DONE) hand_on(worker);
-    if (status == PK_DONE && step.fault == 0) {
+    if (status == PK_DONE && pop.fault == 0) {
         pthread_mutex_unlock(&live->lock);
-        status = serve_request(worker, &step);
+        status = serve_request(worker, &pop);
         pthread_mutex_lock(&live->lock);
     } else if (status == PK_DONE) {
         live->faulty++;
     }
     if (status == PK_DONE) status = give_back(&worker->chain, &live->queue, live->marker, &notify);
     if (status != PK_DONE)
-        give_up(&worker->chain, &live->queue, step.ticket, live->marker, &notify);
+        give_up(&worker->chain, &live->queue, pop.ticket, live->marker, &notify);
     if (notify) signal_event(live->call);
     if (status == PK_OUT_OF_MEMORY) return LATER;
     if (status == PK_DONE)

@@ -242,26 +242,26 @@ static uint32_t answer(const struct pk_call *call) {
 
 /* A FUSE server of this VMM's own, for an opcode that the library doesn't serve: it replies with
  * the request's bytes in capitals, behind a header (struct fuse_out_header). */
-static uint32_t reply_capitals(const struct pk_pop *step, const struct fuse_in_header *in,
+static uint32_t reply_capitals(const struct pk_pop *pop, const struct fuse_in_header *in,
                                uint64_t have) {
-    uint64_t len = step->request_len - sizeof *in;
+    uint64_t len = pop->request_len - sizeof *in;
     struct fuse_out_header out = {.len = (uint32_t)(sizeof out + len), .unique = in->unique};
-    if (out.len > step->reply_len) return pk_reply_bytes(&chain, step->ticket, 0); /* no reply */
-    gather(&chain, have, request + have, step->request_len - have);
-    for (uint64_t k = sizeof *in; k < step->request_len; k++)
+    if (out.len > pop->reply_len) return pk_reply_bytes(&chain, pop->ticket, 0); /* no reply */
+    gather(&chain, have, request + have, pop->request_len - have);
+    for (uint64_t k = sizeof *in; k < pop->request_len; k++)
         request[k] = (uint8_t)toupper(request[k]);
     scatter(&chain, 0, &out, sizeof out);
     scatter(&chain, sizeof out, request + sizeof *in, len);
-    return pk_reply_bytes(&chain, step->ticket, out.len);
+    return pk_reply_bytes(&chain, pop->ticket, out.len);
 }
 
 /* PK_DONE: the chain can be pushed. Each byte of the request is loaded once. */
-static uint32_t serve_request(const struct pk_pop *step) {
-    size_t have = load_front(&chain, step, request);
+static uint32_t serve_request(const struct pk_pop *pop) {
+    size_t have = load_front(&chain, pop, request);
     struct fuse_in_header in = {0};
     struct pk_call call;
     if (have >= sizeof in) memcpy(&in, request, sizeof in);
-    if (in.opcode == CAPITALS) return reply_capitals(step, &in, have);
+    if (in.opcode == CAPITALS) return reply_capitals(pop, &in, have);
     uint32_t status = ask(&chain, &device, request, have, &call);
     if (status != PK_DONE) return status;
     status = answer(&call);
@@ -273,19 +273,19 @@ static uint32_t serve_request(const struct pk_pop *step) {
  * later. 1 to 8: the queue is stopped, so set DEVICE_NEEDS_RESET. `notify`: interrupt the
  * driver. */
 static uint32_t serve(bool *notify) {
-    struct pk_pop step;
+    struct pk_pop pop;
     uint32_t status;
     *notify = false;
-    while ((status = take_chain(&chain, &queue, &known, &step)) == PK_DONE) {
-        if (step.fault)
-            printf("Chain %u goes back with no reply: %s\n", step.head, pk_fault_name(step.fault));
+    while ((status = take_chain(&chain, &queue, &known, &pop)) == PK_DONE) {
+        if (pop.fault)
+            printf("Chain %u is pushed without a reply: %s\n", pop.head, pk_fault_name(pop.fault));
         else
-            status = serve_request(&step);
+            status = serve_request(&pop);
         if (status == PK_DONE) status = give_back(&chain, &queue, &marker, notify);
         if (status != PK_DONE) break;
     }
     /* a chain that was popped and isn't pushed */
-    if (status != PK_IDLE) give_up(&chain, &queue, step.ticket, &marker, notify);
+    if (status != PK_IDLE) give_up(&chain, &queue, pop.ticket, &marker, notify);
     return status;
 }
 

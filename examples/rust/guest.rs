@@ -129,7 +129,7 @@ impl<F: FileSystem> Guest<F> {
         assert_eq!(serve(), Ok(None));
         assert!(served.notify);
         if let Some(fault) = served.fault {
-            println!("Chain {} goes back with no reply: {}", served.head, fault);
+            println!("Chain {} is pushed without a reply: {}", served.head, fault);
         }
         let mut element = [0; 4];
         self.memory.load(USED + 4 + 8 * turn + 4, &mut element);
