@@ -224,7 +224,7 @@ chain_parts {F} may given request calls acts last head i notice old new before s
     let asked = subst (λ (st : state.ChainState). FromTaken st (λ o. (o.request_len ≡ length request) × IsRequestFront run.front request
     × TellsMeaning (setting s.page_size s.options.0 o.room_len) (meaning s.options.0 request o.room_len) (drop 80 request) o run.made
     run.decoded_handle.state
-    × (run.decoded_handle.descriptors ≡ run.popped_handle.descriptors) × (run.decoded_handle.session ≡ s))) state_is run.is_asked in
+    × (run.decoded_handle.descriptors ≡ run.popped_handle.descriptors) × (run.decoded_handle.session ≡ s))) state_is run.decodes in
     let len_is : length request ≡ total_len (readable ds) = sym asked.0 ∙ fits.0 in
     let offers = found.1 request len_is in
     let room_is : length room ≡ out.room_len = fits.1 in

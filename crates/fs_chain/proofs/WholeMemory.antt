@@ -25,7 +25,7 @@ use Rattle.plain_machine.specs.Step.{State, Exchange, Exchanged, Calls, Step}
 use Rattle.plain_machine.specs.StepBy.{Act, AnswersBy, AreStepLoadsOf, return_acts, return_stores, Effects, FindFlags, IsOfMemory}
 use Rattle.plain_machine.specs.StepBy.{MayStoreLast, StepBy, StepOfBy, offered_by, after_stores, reply_stores, stores_among}
 use Rattle.plain_machine.proofs.StepByLemmas.{step_by_is_step}
-use Rattle.fs_chain.specs.Whole.{ChainIsStep, FromReplied, push_acts, after_chain, data_behind, step_loads, GoesBackBy, IsToldByMemory}
+use Rattle.fs_chain.specs.Whole.{ChainIsStep, FromReplied, push_acts, after_chain, data_behind, step_loads, PushedBy, IsToldByMemory}
 use Rattle.fs_chain.specs.Whole.{stored_reply}
 use Rattle.vm_memory.proofs.Places.{stored_all-append}
 use Rattle.fs_queue.proofs.ReadLemmas.{length-bytes}
@@ -79,7 +79,7 @@ seen_in m q stores seen acts is find =
 
 told_in : (m : Memory) (q : Queue) (back : QueueState) (place : ℕ) (room behind : List ℕ) (st : state.ChainState) (acts : List Act)
     (last : ℕ) (notice : Bool)
-    → GoesBackBy back room behind st acts last notice → IsToldByMemory m (after_stores m (stores_among acts)) q back place acts notice
+    → PushedBy back room behind st acts last notice → IsToldByMemory m (after_stores m (stores_among acts)) q back place acts notice
 told_in m q back place room behind st acts last notice goes =
     let flags = goes.flags in
     let all = acts_back back room behind flags acts last st goes.stores goes.returns in

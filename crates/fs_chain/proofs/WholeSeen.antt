@@ -114,7 +114,7 @@ chain_seen given request calls acts last head notice old new before s goes run =
     let asked = subst (λ (st : state.ChainState). FromTaken st (λ o. (o.request_len ≡ length request) × IsRequestFront run.front request
     × TellsMeaning (setting s.page_size s.options.0 o.room_len) (meaning s.options.0 request o.room_len) (drop 80 request) o run.made
     run.decoded_handle.state
-    × (run.decoded_handle.descriptors ≡ run.popped_handle.descriptors) × (run.decoded_handle.session ≡ s))) state_is run.is_asked in
+    × (run.decoded_handle.descriptors ≡ run.popped_handle.descriptors) × (run.decoded_handle.session ≡ s))) state_is run.decodes in
     let room = addresses_of (writable ds) in
     let flags = run.returns.flags in
     record {

@@ -32,7 +32,7 @@ use Rattle.fs_chain.specs.Loads.{GoesSo, came, whole}
 use Rattle.fs_chain.specs.Orders.{IfWalking, load_len}
 use Rattle.fs_chain.specs.Queues.{pop_id_of}
 use Rattle.fs_chain.specs.Missed.{EventMissIsNoStep, MissIsNoStep}
-use Rattle.fs_chain.specs.Whole.{AddsSo, BeginsPopBy, EventFaultRefuses, IsWalked, LoadsOf, WalksBy, WantedHasAPlace, WantsBytes}
+use Rattle.fs_chain.specs.Whole.{AddsSo, BeginsPopBy, EventFaultRefuses, IsWalked, LoadsOf, WalksBy, WantedIsMapped, WantsBytes}
 use Rattle.fs_queue.specs.Chain.{Descriptor}
 use Rattle.fs_chain.proofs.Steps.{begun_has_events}
 
@@ -273,7 +273,7 @@ walk_comes given old new before after told goes refusal walks =
     let all = all_come given old new before after (wents.On told) goes events walks in
     (all.0, all.1, all.2.0)
 
-pub wanted_has_a_place : WantedHasAPlace
+pub wanted_has_a_place : WantedIsMapped
 wanted_has_a_place given old new before after told goes walks wants lacks =
     let events = walk_has_events given old new before after told goes (wants_unrefused old before told wants) walks in
     let all = all_come given old new before after told goes events walks in

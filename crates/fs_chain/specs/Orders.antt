@@ -10,7 +10,7 @@ use Rattle.fs_chain.specs.declared.state.ChainReply.{ChainReply}
 use Rattle.fs_chain.specs.declared.state.PopId.{PopId}
 use Rattle.fs_chain.specs.declared.state.ChainState as state
 use Rattle.fs_chain.specs.declared.state.ChainState.TheVariants as at
-use Rattle.fs_chain.specs.Queues.{is_at, is_last, is_out_of, may_take}
+use Rattle.fs_chain.specs.Queues.{fits_pop, is_last, is_in_flight_of, may_take}
 use Rattle.fs_chain.specs.declared.error.ChainError.{ChainError}
 use Rattle.fs_chain.specs.declared.error.ChainError.TheVariants.{BadArgument, ShortBuffer, WrongOrder}
 use Rattle.fs_chain.specs.declared.error.ChainError.TheVariants.{OtherQueue, ChainInFlight, Pushing}
@@ -50,7 +50,7 @@ begin_error q len =
 abbrev pub give_error : QueueState → Course → PopId → (asked len : ℕ) → Option ChainError
 give_error q course pop_id asked len =
     if not (len == asked) then Some BadArgument
-    else if not (is_at q course pop_id) then Some OtherQueue
+    else if not (fits_pop q course pop_id) then Some OtherQueue
     else if not (may_take q) then Some ChainInFlight
     else None
 
@@ -84,7 +84,7 @@ reply_len out r = min (min (front_len r + r.behind) out.room_len) (2 ^ 32 - 1)
 -- why a chain can't be pushed with a buffer of `len` bytes for its front
 abbrev pub return_error : state.ChainState → QueueState → (len : ℕ) → Option ChainError
 return_error (at.HasReply out reply) q len =
-    if not (is_out_of q out) then Some OtherQueue
+    if not (is_in_flight_of q out) then Some OtherQueue
     else if q.pushing then Some Pushing
     else if nat_lt len (front_len reply) then Some ShortBuffer
     else None
@@ -92,7 +92,7 @@ return_error _ q len = Some WrongOrder
 
 -- why a push can't be ended
 abbrev pub end_error : state.ChainState → QueueState → Option ChainError
-end_error (at.Pushing out) q = if is_out_of q out && q.pushing then None else Some OtherQueue
+end_error (at.Pushing out) q = if is_in_flight_of q out && q.pushing then None else Some OtherQueue
 end_error _ q = Some WrongOrder
 
 -- why a chain can't be given up: once its request was decoded, only a push ends it, with a reply or
@@ -101,7 +101,9 @@ abbrev pub give_up_error : state.ChainState → QueueState → Option ChainError
 give_up_error at.Free q = None
 give_up_error (at.Walking course pop_id walk) q = None
 give_up_error (at.Taken out) q =
-    if not (is_out_of q out) then Some OtherQueue else if not (is_last q out) then Some WrongOrder else None
+    if not (is_in_flight_of q out) then Some OtherQueue
+    else if not (is_last q out) then Some WrongOrder
+    else None
 give_up_error _ q = Some WrongOrder
 
 -- whether no chain is being popped, and none is in flight

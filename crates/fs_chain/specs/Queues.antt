@@ -26,8 +26,8 @@ abbrev pub took : QueueState → QueueState
 took q = record q { next_avail = (q.next_avail + 1) % 2 ^ 16; pop_count = (q.pop_count + 1) % 2 ^ 32 }
 
 -- the chain that was popped last is given up: the queue's next pop finds it again
-abbrev pub untook : QueueState → QueueState
-untook q =
+abbrev pub gave_up : QueueState → QueueState
+gave_up q =
     record q { next_avail = (q.next_avail + (2 ^ 16 - 1)) % 2 ^ 16; pop_count = (q.pop_count + 1) % 2 ^ 32 }
 
 -- a chain was pushed: the next one is pushed at the next position
@@ -71,14 +71,14 @@ is_laid_out a b = a.size == b.size && a.desc == b.desc && a.avail == b.avail && 
 
 -- whether a pop in progress still fits the queue: since it began, no chain was popped or given up, and the
 -- queue wasn't reset
-abbrev pub is_at : QueueState → Course → PopId → Bool
-is_at q c t =
+abbrev pub fits_pop : QueueState → Course → PopId → Bool
+fits_pop q c t =
     q.reset_count == t.reset_count && q.pop_count == t.pop_count && q.next_avail == c.position
     && is_laid_out q.layout c.layout
 
 -- whether a chain is in flight in this queue: the queue wasn't reset since the chain was popped
-abbrev pub is_out_of : QueueState → InFlight → Bool
-is_out_of q out =
+abbrev pub is_in_flight_of : QueueState → InFlight → Bool
+is_in_flight_of q out =
     not (in_flight q == 0) && q.reset_count == out.pop_id.reset_count
     && is_laid_out q.layout out.course.layout
 

@@ -105,8 +105,8 @@ abbrev pub IsWalked : (old new : ChainHandle) → (before after : QueueState) �
 IsWalked old new before after told = (given : List (List ℕ)) × WalksBy given old new before after told
 
 -- the bytes for which a pop asks are mapped, so no call is refused because they aren't
-abbrev pub WantedHasAPlace : Type 0
-WantedHasAPlace =
+abbrev pub WantedIsMapped : Type 0
+WantedIsMapped =
     (given : List (List ℕ)) (old new : ChainHandle) (before after : QueueState) (told : went.LoadOutcome) →
     before.stopped ≡ None →
     WalksBy given old new before after told →
@@ -203,7 +203,7 @@ push_acts room reply behind s flags =
 
 -- a chain is pushed by its caller's stores and loads, and `notice` is the result for the two bytes that
 -- were loaded
-pub record GoesBackBy (back : QueueState) (room : List ℕ) (behind : List ℕ) (from : state.ChainState)
+pub record PushedBy (back : QueueState) (room : List ℕ) (behind : List ℕ) (from : state.ChainState)
     (acts : List Act) (last : ℕ) (notice : Bool) : Type 0 where
   pub stores : PushStores
   pub flags : List ℕ
@@ -228,12 +228,12 @@ pub record ChainBy (given_bytes : List (List ℕ)) (request : List ℕ) (calls :
   pub front : List ℕ
   pub made : Decoded
   pub decoded_handle : ChainHandle
-  pub is_asked : IsDecodedBy popped_handle s request front made decoded_handle
+  pub decodes : IsDecodedBy popped_handle s request front made decoded_handle
   pub given : ChainAnswer
   pub replies : IsRepliedBy made decoded_handle given new
   pub calls_are : calls ≡ file_calls (drop 80 request) made given
   pub back : QueueState
-  pub returns : GoesBackBy back (addresses_of (writable popped_handle.descriptors.items)) (data_behind given)
+  pub returns : PushedBy back (addresses_of (writable popped_handle.descriptors.items)) (data_behind given)
       new.state acts last notice
 
 -- a faulty chain from its pop to its push: the caller loads none of its bytes and stores none in it
@@ -244,7 +244,7 @@ pub record FaultyChainBy (given_bytes : List (List ℕ)) (fault : ChainFault) (a
   pub taken : QueueState
   pub walks : WalksBy given_bytes old popped_handle before taken (wents.On (says.Faulty head fault))
   pub back : QueueState
-  pub returns : GoesBackBy back [] [] popped_handle.state acts last notice
+  pub returns : PushedBy back [] [] popped_handle.state acts last notice
 
 -- the queue of a chain that is pushed, at the position where its push finds it
 abbrev pub queue_back : (before back : QueueState) → Queue

@@ -2,7 +2,7 @@
 
 ghost use Rattle.std.specs.Prelude.{◌≡◌, Some, None, IfErr, OnOk, OnErr, if◌then◌else◌};
 ghost use Rattle.fs_chain.specs.Orders.{give_up_error, is_out};
-ghost use Rattle.fs_chain.specs.Queues.{untook};
+ghost use Rattle.fs_chain.specs.Queues.{gave_up};
 ghost use Rattle.fs_chain.specs.Pushes.{IsFreed};
 ghost use Rattle.fs_chain.specs.Serials.{freed};
 ghost use Rattle.fs_chain.specs.declared.state.ChainState.TheVariants as at;
@@ -20,7 +20,7 @@ impl ChainHandle {
         ensures error { IfErr result (λ e. give_up_error (at.Taken out) queue.old ≡ Some e) }
         ensures ok { OnOk result (give_up_error (at.Taken out) queue.old ≡ None) }
         ensures same { OnErr result ((self.new ≡ self.old) × (queue.new ≡ queue.old)) }
-        ensures free { OnOk result ((self.new ≡ freed self.old) × (queue.new ≡ untook queue.old)) }
+        ensures free { OnOk result ((self.new ≡ freed self.old) × (queue.new ≡ gave_up queue.old)) }
     {
         if !queue.has_out(&out) {
             return Err(ChainError::OtherQueue);
@@ -43,7 +43,7 @@ impl ChainHandle {
         ensures ok { OnOk result (give_up_error self.old.state queue.old ≡ None) }
         ensures same { OnErr result ((self.new ≡ self.old) × (queue.new ≡ queue.old)) }
         ensures free { OnOk result (self.new ≡ freed self.old) }
-        ensures queue { OnOk result (queue.new ≡ (if is_out self.old.state then untook queue.old
+        ensures queue { OnOk result (queue.new ≡ (if is_out self.old.state then gave_up queue.old
             else queue.old)) }
     {
         match &self.state {

@@ -5,7 +5,7 @@ ghost use Rattle.fs_chain.specs.Laws.{WalksAreOffers};
 ghost use Rattle.fs_chain.specs.Missed.{EventMissIsNoStep, MissIsNoStep};
 ghost use Rattle.fs_chain.specs.Whole.{ChainIsAnsweredBy, ChainIsStep, ChainIsStepBy, EventFaultRefuses};
 ghost use Rattle.fs_chain.specs.Whole.{FaultyIsAnsweredBy, FaultyIsStepBy, IdleIsStepBy, RefusalIsStepBy};
-ghost use Rattle.fs_chain.specs.Whole.{ReturnsAreToldBySeen, WantedHasAPlace};
+ghost use Rattle.fs_chain.specs.Whole.{ReturnsAreToldBySeen, WantedIsMapped};
 
 use fs_regions::laws::{law_misses_can_be_mapped, law_offers};
 use fuse_fs::FileSystem;
@@ -45,7 +45,7 @@ pub fn law_misses()
 /// are used_event: the driver is notified if they equal the position of the push. If used_event or
 /// avail_event isn't mapped, a pop ends as it begins: it misses it, or is refused, and the queue is stopped.
 pub fn law_chains<F: FileSystem>()
-    ensures places { WantedHasAPlace }
+    ensures places { WantedIsMapped }
     ensures idle { IdleIsStepBy F.may }
     ensures refused { RefusalIsStepBy F.may }
     ensures unplaced { EventFaultRefuses }

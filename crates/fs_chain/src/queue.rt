@@ -1,8 +1,8 @@
 //! A queue's state, which the caller keeps.
 
 ghost use Rattle.std.specs.Prelude.{◌≡◌};
-ghost use Rattle.fs_chain.specs.Queues.{reset_to, new_queue, gave, is_at, is_laid_out, is_last, is_out_of};
-ghost use Rattle.fs_chain.specs.Queues.{may_take, in_flight, pop_id_of, took, untook};
+ghost use Rattle.fs_chain.specs.Queues.{reset_to, new_queue, gave, fits_pop, is_laid_out, is_last};
+ghost use Rattle.fs_chain.specs.Queues.{is_in_flight_of, may_take, in_flight, pop_id_of, took, gave_up};
 
 use crate::state::{InFlight, PopId};
 use fs_queue::{QueueError, QueueLayout};
@@ -112,7 +112,7 @@ impl QueueState {
 
     // Gives up the chain that was popped last: the next pop finds it again.
     pub(crate) fn untake(&mut self)
-        ensures { self.new ≡ untook self.old }
+        ensures { self.new ≡ gave_up self.old }
     {
         self.next_avail = self.next_avail.wrapping_sub(1);
         self.pop_count = self.pop_count.wrapping_add(1);
@@ -128,7 +128,7 @@ impl QueueState {
 
     // Whether a pop with this course and `pop_id` still fits the queue.
     pub(crate) fn has(&self, course: &Course, pop_id: PopId) -> bool
-        ensures { result ≡ is_at self.now course.now pop_id }
+        ensures { result ≡ fits_pop self.now course.now pop_id }
     {
         self.reset_count == pop_id.reset_count
             && self.pop_count == pop_id.pop_count
@@ -138,7 +138,7 @@ impl QueueState {
 
     // Whether a chain is in flight in this queue.
     pub(crate) fn has_out(&self, out: &InFlight) -> bool
-        ensures { result ≡ is_out_of self.now out.now }
+        ensures { result ≡ is_in_flight_of self.now out.now }
     {
         self.in_flight() != 0
             && self.reset_count == out.pop_id.reset_count

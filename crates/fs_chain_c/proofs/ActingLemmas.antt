@@ -15,7 +15,7 @@ use Rattle.fs_chain.specs.Events.{notification_store}
 use Rattle.fs_chain.specs.Loads.{GoesSo, RefusesWalk}
 use Rattle.fs_chain.specs.Numbers.{chain_error_number}
 use Rattle.fs_chain.specs.Orders.{begin_error, give_up_error, is_out, load_len, walk_error}
-use Rattle.fs_chain.specs.Queues.{gave, untook}
+use Rattle.fs_chain.specs.Queues.{gave, gave_up}
 use Rattle.fs_chain.specs.Walks.{queue_after, told_of}
 use Rattle.fs_chain.specs.Whole.{WalksBy, WantsBytes}
 use Rattle.fs_chain.specs.declared.chain_handle.ChainHandle.{ChainHandle}
@@ -34,8 +34,8 @@ use Rattle.notify.specs.Threads.{ThreadedQueue, DropsOne, ReturnsChains, Silence
 use Rattle.fs_notify.proofs.Drops.{drops, ends_return, full}
 use Rattle.fs_notify.proofs.Amid.{finds_none_amid, straight, takes_amid}
 use Rattle.fs_notify.proofs.Wishes.{mutes}
-use Rattle.fs_notify.specs.Amid.{WalksAmid}
-use Rattle.fs_notify.specs.Takers.{HasPopped, IsCounted, IsOf, MutesBy, SaysWish, ways_of}
+use Rattle.fs_notify.specs.Amid.{WalksPastRefusals}
+use Rattle.fs_notify.specs.Takers.{HasPopped, HasU16Numbers, IsModelOf, MutesBy, SaysWish, ways_of}
 use Rattle.fs_chain_c.specs.Acting.{DropsAChain, PopFindsFull, PopFindsNone, PopTakesOne, PopsBy, PushReturnsOne, SilencesBy}
 use Rattle.fs_chain_c.specs.Acting.{StoresSilence}
 use Rattle.fs_chain_c.specs.Notifications.{TellsStore}
@@ -100,14 +100,14 @@ dropped_out (at.Pushing out) k out_is none = absurd (wrong_order none)
 -- of the core's queue
 abbrev DropsTo : (q q' : FsQueue) → QueueState → ThreadedQueue → Type 0
 DropsTo q q' k s =
-    (q' ≡ put q (untook k))
-    × (IsCounted k → IsOf k s → s.holder ≡ Walker
-    → IsTrue (may_act (ways_of k) s DropsOne) × IsOf (untook k) (after_act (ways_of k) s DropsOne))
+    (q' ≡ put q (gave_up k))
+    × (HasU16Numbers k → IsModelOf k s → s.holder ≡ Walker
+    → IsTrue (may_act (ways_of k) s DropsOne) × IsModelOf (gave_up k) (after_act (ways_of k) s DropsOne))
 
 drop_kept : (b b' : ChainHandle) (q q' : FsQueue) (k : QueueState) (s : ThreadedQueue) → is_out b.state ≡ true →
     DropsKept b q k 0 b' q' → DropsTo q q' k s
 drop_kept b b' q q' k s out_is (inl done) = (
-  done.3 ∙ ap (λ (out : Bool). put q (if out then untook k else k)) out_is,
+  done.3 ∙ ap (λ (out : Bool). put q (if out then gave_up k else k)) out_is,
   λ counted of walker. let out = dropped_out b.state k out_is done.0 in drops k out.0 s counted out.1 of walker,
 )
 drop_kept b b' q q' k s out_is (inr why) = absurd (no_error why.0 why.2.0)
@@ -121,8 +121,8 @@ drops_one b b' q q' s out_is (inr (inr is)) =
 abbrev ReturnsTo : (q q' : FsQueue) → QueueState → ThreadedQueue → Type 0
 ReturnsTo q q' k s =
     (q' ≡ put q (gave k))
-    × (IsCounted k → IsOf k s → s.holder ≡ Walker
-    → IsTrue (may_act (ways_of k) s (ReturnsChains 1)) × IsOf (gave k) (after_act (ways_of k) s (ReturnsChains 1)))
+    × (HasU16Numbers k → IsModelOf k s → s.holder ≡ Walker
+    → IsTrue (may_act (ways_of k) s (ReturnsChains 1)) × IsModelOf (gave k) (after_act (ways_of k) s (ReturnsChains 1)))
 
 return_kept : (b b' : ChainHandle) (q q' : FsQueue) (k : QueueState) (seen notify : ℕ) (s : ThreadedQueue) →
     EndsKept b q k seen notify 0 b' q' → ReturnsTo q q' k s
@@ -214,7 +214,7 @@ keeps_queue given old new before after (wents.On (says.Faulty head fault)) goes 
 
 -- also if some calls were refused
 keeps_amid : (given : List (List ℕ)) (old new : ChainHandle) (before after : QueueState) (told : went.LoadOutcome)
-    → before.stopped ≡ None → WantsBytes told → WalksAmid given old new before after told → after ≡ before
+    → before.stopped ≡ None → WantsBytes told → WalksPastRefusals given old new before after told → after ≡ before
 keeps_amid given old new before after told goes wants walks =
     let so = straight given old new before after told wants walks in keeps_queue given old so.n before after told goes wants so.by
 
@@ -223,7 +223,7 @@ keeps_amid given old new before after told goes wants walks =
 pub record Walked (given : List (List ℕ)) (b b' : ChainHandle) (q q' : FsQueue) (k : QueueState) (step : FsPop) (status : ℕ) : Type 0 where
   pub told : went.LoadOutcome
   pub after : QueueState
-  pub walks : WalksAmid given b b' k after told
+  pub walks : WalksPastRefusals given b b' k after told
   pub tells : TellsWent b' told step status
   pub put_is : q' ≡ put q after
 
@@ -311,8 +311,9 @@ pop_finds_none given b b' q q' step s pops =
       first.1,
       λ counted fits goes of asker shown.
           let walk = pops_walk given b b' q q' k step 33 no_error_idle first.1 goes pops in
-          let walks : WalksAmid given b b' k walk.after (wents.On says.Idle) =
-          subst (λ (told : went.LoadOutcome). WalksAmid given b b' k walk.after told) (is_idle b' walk.told step walk.tells) walk.walks in
+          let walks : WalksPastRefusals given b b' k walk.after (wents.On says.Idle) =
+          subst (λ (told : went.LoadOutcome). WalksPastRefusals given b b' k walk.after told)
+          (is_idle b' walk.told step walk.tells) walk.walks in
           let none = finds_none_amid given b b' k walk.after s counted fits goes walks of asker shown in
           (walk.after, walk.put_is, (walks, none.0, none.1, none.2, none.3, none.4)),
     )
@@ -326,8 +327,8 @@ pop_takes_one given b b' q q' step s pops =
       λ counted goes of walker.
           let walk = pops_walk given b b' q q' k step 0 no_error first.1 goes pops in
           let out = is_taken b' walk.told step walk.tells in
-          let walks : WalksAmid given b b' k walk.after (wents.On out.0) =
-          subst (λ (told : went.LoadOutcome). WalksAmid given b b' k walk.after told) out.1 walk.walks in
+          let walks : WalksPastRefusals given b b' k walk.after (wents.On out.0) =
+          subst (λ (told : went.LoadOutcome). WalksPastRefusals given b b' k walk.after told) out.1 walk.walks in
           let took = takes_amid given b b' k walk.after out.0 s counted goes out.2 walks of walker in
           (walk.after, out.0, walk.put_is, out.2, (walks, took.0, took.1, took.2, took.3, took.4)),
     )

@@ -5,7 +5,7 @@ use Rattle.std.specs.Prelude.{IsTrue}
 use Rattle.std.proofs.lemmas.Bool.Decides.{nat_tests}
 use Rattle.fs_chain.specs.Numbers.{chain_error_number, state_number}
 use Rattle.fs_chain.specs.Orders.{is_out}
-use Rattle.fs_chain.specs.Queues.{gave, untook}
+use Rattle.fs_chain.specs.Queues.{gave, gave_up}
 use Rattle.fs_chain.specs.declared.chain_handle.ChainHandle.{ChainHandle}
 use Rattle.fs_chain.specs.declared.error.ChainError.TheVariants.{ChainInFlight}
 use Rattle.fs_chain.specs.declared.queue.QueueState.{QueueState}
@@ -13,7 +13,7 @@ use Rattle.fs_chain.specs.declared.state.ChainState as state
 use Rattle.fs_chain.specs.declared.state.ChainState.TheVariants as at
 use Rattle.notify.specs.Threads.{Rearmer, DropsOne, ReturnsChains, Silences, SleepsNow, ThreadStep, ThreadedQueue, Walker, after_act}
 use Rattle.notify.specs.Threads.{may_act}
-use Rattle.fs_notify.specs.Takers.{IsCounted, IsOf, ways_of}
+use Rattle.fs_notify.specs.Takers.{HasU16Numbers, IsModelOf, ways_of}
 use Rattle.fs_chain_c.specs.declared.notifications.FsStore.{FsStore}
 use Rattle.fs_chain_c.specs.declared.popping.FsPop.{FsPop}
 use Rattle.fs_chain_c.specs.declared.queue.FsQueue.{FsQueue}
@@ -65,7 +65,7 @@ silences_by law b q told (inr is) =
           let walked : ThreadedQueue = walked_by k s in
           let made = law b q told walked (inr is) in
           let same : made.0 ≡ k = state_same q made.0 k made.1 is.2 in
-          subst (λ (j : QueueState). IsOf j walked → walked.holder ≡ Walker
+          subst (λ (j : QueueState). IsModelOf j walked → walked.holder ≡ Walker
           → IsTrue (may_act (ways_of j) walked (Silences walked.event)) × SilencesBy j.event_index b j walked told) same made.2 (refl, refl)
           refl,
     )
@@ -85,11 +85,11 @@ abbrev Made : ThreadStep → (turned : QueueState → QueueState) → (left : Qu
     FsQueue → FsQueue → ThreadedQueue → Type 0
 Made act turned left R q q' t =
     (k : QueueState) × IsQueueState q k × (q' ≡ left k)
-    × (IsCounted k → IsOf k t → R t → IsTrue (may_act (ways_of k) t act) × IsOf (turned k) (after_act (ways_of k) t act))
+    × (HasU16Numbers k → IsModelOf k t → R t → IsTrue (may_act (ways_of k) t act) × IsModelOf (turned k) (after_act (ways_of k) t act))
 
 acts_so : (act : ThreadStep) (turned : QueueState → QueueState) (by : QueueState → ThreadedQueue → ThreadedQueue)
-    (left : QueueState → FsQueue) (R : ThreadedQueue → Type 0) (q q' : FsQueue) (k : QueueState) → IsQueueState q k → IsCounted k
-    → ((s : ThreadedQueue) → IsOf k (by k s)) → ((s : ThreadedQueue) → R (by k s))
+    (left : QueueState → FsQueue) (R : ThreadedQueue → Type 0) (q q' : FsQueue) (k : QueueState) → IsQueueState q k → HasU16Numbers k
+    → ((s : ThreadedQueue) → IsModelOf k (by k s)) → ((s : ThreadedQueue) → R (by k s))
     → ((t : ThreadedQueue) → Made act turned left R q q' t) → ActsSo act turned by left q q'
 acts_so act turned by left R q q' k is small of holds law = (
   k,
@@ -99,7 +99,8 @@ acts_so act turned by left R q q' k is small of holds law = (
       let made = law t in
       let same : made.0 ≡ k = state_same q made.0 k made.1 is in
       let so = subst (λ (j : QueueState). (q' ≡ left j)
-      × (IsCounted j → IsOf j t → R t → IsTrue (may_act (ways_of j) t act) × IsOf (turned j) (after_act (ways_of j) t act))) same
+      × (HasU16Numbers j → IsModelOf j t → R t →
+      IsTrue (may_act (ways_of j) t act) × IsModelOf (turned j) (after_act (ways_of j) t act))) same
       (made.2, made.3) in
       let acts = so.1 small (of s) (holds s) in (so.0, acts.0, acts.1),
 )
@@ -115,7 +116,7 @@ drops_by : DropsAChain → (b b' : ChainHandle) (q q' : FsQueue) → IsSmall q �
 drops_by law b b' q q' small out (inl none) = absurd (not_out (is_out b.state) out none.0)
 drops_by law b b' q q' small out (inr (inl bad)) = absurd (no_argument bad.2.0)
 drops_by law b b' q q' small out (inr (inr is)) =
-    acts_so DropsOne (λ k. untook k) walked_by (λ k. put q (untook k)) (λ t. t.holder ≡ Walker) q q' is.2 is.3
+    acts_so DropsOne (λ k. gave_up k) walked_by (λ k. put q (gave_up k)) (λ t. t.holder ≡ Walker) q q' is.2 is.3
     (counted q is.2 is.3 small.0 small.1 small.2) (λ s. (refl, refl)) (λ s. refl) (λ t. law b b' q q' t out (inr (inr is)))
 
 pub drops_so : DropsAChain → (before after : Option ChainHandle) (q q' : FsQueue) (status : ℕ) → IsSmall q → handle_state before ≡ 3

@@ -11,7 +11,7 @@ use Rattle.fs_chain.specs.declared.queue.QueueState.{QueueState}
 use Rattle.notify.specs.Kicks.{NotifyState, ChecksWish, after}
 use Rattle.notify.specs.Threads.{ThreadedQueue, Walker}
 use Rattle.fs_notify.specs.Givers.{rules_of}
-use Rattle.fs_notify.specs.Takers.{IsCounted, IsOf, SaysWish}
+use Rattle.fs_notify.specs.Takers.{HasU16Numbers, IsModelOf, SaysWish}
 use Rattle.fs_chain_c.specs.declared.notifications.FsStore.{FsStore}
 use Rattle.fs_chain_c.specs.declared.queue.FsQueue.{FsQueue}
 use Rattle.fs_chain_c.specs.Handles.{EndsPush}
@@ -29,7 +29,7 @@ most : (n : ℕ) → n < 2 ^ 16 → max 1 n < 2 ^ 16
 most n low = grind arith
 
 pub counted : (q : FsQueue) (k : QueueState) → IsQueueState q k → q.next_avail < 2 ^ 16 → q.next_used < 2 ^ 16 → q.max_in_flight < 2 ^ 16
-    → IsCounted k
+    → HasU16Numbers k
 counted q k is avail used few = (
   subst (λ (n : ℕ). n < 2 ^ 16) (sym is.next_avail) avail,
   subst (λ (n : ℕ). n < 2 ^ 16) (sym is.next_used) used,
@@ -53,7 +53,8 @@ wishes_by law b q told (inr is) avail used few =
           let walked : ThreadedQueue = walked_by k s in
           let made = law b q told walked (inr is) in
           let same : made.0 ≡ k = state_same q made.0 k made.1 is.2 in
-          subst (λ (j : QueueState). IsCounted j → IsOf j walked → walked.holder ≡ Walker → StoresItsWish b j walked told) same made.2 small
+          subst (λ (j : QueueState). HasU16Numbers j → IsModelOf j walked → walked.holder ≡ Walker →
+          StoresItsWish b j walked told) same made.2 small
           (refl, refl) refl,
     )
 

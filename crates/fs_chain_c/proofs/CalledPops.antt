@@ -10,7 +10,7 @@ use Rattle.fs_chain.specs.declared.chain_handle.ChainHandle.{ChainHandle}
 use Rattle.fs_chain.specs.declared.popping.PopOutcome.{PopOutcome}
 use Rattle.fs_chain.specs.declared.queue.QueueState.{QueueState}
 use Rattle.notify.specs.Threads.{Rearmer, SleepsNow, TakesOne, ThreadedQueue, Walker, after_act, may_act}
-use Rattle.fs_notify.specs.Takers.{HasPopped, IsCounted, IsOf, ways_of}
+use Rattle.fs_notify.specs.Takers.{HasPopped, HasU16Numbers, IsModelOf, ways_of}
 use Rattle.fs_chain_c.specs.declared.popping.FsPop.{FsPop}
 use Rattle.fs_chain_c.specs.declared.queue.FsQueue.{FsQueue}
 use Rattle.fs_chain_c.specs.Acting.{PopFindsNone, PopTakesOne, PopsBy, PopsByIndex, load}
@@ -120,10 +120,10 @@ finds_none_so law given before after q q' step status small zero_is so done =
           let asked : ThreadedQueue = state_with_wish k s in
           let made = law bytes b b' q q' step asked by in
           let same : made.0 ≡ k = state_same q made.0 k made.1 first.1 in
-          subst (λ (j : QueueState). IsCounted j → asked.index < 2 ^ 16 → j.stopped ≡ None → IsOf j asked → asked.holder ≡ Rearmer
+          subst (λ (j : QueueState). HasU16Numbers j → asked.index < 2 ^ 16 → j.stopped ≡ None → IsModelOf j asked → asked.holder ≡ Rearmer
           → asked.hidden ≡ false → (k' : QueueState) × (q' ≡ put q k') × PopsByIndex bytes b b' j k' PopOutcome.Idle
           (λ index. asked.index ≡ index
-          → IsTrue (may_act (ways_of j) asked SleepsNow) × IsOf k' (after_act (ways_of j) asked SleepsNow))) same made.2
+          → IsTrue (may_act (ways_of j) asked SleepsNow) × IsModelOf k' (after_act (ways_of j) asked SleepsNow))) same made.2
           (counted q k first.1 small.0 small.1 small.2) fits (goes_on q k first.1 zero_is) (refl, refl) refl refl,
     )
 
@@ -148,9 +148,9 @@ takes_one_so law given before after q q' step status small zero_is so done =
           let walked : ThreadedQueue = walked_by k s in
           let made = law bytes b b' q q' step walked by in
           let same : made.0 ≡ k = state_same q made.0 k made.1 first.1 in
-          subst (λ (j : QueueState). IsCounted j → j.stopped ≡ None → IsOf j walked → walked.holder ≡ Walker
+          subst (λ (j : QueueState). HasU16Numbers j → j.stopped ≡ None → IsModelOf j walked → walked.holder ≡ Walker
           → (k' : QueueState) × (told : PopOutcome) × (q' ≡ put q k') × HasPopped told × PopsByIndex bytes b b' j k' told
           (λ index. walked.known ≡ index
-          → IsTrue (may_act (ways_of j) walked TakesOne) × IsOf k' (after_act (ways_of j) walked TakesOne))) same made.2
+          → IsTrue (may_act (ways_of j) walked TakesOne) × IsModelOf k' (after_act (ways_of j) walked TakesOne))) same made.2
           (counted q k first.1 small.0 small.1 small.2) (goes_on q k first.1 zero_is) (refl, refl) refl,
     )

@@ -15,7 +15,7 @@ use Rattle.fs_queue.specs.declared.layout.QueueLayout.{QueueLayout}
 use Rattle.fs_chain.specs.Numbers.{chain_error_number}
 use Rattle.fs_chain.specs.Orders.{return_error}
 use Rattle.fs_chain.specs.Pushes.{IfHasReply, PushesBy}
-use Rattle.fs_chain.specs.Queues.{at_return, in_flight, is_laid_out, is_out_of}
+use Rattle.fs_chain.specs.Queues.{at_return, in_flight, is_laid_out, is_in_flight_of}
 use Rattle.fs_chain.specs.declared.error.ChainError.{ChainError}
 use Rattle.fs_chain.specs.declared.error.ChainError.TheVariants as error
 use Rattle.fs_chain.specs.declared.pushing.PushStores.{PushStores}
@@ -126,7 +126,7 @@ AreThere k s =
 pushed_there : (st : state.ChainState) (k : QueueState) (len : ℕ) (s : PushStores) → return_error st k len ≡ None
     → IfHasReply st (λ out reply. PushesBy k out reply s) → AreThere k s
 pushed_there (at.HasReply out reply) k len s none by =
-    let out_is = out_tests (is_out_of k out) k.pushing _ none in
+    let out_is = out_tests (is_in_flight_of k out) k.pushing _ none in
     let laid = (and_parts (not (in_flight k == 0) && k.reset_count == out.pop_id.reset_count) (is_laid_out k.layout out.course.layout)
     out_is).1 in
     let same : at_return k out ≡ at_position k.layout k.next_used = sym (same_layout k.layout out.course.layout k.next_used laid) in

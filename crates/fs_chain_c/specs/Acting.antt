@@ -7,7 +7,7 @@ use Rattle.fs_regions.specs.Walks.{Loaded}
 use Rattle.fs_chain.specs.Loads.{IsSame}
 use Rattle.fs_chain.specs.Numbers.{chain_error_number}
 use Rattle.fs_chain.specs.Orders.{is_out}
-use Rattle.fs_chain.specs.Queues.{gave, untook}
+use Rattle.fs_chain.specs.Queues.{gave, gave_up}
 use Rattle.fs_chain.specs.declared.chain_handle.ChainHandle.{ChainHandle}
 use Rattle.fs_chain.specs.declared.error.ChainError.TheVariants.{ChainInFlight}
 use Rattle.fs_chain.specs.declared.loads.LoadOutcome.TheVariants as wents
@@ -17,8 +17,8 @@ use Rattle.fs_chain.specs.declared.state.ChainState.TheVariants as at
 use Rattle.notify.specs.Threads.{ThreadedQueue, Rearmer, DropsOne, ReturnsChains, Silences, SleepsNow}
 use Rattle.notify.specs.Threads.{TakesOne}
 use Rattle.notify.specs.Threads.{Walker, after_act, may_act}
-use Rattle.fs_notify.specs.Amid.{LoadsAmid, WalksAmid}
-use Rattle.fs_notify.specs.Takers.{HasPopped, IsCounted, IsIndex, IsOf, SaysWish, ways_of, wish_at}
+use Rattle.fs_notify.specs.Amid.{LoadsPastRefusals, WalksPastRefusals}
+use Rattle.fs_notify.specs.Takers.{HasPopped, HasU16Numbers, IsIndex, IsModelOf, SaysWish, ways_of, wish_at}
 use Rattle.fs_chain_c.specs.declared.notifications.FsStore.{FsStore}
 use Rattle.fs_chain_c.specs.declared.popping.FsPop.{FsPop}
 use Rattle.fs_chain_c.specs.declared.queue.FsQueue.{FsQueue}
@@ -37,7 +37,7 @@ SilencesBy false b k s told =
     StandsHere b.regions Write (wish_at k) 2 told.at
     × (told.len ≡ 2)
     × SaysWish false (to_le_bytes w16 told.value) silent.event silent.muted
-    × IsOf k silent
+    × IsModelOf k silent
 
 abbrev pub StoresSilence : Type 0
 StoresSilence =
@@ -45,7 +45,7 @@ StoresSilence =
     → SetsNotification b q 0 told 0
     → (k : QueueState)
     × IsQueueState q k
-    × (IsOf k s
+    × (IsModelOf k s
     → s.holder ≡ Walker
     → IsTrue (may_act (ways_of k) s (Silences s.event)) × SilencesBy k.event_index b k s told)
 
@@ -59,11 +59,11 @@ DropsAChain =
     → DropsHandleChain b q 0 b' q'
     → (k : QueueState)
     × IsQueueState q k
-    × (q' ≡ put q (untook k))
-    × (IsCounted k
-    → IsOf k s
+    × (q' ≡ put q (gave_up k))
+    × (HasU16Numbers k
+    → IsModelOf k s
     → s.holder ≡ Walker
-    → IsTrue (may_act (ways_of k) s DropsOne) × IsOf (untook k) (after_act (ways_of k) s DropsOne))
+    → IsTrue (may_act (ways_of k) s DropsOne) × IsModelOf (gave_up k) (after_act (ways_of k) s DropsOne))
 
 -- a push that C ends returns one chain
 abbrev pub PushReturnsOne : Type 0
@@ -73,11 +73,11 @@ PushReturnsOne =
     → (k : QueueState)
     × IsQueueState q k
     × (q' ≡ put q (gave k))
-    × (IsCounted k
-    → IsOf k s
+    × (HasU16Numbers k
+    → IsModelOf k s
     → s.holder ≡ Walker
     → IsTrue (may_act (ways_of k) s (ReturnsChains 1))
-    × IsOf (gave k) (after_act (ways_of k) s (ReturnsChains 1)))
+    × IsModelOf (gave k) (after_act (ways_of k) s (ReturnsChains 1)))
 
 -- ---- pops
 
@@ -102,9 +102,9 @@ PopsBy (bs ∷ given) b b' q q' step status =
 abbrev pub PopsByIndex : (given : List (List ℕ)) → (b b' : ChainHandle) → (k k' : QueueState) → PopOutcome →
     (ℕ → Type 0) → Type 0
 PopsByIndex given b b' k k' told P =
-    (walks : WalksAmid given b b' k k' (wents.On told))
+    (walks : WalksPastRefusals given b b' k k' (wents.On told))
     × (loaded : Loaded)
-    × LoadsAmid given b b' k k' (wents.On told) walks loaded
+    × LoadsPastRefusals given b b' k k' (wents.On told) walks loaded
     × (index : ℕ)
     × IsIndex loaded index
     × P index
@@ -116,16 +116,16 @@ PopFindsNone =
     → PopsBy given b b' q q' step 33
     → (k : QueueState)
     × IsQueueState q k
-    × (IsCounted k
+    × (HasU16Numbers k
     → s.index < 2 ^ 16
     → k.stopped ≡ None
-    → IsOf k s
+    → IsModelOf k s
     → s.holder ≡ Rearmer
     → s.hidden ≡ false
     → (k' : QueueState)
     × (q' ≡ put q k')
     × PopsByIndex given b b' k k' PopOutcome.Idle (λ index. s.index ≡ index
-    → IsTrue (may_act (ways_of k) s SleepsNow) × IsOf k' (after_act (ways_of k) s SleepsNow)))
+    → IsTrue (may_act (ways_of k) s SleepsNow) × IsModelOf k' (after_act (ways_of k) s SleepsNow)))
 
 -- a chain was popped (0): the model's thread may take it
 abbrev pub PopTakesOne : Type 0
@@ -134,15 +134,15 @@ PopTakesOne =
     → PopsBy given b b' q q' step 0
     → (k : QueueState)
     × IsQueueState q k
-    × (IsCounted k
+    × (HasU16Numbers k
     → k.stopped ≡ None
-    → IsOf k s
+    → IsModelOf k s
     → s.holder ≡ Walker
     → (k' : QueueState) × (told : PopOutcome)
     × (q' ≡ put q k')
     × HasPopped told
     × PopsByIndex given b b' k k' told (λ index. s.known ≡ index
-    → IsTrue (may_act (ways_of k) s TakesOne) × IsOf k' (after_act (ways_of k) s TakesOne)))
+    → IsTrue (may_act (ways_of k) s TakesOne) × IsModelOf k' (after_act (ways_of k) s TakesOne)))
 
 -- as many chains are in flight as may be: the model's thread may sleep too
 abbrev pub PopFindsFull : Type 0
@@ -153,7 +153,7 @@ PopFindsFull =
     → (k : QueueState)
     × IsQueueState q k
     × (q' ≡ q)
-    × (IsOf k s
+    × (IsModelOf k s
     → s.holder ≡ Rearmer
     → s.hidden ≡ false
-    → IsTrue (may_act (ways_of k) s SleepsNow) × IsOf k (after_act (ways_of k) s SleepsNow))
+    → IsTrue (may_act (ways_of k) s SleepsNow) × IsModelOf k (after_act (ways_of k) s SleepsNow))

@@ -4,13 +4,13 @@ use Rattle.std.specs.Int.{w16, from_le_bytes, to_le_bytes}
 use Rattle.fs_queue.specs.Queue.{has_bit}
 use Rattle.fs_chain.specs.declared.queue.QueueState.{QueueState}
 use Rattle.fs_chain.specs.declared.chain_handle.ChainHandle.{ChainHandle}
-use Rattle.fs_chain.specs.Queues.{gave, in_flight, untook}
+use Rattle.fs_chain.specs.Queues.{gave, in_flight, gave_up}
 use Rattle.notify.specs.Kicks.{NotifyState, ChecksWish, after}
 use Rattle.notify.specs.Threads.{Rearmer, DropsOne, ReturnsChains, Silences, SleepsNow, ThreadStep}
 use Rattle.notify.specs.Threads.{ThreadedQueue}
 use Rattle.notify.specs.Threads.{Walker, after_act, may_act}
 use Rattle.fs_notify.specs.Givers.{rules_of}
-use Rattle.fs_notify.specs.Takers.{IsOf, ways_of}
+use Rattle.fs_notify.specs.Takers.{IsModelOf, ways_of}
 use Rattle.fs_chain_c.specs.declared.notifications.FsStore.{FsStore}
 use Rattle.fs_chain_c.specs.declared.queue.FsQueue.{FsQueue}
 use Rattle.fs_chain_c.specs.Acting.{SilencesBy}
@@ -69,11 +69,11 @@ ActsSo act turned by left q q' =
     × ((s : ThreadedQueue)
     → (q' ≡ left k)
     × IsTrue (may_act (ways_of k) (by k s) act)
-    × IsOf (turned k) (after_act (ways_of k) (by k s) act))
+    × IsModelOf (turned k) (after_act (ways_of k) (by k s) act))
 
 -- a drop is the act of a drop
 abbrev pub ActsAsDrop : FsQueue → FsQueue → Type 0
-ActsAsDrop q q' = ActsSo DropsOne (λ k. untook k) walked_by (λ k. put q (untook k)) q q'
+ActsAsDrop q q' = ActsSo DropsOne (λ k. gave_up k) walked_by (λ k. put q (gave_up k)) q q'
 
 -- the end of a push is the return of one chain
 abbrev pub ActsAsReturn : FsQueue → FsQueue → Type 0

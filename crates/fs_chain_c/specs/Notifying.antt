@@ -8,7 +8,7 @@ use Rattle.fs_chain.specs.Queues.{gave}
 use Rattle.notify.specs.Kicks.{NotifyState, ChecksWish, after}
 use Rattle.notify.specs.Threads.{ThreadedQueue, Walker, Wishes, WishIsThere, after_act}
 use Rattle.fs_notify.specs.Givers.{rules_of}
-use Rattle.fs_notify.specs.Takers.{IsCounted, IsOf, SaysWish, ways_of, wish_at}
+use Rattle.fs_notify.specs.Takers.{HasU16Numbers, IsModelOf, SaysWish, ways_of, wish_at}
 use Rattle.fs_chain_c.specs.declared.notifications.FsStore.{FsStore}
 use Rattle.fs_chain_c.specs.declared.queue.FsQueue.{FsQueue}
 use Rattle.fs_chain_c.specs.Notifications.{SetsNotification}
@@ -23,7 +23,7 @@ StoresItsWish b k s told =
     StandsHere b.regions Write (wish_at k) 2 told.at
     × (told.len ≡ 2)
     × SaysWish k.event_index (to_le_bytes w16 told.value) asked.event asked.muted
-    × IsOf k asked
+    × IsModelOf k asked
 
 -- the store that C makes before a thread sleeps is the model's wish for the next chain
 abbrev pub StoresAWish : Type 0
@@ -32,7 +32,7 @@ StoresAWish =
     → SetsNotification b q 1 told 0
     → (k : QueueState)
     × IsQueueState q k
-    × (IsCounted k → IsOf k s → s.holder ≡ Walker → StoresItsWish b k s told)
+    × (HasU16Numbers k → IsModelOf k s → s.holder ≡ Walker → StoresItsWish b k s told)
 
 -- `notify` is the result of the check by the model's giver, of the two bytes that C has loaded behind the
 -- barrier

@@ -5,7 +5,7 @@ use Rattle.fs_chain.specs.declared.chain_handle.ChainHandle.{ChainHandle}
 use Rattle.fs_chain.specs.declared.popping.PopOutcome.{PopOutcome}
 use Rattle.fs_chain.specs.declared.queue.QueueState.{QueueState}
 use Rattle.notify.specs.Threads.{SleepsNow, TakesOne, ThreadedQueue, after_act, may_act}
-use Rattle.fs_notify.specs.Takers.{HasPopped, IsOf, ways_of}
+use Rattle.fs_notify.specs.Takers.{HasPopped, IsModelOf, ways_of}
 use Rattle.fs_chain_c.specs.declared.popping.FsPop.{FsPop}
 use Rattle.fs_chain_c.specs.declared.queue.FsQueue.{FsQueue}
 use Rattle.fs_chain_c.specs.Acting.{PopsBy, PopsByIndex}
@@ -45,7 +45,7 @@ FindsNoneSo given before q after q' =
     × (q' ≡ put q k')
     × PopsByIndex (given_so_far n given) b b' k k' PopOutcome.Idle (λ index. s.index ≡ index
     → IsTrue (may_act (ways_of k) (state_with_wish k s) SleepsNow)
-    × IsOf k' (after_act (ways_of k) (state_with_wish k s) SleepsNow)))
+    × IsModelOf k' (after_act (ways_of k) (state_with_wish k s) SleepsNow)))
 
 -- the model's thread may take the chain in each such state
 abbrev pub TakesOneSo :
@@ -61,4 +61,4 @@ TakesOneSo given before q after q' =
     × HasPopped told
     × PopsByIndex (given_so_far n given) b b' k k' told (λ index. s.known ≡ index
     → IsTrue (may_act (ways_of k) (walked_by k s) TakesOne)
-    × IsOf k' (after_act (ways_of k) (walked_by k s) TakesOne)))
+    × IsModelOf k' (after_act (ways_of k) (walked_by k s) TakesOne)))

@@ -15,7 +15,7 @@ use Rattle.fs_chain.specs.declared.state.ChainState.TheVariants as at
 use Rattle.fs_chain.specs.Numbers.{chain_error_number}
 use Rattle.fs_chain.specs.Events.{tells_of}
 use Rattle.fs_chain.specs.Orders.{end_error, give_up_error, is_out, return_error}
-use Rattle.fs_chain.specs.Queues.{gave, untook}
+use Rattle.fs_chain.specs.Queues.{gave, gave_up}
 use Rattle.fs_chain.specs.Pushes.{IfHasReply, IsFreed, PushesBy, put_front}
 use Rattle.fs_chain.specs.declared.chain_handle.ChainHandle.{ChainHandle}
 use Rattle.fs_chain_c.specs.declared.queue.FsQueue.{FsQueue}
@@ -151,7 +151,7 @@ EndsHandlePush b q seen notify status b' q' =
 
 -- the core's queue after a drop: its next pop returns the dropped chain again
 abbrev pub dropped : ChainHandle → QueueState → QueueState
-dropped b k = if is_out b.state then untook k else k
+dropped b k = if is_out b.state then gave_up k else k
 
 -- a drop over the core's queue; on an error nothing changes
 abbrev pub DropsKept : ChainHandle → FsQueue → QueueState → (status : ℕ) → ChainHandle → FsQueue → Type 0

@@ -23,7 +23,7 @@ use Rattle.virtiofsd_fuse.specs.Serving.{May}
 use Rattle.fs_chain.specs.Events.{event_fault}
 use Rattle.fs_chain.specs.Loads.{GoesSo, IsSame, whole}
 use Rattle.fs_chain.specs.Orders.{IsWalking, give_error, load_len, walk_error}
-use Rattle.fs_chain.specs.Queues.{is_at, is_laid_out, may_take, pop_id_of}
+use Rattle.fs_chain.specs.Queues.{fits_pop, is_laid_out, may_take, pop_id_of}
 use Rattle.fs_chain.specs.Walks.{GoesOnUnless, WalksFrom, course_of, queue_after, state_after, told_of}
 use Rattle.fs_chain.specs.Whole.{AddsSo, BeginsPopBy, WantsBytes}
 use Rattle.fs_chain.specs.declared.error.ChainError.TheVariants as error
@@ -123,7 +123,7 @@ same_layout a b position is =
     ∙ ap (λ (n : ℕ). q b.size b.desc n a.used) (eqb-true a.avail b.avail two.1)
     ∙ ap (λ (n : ℕ). q b.size b.desc b.avail n) (eqb-true a.used b.used one.1)
 
-same_place : (now before : QueueState) (limit : ℕ) → is_at now (course_of before limit) (pop_id_of before) ≡ true →
+same_place : (now before : QueueState) (limit : ℕ) → fits_pop now (course_of before limit) (pop_id_of before) ≡ true →
     queue_of (course_of now limit) ≡ queue_of (course_of before limit)
 same_place now before limit is =
     let one = and_parts (now.reset_count == before.reset_count && now.pop_count == before.pop_count && now.next_avail == before.next_avail)
@@ -136,7 +136,7 @@ same_place now before limit is =
 goes_at : (now before : QueueState) (limit asked len : ℕ) → give_error now (course_of before limit) (pop_id_of before) asked len ≡ None
     → (queue_of (course_of now limit) ≡ queue_of (course_of before limit)) × (may_take now ≡ true)
 goes_at now before limit asked len is =
-    let tests = give_tests (len == asked) (is_at now (course_of before limit) (pop_id_of before)) (may_take now) is in
+    let tests = give_tests (len == asked) (fits_pop now (course_of before limit) (pop_id_of before)) (may_take now) is in
     (same_place now before limit tests.0, tests.1)
 
 -- ---- calls
@@ -395,7 +395,7 @@ ended_at st bs w new now after told why walking stopped walks = absurd walking
 
 walking_room : (st : state.ChainState) (now : QueueState) (len : ℕ) → IsWalking st → walk_error st now len ≡ None → may_take now ≡ true
 walking_room (at.Walking course pop_id walk) now len walking clear =
-    (give_tests (len == asked_len walk) (is_at now course pop_id) (may_take now) clear).1
+    (give_tests (len == asked_len walk) (fits_pop now course pop_id) (may_take now) clear).1
 walking_room st now len walking clear = absurd walking
 
 pub handle_finds_stopped : {F : Type 0} (may : May F) → HandleFindsStopped may

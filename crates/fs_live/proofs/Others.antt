@@ -17,7 +17,7 @@ use Rattle.virtiofsd_fuse.specs.Serving.{May, Setting, setting}
 use Rattle.fs_chain.specs.Decoding.{KeepsCall}
 use Rattle.fs_chain.specs.Orders.{give_up_error, reply_len}
 use Rattle.fs_chain.specs.OwnReplies.{own_chain_error, own_error, own_len_error, own_reply}
-use Rattle.fs_chain.specs.Queues.{is_last, is_out_of}
+use Rattle.fs_chain.specs.Queues.{is_last, is_in_flight_of}
 use Rattle.fs_chain.specs.Pushes.{PushesBy}
 use Rattle.fs_chain.specs.Walks.{course_of, out_of}
 use Rattle.fs_chain.specs.Whole.{FromReplied, FromTaken}
@@ -56,7 +56,7 @@ pub handle_drops : {F : Type 0} (may : May F) → HandleGivesUpChain may
 handle_drops {F} may s c before behind w kept out there fresh held none =
     let o = out_of (course_of held.kept s.limit) held.pop_id c.head c.descriptors in
     let clear : give_up_error (at.Taken o) kept ≡ None = subst (λ (st : state.ChainState). give_up_error st kept ≡ None) held.state none in
-    let youngest : is_last kept o ≡ true = last_tests (is_out_of kept o) (is_last kept o) clear in
+    let youngest : is_last kept o ≡ true = last_tests (is_in_flight_of kept o) (is_last kept o) clear in
     let tested : (kept.next_avail == (held.kept.next_avail + 1) % 2 ^ 16) ≡ true =
     first_true (kept.next_avail == (held.kept.next_avail + 1) % 2 ^ 16)
     (nat_lt ((kept.pop_count + (2 ^ 32 - held.pop_id.pop_count)) % 2 ^ 32) (2 ^ 16)) youngest in
@@ -73,7 +73,7 @@ handle_drops {F} may s c before behind w kept out there fresh held none =
         is_last = same ∙ ap (λ (p : ℕ). (p + 1) % 2 ^ 16) (sym taken);
         state = refl;
       },
-      there_same s.queues c.queue c.queue (λ _. several.untook (live_of kept)) (live_of kept) refl there,
+      there_same s.queues c.queue c.queue (λ _. several.gave_up (live_of kept)) (live_of kept) refl there,
     )
 
 pub handle_abandons : {F : Type 0} (may : May F) → HandleAbandons may

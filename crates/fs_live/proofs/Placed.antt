@@ -13,7 +13,7 @@ use Rattle.fs_regions.specs.declared.step.CourseStep as comes
 use Rattle.fs_regions.specs.declared.step.CourseStep.TheVariants as step
 use Rattle.fs_regions.specs.Walks.{Loaded}
 use Rattle.virtiofsd_fuse.specs.Serving.{May}
-use Rattle.fs_live.specs.Several.{LiveQueue, InFlightId, took, untook, gave, returning}
+use Rattle.fs_live.specs.Several.{LiveQueue, InFlightId, took, gave_up, gave, returning}
 use Rattle.fs_live.specs.Live.{Phase, PoppedFaulty, Own, Abandoned, OutChain, LiveState, LiveEvent, EndsPop, RefusesPop, DecodesRequest}
 use Rattle.fs_live.specs.Live.{ReceivesAnswer}
 use Rattle.fs_live.specs.Live.{PushesChain, StoresNotification, ResetsQueue, FillsBuffer, GivesUpChain, Abandons, RepliesOwnBytes, Remaps}
@@ -79,7 +79,7 @@ back_one r p small is = omega (arith, small, is)
 small_back : (p : ℕ) → (p + (2 ^ 16 - 1)) % 2 ^ 16 < 2 ^ 16
 small_back p = omega arith
 
-ahead_dropped : (m : Memory) (w : LiveQueue) (n : ℕ) → Ahead m w (suc n) → Ahead m (untook w) n
+ahead_dropped : (m : Memory) (w : LiveQueue) (n : ℕ) → Ahead m w (suc n) → Ahead m (gave_up w) n
 ahead_dropped m w zero ahead =
     let even : HasNoneInFlight (gave w) = ahead.1 in (back_one w.next_used w.queue.position ahead.0.2 even.0, small_back w.queue.position)
 ahead_dropped m w (suc n) ahead = (ahead.0, ahead_dropped m (gave w) n ahead.1)
@@ -275,7 +275,7 @@ module _ (i : ℕ) where
   keeps {F} may s mid (GivesUpChain c) h kept =
       let out : out_on i s.outs ≡ out_on i (h.before ++ c ∷ h.behind) = ap (λ (cs : List OutChain). out_on i cs) h.out in
       subst (λ (k : LiveState F). Kept k) (sym h.state)
-      (changes s (after_giving_up s h.before h.behind c h.w) c.queue h.w (untook h.w) (c.queue == i) refl refl refl h.there
+      (changes s (after_giving_up s h.before h.behind c h.w) c.queue h.w (gave_up h.w) (c.queue == i) refl refl refl h.there
       (λ is ahead. ahead_dropped s.places h.w (out_on i (h.before ++ h.behind))
       (subst (λ (n : ℕ). Ahead s.places h.w n) (out ∙ one_less i h.before h.behind c is) ahead))
       (λ is. none_less i h.before h.behind c is ∙ sym out) kept)
@@ -439,7 +439,7 @@ ties {F} may s mid (ResetsQueue j v) h all =
 ties {F} may s mid (FillsBuffer c stores) h all = subst (λ (k : LiveState F). AllTied k) (sym h.state) all
 ties {F} may s mid (GivesUpChain c) h all =
     subst (λ (k : LiveState F). AllTied k) (sym h.state)
-    (all_tied s.places s.queues c.queue h.w (untook h.w) (h.before ++ h.behind) h.there
+    (all_tied s.places s.queues c.queue h.w (gave_up h.w) (h.before ++ h.behind) h.there
     (λ m m' keeps. record { returns = keeps.returns; event = keeps.event })
     (one_less_tied s.places s.queues h.before h.behind c s.outs h.out all))
 ties {F} may s mid (Abandons c) h all =

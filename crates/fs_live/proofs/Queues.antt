@@ -13,7 +13,7 @@ use Rattle.fs_regions.specs.declared.step.CourseStep as comes
 use Rattle.fs_regions.specs.declared.step.CourseStep.TheVariants as step
 use Rattle.fs_regions.specs.Walks.{Loaded}
 use Rattle.virtiofsd_fuse.specs.Serving.{May}
-use Rattle.fs_live.specs.Several.{LiveQueue, InFlightId, QueueEvent, RunsOver, may_take, took, untook, gave, returning}
+use Rattle.fs_live.specs.Several.{LiveQueue, InFlightId, QueueEvent, RunsOver, may_take, took, gave_up, gave, returning}
 use Rattle.fs_live.specs.Several as several
 use Rattle.fs_live.proofs.SeveralRuns.{once, used_in_order}
 use Rattle.fs_live.specs.Live.{OutChain, LiveState, LiveEvent, EndsPop, RefusesPop, DecodesRequest, ReceivesAnswer, PushesChain}
@@ -250,18 +250,18 @@ module _ (i : ℕ) where
       ap (λ (l : List OutChain). tickets_on i l) out ∙ tickets-append before (c ∷ behind)
       ∙ ap (λ (l : List InFlightId). tickets_on i before ++ l) (one_ticket c behind true is) in
       subst (λ (k : LiveQueue). Carries s (after_giving_up s before behind c v) k (several.DropsLast (c.taken.position, c.head) ∷ [])) one (
-        untook v,
-        there_same s.queues c.queue i (λ _. untook v) w same there,
+        gave_up v,
+        there_same s.queues c.queue i (λ _. gave_up v) w same there,
         λ es u outs run. (
           tickets_on i before,
           tickets_on i behind,
           split,
           youngest,
-          subst (λ (l : List InFlightId). RunsOver (going (untook v)) l es u outs) (tickets-append before behind) run,
+          subst (λ (l : List InFlightId). RunsOver (going (gave_up v)) l es u outs) (tickets-append before behind) run,
         ),
       )
   drops {F} s before behind c w v false is there at out youngest =
-      stays s (after_giving_up s before behind c v) w w (there_other s.queues c.queue i (λ _. untook v) (apart_of c.queue i is)
+      stays s (after_giving_up s before behind c v) w w (there_other s.queues c.queue i (λ _. gave_up v) (apart_of c.queue i is)
       ∙ there) refl
       (tickets-append before behind
       ∙ sym (ap (λ (l : List OutChain). tickets_on i l) out ∙ tickets-append before (c ∷ behind)

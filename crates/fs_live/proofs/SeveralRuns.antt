@@ -10,7 +10,7 @@ use Rattle.std.proofs.lemmas.Bool.Decides.{nat_tests}
 use Rattle.fs_queue.specs.Returning.{Store, stores_after_reply}
 use Rattle.fs_live.specs.Several.{ByEvent, LiveQueue, InFlightId, QueueEvent, PopsOne, DropsLast, PushesOne, RunsOver, UsedFrom}
 use Rattle.fs_live.specs.Several.{returns_among}
-use Rattle.fs_live.specs.Several.{took, gave, untook}
+use Rattle.fs_live.specs.Several.{took, gave, gave_up}
 use Rattle.fs_live.specs.Several.{wants, IsSerial, StoresAsTaken, heads_taken, heads_ended, IsOldestFirst, AtTheirPlaces}
 
 -- a take moves no return
@@ -18,7 +18,7 @@ past_take : (w : LiveQueue) (rs : List (InFlightId × ℕ × List Store)) → Us
 past_take w [] h = tt
 past_take w (r ∷ rs) h = (h.0, past_take (gave w) rs h.1)
 
-past_drop : (w : LiveQueue) (rs : List (InFlightId × ℕ × List Store)) → UsedFrom (untook w) rs → UsedFrom w rs
+past_drop : (w : LiveQueue) (rs : List (InFlightId × ℕ × List Store)) → UsedFrom (gave_up w) rs → UsedFrom w rs
 past_drop w [] h = tt
 past_drop w (r ∷ rs) h = (h.0, past_drop (gave w) rs h.1)
 
@@ -28,7 +28,7 @@ used_in_order w w' outs outs' [] run = tt
 used_in_order w w' outs outs' (PopsOne head ∷ es) run =
     past_take w (returns_among es) (used_in_order (took w) w' (outs ++ (w.queue.position, head) ∷ []) outs' es run.1)
 used_in_order w w' outs outs' (DropsLast t ∷ es) run =
-    past_drop w (returns_among es) (used_in_order (untook w) w' (run.0 ++ run.1) outs' es run.4)
+    past_drop w (returns_among es) (used_in_order (gave_up w) w' (run.0 ++ run.1) outs' es run.4)
 used_in_order w w' outs outs' (PushesOne t len stores ∷ es) run = (run.3, used_in_order (gave w) w' (run.0 ++ run.1) outs' es run.4)
 
 -- in a serial run the two positions are one
@@ -75,7 +75,7 @@ once w w' outs outs' (PopsOne head ∷ es) run =
     ∙ append_assoc (heads outs) (head ∷ []) (heads_taken es))
     (once (took w) w' (outs ++ (w.queue.position, head) ∷ []) outs' es run.1)
 once w w' outs outs' (DropsLast t ∷ es) run =
-    one_ended (heads_ended es) (heads_taken es) (heads outs') t run.0 run.1 outs run.2 (once (untook w) w' (run.0 ++ run.1) outs' es run.4)
+    one_ended (heads_ended es) (heads_taken es) (heads outs') t run.0 run.1 outs run.2 (once (gave_up w) w' (run.0 ++ run.1) outs' es run.4)
 once w w' outs outs' (PushesOne t len stores ∷ es) run =
     one_ended (heads_ended es) (heads_taken es) (heads outs') t run.0 run.1 outs run.2 (once (gave w) w' (run.0 ++ run.1) outs' es run.4)
 
@@ -104,7 +104,7 @@ unfolding Follow
 follow_less from to t [] small h = less from to small h.1
 follow_less from to t (u ∷ ts) small h = (h.0, follow_less ((from + 1) % 2 ^ 16) to t ts (small_next from) h.1)
 
-places_dropped : (w : LiveQueue) (rs : List (InFlightId × ℕ × List Store)) → AtTheirPlaces (untook w) rs → AtTheirPlaces w rs
+places_dropped : (w : LiveQueue) (rs : List (InFlightId × ℕ × List Store)) → AtTheirPlaces (gave_up w) rs → AtTheirPlaces w rs
 places_dropped w [] h = tt
 places_dropped w (r ∷ rs) h = (h.0, places_dropped (gave w) rs h.1)
 
@@ -121,7 +121,7 @@ in_order w outs (PopsOne head ∷ es) small follow oldest =
     (in_order (took w) (outs ++ (w.queue.position, head) ∷ []) es small (follow_more w.next_used w.queue.position head outs follow) oldest)
 in_order w outs (DropsLast t ∷ es) small follow oldest =
     places_dropped w (returns_among es)
-    (in_order (untook w) oldest.0 es small
+    (in_order (gave_up w) oldest.0 es small
     (follow_less w.next_used w.queue.position t oldest.0 small
     (subst (λ (ts : List InFlightId). Follow w.next_used ts w.queue.position) oldest.1 follow)) oldest.2)
 in_order w [] (PushesOne t len stores ∷ es) small follow oldest = absurd oldest

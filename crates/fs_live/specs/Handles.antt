@@ -25,7 +25,7 @@ use Rattle.fs_chain.specs.Decoding.{TellsMeaning}
 use Rattle.fs_chain.specs.Events.{event_miss, notification_store, store_of}
 use Rattle.fs_chain.specs.Queues.{reset_to, gave}
 use Rattle.fs_chain.specs.Walks.{RefusalHasEvents, course_of, faulty_out, no_reply, out_of, told_of}
-use Rattle.fs_chain.specs.Whole.{ChainAnswer, GoesBackBy, IsRepliedBy, IsAnsweredBy, IsDecodedBy, LoadsOf}
+use Rattle.fs_chain.specs.Whole.{ChainAnswer, PushedBy, IsRepliedBy, IsAnsweredBy, IsDecodedBy, LoadsOf}
 use Rattle.fs_chain.specs.Whole.{WalksBy, data_behind, file_calls}
 use Rattle.fs_chain.specs.declared.answering.Replied.{Replied}
 use Rattle.fs_chain.specs.declared.decoding.Decoded.{Decoded}
@@ -302,7 +302,7 @@ HandlePushesChain {F} may =
     EachSuits (file_calls (drop 80 request) made given) →
     IsKept s.page_size options request c made w →
     IsRepliedBy made w given w' →
-    (back : GoesBackBy kept (room_of c) (data_behind given) w'.state acts last notice) →
+    (back : PushedBy kept (room_of c) (data_behind given) w'.state acts last notice) →
     IsReturn may s before behind c kept acts last notice back.stores
 
 -- so is the return of a faulty chain, with an empty reply
@@ -315,7 +315,7 @@ HandleFaulty {F} may =
     c.taken ≡ queue_of (course_of (record kept { next_avail = c.taken.position }) 0) →
     c.phase ≡ PoppedFaulty why →
     IsFaultyOut s.limit c w →
-    (back : GoesBackBy kept [] [] w.state acts last notice) →
+    (back : PushedBy kept [] [] w.state acts last notice) →
     IsReturn may s before behind c kept acts last notice back.stores
 
 -- ---- queues

@@ -23,7 +23,7 @@ use Rattle.virtiofsd_fuse.specs.Serving.{May, ServedMessage, served, setting}
 use Rattle.plain_machine.specs.Step.{Exchange, Calls, answers_alone, calls_alone, faulty, served_exchange}
 use Rattle.plain_machine.specs.StepBy.{Act, StoresBytes, reply_stores, return_acts}
 use Rattle.fs_live.specs.Several.{LiveQueue, avail_event_at, gave, may_take, returning, sleep_store, took}
-use Rattle.fs_live.specs.Several.{untook, used_event_at, wants}
+use Rattle.fs_live.specs.Several.{gave_up, used_event_at, wants}
 
 -- ---- states
 
@@ -352,7 +352,7 @@ pub record FillsBufferSo {F : Type 0} (s : LiveState F) (c : OutChain) (stores :
 abbrev pub after_giving_up :
     {F : Type 0} → LiveState F → (before behind : List OutChain) → OutChain → LiveQueue → LiveState F
 after_giving_up s before behind c w =
-    record s { queues = changed_at s.queues c.queue (λ _. untook w); outs = before ++ behind }
+    record s { queues = changed_at s.queues c.queue (λ _. gave_up w); outs = before ++ behind }
 
 -- a chain that wasn't decoded, and is the last one of its queue that is still popped, is no longer in flight
 pub record GivesUpChainSo {F : Type 0} (s : LiveState F) (c : OutChain) (after : LiveState F) : Type 0 where

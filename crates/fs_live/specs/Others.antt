@@ -14,7 +14,7 @@ use Rattle.virtiofsd_fuse.specs.Serving.{May}
 use Rattle.fs_chain.specs.Events.{tells_of}
 use Rattle.fs_chain.specs.Orders.{give_up_error}
 use Rattle.fs_chain.specs.OwnReplies.{own_error, own_reply}
-use Rattle.fs_chain.specs.Queues.{untook}
+use Rattle.fs_chain.specs.Queues.{gave_up}
 use Rattle.fs_chain.specs.Walks.{course_of}
 use Rattle.fs_chain.specs.Whole.{FromReplied, FromTaken}
 use Rattle.fs_chain.specs.declared.decoding.Decoded.TheVariants as asks
@@ -49,7 +49,7 @@ HandleGivesUpChain {F} may =
     give_up_error w.state kept ≡ None →
     Happens may s (GivesUpChain c) (after_giving_up s before behind c (live_of kept))
     × (slice_get (after_giving_up s before behind c (live_of kept)).queues c.queue
-    ≡ Some (live_of (untook kept)))
+    ≡ Some (live_of (gave_up kept)))
 
 -- freeing a handle needs nothing of it: the event `Abandons` happens to a chain in any phase. The chain stays
 -- in flight, and no queue changes

@@ -36,8 +36,8 @@ abbrev pub gave : LiveQueue → LiveQueue
 gave w = record w { next_used = next_position (returning w) }
 
 -- the chain that was popped last was given up: the next pop takes it again
-abbrev pub untook : LiveQueue → LiveQueue
-untook w = record w { queue = record (w.queue) { position = (w.queue.position + (2 ^ 16 - 1)) % 2 ^ 16 } }
+abbrev pub gave_up : LiveQueue → LiveQueue
+gave_up w = record w { queue = record (w.queue) { position = (w.queue.position + (2 ^ 16 - 1)) % 2 ^ 16 } }
 
 -- a chain in flight: the position of its pop, and its head
 abbrev pub InFlightId : Type 0
@@ -61,7 +61,7 @@ RunsOver w outs (DropsLast t ∷ es) w' outs' =
     (before : List InFlightId) × (behind : List InFlightId)
     × (outs ≡ before ++ t ∷ behind)
     × (w.queue.position ≡ (t.0 + 1) % 2 ^ 16)
-    × RunsOver (untook w) (before ++ behind) es w' outs'
+    × RunsOver (gave_up w) (before ++ behind) es w' outs'
 RunsOver w outs (PushesOne t len stores ∷ es) w' outs' =
     (before : List InFlightId) × (behind : List InFlightId)
     × (outs ≡ before ++ t ∷ behind)
@@ -134,7 +134,7 @@ abbrev pub IsOldestFirst : LiveQueue → List InFlightId → List QueueEvent →
 IsOldestFirst w outs [] = Unit {0}
 IsOldestFirst w outs (PopsOne head ∷ es) = IsOldestFirst (took w) (outs ++ (w.queue.position, head) ∷ []) es
 IsOldestFirst w outs (DropsLast t ∷ es) =
-    (before : List InFlightId) × (outs ≡ before ++ t ∷ []) × IsOldestFirst (untook w) before es
+    (before : List InFlightId) × (outs ≡ before ++ t ∷ []) × IsOldestFirst (gave_up w) before es
 IsOldestFirst w [] (PushesOne t len stores ∷ es) = ⊥
 IsOldestFirst w (first ∷ outs) (PushesOne t len stores ∷ es) = (t ≡ first) × IsOldestFirst (gave w) outs es
 

@@ -24,7 +24,7 @@ use Rattle.fs_chain.specs.Loads.{AreWanted, AreWhole, GoesSo, IsSame, whole}
 use Rattle.fs_chain.specs.Orders.{IfWalking, IsWalking, load_len, walk_error}
 use Rattle.fs_chain.specs.Walks.{BeginsUnless, BeginsWhere, GoesOnUnless, LacksEvents, WalksFrom}
 use Rattle.fs_chain.specs.Whole.{AddsSo, LoadsOf, WalksBy, WantsBytes}
-use Rattle.fs_notify.specs.Amid.{FindsNoneAmidRefusals, LoadsAmid, TakesAmidRefusals, WalksAmid}
+use Rattle.fs_notify.specs.Amid.{FindsNoneAmidRefusals, LoadsPastRefusals, TakesAmidRefusals, WalksPastRefusals}
 use Rattle.fs_notify.specs.Takers.{HasPopped}
 use Rattle.fs_notify.proofs.Walks.{finds_none, takes}
 
@@ -169,11 +169,12 @@ same_self w = ((refl, refl, refl, refl), refl, refl, refl, refl)
 
 -- a pop that wants bytes, without the refused calls
 pub record Straight (given : List (List ℕ)) (old new : ChainHandle) (before after : QueueState) (told : went.LoadOutcome)
-    (walks : WalksAmid given old new before after told) : Type 0 where
+    (walks : WalksPastRefusals given old new before after told) : Type 0 where
   pub n : ChainHandle
   pub by : WalksBy given old n before after told
   pub same : IsSame n new
-  pub loads : (loaded : Loaded) → LoadsOf given old n before after told by loaded → LoadsAmid given old new before after told walks loaded
+  pub loads : (loaded : Loaded) → LoadsOf given old n before after told by loaded →
+      LoadsPastRefusals given old new before after told walks loaded
 
 -- a call's loads are the same
 adds_same : (w v : ChainHandle) → IsSame w v → (told : went.LoadOutcome) (ds : List Descriptor) (l loaded : Loaded) (bs : List ℕ)
@@ -187,7 +188,7 @@ adds_same w v same told ds l loaded bs adds =
 
 -- the last call of a pop that isn't refused
 module _ (bs : List ℕ) (given : List (List ℕ)) (old new : ChainHandle) (before after : QueueState) (told : walked.PopOutcome)
-    (kept : IsKept told) (walks : WalksAmid (bs ∷ given) old new before after (wents.On told))
+    (kept : IsKept told) (walks : WalksPastRefusals (bs ∷ given) old new before after (wents.On told))
     (earlier : Straight given old walks.0 before walks.2 walks.3 walks.4) where
   reached : IsSame earlier.n walks.1
   reached = same_too earlier.n walks.0 walks.1 earlier.same walks.6
@@ -203,7 +204,7 @@ module _ (bs : List ℕ) (given : List (List ℕ)) (old new : ChainHandle) (befo
   )
 
   on_loads : (loaded : Loaded) → LoadsOf (bs ∷ given) old new before after (wents.On told) on_by loaded
-      → LoadsAmid (bs ∷ given) old new before after (wents.On told) walks loaded
+      → LoadsPastRefusals (bs ∷ given) old new before after (wents.On told) walks loaded
   unfolding on_by
   on_loads loaded loads = (
     loads.0,
@@ -212,7 +213,7 @@ module _ (bs : List ℕ) (given : List (List ℕ)) (old new : ChainHandle) (befo
   )
 
 pub straight : (given : List (List ℕ)) (old new : ChainHandle) (before after : QueueState) (told : went.LoadOutcome) → WantsBytes told
-    → (walks : WalksAmid given old new before after told) → Straight given old new before after told walks
+    → (walks : WalksPastRefusals given old new before after told) → Straight given old new before after told walks
 straight [] old new before after told wants walks = record { n = new; by = walks; same = same_self new; loads = λ loaded is. is }
 straight (bs ∷ given) old new before after wents.Part wants walks =
     let earlier = straight given old walks.0 before walks.2 walks.3 walks.5 walks.4 in
@@ -240,14 +241,14 @@ straight (bs ∷ given) old new before after (wents.On (says.Faulty head fault))
 
 -- so is a pop that ends
 abbrev StraightOn : (given : List (List ℕ)) (old new : ChainHandle) (before after : QueueState) (told : walked.PopOutcome)
-    → WalksAmid given old new before after (wents.On told) → Type 0
+    → WalksPastRefusals given old new before after (wents.On told) → Type 0
 StraightOn given old new before after told walks =
     (by : WalksBy given old new before after (wents.On told))
     × ((loaded : Loaded) → LoadsOf given old new before after (wents.On told) by loaded
-    → LoadsAmid given old new before after (wents.On told) walks loaded)
+    → LoadsPastRefusals given old new before after (wents.On told) walks loaded)
 
 straight_on : (given : List (List ℕ)) (old new : ChainHandle) (before after : QueueState) (told : walked.PopOutcome) → IsKept told
-    → (walks : WalksAmid given old new before after (wents.On told)) → StraightOn given old new before after told walks
+    → (walks : WalksPastRefusals given old new before after (wents.On told)) → StraightOn given old new before after told walks
 straight_on [] old new before after told kept walks = (walks, λ loaded is. is)
 straight_on (bs ∷ given) old new before after told kept walks =
     let earlier = straight given old walks.0 before walks.2 walks.3 walks.5 walks.4 in

@@ -9,7 +9,7 @@ use Rattle.fs_chain.specs.declared.state.InFlight.{InFlight}
 use Rattle.fs_chain.specs.declared.state.ChainState as state
 use Rattle.fs_chain.specs.declared.state.ChainState.TheVariants as at
 use Rattle.fs_chain.specs.Orders.{end_error}
-use Rattle.fs_chain.specs.Queues.{gave, is_laid_out, is_last, is_out_of, in_flight, untook}
+use Rattle.fs_chain.specs.Queues.{gave, is_laid_out, is_last, is_in_flight_of, in_flight, gave_up}
 use Rattle.notify.specs.Threads.{ThreadedQueue, Walker, is_free, walks, is_rearmer}
 use Rattle.fs_notify.specs.Takers.{DropIsAnAct, FullIsAnAct, ReturnIsAnAct}
 
@@ -18,7 +18,7 @@ use Rattle.fs_notify.specs.Takers.{DropIsAnAct, FullIsAnAct, ReturnIsAnAct}
 some_out : (n : ℕ) (same laid : Bool) → (not (n == 0) && same && laid) ≡ true → 0 < n
 some_out n same laid is = grind (arith, nat_tests)
 
-out_of_queue : (q : QueueState) (out : InFlight) → is_out_of q out ≡ true → 0 < in_flight q
+out_of_queue : (q : QueueState) (out : InFlight) → is_in_flight_of q out ≡ true → 0 < in_flight q
 out_of_queue q out is = some_out (in_flight q) (q.reset_count == out.pop_id.reset_count) (is_laid_out q.layout out.course.layout) is
 
 -- one less by a drop, and by a return
@@ -48,8 +48,8 @@ dropped_of false last none = cc
 
 pub drops : DropIsAnAct
 drops q out s counted ok is walker =
-    let some = out_of_queue q out (dropped_of (is_out_of q out) (is_last q out) ok) in
-    let same : s.out - 1 ≡ in_flight (untook q) =
+    let some = out_of_queue q out (dropped_of (is_in_flight_of q out) (is_last q out) ok) in
+    let same : s.out - 1 ≡ in_flight (gave_up q) =
     ap (λ (n : ℕ). n - 1) is.1 ∙ one_dropped q.next_avail q.next_used counted.0 counted.1 some in (
       both (walks s.holder) (nat_lt 0 s.out) (ap walks walker) (lt_of s.out (subst (λ (n : ℕ). 0 < n) (sym is.1) some)),
       (ap (λ (n : ℕ). (n + (2 ^ 16 - 1)) % 2 ^ 16) is.0, same),
@@ -58,7 +58,7 @@ drops q out s counted ok is walker =
 -- ---- a return
 
 ended_of : (q : QueueState) (from : state.ChainState) → end_error from q ≡ None → 0 < in_flight q
-ended_of q (at.Pushing out) ok = out_of_queue q out (ended (is_out_of q out) q.pushing ok)
+ended_of q (at.Pushing out) ok = out_of_queue q out (ended (is_in_flight_of q out) q.pushing ok)
   where
     ended : (out_of returning : Bool) → (if out_of && returning then None else Some OtherQueue) ≡ None → out_of ≡ true
     ended true returning none = refl

@@ -45,7 +45,7 @@ use Rattle.fs_chain.proofs.WholeWalks.{walk_comes}
 use Rattle.notify.specs.Kicks.{ahead}
 use Rattle.notify.specs.Threads.{ThreadedQueue, Walker, Rearmer, walks, is_rearmer, may_act, after_act, TakesOne, SleepsNow}
 use Rattle.notify.proofs.Rings.{ahead_zero}
-use Rattle.fs_notify.specs.Takers.{FindsNoneByWalk, IsCounted, IsIndex, IsOf, SleepsInOrder, TakesByWalk, ways_of}
+use Rattle.fs_notify.specs.Takers.{FindsNoneByWalk, HasU16Numbers, IsIndex, IsModelOf, SleepsInOrder, TakesByWalk, ways_of}
 
 -- ---- an offer by what waits
 
@@ -269,32 +269,32 @@ lt_of : (n : ℕ) → 0 < n → nat_lt 0 n ≡ true
 lt_of n some = grind (arith, nat_tests)
 
 -- the act of taking, where so many are ahead
-takes_so : (q after : QueueState) (s : ThreadedQueue) (index : ℕ) → IsCounted q → may_take q ≡ true → 0 < ahead index q.next_avail
-    → after ≡ took q → IsOf q s → s.holder ≡ Walker → s.known ≡ index
-    → IsTrue (may_act (ways_of q) s TakesOne) × IsOf after (after_act (ways_of q) s TakesOne)
+takes_so : (q after : QueueState) (s : ThreadedQueue) (index : ℕ) → HasU16Numbers q → may_take q ≡ true → 0 < ahead index q.next_avail
+    → after ≡ took q → IsModelOf q s → s.holder ≡ Walker → s.known ≡ index
+    → IsTrue (may_act (ways_of q) s TakesOne) × IsModelOf after (after_act (ways_of q) s TakesOne)
 takes_so q after s index counted may some gone is walker known =
     let ahead_is : ahead s.known s.position ≡ ahead index q.next_avail = rw (known, is.0) refl in
-    let there : IsOf (took q) (after_act (ways_of q) s TakesOne) = (
+    let there : IsModelOf (took q) (after_act (ways_of q) s TakesOne) = (
       ap (λ (n : ℕ). (n + 1) % 2 ^ 16) is.0,
       ap (λ (n : ℕ). n + 1) is.1 ∙ one_taken q.next_avail q.next_used q.max_in_flight counted.0 counted.1 counted.2 may,
     ) in (
       three (walks s.holder) (nat_lt s.out q.max_in_flight) (nat_lt 0 (ahead s.known s.position)) (ap walks walker) (rw is.1 may)
           (lt_of (ahead s.known s.position) (subst (λ (n : ℕ). 0 < n) (sym ahead_is) some)),
-      subst (λ (k : QueueState). IsOf k (after_act (ways_of q) s TakesOne)) (sym gone) there,
+      subst (λ (k : QueueState). IsModelOf k (after_act (ways_of q) s TakesOne)) (sym gone) there,
     )
 
 abbrev TakesSo : (given : List (List ℕ)) (old new : ChainHandle) (before after : QueueState) (told : walked.PopOutcome)
     (s : ThreadedQueue) → WalksBy given old new before after (wents.On told) → Type 0
 TakesSo given old new before after told s walks =
     (loaded : Loaded) × LoadsOf given old new before after (wents.On told) walks loaded × (index : ℕ) × IsIndex loaded index
-    × (s.known ≡ index → IsTrue (may_act (ways_of before) s TakesOne) × IsOf after (after_act (ways_of before) s TakesOne))
+    × (s.known ≡ index → IsTrue (may_act (ways_of before) s TakesOne) × IsModelOf after (after_act (ways_of before) s TakesOne))
 
 -- by what was offered
 takes_by : (given : List (List ℕ)) (old new : ChainHandle) (before after : QueueState) (told : walked.PopOutcome) (s : ThreadedQueue)
     (walks : WalksBy given old new before after (wents.On told)) (loaded : Loaded)
     (head : ℕ) (fetched : RequestAndRoom) → LoadsOf given old new before after (wents.On told) walks loaded
     → IndexSays loaded.index before.next_avail (Offers head fetched)
-    → IsCounted before → after ≡ took before → IsOf before s → s.holder ≡ Walker → TakesSo given old new before after told s walks
+    → HasU16Numbers before → after ≡ took before → IsModelOf before s → s.holder ≡ Walker → TakesSo given old new before after told s walks
 takes_by given old new before after told s walks loaded head fetched loads says counted gone is walker = (
   loaded,
   loads,
@@ -359,7 +359,7 @@ same_index i p is = grind (arith, nat_tests, is)
 or_left : (a b : Bool) → a ≡ true → (a || b) ≡ true
 or_left a b is = rw is refl
 
-sleeps_so : (q : QueueState) (s : ThreadedQueue) → s.index ≡ s.position → IsOf q s → s.holder ≡ Rearmer → s.hidden ≡ false →
+sleeps_so : (q : QueueState) (s : ThreadedQueue) → s.index ≡ s.position → IsModelOf q s → s.holder ≡ Rearmer → s.hidden ≡ false →
     IsTrue (may_act (ways_of q) s SleepsNow)
 sleeps_so q s none is asker shown =
     three (is_rearmer s.holder) (not s.hidden) (s.index == s.position || nat_le q.max_in_flight s.out) (ap is_rearmer asker)
@@ -386,7 +386,7 @@ finds_none given old new before after s counted fits goes walks is asker shown =
           let none : s.index ≡ before.next_avail =
           ahead_zero s.index before.next_avail fits counted.0 (ap (λ (i : ℕ). ahead i before.next_avail) same ∙ says.2) in (
             sleeps_so before s (none ∙ sym is.0) is asker shown,
-            subst (λ (k : QueueState). IsOf k (after_act (ways_of before) s SleepsNow)) (sym gone) is,
+            subst (λ (k : QueueState). IsModelOf k (after_act (ways_of before) s SleepsNow)) (sym gone) is,
           ),
     )
 

@@ -6,7 +6,7 @@ use Rattle.fs_queue.specs.Returning.{Store}
 use Rattle.fs_chain.specs.declared.queue.QueueState.{QueueState}
 use Rattle.fs_chain.specs.Events.{avail_event_at, notification_store}
 use Rattle.notify.specs.Threads.{ThreadedQueue, Walker, walks, may_act, after_act, Wishes, WishIsThere}
-use Rattle.fs_notify.specs.Takers.{RearmsByStore, IsCounted, IsOf, MutesBy, MutesByStore, SaysWish, ways_of, wish_at}
+use Rattle.fs_notify.specs.Takers.{RearmsByStore, HasU16Numbers, IsModelOf, MutesBy, MutesByStore, SaysWish, ways_of, wish_at}
 
 abbrev AsksSo : QueueState → ThreadedQueue → Type 0
 AsksSo q s =
@@ -18,9 +18,10 @@ AsksSo q s =
     × IsTrue (may_act (ways_of q) s Wishes)
     × IsTrue (may_act (ways_of q) asking WishIsThere)
     × SaysWish q.event_index store.bytes asked.event asked.muted
-    × IsOf q asked
+    × IsModelOf q asked
 
-rearms_so : (q : QueueState) (s : ThreadedQueue) (b : Bool) → q.event_index ≡ b → IsCounted q → IsOf q s → s.holder ≡ Walker → AsksSo q s
+rearms_so : (q : QueueState) (s : ThreadedQueue) (b : Bool) → q.event_index ≡ b → HasU16Numbers q → IsModelOf q s
+    → s.holder ≡ Walker → AsksSo q s
 rearms_so q s true e counted is walker = (
   record { address = avail_event_at q.layout; bytes = to_le_bytes w16 q.next_avail },
   rw e refl,
@@ -43,7 +44,7 @@ rearms_so q s false e counted is walker = (
 pub rearms : RearmsByStore
 rearms q s counted is walker = rearms_so q s q.event_index refl counted is walker
 
-mutes_so : (q : QueueState) (s : ThreadedQueue) (b : Bool) → q.event_index ≡ b → IsOf q s → MutesBy b q s (notification_store q false)
+mutes_so : (q : QueueState) (s : ThreadedQueue) (b : Bool) → q.event_index ≡ b → IsModelOf q s → MutesBy b q s (notification_store q false)
 mutes_so q s true e is = rw e refl
 mutes_so q s false e is = rw e (refl, refl, is)
 

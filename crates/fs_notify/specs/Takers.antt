@@ -20,7 +20,7 @@ use Rattle.fs_chain.specs.declared.popping.PopOutcome.TheVariants as says
 use Rattle.fs_chain.specs.declared.chain_handle.ChainHandle.{ChainHandle}
 use Rattle.fs_chain.specs.Events.{avail_event_at, notification_store}
 use Rattle.fs_chain.specs.Orders.{begin_error, end_error, give_up_error}
-use Rattle.fs_chain.specs.Queues.{gave, in_flight, untook}
+use Rattle.fs_chain.specs.Queues.{gave, in_flight, gave_up}
 use Rattle.fs_chain.specs.Whole.{LoadsOf, WalksBy}
 use Rattle.notify.specs.Threads.{Ways, right_ways, ThreadedQueue, Walker, Rearmer, Nobody, may_act, after_act}
 use Rattle.notify.specs.Threads.{ActsOver}
@@ -31,12 +31,12 @@ abbrev pub ways_of : QueueState → Ways
 ways_of q = right_ways q.layout.size q.max_in_flight q.event_index
 
 -- the numbers of a queue are u16
-abbrev pub IsCounted : QueueState → Type 0
-IsCounted q = (q.next_avail < 2 ^ 16) × (q.next_used < 2 ^ 16) × (q.max_in_flight < 2 ^ 16)
+abbrev pub HasU16Numbers : QueueState → Type 0
+HasU16Numbers q = (q.next_avail < 2 ^ 16) × (q.next_used < 2 ^ 16) × (q.max_in_flight < 2 ^ 16)
 
 -- the model's queue has the same next position and as many chains in flight
-abbrev pub IsOf : QueueState → ThreadedQueue → Type 0
-IsOf q s = (s.position ≡ q.next_avail) × (s.out ≡ in_flight q)
+abbrev pub IsModelOf : QueueState → ThreadedQueue → Type 0
+IsModelOf q s = (s.position ≡ q.next_avail) × (s.out ≡ in_flight q)
 
 -- ---- the wish: the store that enables notifications
 
@@ -53,8 +53,8 @@ SaysWish false bytes event muted = has_bit (from_le_bytes w16 bytes) 0 ≡ muted
 abbrev pub RearmsByStore : Type 0
 RearmsByStore =
     (q : QueueState) (s : ThreadedQueue)
-    → IsCounted q
-    → IsOf q s
+    → HasU16Numbers q
+    → IsModelOf q s
     → s.holder ≡ Walker
     → let asking = after_act (ways_of q) s Wishes in
     let asked = after_act (ways_of q) asking WishIsThere in
@@ -64,7 +64,7 @@ RearmsByStore =
     × IsTrue (may_act (ways_of q) s Wishes)
     × IsTrue (may_act (ways_of q) asking WishIsThere)
     × SaysWish q.event_index store.bytes asked.event asked.muted
-    × IsOf q asked
+    × IsModelOf q asked
 
 -- the store that disables notifications is the model's; with the event index there is none
 abbrev pub MutesBy : (event_index : Bool) → QueueState → ThreadedQueue → Option Store → Type 0
@@ -72,12 +72,12 @@ MutesBy true q s store = store ≡ None
 MutesBy false q s None = ⊥
 MutesBy false q s (Some store) =
     let muted = after_act (ways_of q) s (Silences s.event) in
-    (store.address ≡ wish_at q) × SaysWish false store.bytes muted.event muted.muted × IsOf q muted
+    (store.address ≡ wish_at q) × SaysWish false store.bytes muted.event muted.muted × IsModelOf q muted
 
 abbrev pub MutesByStore : Type 0
 MutesByStore =
     (q : QueueState) (s : ThreadedQueue)
-    → IsOf q s
+    → IsModelOf q s
     → s.holder ≡ Walker
     → MutesBy q.event_index q s (notification_store q false)
     × IsTrue (may_act (ways_of q) s (Silences s.event))
@@ -100,29 +100,29 @@ abbrev pub TakesByWalk : Type 0
 TakesByWalk =
     (given : List (List ℕ)) (old new : ChainHandle) (before after : QueueState)
     (told : walked.PopOutcome) (s : ThreadedQueue)
-    → IsCounted before
+    → HasU16Numbers before
     → before.stopped ≡ None
     → HasPopped told
     → (walks : WalksBy given old new before after (wents.On told))
-    → IsOf before s
+    → IsModelOf before s
     → s.holder ≡ Walker
     → (loaded : Loaded)
     × LoadsOf given old new before after (wents.On told) walks loaded
     × (index : ℕ)
     × IsIndex loaded index
     × (s.known ≡ index
-    → IsTrue (may_act (ways_of before) s TakesOne) × IsOf after (after_act (ways_of before) s TakesOne))
+    → IsTrue (may_act (ways_of before) s TakesOne) × IsModelOf after (after_act (ways_of before) s TakesOne))
 
 -- a pop that finds no chain was given an index. By it the model's thread may sleep, if two conditions hold.
 -- Its wish is in memory, behind a barrier. The index is the one in memory now, not an earlier one
 abbrev pub FindsNoneByWalk : Type 0
 FindsNoneByWalk =
     (given : List (List ℕ)) (old new : ChainHandle) (before after : QueueState) (s : ThreadedQueue)
-    → IsCounted before
+    → HasU16Numbers before
     → s.index < 2 ^ 16
     → before.stopped ≡ None
     → (walks : WalksBy given old new before after (wents.On says.Idle))
-    → IsOf before s
+    → IsModelOf before s
     → s.holder ≡ Rearmer
     → s.hidden ≡ false
     → (loaded : Loaded)
@@ -130,7 +130,8 @@ FindsNoneByWalk =
     × (index : ℕ)
     × IsIndex loaded index
     × (s.index ≡ index
-    → IsTrue (may_act (ways_of before) s SleepsNow) × IsOf after (after_act (ways_of before) s SleepsNow))
+    → IsTrue (may_act (ways_of before) s SleepsNow)
+    × IsModelOf after (after_act (ways_of before) s SleepsNow))
 
 -- the model's thread may also sleep after a pop that is refused because the maximum of chains is in
 -- flight
@@ -138,21 +139,21 @@ abbrev pub FullIsAnAct : Type 0
 FullIsAnAct =
     (q : QueueState) (s : ThreadedQueue)
     → begin_error q 0 ≡ Some ChainInFlight
-    → IsOf q s
+    → IsModelOf q s
     → s.holder ≡ Rearmer
     → s.hidden ≡ false
-    → IsTrue (may_act (ways_of q) s SleepsNow) × IsOf q (after_act (ways_of q) s SleepsNow)
+    → IsTrue (may_act (ways_of q) s SleepsNow) × IsModelOf q (after_act (ways_of q) s SleepsNow)
 
 -- a wish, its barrier and a pop that finds no chain, in this order, are a run of the model
 abbrev pub SleepsInOrder : Type 0
 SleepsInOrder =
     (q : QueueState) (s : ThreadedQueue)
-    → IsOf q s
+    → IsModelOf q s
     → s.holder ≡ Walker
     → s.index ≡ q.next_avail
     → let ways = ways_of q in
     let end = after_act ways (after_act ways (after_act ways s Wishes) WishIsThere) SleepsNow in
-    ActsOver ways s (Wishes ∷ WishIsThere ∷ SleepsNow ∷ []) end × IsOf q end × (end.holder ≡ Nobody)
+    ActsOver ways s (Wishes ∷ WishIsThere ∷ SleepsNow ∷ []) end × IsModelOf q end × (end.holder ≡ Nobody)
 
 -- ---- drops and returns
 
@@ -160,19 +161,19 @@ SleepsInOrder =
 abbrev pub DropIsAnAct : Type 0
 DropIsAnAct =
     (q : QueueState) (out : InFlight) (s : ThreadedQueue)
-    → IsCounted q
+    → HasU16Numbers q
     → give_up_error (at.Taken out) q ≡ None
-    → IsOf q s
+    → IsModelOf q s
     → s.holder ≡ Walker
-    → IsTrue (may_act (ways_of q) s DropsOne) × IsOf (untook q) (after_act (ways_of q) s DropsOne)
+    → IsTrue (may_act (ways_of q) s DropsOne) × IsModelOf (gave_up q) (after_act (ways_of q) s DropsOne)
 
 -- a chain whose return ends is returned
 abbrev pub ReturnIsAnAct : Type 0
 ReturnIsAnAct =
     (q : QueueState) (from : state.ChainState) (s : ThreadedQueue)
-    → IsCounted q
+    → HasU16Numbers q
     → end_error from q ≡ None
-    → IsOf q s
+    → IsModelOf q s
     → s.holder ≡ Walker
     → IsTrue (may_act (ways_of q) s (ReturnsChains 1))
-    × IsOf (gave q) (after_act (ways_of q) s (ReturnsChains 1))
+    × IsModelOf (gave q) (after_act (ways_of q) s (ReturnsChains 1))

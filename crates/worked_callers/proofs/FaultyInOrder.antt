@@ -14,7 +14,7 @@ use Rattle.fs_regions.specs.declared.step.CourseStep.TheVariants as step
 use Rattle.virtiofsd_fuse.specs.Serving.{May}
 use Rattle.fs_chain.specs.Queues.{gave}
 use Rattle.fs_chain.specs.Walks.{queue_after}
-use Rattle.fs_chain.specs.Whole.{GoesBackBy, IsWalked, LoadsOf, WalksBy}
+use Rattle.fs_chain.specs.Whole.{PushedBy, IsWalked, LoadsOf, WalksBy}
 use Rattle.fs_chain.specs.declared.chain_handle.ChainHandle.{ChainHandle}
 use Rattle.fs_chain.specs.declared.loads.LoadOutcome.TheVariants as wents
 use Rattle.fs_chain.specs.declared.popping.PopOutcome.TheVariants as says
@@ -30,7 +30,7 @@ use Rattle.fs_live.specs.Runs.{events_on, going}
 use Rattle.fs_live.specs.Several.{AtTheirPlaces, KeepsOrder, LiveQueue, QueueEvent, returns_among, took}
 use Rattle.fs_live.specs.Several as several
 use Rattle.fs_live.proofs.Queues.{same_some, there_same}
-use Rattle.fs_notify.specs.Takers.{IsCounted, IsOf, TakesByWalk, ways_of}
+use Rattle.fs_notify.specs.Takers.{HasU16Numbers, IsModelOf, TakesByWalk, ways_of}
 use Rattle.worked_callers.specs.Events.{AreFaultyInOrder, IsPoppedChain, loaded_flags}
 use Rattle.worked_callers.specs.Notified.{ActsTo, IsWalkedBy, PopsWithIndex, given_so_far}
 use Rattle.worked_callers.proofs.LoadedFlags.{pushed_with}
@@ -40,8 +40,9 @@ use Rattle.worked_callers.proofs.ServedCrossed.{late_of}
 -- ---- the model's thread
 
 pub takes_faulty_so : TakesByWalk → (given : List (List ℕ)) (old new : ChainHandle) (before after : QueueState) (head : ℕ)
-    (fault : ChainFault) → IsCounted before → before.stopped ≡ None → WalksBy given old new before after (wents.On (says.Faulty head fault))
-    → (s : ThreadedQueue) → IsOf before s → s.holder ≡ Walker
+    (fault : ChainFault) → HasU16Numbers before → before.stopped ≡ None
+    → WalksBy given old new before after (wents.On (says.Faulty head fault))
+    → (s : ThreadedQueue) → IsModelOf before s → s.holder ≡ Walker
     → PopsWithIndex given old new before after (says.Faulty head fault)
     (ActsTo before s (Loads ∷ TakesOne ∷ [])
     (after_act (ways_of before) (after_act (ways_of before) s Loads) TakesOne) after)
@@ -86,9 +87,9 @@ module _ {F : Type 0} (may : May F) (pops : HandleEndsPop may) (pushes : HandleF
     (few : before.next_avail < 2 ^ 16) (walks : IsWalkedBy bytes old one before mid (wents.On (says.Faulty head fault)))
     (walks' : IsWalkedBy bytes' old' two mid after (wents.On (says.Faulty head' fault')))
     (back : (room behind : List ℕ) → (acts : List Act) × (last : ℕ)
-    × (back : GoesBackBy after room behind one.state acts last notice) × (back.flags ≡ loaded_flags))
+    × (back : PushedBy after room behind one.state acts last notice) × (back.flags ≡ loaded_flags))
     (back' : (room behind : List ℕ) → (acts : List Act) × (last : ℕ)
-    × (back : GoesBackBy (gave after) room behind two.state acts last notice') × (back.flags ≡ loaded_flags))
+    × (back : PushedBy (gave after) room behind two.state acts last notice') × (back.flags ≡ loaded_flags))
     (final_is : final ≡ gave (gave after)) where
   pub faulty_in_order : (s : LiveState F) (i : ℕ) → slice_get s.queues i ≡ Some (live_of before) → s.places ≡ places_in old.regions
       → s.places ≡ places_in old'.regions → s.limit ≡ old.limit → s.limit ≡ old'.limit

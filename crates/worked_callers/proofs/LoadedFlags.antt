@@ -5,7 +5,7 @@ use Rattle.fs_queue.specs.ReturningView.{stores_of}
 use Rattle.virtiofsd_fuse.specs.Serving.{May}
 use Rattle.fs_chain.specs.Orders.{front_len}
 use Rattle.fs_chain.specs.Queues.{gave}
-use Rattle.fs_chain.specs.Whole.{FromReplied, GoesBackBy, push_acts, stored_reply}
+use Rattle.fs_chain.specs.Whole.{FromReplied, PushedBy, push_acts, stored_reply}
 use Rattle.fs_chain.specs.declared.pushing.PushStores.{PushStores}
 use Rattle.fs_chain.specs.declared.queue.QueueState.{QueueState}
 use Rattle.fs_chain.specs.declared.state.ChainState as state
@@ -66,7 +66,7 @@ module _ {F : Type 0} (may : May F) (s : LiveState F) (before behind : List OutC
       )
 
   -- of a chain whose reply the server made
-  pub pushed_with : (st : state.ChainState) (room bytes : List ℕ) (back : GoesBackBy kept room bytes st acts last notice)
+  pub pushed_with : (st : state.ChainState) (room bytes : List ℕ) (back : PushedBy kept room bytes st acts last notice)
       → back.flags ≡ loaded_flags → IsReturn may s before behind c kept acts last notice stores
       → IsPushed may s before behind c kept last notice
   pushed_with st room bytes back is made =

@@ -12,7 +12,7 @@ use Rattle.fs_chain.specs.Events.{notification_store, store_of}
 use Rattle.fs_chain.specs.Loads.{RefusesWalk}
 use Rattle.fs_chain.specs.Orders.{begin_error, give_up_error, is_out, load_len, return_error, walk_error}
 use Rattle.fs_chain.specs.Pushes.{IfHasReply, PushesBy}
-use Rattle.fs_chain.specs.Queues.{gave, took, untook}
+use Rattle.fs_chain.specs.Queues.{gave, took, gave_up}
 use Rattle.fs_chain.specs.Walks.{queue_after, told_of}
 use Rattle.fs_chain.specs.Whole.{FromTaken, IsWalked, WalksBy}
 use Rattle.fs_chain.specs.declared.error.ChainError.TheVariants as error
@@ -32,7 +32,7 @@ use Rattle.notify.specs.Kicks as kicks
 use Rattle.notify.specs.Kicks.{NotifyState}
 use Rattle.notify.specs.Threads.{DropsOne, Loads, SleepsNow, TakesOne, ThreadedQueue, Walker, WishIsThere, Wishes, after_act, walks}
 use Rattle.fs_notify.specs.Givers.{PublishesByStore, rules_of}
-use Rattle.fs_notify.specs.Takers.{RearmsByStore, DropIsAnAct, FindsNoneByWalk, IsCounted, IsOf, SaysWish, TakesByWalk, ways_of}
+use Rattle.fs_notify.specs.Takers.{RearmsByStore, DropIsAnAct, FindsNoneByWalk, HasU16Numbers, IsModelOf, SaysWish, TakesByWalk, ways_of}
 use Rattle.worked_callers.specs.Notified.{ActsTo, IsStoredWish, PopsWithIndex}
 
 -- ---- the wish
@@ -41,7 +41,7 @@ none_some : (store : Store) → ◌≡◌ {A = Option Store} None (Some store) �
 none_some store is = cc
 
 pub wish_is : RearmsByStore → (q : QueueState) (store : Option NotificationStore) → option_map store_of store ≡ notification_store q true
-    → IsCounted q → (s : ThreadedQueue) → IsOf q s → s.holder ≡ Walker → IsStoredWish q s store
+    → HasU16Numbers q → (s : ThreadedQueue) → IsModelOf q s → s.holder ≡ Walker → IsStoredWish q s store
 wish_is law q None is counted s of walker =
     let asked = law q s counted of walker in
     absurd (none_some asked.0 (is ∙ asked.1))
@@ -58,8 +58,8 @@ wish_is law q (Some n) is counted s of walker =
 -- ---- a pop that finds no chain
 
 pub sleeps_so : RearmsByStore → FindsNoneByWalk → (given : List (List ℕ)) (old new : ChainHandle) (before after : QueueState)
-    → IsCounted before
-    → before.stopped ≡ None → WalksBy given old new before after (wents.On says.Idle) → (s : ThreadedQueue) → IsOf before s
+    → HasU16Numbers before
+    → before.stopped ≡ None → WalksBy given old new before after (wents.On says.Idle) → (s : ThreadedQueue) → IsModelOf before s
     → s.holder ≡ Walker → s.index < 2 ^ 16
     → PopsWithIndex given old new before after says.Idle
     (ActsTo before s (Wishes ∷ WishIsThere ∷ SleepsNow ∷ [])
@@ -98,9 +98,9 @@ took_is old new before after head n r goes walked =
     came.2.1.2 ∙ chain_took before new.descriptors.items came.2.0 head n r came.2.1.0
 
 pub takes_so : TakesByWalk → (given : List (List ℕ)) (old new : ChainHandle) (before after : QueueState) (head n r : ℕ)
-    → IsCounted before
+    → HasU16Numbers before
     → before.stopped ≡ None → WalksBy given old new before after (wents.On (says.Chain head n r)) → (s : ThreadedQueue)
-    → IsOf before s → s.holder ≡ Walker
+    → IsModelOf before s → s.holder ≡ Walker
     → PopsWithIndex given old new before after (says.Chain head n r)
     (ActsTo before s (Loads ∷ TakesOne ∷ [])
     (after_act (ways_of before) (after_act (ways_of before) s Loads) TakesOne) after)
@@ -123,10 +123,10 @@ took_counted p = omega arith
 
 -- a chain that was taken is dropped
 pub drops_so : TakesByWalk → DropIsAnAct → (given : List (List ℕ)) (old one : ChainHandle) (before mid last : QueueState)
-    (head n r : ℕ) → IsCounted before
+    (head n r : ℕ) → HasU16Numbers before
     → before.stopped ≡ None → WalksBy given old one before mid (wents.On (says.Chain head n r))
     → FromTaken one.state (λ out. out.request_len ≡ n) → give_up_error one.state mid ≡ None
-    → last ≡ (if is_out one.state then untook mid else mid) → (s : ThreadedQueue) → IsOf before s → s.holder ≡ Walker
+    → last ≡ (if is_out one.state then gave_up mid else mid) → (s : ThreadedQueue) → IsModelOf before s → s.holder ≡ Walker
     → PopsWithIndex given old one before mid (says.Chain head n r)
     (ActsTo before s (Loads ∷ TakesOne ∷ DropsOne ∷ [])
     (after_act (ways_of before) (after_act (ways_of before) (after_act (ways_of before) s Loads) TakesOne) DropsOne) last)
@@ -141,17 +141,17 @@ drops_so takes drops given old one before mid last head n r counted goes by take
     let clear' : give_up_error (at.Taken out.0) (took before) ≡ None =
     subst (λ (q : QueueState). give_up_error (at.Taken out.0) q ≡ None) mid_is
     (subst (λ (st : state.ChainState). give_up_error st mid ≡ None) out.1 clear) in
-    let last_is : untook (took before) ≡ last =
-    sym (left ∙ ap (λ (b : Bool). if b then untook mid else mid) (ap is_out out.1) ∙ ap untook mid_is) in (
+    let last_is : gave_up (took before) ≡ last =
+    sym (left ∙ ap (λ (b : Bool). if b then gave_up mid else mid) (ap is_out out.1) ∙ ap gave_up mid_is) in (
       by,
       t.0,
       t.1,
       t.2,
       t.3,
       λ is.
-          let of_two : IsOf (took before) two = subst (λ (q : QueueState). IsOf q two) mid_is (t.4 is).1 in
+          let of_two : IsModelOf (took before) two = subst (λ (q : QueueState). IsModelOf q two) mid_is (t.4 is).1 in
           let d = drops (took before) out.0 two (took_counted before.next_avail, counted.1, counted.2) clear' of_two walker in
-          ((ap walks walker, ((t.4 is).0, (d.0, refl))), subst (λ (q : QueueState). IsOf q three) last_is d.1),
+          ((ap walks walker, ((t.4 is).0, (d.0, refl))), subst (λ (q : QueueState). IsModelOf q three) last_is d.1),
     )
 
 -- ---- as many as may be

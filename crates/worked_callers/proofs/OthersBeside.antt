@@ -19,7 +19,7 @@ use Rattle.virtiofsd_fuse.specs.Serving.{May}
 use Rattle.fs_chain.specs.Events.{tells_of}
 use Rattle.fs_chain.specs.Orders.{give_up_error, is_out, return_error}
 use Rattle.fs_chain.specs.OwnReplies.{IfUnanswered, own_error, own_reply}
-use Rattle.fs_chain.specs.Queues.{reset_to, gave, untook}
+use Rattle.fs_chain.specs.Queues.{reset_to, gave, gave_up}
 use Rattle.fs_chain.specs.Pushes.{IfHasReply, PushesBy}
 use Rattle.fs_chain.specs.Whole.{FromTaken}
 use Rattle.fs_chain.specs.declared.loads.LoadOutcome.TheVariants as wents
@@ -55,7 +55,7 @@ pub dropped_beside : {F : Type 0} (may : May F) (walks_law : HandleEndsPop may) 
     (before after last : QueueState) (head n r : ℕ) → before.stopped ≡ None
     → IsWalkedBy given old one before after (wents.On (says.Chain head n r)) → later.state ≡ one.state
     → give_up_error later.state after ≡ None
-    → last ≡ (if is_out later.state then untook after else after) → (s : LiveState F) (i : ℕ)
+    → last ≡ (if is_out later.state then gave_up after else after) → (s : LiveState F) (i : ℕ)
     → slice_get s.queues i ≡ Some (live_of before) → s.places ≡ places_in old.regions → s.limit ≡ old.limit
     → (es : List LiveEvent) × (end : LiveState F) × LiveRun may s es end × IsGivenUpChain s i given old before es
     × (end.outs ≡ s.outs)
@@ -79,7 +79,7 @@ dropped_beside {F} may walks_law drops_law given old one later before after last
     let dropped = drops_law s₁ c s.outs [] later after refl there₁ refl (held_later s.limit c one later same held) clear in
     let s₂ : LiveState F = after_giving_up s₁ s.outs [] c (live_of after) in
     let out : is_out later.state ≡ true = ap is_out (same ∙ held.state) in
-    let left_is : untook after ≡ last = sym (left ∙ ap (λ (b : Bool). if b then untook after else after) out) in (
+    let left_is : gave_up after ≡ last = sym (left ∙ ap (λ (b : Bool). if b then gave_up after else after) out) in (
       EndsPop i loaded ds came ∷ GivesUpChain c ∷ [],
       s₂,
       (s₁, first, (s₂, dropped.0, refl)),

@@ -24,7 +24,7 @@ use Rattle.fs_chain.specs.Orders.{front_len, return_error}
 use Rattle.fs_chain.specs.Queues.{pop_id_of}
 use Rattle.fs_chain.specs.Pushes.{IfHasReply, PushesBy}
 use Rattle.fs_chain.specs.Walks.{RefusalHasEvents, course_of, queue_after, state_after, told_of}
-use Rattle.fs_chain.specs.Whole.{FromTaken, GoesBackBy, IsByFlags, IsToldBySeen, IsWalked, push_acts}
+use Rattle.fs_chain.specs.Whole.{FromTaken, PushedBy, IsByFlags, IsToldBySeen, IsWalked, push_acts}
 use Rattle.fs_chain.proofs.WholeWalks.{walk_comes}
 
 abbrev IsAChain : walked.PopOutcome → Type 0
@@ -112,7 +112,7 @@ whole_front request = take_all (length request) request (omega arith)
 pub goes_back_by : (st : state.ChainState) (q : QueueState) (len : ℕ) (s : PushStores) (flags room behind : List ℕ) →
     return_error st q len ≡ None → length flags ≡ 2 →
     IfHasReply st (λ out reply. PushesBy q out reply s) →
-    (acts : List Act) × (last : ℕ) × (back : GoesBackBy q room behind st acts last (tells_of q flags)) × (back.flags ≡ flags)
+    (acts : List Act) × (last : ℕ) × (back : PushedBy q room behind st acts last (tells_of q flags)) × (back.flags ≡ flags)
     × (back.stores.seen_at ≡ s.seen_at)
 goes_back_by (at.HasReply out reply) q len s flags room behind can two back = (
   push_acts room reply behind s flags,

@@ -19,7 +19,7 @@ use Rattle.server_phases.specs.declared.session.Session.{Session}
 use Rattle.fs_chain.specs.Events.{notification_store, store_of}
 use Rattle.fs_chain.specs.Queues.{gave}
 use Rattle.fs_chain.specs.Walks.{course_of, told_of}
-use Rattle.fs_chain.specs.Whole.{ChainAnswer, GoesBackBy, IsRepliedBy, IsDecodedBy, IsWalked, LoadsOf, data_behind, file_calls}
+use Rattle.fs_chain.specs.Whole.{ChainAnswer, PushedBy, IsRepliedBy, IsDecodedBy, IsWalked, LoadsOf, data_behind, file_calls}
 use Rattle.fs_chain.specs.declared.decoding.Decoded.{Decoded}
 use Rattle.fs_chain.specs.declared.decoding.Decoded.TheVariants as asks
 use Rattle.fs_chain.specs.declared.event_index.NotificationStore.{NotificationStore}
@@ -257,7 +257,7 @@ module _ {F : Type 0} (may : May F) (walks_law : HandleEndsPop may) (asks_law : 
     (walks : IsWalked old one before after (wents.On (says.Chain head n r))) (same : later.state ≡ one.state)
     (asked : IsDecodedBy later session request request made two)
     (has : IsRepliedBy made two given three) (back : (room behind : List ℕ)
-    → (acts : List Act) × (last : ℕ) × (back : GoesBackBy after room behind three.state acts last notice)
+    → (acts : List Act) × (last : ℕ) × (back : PushedBy after room behind three.state acts last notice)
     × (back.flags ≡ loaded_flags)) where
   pub served_beside : (s : LiveState F) (i : ℕ) (files : F) → IsReached may s → slice_get s.queues i ≡ Some (live_of before)
       → s.places ≡ places_in old.regions → s.limit ≡ old.limit
@@ -364,7 +364,7 @@ pub faulty_beside : {F : Type 0} (may : May F) (walks_law : HandleEndsPop may) (
     (before after final : QueueState) (head : ℕ) (fault : ChainFault)
     (notice : Bool) → before.stopped ≡ None → IsWalkedBy given old one before after (wents.On (says.Faulty head fault))
     → later.state ≡ one.state
-    → ((room behind : List ℕ) → (acts : List Act) × (last : ℕ) × (back : GoesBackBy after room behind later.state acts last notice)
+    → ((room behind : List ℕ) → (acts : List Act) × (last : ℕ) × (back : PushedBy after room behind later.state acts last notice)
     × (back.flags ≡ loaded_flags))
     → final ≡ gave after → (s : LiveState F) (i : ℕ) → slice_get s.queues i ≡ Some (live_of before)
     → s.places ≡ places_in old.regions → s.limit ≡ old.limit

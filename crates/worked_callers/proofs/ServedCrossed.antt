@@ -12,7 +12,7 @@ use Rattle.virtiofsd_fuse.specs.Serving.{May}
 use Rattle.server_phases.specs.declared.session.Session.{Session}
 use Rattle.fs_chain.specs.Queues.{gave}
 use Rattle.fs_chain.specs.Walks.{course_of}
-use Rattle.fs_chain.specs.Whole.{ChainAnswer, GoesBackBy, IsRepliedBy, IsDecodedBy, data_behind, file_calls}
+use Rattle.fs_chain.specs.Whole.{ChainAnswer, PushedBy, IsRepliedBy, IsDecodedBy, data_behind, file_calls}
 use Rattle.fs_chain.specs.declared.decoding.Decoded.{Decoded}
 use Rattle.fs_chain.specs.declared.loads.LoadOutcome.TheVariants as wents
 use Rattle.fs_chain.specs.declared.queue.QueueState.{QueueState}
@@ -57,8 +57,8 @@ module _ {F : Type 0} (may : May F) (walks_law : HandleEndsPop may) (asks_law : 
     (asked : IsDecodedBy one session request request made one₂) (asked' : IsDecodedBy two session' request' request' made' two₂)
     (has : IsRepliedBy made one₂ given one₃) (has' : IsRepliedBy made' two₂ given' two₃)
     (back : (room behind : List ℕ) → (acts : List Act) × (last : ℕ)
-    × (back : GoesBackBy (gave after) room behind one₃.state acts last notice) × (back.flags ≡ loaded_flags))
-    (back' : (room behind : List ℕ) → (acts : List Act) × (last : ℕ) × (back : GoesBackBy after room behind two₃.state acts last notice')
+    × (back : PushedBy (gave after) room behind one₃.state acts last notice) × (back.flags ≡ loaded_flags))
+    (back' : (room behind : List ℕ) → (acts : List Act) × (last : ℕ) × (back : PushedBy after room behind two₃.state acts last notice')
     × (back.flags ≡ loaded_flags)) where
   abbrev late : Calls
   late = file_calls (drop 80 request) made given

@@ -7,7 +7,7 @@ use Rattle.fs_queue.specs.declared.fault.QueueError.TheVariants as stop
 use Rattle.fs_regions.specs.declared.step.CourseStep as comes
 use Rattle.fs_chain.specs.Loads.{whole}
 use Rattle.fs_chain.specs.Orders.{is_out, load_len}
-use Rattle.fs_chain.specs.Queues.{gave, took, untook}
+use Rattle.fs_chain.specs.Queues.{gave, took, gave_up}
 use Rattle.fs_chain.specs.Walks.{BeginsPop, BeginsUnless, WalksFrom, WalksOn, queue_after}
 use Rattle.fs_chain.specs.Whole.{BeginsPopBy, FromTaken, IsWalked, WalksBy, WantsBytes}
 use Rattle.fs_chain.specs.declared.chain_handle.ChainHandle.{ChainHandle}
@@ -93,8 +93,9 @@ taken_is_out (at.Taken out) P taken = refl
 taken_is_out st P taken = absurd taken
 
 -- after the chain is given up
-pub untook_took : {A E : Type 0} (r : Result A E) (st : state.ChainState) (P : InFlight → Type 0) (before mid after : QueueState)
-    → FromTaken st P → mid ≡ took before → OnOk r (after ≡ (if is_out st then untook mid else mid)) → OnOk r (after ≡ untook (took before))
-untook_took (Ok a) st P before mid after taken took_is left =
-    left ∙ ap (λ (b : Bool). if b then untook mid else mid) (taken_is_out st P taken) ∙ ap untook took_is
-untook_took (Err e) st P before mid after taken took_is left = tt
+pub gave_up_taken : {A E : Type 0} (r : Result A E) (st : state.ChainState) (P : InFlight → Type 0) (before mid after : QueueState)
+    → FromTaken st P → mid ≡ took before → OnOk r (after ≡ (if is_out st then gave_up mid else mid))
+    → OnOk r (after ≡ gave_up (took before))
+gave_up_taken (Ok a) st P before mid after taken took_is left =
+    left ∙ ap (λ (b : Bool). if b then gave_up mid else mid) (taken_is_out st P taken) ∙ ap gave_up took_is
+gave_up_taken (Err e) st P before mid after taken took_is left = tt

@@ -14,8 +14,8 @@ use Rattle.fs_chain.specs.declared.queue.QueueState.{QueueState}
 use Rattle.fs_chain.specs.declared.chain_handle.ChainHandle.{ChainHandle}
 use Rattle.notify.specs.Threads.{ThreadedQueue, ThreadStep, ActsOver, after_act}
 use Rattle.notify.specs.Threads.{Wishes, WishIsThere}
-use Rattle.fs_notify.specs.Amid.{LoadsAmid, WalksAmid}
-use Rattle.fs_notify.specs.Takers.{IsIndex, IsOf, SaysWish, ways_of, wish_at}
+use Rattle.fs_notify.specs.Amid.{LoadsPastRefusals, WalksPastRefusals}
+use Rattle.fs_notify.specs.Takers.{IsIndex, IsModelOf, SaysWish, ways_of, wish_at}
 
 -- the store that was returned is the wish in memory, after two acts of the model's thread
 abbrev pub IsStoredWish : QueueState → ThreadedQueue → Option NotificationStore → Type 0
@@ -25,7 +25,7 @@ IsStoredWish q s (Some store) =
     (store.address ≡ wish_at q)
     × SaysWish q.event_index (to_le_bytes w16 store.value) wished.event wished.muted
     × ActsOver (ways_of q) s (Wishes ∷ WishIsThere ∷ []) wished
-    × IsOf q wished
+    × IsModelOf q wished
 
 -- the bytes of a pop's first `n` loads, as its calls are listed: the last load's first
 abbrev pub given_so_far : ℕ → List (Bor (List ℕ)) → List (List ℕ)
@@ -54,8 +54,8 @@ IsRefusedCall w q bytes = (e : ChainError) × RefusesWalk w q bytes e
 
 -- before each call of such a pop that has bytes, a call with these other bytes was refused
 abbrev pub RefusesBetween : (wrong : List ℕ) → (given : List (List ℕ)) → (old new : ChainHandle) →
-    (before after : QueueState) → (told : went.LoadOutcome) → WalksAmid given old new before after told →
-    Type 0
+    (before after : QueueState) → (told : went.LoadOutcome) →
+    WalksPastRefusals given old new before after told → Type 0
 RefusesBetween wrong [] old new before after told walks = Unit {0}
 RefusesBetween wrong (bs ∷ given) old new before after told walks =
     RefusesBetween wrong given old walks.0 before walks.2 walks.3 walks.4
@@ -66,7 +66,7 @@ RefusesBetween wrong (bs ∷ given) old new before after told walks =
 abbrev pub WalksPast : (wrong : List ℕ) → (given : List (List ℕ)) → (old new : ChainHandle) →
     (before after : QueueState) → went.LoadOutcome → Type 0
 WalksPast wrong given old new before after told =
-    (walks : WalksAmid given old new before after told)
+    (walks : WalksPastRefusals given old new before after told)
     × RefusesBetween wrong given old new before after told walks
 
 -- such a pop that was given the first of these bytes has this result
@@ -79,10 +79,10 @@ IsWalkedAmid wrong bytes old new before after told =
 abbrev pub PopsAmid : (wrong : List ℕ) → (given : List (List ℕ)) → (old new : ChainHandle) →
     (before after : QueueState) → PopOutcome → (ℕ → Type 0) → Type 0
 PopsAmid wrong given old new before after told P =
-    (walks : WalksAmid given old new before after (wents.On told))
+    (walks : WalksPastRefusals given old new before after (wents.On told))
     × RefusesBetween wrong given old new before after (wents.On told) walks
     × (loaded : Loaded)
-    × LoadsAmid given old new before after (wents.On told) walks loaded
+    × LoadsPastRefusals given old new before after (wents.On told) walks loaded
     × (index : ℕ)
     × IsIndex loaded index
     × P index
@@ -90,4 +90,4 @@ PopsAmid wrong given old new before after told P =
 -- if memory has this index, the model's thread may do these acts, and the model's queue afterwards is `after`
 abbrev pub ActsTo : QueueState → ThreadedQueue → List ThreadStep → ThreadedQueue → QueueState → (index : ℕ) →
     Type 0
-ActsTo q s acts end after index = s.index ≡ index → ActsOver (ways_of q) s acts end × IsOf after end
+ActsTo q s acts end after index = s.index ≡ index → ActsOver (ways_of q) s acts end × IsModelOf after end

@@ -10,11 +10,11 @@ ghost use Rattle.fs_chain.specs.declared.popping.PopOutcome.{PopOutcome};
 ghost use Rattle.fs_chain.specs.declared.state.ChainState.TheVariants as at;
 ghost use Rattle.notify.specs.Threads.{Rearmer, SleepsNow, TakesOne, ThreadedQueue, Walker, after_act};
 ghost use Rattle.notify.specs.Threads.{may_act};
-ghost use Rattle.fs_notify.specs.Takers.{IsOf, ways_of};
+ghost use Rattle.fs_notify.specs.Takers.{IsModelOf, ways_of};
 ghost use Rattle.worked_callers.specs.Notified.{IsRefusedCall, IsWalkedAmid, PopsAmid, WalksPast};
 ghost use Rattle.worked_callers.specs.Notified.{given_so_far};
 
-use crate::takers::are_counted;
+use crate::takers::have_u16_numbers;
 use crate::wholes::wants_bytes;
 use fs_chain::{ChainError, ChainHandle, LoadOutcome, PopOutcome, QueueState};
 use fs_notify::law_takers;
@@ -75,7 +75,7 @@ pub fn sleep_amid(
     requires goes { queue.old.stopped ≡ None }
     ensures { OnOk result ((n : ℕ)
         × ((s : ThreadedQueue)
-        → IsOf queue.old s
+        → IsModelOf queue.old s
         → s.holder ≡ Rearmer
         → s.hidden ≡ false
         → s.index < 2 ^ 16
@@ -83,10 +83,10 @@ pub fn sleep_amid(
         PopOutcome.Idle
         (λ index. s.index ≡ index
         → IsTrue (may_act (ways_of queue.old) s SleepsNow)
-        × IsOf queue.new (after_act (ways_of queue.old) s SleepsNow)))) }
+        × IsModelOf queue.new (after_act (ways_of queue.old) s SleepsNow)))) }
 {
     law_takers();
-    are_counted(queue);
+    have_u16_numbers(queue);
     match walk_amid(handle, queue, wrong, given)? {
         LoadOutcome::On(PopOutcome::Idle) => Ok(()),
         _ => Err(ChainError::WrongOrder),
@@ -105,16 +105,16 @@ pub fn take_amid(
     requires goes { queue.old.stopped ≡ None }
     ensures { IfOk result (λ c. (n : ℕ)
         × ((s : ThreadedQueue)
-        → IsOf queue.old s
+        → IsModelOf queue.old s
         → s.holder ≡ Walker
         → PopsAmid wrong.now (given_so_far n given.now) handle.old handle.new queue.old queue.new
         (PopOutcome.Chain c.0 c.1 c.2)
         (λ index. s.known ≡ index
         → IsTrue (may_act (ways_of queue.old) s TakesOne)
-        × IsOf queue.new (after_act (ways_of queue.old) s TakesOne)))) }
+        × IsModelOf queue.new (after_act (ways_of queue.old) s TakesOne)))) }
 {
     law_takers();
-    are_counted(queue);
+    have_u16_numbers(queue);
     match walk_amid(handle, queue, wrong, given)? {
         LoadOutcome::On(
             PopOutcome::Chain {

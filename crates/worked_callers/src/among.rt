@@ -8,7 +8,7 @@ ghost use Rattle.plain_machine.specs.StepBy.{Act};
 ghost use Rattle.fs_chain.specs.Loads.{GoesSo, HasNoPlace, IsSame, RefusesWalk, came};
 ghost use Rattle.fs_chain.specs.Orders.{IsWalking};
 ghost use Rattle.fs_chain.specs.Queues.{gave};
-ghost use Rattle.fs_chain.specs.Whole.{GoesBackBy};
+ghost use Rattle.fs_chain.specs.Whole.{PushedBy};
 ghost use Rattle.fs_chain.specs.declared.state.ChainState.TheVariants as at;
 ghost use Rattle.fs_chain.specs.declared.popping.PopOutcome.{PopOutcome};
 ghost use Rattle.fs_live.specs.Among.{WalksAmong, load_count_among};
@@ -76,7 +76,7 @@ pub fn look_among_returns<F: FileSystem>(
     requires free { handle.old.state ≡ at.Free }
     requires goes { queue.old.stopped ≡ None }
     ensures pushed { OnOk result ((room behind : List ℕ) → (acts : List Act) × (last : ℕ) × (notice : Bool)
-        × (back : GoesBackBy queue.old room behind other.old.state acts last notice)
+        × (back : PushedBy queue.old room behind other.old.state acts last notice)
         × (back.flags ≡ loaded_flags)) }
     ensures freed { OnOk result (other.new.state ≡ at.Free) }
     ensures calls { IfOk result (λ told. (w : ChainHandle)

@@ -10,12 +10,12 @@ ghost use Rattle.fs_live.specs.Handles.{live_of};
 ghost use Rattle.fs_live.specs.Live.{LiveEvent, LiveRun, LiveState};
 ghost use Rattle.fs_live.specs.Runs.{events_on, going};
 ghost use Rattle.fs_live.specs.Several.{AtTheirPlaces, returns_among};
-ghost use Rattle.fs_notify.specs.Takers.{IsOf, ways_of};
+ghost use Rattle.fs_notify.specs.Takers.{IsModelOf, ways_of};
 ghost use Rattle.worked_callers.specs.Events.{AreFaultyInOrder};
 ghost use Rattle.worked_callers.specs.Notified.{ActsTo, PopsWithIndex, given_so_far};
 
 use crate::beside::take_faulty;
-use crate::takers::are_counted;
+use crate::takers::have_u16_numbers;
 use crate::wholes::push_reply;
 use fs_chain::{ChainError, ChainHandle, PopOutcome, QueueState};
 use fs_live::{law_handles, law_queues};
@@ -33,7 +33,7 @@ pub fn take_one_faulty(
     requires goes { queue.old.stopped ≡ None }
     ensures takes { IfOk result (λ c. (n : ℕ)
         × ((s : ThreadedQueue)
-        → IsOf queue.old s
+        → IsModelOf queue.old s
         → s.holder ≡ Walker
         → (let ways = ways_of queue.old in
         PopsWithIndex (given_so_far n given.now) handle.old handle.new queue.old queue.new
@@ -42,7 +42,7 @@ pub fn take_one_faulty(
         queue.new)))) }
 {
     law_takers();
-    are_counted(queue);
+    have_u16_numbers(queue);
     take_faulty(handle, queue, given)
 }
 
@@ -76,7 +76,7 @@ pub fn give_two_in_order<F: FileSystem>(
 {
     law_handles::<F>();
     law_queues();
-    are_counted(queue);
+    have_u16_numbers(queue);
     let (_, _fault) = take_faulty(first, queue, given)?;
     let (_, _other) = take_faulty(second, queue, more)?;
     let early = push_reply(first, queue)?;

@@ -7,10 +7,10 @@ ghost use Rattle.fs_chain.specs.declared.error.ChainError.{ChainError};
 ghost use Rattle.fs_chain.specs.declared.state.ChainState.TheVariants as at;
 ghost use Rattle.notify.specs.Threads.{ActsOver, SleepsNow, ThreadedQueue, Walker, WishIsThere, Wishes};
 ghost use Rattle.notify.specs.Threads.{after_act};
-ghost use Rattle.fs_notify.specs.Takers.{IsOf, ways_of};
+ghost use Rattle.fs_notify.specs.Takers.{IsModelOf, ways_of};
 ghost use Rattle.worked_callers.specs.Notified.{IsStoredWish};
 
-use crate::takers::{are_counted, store_wish};
+use crate::takers::{have_u16_numbers, store_wish};
 use fs_chain::{ChainError, ChainHandle, NotificationStore, QueueState};
 use fs_notify::law_takers;
 
@@ -22,20 +22,20 @@ pub fn sleep_if_full(
 ) -> Result<Option<NotificationStore>, ChainError>
     requires free { handle.old.state ≡ at.Free }
     ensures wish { IfOk result (λ store. (s : ThreadedQueue)
-        → IsOf queue.old s
+        → IsModelOf queue.old s
         → s.holder ≡ Walker
         → IsStoredWish queue.old s store) }
     ensures same { OnOk result (IsSame handle.old handle.new × (queue.new ≡ queue.old)) }
     ensures refused { OnOk result (RefusesWalk handle.old queue.old [] ChainError.ChainInFlight) }
     ensures sleeps { OnOk result ((s : ThreadedQueue)
-        → IsOf queue.old s
+        → IsModelOf queue.old s
         → s.holder ≡ Walker
         → (let ways = ways_of queue.old in
         let end = after_act ways (after_act ways (after_act ways s Wishes) WishIsThere) SleepsNow in
-        ActsOver ways s (Wishes ∷ WishIsThere ∷ SleepsNow ∷ []) end × IsOf queue.new end)) }
+        ActsOver ways s (Wishes ∷ WishIsThere ∷ SleepsNow ∷ []) end × IsModelOf queue.new end)) }
 {
     law_takers();
-    are_counted(queue);
+    have_u16_numbers(queue);
     let store = store_wish(queue);
     match handle.pop(queue, &[]) {
         Err(ChainError::ChainInFlight) => Ok(store),

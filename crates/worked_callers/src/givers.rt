@@ -9,9 +9,9 @@ ghost use Rattle.notify.specs.Kicks as kicks;
 ghost use Rattle.notify.specs.Kicks.{NotifyState, Runs, ahead};
 ghost use Rattle.notify.specs.Threads.{ReturnsChains, ThreadedQueue, Walker, after_act, may_act};
 ghost use Rattle.fs_notify.specs.Givers.{rules_of};
-ghost use Rattle.fs_notify.specs.Takers.{IsOf, SaysWish, ways_of};
+ghost use Rattle.fs_notify.specs.Takers.{IsModelOf, SaysWish, ways_of};
 
-use crate::takers::are_counted;
+use crate::takers::have_u16_numbers;
 use fs_chain::{ChainError, ChainHandle, PushStores, QueueState};
 use fs_notify::{law_givers, law_takers};
 
@@ -24,10 +24,10 @@ pub fn push_one(
 ) -> Result<(bool, PushStores), ChainError>
     ensures again { OnOk result (handle.new.state ≡ at.Free) }
     ensures returns { OnOk result ((s : ThreadedQueue)
-        → IsOf queue.old s
+        → IsModelOf queue.old s
         → s.holder ≡ Walker
         → IsTrue (may_act (ways_of queue.old) s (ReturnsChains 1))
-        × IsOf queue.new (after_act (ways_of queue.old) s (ReturnsChains 1))) }
+        × IsModelOf queue.new (after_act (ways_of queue.old) s (ReturnsChains 1))) }
     ensures publishes { IfOk result (λ told. (u : NotifyState)
         → u.published ≡ queue.old.next_used
         → (let published = (kicks.after (rules_of queue.old) u (kicks.Publishes 1)).published in
@@ -53,7 +53,7 @@ pub fn push_one(
 {
     law_takers();
     law_givers();
-    are_counted(queue);
+    have_u16_numbers(queue);
     let mut front = [0u8; 160];
     let stores = handle.push(queue, &mut front)?;
     let bytes = seen.to_le_bytes();

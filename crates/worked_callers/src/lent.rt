@@ -5,7 +5,7 @@ ghost use Rattle.std.specs.Prelude.{◌≡◌, ◌≤◌, ◌^◌, ℕ, [], IfOk
 ghost use Rattle.fs_regions.specs.Places.{places_in};
 ghost use Rattle.fuse_fs.specs.Calls.{FileRun};
 ghost use Rattle.server_phases.specs.Answering.{TellsBytes};
-ghost use Rattle.fs_chain.specs.Queues.{gave, took, untook};
+ghost use Rattle.fs_chain.specs.Queues.{gave, took, gave_up};
 ghost use Rattle.fs_chain.specs.Tables.{with_table};
 ghost use Rattle.fs_chain.specs.declared.state.ChainState.TheVariants as at;
 ghost use Rattle.plain_machine.specs.Step.{Calls};
@@ -96,7 +96,7 @@ pub fn drop_lent<F: FileSystem>(
     requires free { handle.old.state ≡ at.Free }
     requires goes { queue.old.stopped ≡ None }
     ensures again { OnOk result (handle.new.state ≡ at.Free) }
-    ensures queue { OnOk result (queue.new ≡ untook (took queue.old)) }
+    ensures queue { OnOk result (queue.new ≡ gave_up (took queue.old)) }
     ensures run { OnOk result ((s : LiveState F) (i : ℕ)
         → slice_get s.queues i ≡ Some (live_of queue.old)
         → s.places ≡ places_in handle.old.regions

@@ -22,7 +22,7 @@ ghost use Rattle.worked_callers.specs.OwnReplies.{IsAt};
 use crate::crossed::ChainBytes;
 use crate::moves::{only, restore_one, save_one};
 use crate::others::{begin_again, begin_by_record, reply_beside};
-use crate::takers::are_counted;
+use crate::takers::have_u16_numbers;
 use fs_chain::{ChainError, ChainHandle, QueueState};
 use fs_live::law_runs;
 use fs_record::{RecordSink, RecordSource};
@@ -93,7 +93,7 @@ pub fn move_and_go_on<F: FileSystem, S: RecordSink, T: RecordSource>(
         × (end.queues ≡ live_of moved.new ∷ []))) }
 {
     law_runs::<F, F>();
-    are_counted(queue);
+    have_u16_numbers(queue);
     let _told = reply_beside::<F>(here, queue, one.given, one.request, one.bytes)?;
     save_one(sink, options, queue)?;
     let (_, restored) = restore_one(alloc, source)?;

@@ -6,7 +6,7 @@ ghost use Rattle.std.specs.Int.{w16, to_le_bytes};
 ghost use Rattle.plain_machine.specs.StepBy.{Act};
 ghost use Rattle.fs_queue.specs.Returning.{next_position};
 ghost use Rattle.fs_chain.specs.Queues.{gave};
-ghost use Rattle.fs_chain.specs.Whole.{GoesBackBy};
+ghost use Rattle.fs_chain.specs.Whole.{PushedBy};
 ghost use Rattle.fs_chain.specs.declared.state.ChainState.TheVariants as at;
 ghost use Rattle.fs_live.specs.Handles.{live_of};
 ghost use Rattle.fs_live.specs.Several.{passes, returning};
@@ -26,7 +26,7 @@ pub fn notify_by_event(
     ensures again { OnOk result (handle.new.state ≡ at.Free) }
     ensures queue { OnOk result (queue.new ≡ gave queue.old) }
     ensures back { IfOk result (λ notice. (room behind : List ℕ) → (acts : List Act) × (last : ℕ)
-        × (back : GoesBackBy queue.old room behind handle.old.state acts last notice)
+        × (back : PushedBy queue.old room behind handle.old.state acts last notice)
         × (back.flags ≡ to_le_bytes w16 used_event)) }
     ensures told { IfOk result (λ notice. notice
         ≡ passes used_event queue.old.next_used (next_position (returning (live_of queue.old)))) }

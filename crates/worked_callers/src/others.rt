@@ -13,7 +13,7 @@ ghost use Rattle.vm_memory_core.specs.Host.{changed_at};
 ghost use Rattle.fs_record.specs.Record.{IsRecord, Version};
 ghost use Rattle.fs_regions.specs.Places.{places_in};
 ghost use Rattle.fs_chain.specs.Orders.{memory_error};
-ghost use Rattle.fs_chain.specs.Queues.{gave, reset_to, took, untook};
+ghost use Rattle.fs_chain.specs.Queues.{gave, reset_to, took, gave_up};
 ghost use Rattle.fs_chain.specs.declared.state.ChainState.TheVariants as at;
 ghost use Rattle.plain_machine.specs.StepBy.{Act};
 ghost use Rattle.fs_live.specs.Handles.{IsReached, live_of};
@@ -44,7 +44,7 @@ pub fn drop_beside<F: FileSystem>(
     requires free { handle.old.state ≡ at.Free }
     requires goes { queue.old.stopped ≡ None }
     ensures again { OnOk result (handle.new.state ≡ at.Free) }
-    ensures queue { OnOk result (queue.new ≡ untook (took queue.old)) }
+    ensures queue { OnOk result (queue.new ≡ gave_up (took queue.old)) }
     ensures run { OnOk result ((s : LiveState F) (i : ℕ)
         → slice_get s.queues i ≡ Some (live_of queue.old)
         → s.places ≡ places_in handle.old.regions

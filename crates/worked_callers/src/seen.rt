@@ -19,7 +19,7 @@ ghost use Rattle.fs_regions.specs.Walks.{Loaded, OffersBy, queue_of};
 ghost use Rattle.fs_chain.specs.Events.{seen_at, tells_of};
 ghost use Rattle.fs_chain.specs.Queues.{gave, took};
 ghost use Rattle.fs_chain.specs.Walks.{course_of};
-ghost use Rattle.fs_chain.specs.Whole.{GoesBackBy, IsMachineBefore, IsSession, IsToldByMemory, IsWalked};
+ghost use Rattle.fs_chain.specs.Whole.{PushedBy, IsMachineBefore, IsSession, IsToldByMemory, IsWalked};
 ghost use Rattle.fs_chain.specs.Whole.{LackPlaces, after_chain, step_loads};
 ghost use Rattle.fs_chain.specs.declared.state.ChainState.TheVariants as at;
 ghost use Rattle.worked_callers.specs.ChainCalls.{ArePopLoads, AreCallsOf};
@@ -44,7 +44,7 @@ pub fn push_by(
     ensures again { OnOk result (handle.new.state ≡ at.Free) }
     ensures queue { OnOk result (queue.new ≡ gave queue.old) }
     ensures back { IfOk result (λ told. (room behind : List ℕ) → (acts : List Act) × (last : ℕ)
-        × (back : GoesBackBy queue.old room behind handle.old.state acts last told.0)
+        × (back : PushedBy queue.old room behind handle.old.state acts last told.0)
         × (back.flags ≡ seen)
         × (back.stores.seen_at ≡ told.1)) }
     ensures session { OnOk result (handle.new.session ≡ handle.old.session) }

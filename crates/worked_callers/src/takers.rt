@@ -13,7 +13,7 @@ ghost use Rattle.fs_chain.specs.declared.state.ChainState.TheVariants as at;
 ghost use Rattle.notify.specs.Threads.{ActsOver, Rearmer, DropsOne, Loads, Nobody, Silences, SleepsNow};
 ghost use Rattle.notify.specs.Threads.{TakesOne, ThreadedQueue, Walker, WishIsThere, Wishes, after_act};
 ghost use Rattle.notify.specs.Threads.{may_act};
-ghost use Rattle.fs_notify.specs.Takers.{IsCounted, IsOf, MutesBy, ways_of};
+ghost use Rattle.fs_notify.specs.Takers.{HasU16Numbers, IsModelOf, MutesBy, ways_of};
 ghost use Rattle.worked_callers.specs.Notified.{ActsTo, IsStoredWish, IsWalkedBy, PopsWithIndex};
 ghost use Rattle.worked_callers.specs.Notified.{given_so_far};
 
@@ -23,8 +23,8 @@ use fs_chain::{ChainError, ChainHandle, LoadOutcome, NotificationStore, PopOutco
 use fs_notify::law_takers;
 
 /// The numbers of a queue are of 16 bits.
-pub fn are_counted(queue: &QueueState)
-    ensures { IsCounted queue.now }
+pub fn have_u16_numbers(queue: &QueueState)
+    ensures { HasU16Numbers queue.now }
 {
     let _next = queue.next_avail;
     let _used = queue.next_used;
@@ -33,17 +33,18 @@ pub fn are_counted(queue: &QueueState)
 
 /// The store that enables notifications is the model's wish for the next chain.
 pub fn store_wish(queue: &QueueState) -> Option<NotificationStore>
-    ensures { (s : ThreadedQueue) → IsOf queue.now s → s.holder ≡ Walker → IsStoredWish queue.now s result }
+    ensures { (s : ThreadedQueue) → IsModelOf queue.now s → s.holder ≡ Walker
+        → IsStoredWish queue.now s result }
 {
     law_takers();
-    are_counted(queue);
+    have_u16_numbers(queue);
     queue.notification_store(true)
 }
 
 /// The store that disables notifications is the model's. With the event index nothing is stored.
 pub fn store_silence(queue: &QueueState) -> Option<NotificationStore>
     ensures { (s : ThreadedQueue)
-        → IsOf queue.now s
+        → IsModelOf queue.now s
         → s.holder ≡ Walker
         → MutesBy queue.now.event_index queue.now s (option_map store_of result)
         × IsTrue (may_act (ways_of queue.now) s (Silences s.event)) }
@@ -78,12 +79,12 @@ pub fn sleep_if_idle(
     requires free { handle.old.state ≡ at.Free }
     requires goes { queue.old.stopped ≡ None }
     ensures wish { IfOk result (λ store. (s : ThreadedQueue)
-        → IsOf queue.old s
+        → IsModelOf queue.old s
         → s.holder ≡ Walker
         → IsStoredWish queue.old s store) }
     ensures sleeps { OnOk result ((n : ℕ)
         × ((s : ThreadedQueue)
-        → IsOf queue.old s
+        → IsModelOf queue.old s
         → s.holder ≡ Walker
         → s.index < 2 ^ 16
         → (let ways = ways_of queue.old in
@@ -91,7 +92,7 @@ pub fn sleep_if_idle(
         PopsWithIndex (given_so_far n given.now) handle.old handle.new queue.old queue.new PopOutcome.Idle
         (ActsTo queue.old s (Wishes ∷ WishIsThere ∷ SleepsNow ∷ []) end queue.new)))) }
     ensures order { OnOk result ((s : ThreadedQueue)
-        → IsOf queue.old s
+        → IsModelOf queue.old s
         → s.holder ≡ Walker
         → s.index ≡ queue.old.next_avail
         → (let ways = ways_of queue.old in
@@ -99,7 +100,7 @@ pub fn sleep_if_idle(
         ActsOver ways s (Wishes ∷ WishIsThere ∷ SleepsNow ∷ []) end × (end.holder ≡ Nobody))) }
 {
     law_takers();
-    are_counted(queue);
+    have_u16_numbers(queue);
     let store = store_wish(queue);
     walk_idle(handle, queue, given)?;
     Ok(store)
@@ -116,7 +117,7 @@ pub fn take_one(
     requires goes { queue.old.stopped ≡ None }
     ensures takes { IfOk result (λ c. (n : ℕ)
         × ((s : ThreadedQueue)
-        → IsOf queue.old s
+        → IsModelOf queue.old s
         → s.holder ≡ Walker
         → (let ways = ways_of queue.old in
         PopsWithIndex (given_so_far n given.now) handle.old handle.new queue.old queue.new
@@ -125,7 +126,7 @@ pub fn take_one(
         queue.new)))) }
 {
     law_takers();
-    are_counted(queue);
+    have_u16_numbers(queue);
     walk_chain(handle, queue, given)
 }
 
@@ -140,7 +141,7 @@ pub fn drop_one(
     ensures drops { OnOk result ((n : ℕ) × (taken : ChainHandle) × (mid : QueueState) × (head : ℕ)
         × (request : ℕ) × (room : ℕ)
         × ((s : ThreadedQueue)
-        → IsOf queue.old s
+        → IsModelOf queue.old s
         → s.holder ≡ Walker
         → (let ways = ways_of queue.old in
         let end = after_act ways (after_act ways (after_act ways s Loads) TakesOne) DropsOne in
@@ -149,7 +150,7 @@ pub fn drop_one(
         (ActsTo queue.old s (Loads ∷ TakesOne ∷ DropsOne ∷ []) end queue.new)))) }
 {
     law_takers();
-    are_counted(queue);
+    have_u16_numbers(queue);
     let (_, _len, _) = walk_chain(handle, queue, given)?;
     handle.give_up(queue)
 }
@@ -166,11 +167,11 @@ pub fn find_full(
     ensures same { OnErr result (IsSame handle.old handle.new × (queue.new ≡ queue.old)) }
     ensures full { result ≡ Err ChainError.ChainInFlight
         → (s : ThreadedQueue)
-        → IsOf queue.old s
+        → IsModelOf queue.old s
         → s.holder ≡ Rearmer
         → s.hidden ≡ false
         → IsTrue (may_act (ways_of queue.old) s SleepsNow)
-        × IsOf queue.new (after_act (ways_of queue.old) s SleepsNow) }
+        × IsModelOf queue.new (after_act (ways_of queue.old) s SleepsNow) }
 {
     law_takers();
     handle.pop(queue, &[])

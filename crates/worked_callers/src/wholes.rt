@@ -14,7 +14,7 @@ ghost use Rattle.fs_regions.specs.Walks.{Loaded, queue_of};
 ghost use Rattle.fs_chain.specs.Events.{event_fault, event_miss};
 ghost use Rattle.fs_chain.specs.Queues.{gave, took};
 ghost use Rattle.fs_chain.specs.Walks.{HasEvents, course_of};
-ghost use Rattle.fs_chain.specs.Whole.{FromTaken, ChainAnswer, GoesBackBy, IsRepliedBy, IsDecodedBy};
+ghost use Rattle.fs_chain.specs.Whole.{FromTaken, ChainAnswer, PushedBy, IsRepliedBy, IsDecodedBy};
 ghost use Rattle.fs_chain.specs.Whole.{IsMachineBefore, IsWalked, LackPlaces, WalksBy, WantsBytes};
 ghost use Rattle.fs_chain.specs.Whole.{data_behind};
 ghost use Rattle.fs_chain.specs.Whole.{file_calls, no_effects, step_loads};
@@ -171,7 +171,7 @@ pub fn reply(
 /// used_event 0.
 pub fn push_reply(handle: &mut ChainHandle, queue: &mut QueueState) -> Result<bool, ChainError>
     ensures back { IfOk result (λ notice. (room behind : List ℕ) → (acts : List Act) × (last : ℕ)
-        × (back : GoesBackBy queue.old room behind handle.old.state acts last notice)
+        × (back : PushedBy queue.old room behind handle.old.state acts last notice)
         × (back.flags ≡ loaded_flags)) }
     ensures session { OnOk result (handle.new.session ≡ handle.old.session) }
     ensures queue { OnOk result (queue.new ≡ gave queue.old) }

@@ -20,7 +20,7 @@ returns-in-On-Idle c =
     subst (λ (t : went.LoadOutcome). IsWalkedAmid wrong given old new q after t) told c.in_ok-walk_amid.ensures.walks in (
       by.0,
       λ s is asker shown fits.
-          let none = c.law_takers.ensures.none_amid (given_so_far by.0 given) old new q after s c.are_counted.ensures fits c.requires.goes
-          by.1.0 is asker shown in
+          let none = c.law_takers.ensures.none_amid (given_so_far by.0 given) old new q after s c.have_u16_numbers.ensures fits
+          c.requires.goes by.1.0 is asker shown in
           (by.1.0, by.1.1, none.0, none.1, none.2, none.3, none.4),
     )

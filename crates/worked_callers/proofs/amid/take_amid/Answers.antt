@@ -21,7 +21,7 @@ returns-in-On-Chain c =
     subst (λ (t : went.LoadOutcome). IsWalkedAmid wrong given old new q after t) told c.in_ok-head.ensures.walks in (
       by.0,
       λ s is walker.
-          let took = c.law_takers.ensures.takes_amid (given_so_far by.0 given) old new q after chain s c.are_counted.ensures
+          let took = c.law_takers.ensures.takes_amid (given_so_far by.0 given) old new q after chain s c.have_u16_numbers.ensures
           c.requires.goes tt
           by.1.0 is walker in
           (by.1.0, by.1.1, took.0, took.1, took.2, took.3, took.4),

@@ -2,7 +2,7 @@ use Rattle.std.proofs.Common.{◌≡◌, true, [], ◌∷◌, Some, Result, IfOk
 use Rattle.fs_regions.specs.declared.step.CourseStep as comes
 use Rattle.fs_chain.specs.Loads.{GoesSo, IsSame}
 use Rattle.fs_chain.specs.Queues.{gave}
-use Rattle.fs_chain.specs.Whole.{BeginsPopBy, GoesBackBy, WantsBytes}
+use Rattle.fs_chain.specs.Whole.{BeginsPopBy, PushedBy, WantsBytes}
 use Rattle.fs_chain.specs.declared.error.ChainError.{ChainError}
 use Rattle.fs_chain.specs.declared.loads.LoadOutcome.{LoadOutcome}
 use Rattle.fs_chain.specs.declared.loads.LoadOutcome as went
@@ -43,7 +43,7 @@ returns g c =
       pushed = on_ok c.pop-2.result _
           (λ room behind.
           let back = c.in_ok-_notice.ensures.back room behind in
-          let push = subst (λ (q : QueueState). (b : GoesBackBy q room behind st back.0 back.1 notice) × (b.flags ≡ loaded_flags)) kept
+          let push = subst (λ (q : QueueState). (b : PushedBy q room behind st back.0 back.1 notice) × (b.flags ≡ loaded_flags)) kept
           (back.2, back.3) in
           (back.0, back.1, notice, push.0, push.1));
       freed = on_ok c.pop-2.result _ c.in_ok-_notice.ensures.again;

@@ -7,7 +7,7 @@ use Rattle.server_phases.specs.Answering.{forget_calls}
 use Rattle.plain_machine.specs.Step.{Calls}
 use Rattle.plain_machine.specs.StepBy.{Act}
 use Rattle.fs_chain.specs.Queues.{gave, took}
-use Rattle.fs_chain.specs.Whole.{ChainAnswer, GoesBackBy}
+use Rattle.fs_chain.specs.Whole.{ChainAnswer, PushedBy}
 use Rattle.fs_chain.specs.declared.decoding.Decoded.TheVariants as asks
 use Rattle.fs_chain.specs.declared.queue.QueueState.{QueueState}
 use Rattle.worked_callers.specs.ChainCalls.{with_data}
@@ -111,7 +111,7 @@ returns g c =
               c.in_ok-first_len.ensures.given
               c.in_ok-second_len.ensures.given call.1 call'.1 told.1 told'.1
               (subst (λ (k : QueueState). (room behind : List ℕ) →
-              (acts : List Act) × (last : ℕ) × (back : GoesBackBy k room behind st acts last c.in_ok-late.late)
+              (acts : List Act) × (last : ℕ) × (back : PushedBy k room behind st acts last c.in_ok-late.late)
               × (back.flags ≡ loaded_flags)) c.in_ok-early.ensures.queue
               c.in_ok-late.ensures.back) c.in_ok-early.ensures.back c.push_reply-2.new.queue
               (c.in_ok-late.ensures.queue ∙ ap gave c.in_ok-early.ensures.queue)

@@ -5,7 +5,7 @@ use Rattle.worked_callers.proofs.faults.take_one_faulty.Goals as goal
 pub returns : goal.returns
 returns c =
     let q = c.args.queue.now in
-    let counted = c.are_counted.ensures in
+    let counted = c.have_u16_numbers.ensures in
     record {
       takes = if_ok c.take_faulty.result _ _
           (λ k by. (

@@ -7,7 +7,7 @@ use Rattle.fs_chain.specs.Queues.{gave}
 use Rattle.fs_chain.specs.declared.chain_handle.ChainHandle.{ChainHandle}
 use Rattle.fs_chain.specs.declared.queue.QueueState.{QueueState}
 use Rattle.notify.specs.Threads.{ReturnsChains, after_act}
-use Rattle.fs_notify.specs.Takers.{IsOf, ways_of}
+use Rattle.fs_notify.specs.Takers.{IsModelOf, ways_of}
 use Rattle.worked_callers.proofs.ModelActs.{published_so}
 use Rattle.worked_callers.proofs.givers.push_one.Goals as goal
 
@@ -18,7 +18,7 @@ returns-in-Ok c =
     let st = c.push.new.self.state in
     let bytes : List ℕ = to_le_bytes w16 seen in
     let pushing : QueueState = record q { pushing = true } in
-    let counted = c.are_counted.ensures in
+    let counted = c.have_u16_numbers.ensures in
     let small : seen < 2 ^ 16 = Prim.search in
     let same : from_le_bytes w16 bytes ≡ seen = from_le_bytes-to_le_bytes_2 seen small in
     let queue_is : c.push.new.queue ≡ pushing = c.in_ok-stores.ensures.queue in
@@ -31,7 +31,7 @@ returns-in-Ok c =
       again = ap (λ (w : ChainHandle). w.state) c.in-Ok.ensures.free;
       returns = λ s of walker.
           let law = c.law_takers.ensures.returns pushing st s counted ok of walker in
-          (law.0, subst (λ (k : QueueState). IsOf k (after_act (ways_of q) s (ReturnsChains 1))) (sym last_is) law.1);
+          (law.0, subst (λ (k : QueueState). IsModelOf k (after_act (ways_of q) s (ReturnsChains 1))) (sym last_is) law.1);
       publishes = published_so c.law_givers.ensures.publishes c.args.handle.now.state q _ c.in_ok-stores.stores c.pushed.new.queue
           c.in_ok-stores.ensures.ok c.in_ok-stores.ensures.stores (ap (λ (k : QueueState). k.next_used) last_is);
       checks = λ u at one says.

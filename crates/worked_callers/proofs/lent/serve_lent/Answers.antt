@@ -2,7 +2,7 @@ use Rattle.std.proofs.Common.{[], ◌≡◌, ℕ, List, Some, length, ap, subst,
 use Rattle.std.specs.Prelude.{drop}
 use Rattle.std.proofs.lemmas.Bool.Decides.{nat_tests}
 use Rattle.plain_machine.specs.StepBy.{Act}
-use Rattle.fs_chain.specs.Whole.{FromTaken, GoesBackBy, IsDecodedBy, file_calls}
+use Rattle.fs_chain.specs.Whole.{FromTaken, PushedBy, IsDecodedBy, file_calls}
 use Rattle.fs_chain.specs.declared.chain_handle.ChainHandle.{ChainHandle}
 use Rattle.fs_chain.specs.declared.queue.QueueState.{QueueState}
 use Rattle.fs_chain.specs.declared.state.ChainState as state
@@ -57,7 +57,7 @@ returns g c =
                 (ap (λ (w : ChainHandle). w.state) c.in_ok-table.ensures.taken)
                 replied.3 replied.4
                 (subst (λ (st : state.ChainState). (room behind : List ℕ) → (acts : List Act) × (last : ℕ)
-                × (back : GoesBackBy after room behind st acts last notice) × (back.flags ≡ loaded_flags))
+                × (back : PushedBy after room behind st acts last notice) × (back.flags ≡ loaded_flags))
                 (ap (λ (w : ChainHandle). w.state) c.in_ok-lend_table.ensures.lent) back)
                 s i files reached there places limit small session files_run in (
                   so.es,

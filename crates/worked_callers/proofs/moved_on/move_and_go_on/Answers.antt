@@ -67,7 +67,7 @@ returns g c =
                 (subst (λ (n : ℕ). n ≤ 2 ^ 31) (sym limit₂) small) in
                 let even : AllByRecursion HasNoneInFlight s.queues =
                 subst (λ (l : List LiveQueue). AllByRecursion HasNoneInFlight l) (sym queues)
-                ((c.requires.none_out, c.are_counted.ensures.0), tt) in
+                ((c.requires.none_out, c.have_u16_numbers.ensures.0), tt) in
                 let agree : untold (live_of begun) ≡ untold (live_of left) = c.agree_besides_record.ensures Prim.search in
                 let parts : map untold (live_of begun ∷ []) ≡ map untold s₁.queues =
                 ap (λ (p : ℕ × Bool). p ∷ []) agree ∙ ap (λ (l : List LiveQueue). map untold l) (sym queues₁) in

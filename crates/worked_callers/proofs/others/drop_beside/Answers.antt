@@ -2,7 +2,7 @@ use Rattle.std.proofs.Common.{ap, refl}
 use Rattle.fs_chain.specs.declared.chain_handle.ChainHandle.{ChainHandle}
 use Rattle.worked_callers.proofs.OthersBeside.{dropped_beside, on_ok_two}
 use Rattle.worked_callers.proofs.Served.{on_ok_more, taken_so}
-use Rattle.worked_callers.proofs.TookQueue.{untook_took}
+use Rattle.worked_callers.proofs.TookQueue.{gave_up_taken}
 use Rattle.worked_callers.proofs.others.drop_beside.Goals as goal
 
 pub returns : goal.returns
@@ -17,7 +17,7 @@ returns g c =
           c.in_ok-_len.field-0-0 c.in_ok-_len._len c.in_ok-_len.field-0-2 c.requires.goes c.in_ok-_len.ensures.given refl clear left)
           c.give_up.ensures.ok c.give_up.ensures.queue;
       again = on_ok_more c.give_up.result _ _ (λ is. ap (λ (w : ChainHandle). w.state) is) c.give_up.ensures.free;
-      queue = untook_took c.give_up.result c.walk_chain.new.handle.state _ _ _ _
+      queue = gave_up_taken c.give_up.result c.walk_chain.new.handle.state _ _ _ _
           (taken_so c.args.handle.now c.walk_chain.new.handle c.args.queue.now c.walk_chain.new.queue c.in_ok-_len.field-0-0
           c.in_ok-_len._len c.in_ok-_len.field-0-2 c.requires.goes c.in_ok-_len.ensures.walked)
           c.in_ok-_len.ensures.queue c.give_up.ensures.queue;

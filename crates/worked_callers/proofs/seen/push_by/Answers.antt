@@ -2,7 +2,7 @@ use Rattle.std.proofs.Common.{◌≡◌, ℕ, Bool, List, length, sym, subst, ap
 use Rattle.plain_machine.specs.StepBy.{Act}
 use Rattle.fs_chain.specs.Events.{tells_of}
 use Rattle.fs_chain.specs.Queues.{gave}
-use Rattle.fs_chain.specs.Whole.{GoesBackBy}
+use Rattle.fs_chain.specs.Whole.{PushedBy}
 use Rattle.fs_chain.specs.declared.chain_handle.ChainHandle.{ChainHandle}
 use Rattle.fs_chain.specs.declared.queue.QueueState.{QueueState}
 use Rattle.worked_callers.proofs.Served.{goes_back_by}
@@ -17,7 +17,7 @@ returns-in-Ok-clause-back c =
     let two : length seen ≡ 2 = Prim.search in
     let same = ap (λ (k : QueueState). tells_of k seen) c.in_ok-stores.ensures.queue in
     λ room behind.
-    subst (λ (n : Bool). (acts : List Act) × (last : ℕ) × (back : GoesBackBy q room behind st acts last n) × (back.flags ≡ seen)
+    subst (λ (n : Bool). (acts : List Act) × (last : ℕ) × (back : PushedBy q room behind st acts last n) × (back.flags ≡ seen)
     × (back.stores.seen_at ≡ s.seen_at))
     (sym (c.in-Ok.ensures.tells ∙ same))
     (goes_back_by st q _ s seen room behind c.in_ok-stores.ensures.ok two c.in_ok-stores.ensures.stores)

@@ -11,7 +11,7 @@ use Rattle.plain_machine.specs.Step.{Exchanged, Step}
 use Rattle.plain_machine.specs.StepBy.{Act, AnswersBy, Effects, StepBy, after_stores, stores_among}
 use Rattle.fs_chain.specs.Events.{seen_at, tells_of}
 use Rattle.fs_chain.specs.Walks.{course_of}
-use Rattle.fs_chain.specs.Whole.{ChainBy, GoesBackBy, IsToldByMemory, WalksBy, after_chain, data_behind, file_calls, step_loads}
+use Rattle.fs_chain.specs.Whole.{ChainBy, PushedBy, IsToldByMemory, WalksBy, after_chain, data_behind, file_calls, step_loads}
 use Rattle.fs_chain.specs.declared.loads.LoadOutcome.TheVariants as wents
 use Rattle.fs_chain.specs.declared.popping.PopOutcome.TheVariants as says
 use Rattle.fs_chain.specs.declared.queue.QueueState.{QueueState}
@@ -55,7 +55,7 @@ returns g c =
     c.args.answer replied.0 replied.2 walked replied.3 replied.4 replied.6 replied.7 in
     let there = at_position before.layout before.next_used in
     let keeps = queue_keeps old popped_handle before back_queue popped c.requires.goes tt c.in_ok-request_len.ensures.walked in
-    let by : (acts : List Act) (last : ℕ) (notice : Bool) → GoesBackBy back_queue room (data_behind replied.2) new.state acts last notice →
+    let by : (acts : List Act) (last : ℕ) (notice : Bool) → PushedBy back_queue room (data_behind replied.2) new.state acts last notice →
     ChainBy given request calls acts last head notice old new before session = λ acts last notice back. record {
       popped_handle = popped_handle;
       taken = back_queue;
@@ -64,7 +64,7 @@ returns g c =
       front = request;
       made = replied.0;
       decoded_handle = replied.1;
-      is_asked = replied.3;
+      decodes = replied.3;
       given = replied.2;
       replies = replied.4;
       calls_are = refl;

@@ -15,7 +15,7 @@ returns c =
     let goes = c.requires.goes in
     let walked = c.in_ok-_len.ensures.walked in
     let by = c.in_ok-_len.ensures.given in
-    let counted = c.are_counted.ensures in
+    let counted = c.have_u16_numbers.ensures in
     record {
       drops = on_ok_two c.give_up.result _ _ _
           (λ clear left. (

@@ -5,7 +5,7 @@ use Rattle.fs_chain.specs.declared.error.ChainError.TheVariants as error
 use Rattle.fs_chain.specs.declared.loads.LoadOutcome.{LoadOutcome}
 use Rattle.fs_chain.specs.declared.queue.QueueState.{QueueState}
 use Rattle.notify.specs.Threads.{SleepsNow, after_act}
-use Rattle.fs_notify.specs.Takers.{IsOf, ways_of}
+use Rattle.fs_notify.specs.Takers.{IsModelOf, ways_of}
 use Rattle.worked_callers.proofs.ModelActs.{full_so}
 use Rattle.worked_callers.proofs.takers.find_full.Goals as goal
 
@@ -25,5 +25,5 @@ returns c =
           let same =
           subst (λ (r : Result LoadOutcome ChainError). OnErr r (IsSame old new × (after ≡ q))) is c.pop.ensures.same in
           let law = c.law_takers.ensures.full q s (full_so old q c.requires.free why) of asker shown in
-          (law.0, subst (λ (k : QueueState). IsOf k (after_act (ways_of q) s SleepsNow)) (sym same.1) law.1);
+          (law.0, subst (λ (k : QueueState). IsModelOf k (after_act (ways_of q) s SleepsNow)) (sym same.1) law.1);
     }

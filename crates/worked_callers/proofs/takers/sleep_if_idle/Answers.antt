@@ -5,7 +5,7 @@ pub returns : goal.returns
 returns c =
     let q = c.args.queue.now in
     let by = c.in_ok-walk_idle.ensures.walked in
-    let counted = c.are_counted.ensures in
+    let counted = c.have_u16_numbers.ensures in
     record {
       wish = c.store_wish-store.ensures;
       sleeps = (

@@ -2,7 +2,7 @@ use Rattle.std.proofs.Common.{◌≡◌, ℕ, Bool, List, refl, sym, subst, ap, 
 use Rattle.plain_machine.specs.StepBy.{Act}
 use Rattle.fs_chain.specs.Events.{tells_of}
 use Rattle.fs_chain.specs.Queues.{gave}
-use Rattle.fs_chain.specs.Whole.{GoesBackBy}
+use Rattle.fs_chain.specs.Whole.{PushedBy}
 use Rattle.fs_chain.specs.declared.chain_handle.ChainHandle.{ChainHandle}
 use Rattle.fs_chain.specs.declared.queue.QueueState.{QueueState}
 use Rattle.worked_callers.specs.Events.{loaded_flags}
@@ -18,7 +18,7 @@ returns-clause-back c =
     (λ notice told room behind.
     let by = goes_back_by st q _ c.in_ok-_stores._stores loaded_flags room behind c.in_ok-_stores.ensures.ok refl
     c.in_ok-_stores.ensures.stores in
-    subst (λ (n : Bool). (acts : List Act) × (last : ℕ) × (back : GoesBackBy q room behind st acts last n) × (back.flags ≡ loaded_flags))
+    subst (λ (n : Bool). (acts : List Act) × (last : ℕ) × (back : PushedBy q room behind st acts last n) × (back.flags ≡ loaded_flags))
     (sym (told ∙ same)) (by.0, by.1, by.2, by.3))
     c.pushed.ensures.tells
 
