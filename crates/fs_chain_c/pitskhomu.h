@@ -82,8 +82,8 @@
  *     chain, it can't pop: then it loads the available index again and compares it with
  *     `next_avail`. If a chain is available, it pops it or wakes a thread, since the driver doesn't
  *     notify again (wakes_another).
- *   - A thread that pushes or drops a chain pops again, or wakes a thread (walks_after). So does
- *     one that had PK_MISS, once the table has the addresses.
+ *   - A thread that pushes or drops a chain pops again, or wakes a thread (walks_after). After
+ *     PK_MISS a thread pops again once the table has the addresses.
  *   - A push has its full barrier before its load (giver_waits), and is ended before the queue's
  *     next push (checks_often). A woken thread resets its event (eventfd), and then pops.
  *
@@ -300,7 +300,7 @@ uint32_t pk_queue_begin(struct pk_queue *queue, uint16_t next_avail) PK_CHECK;
 struct pk_region { uint64_t guest, len; uintptr_t host; };
 
 /* ---------------------------------------------------------------- a chain: pop and drop */
-/* A handle for one chain. Its fields are the library's. */
+/* A handle for one chain. Only the library reads or writes its fields. */
 struct pk_chain { void *at; uint32_t state; };
 
 /* The states of a handle, each with the call that comes next. */
@@ -367,8 +367,8 @@ uint32_t pk_pop(struct pk_chain *chain, struct pk_queue *queue, const uint8_t *l
  * PK_OTHER_QUEUE; PK_WRONG_ORDER (another chain was popped later: drop that one first). */
 uint32_t pk_drop(struct pk_chain *chain, struct pk_queue *queue) PK_NONNULL;
 
-/* Frees the handle for another pop, in any state, for a queue that was or will be reset. Until then
- * the queue counts the chain as in flight (pk_chain_free). */
+/* Frees the handle for another pop, in any state. Its chain is never pushed: until the queue is
+ * reset, it counts the chain as in flight (pk_chain_free). */
 void pk_abandon(struct pk_chain *chain) PK_NONNULL;
 
 /* A piece of memory, laid out as struct iovec: cast an array of it for preadv and the like. */
@@ -636,7 +636,7 @@ uint32_t pk_save(const struct pk_device *device, const struct pk_queue *queues, 
 
 /* Reads a record at the front of `saved` into device->options and the first `*count` queues, and
  * resets these. Set before: page size and limit, which must be the record's; event_index and
- * max_in_flight, which it doesn't have. An error changes neither device nor queues.
+ * max_in_flight, which it doesn't have. After an error device and queues are unchanged.
  * Errors: PK_BAD_ARGUMENT (the device's fields); 81 to 90, in the order of the record's parts;
  * PK_SHORT_BUFFER (too few queues: `*count` is how many the record has). */
 uint32_t pk_restore(struct pk_device *device, struct pk_queue *queues, size_t queue_count,
