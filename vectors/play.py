@@ -1,10 +1,12 @@
 #!/usr/bin/env python3
-"""play.py [--without COMMANDS] PROGRAM [ARGUMENT..]
+"""play.py [--lacks FILE] PROGRAM [ARGUMENT..]
 
 Plays the vectors of this folder on a device, and compares. README.md says what is compared.
 PROGRAM reads one script from its standard input, prints what the script's commands return, and
-ends with the script's status. COMMANDS, parted by commas, are those that the device may lack: a
-script that meets one of them may end there with status 4, and isn't counted then.
+ends with the script's status. FILE lists the scripts at whose commands the device lacks something,
+by lines `SCRIPT PRINTED COMMAND`: it prints the first PRINTED lines of SCRIPT's output, and ends
+at the first line COMMAND with status 4. Such a script isn't counted; one that is played otherwise
+fails.
 
 The last line is `N passed, M failed`. The status is 0 if all vectors passed, 1 if one didn't, 2 if
 the call is wrong."""
@@ -19,15 +21,17 @@ FOLDER = Path(__file__).resolve().parent
 QUEUE = b"queue 4 0 0x100 0x200\n"
 # Seconds that one script may take.
 PATIENCE = 300
-LACKING = re.compile(rb"line (\d+): not on this device\n")
+# The status of a script that ends at a command which the device lacks, and a line of a list.
+LACKING = 4
+LISTED = re.compile(rb"(\w+) (\d+) (.+)")
 
 
 class Device:
     """A program that plays scripts, and the counts of what passed."""
 
-    def __init__(self, command, without):
+    def __init__(self, command, lacks):
         self.command = command
-        self.without = without
+        self.lacks = lacks
         self.passed = Counter()
         self.left = Counter()
         self.failures = []
@@ -41,46 +45,65 @@ class Device:
             return b"", "none: it took too long", b""
         return done.stdout, done.returncode, done.stderr
 
-    def check(self, kind, name, script, want, reason=None):
-        """Plays one script, which prints `want`; its reason stands on standard error."""
+    def check(self, kind, name, script, whole, reason=None):
+        """Plays one script, which prints `whole`; its reason stands on standard error."""
+        want, ended = self.wanted(name, script, whole)
         printed, status, said = self.play(script)
-        if status == 4 and self.lacks(script, want, printed):
+        why = differs(printed, status, want, ended)
+        if why is None and reason is not None and ended != LACKING and said != reason:
+            why = f"standard error has {said!r} in place of {reason!r}"
+        self.count(kind, name, ended, why)
+
+    def check_moving(self, name, script, whole):
+        """Plays a script with a `move` before each command but the queues'. Marks of pages don't
+        move along, so a script that gathers marks is left out."""
+        if b"\nharvest" in script or status_of(whole):
+            return
+        moving = with_moves(script)
+        want, ended = self.wanted(name, moving, whole)
+        printed, status, _ = self.play(moving)
+        why = differs(without_moves(printed), status, without_moves(want), ended)
+        self.count("moved", f"{name} with moves", ended, why or differs_in_moves(moving, printed))
+
+    def wanted(self, name, script, whole):
+        """What the device has to print for a script that prints `whole`, and its status."""
+        if name not in self.lacks:
+            return whole, status_of(whole)
+        count, command = self.lacks[name]
+        if command not in script.split(b"\n"):
+            return b"(the script has no such line: " + command + b")\n", LACKING
+        number = script.split(b"\n").index(command) + 1
+        lines = whole.split(b"\n")[:count] + [b"line %d: not on this device" % number, b""]
+        return b"\n".join(lines), LACKING
+
+    def count(self, kind, name, ended, why):
+        """Counts a script, which differs for a reason or not at all."""
+        if why is not None:
+            self.failures.append(f"{name}: {why}")
+        elif ended == LACKING:
             self.left[kind] += 1
-        elif printed != want:
-            self.failures.append(f"{name}: {first_difference(printed, want)}")
-        elif status != status_of(want):
-            self.failures.append(f"{name}: the status is {status} in place of {status_of(want)}")
-        elif reason is not None and said != reason:
-            self.failures.append(f"{name}: standard error has {said!r} in place of {reason!r}")
         else:
             self.passed[kind] += 1
 
-    def lacks(self, script, want, printed):
-        """Whether a script ended at a command that the device may lack, and was right up to it."""
-        head, end, last = printed.rpartition(b"line ")
-        found = LACKING.fullmatch(end + last)
-        if not found or not want.startswith(head):
-            return False
-        lines = script.split(b"\n")
-        place = int(found[1])
-        if not 0 < place <= len(lines):
-            return False
-        return lines[place - 1].split(b" ")[0].decode("latin-1") in self.without
 
-    def check_moving(self, name, script, want):
-        """Plays a script with a `move` before each command but the queues'. Marks of pages don't
-        move along, so a script that gathers marks is left out."""
-        if b"\nharvest" in script or status_of(want):
-            return
-        moving = with_moves(script)
-        printed, status, _ = self.play(moving)
-        stayed, wanted = without_moves(printed), without_moves(want)
-        if status == 4 and self.lacks(moving, wanted, stayed):
-            self.left["moved"] += 1
-        elif (stayed, status) != (wanted, 0):
-            self.failures.append(f"{name} with moves: {first_difference(printed, want)}")
-        else:
-            self.passed["moved"] += 1
+def differs(printed, status, want, ended):
+    """What is printed otherwise than wanted, or with another status; nothing if all is the same."""
+    if printed != want:
+        return first_difference(printed, want)
+    return None if status == ended else f"the status is {status} in place of {ended}"
+
+
+def differs_in_moves(script, printed):
+    """Whether each move of a script printed the length of a record of its queues."""
+    lines = printed.split(b"\n")
+    end = re.search(rb"(?<=\nline )\d+(?=: not on this device\n\Z)", printed)
+    played = script.split(b"\n")[:int(end[0]) - 1 if end else None]
+    queues = sum(line.startswith(b"queue ") for line in played)
+    want = b"moved %d" % (32 + 32 * lines[:queues].count(b"ok"))
+    moved = [line for line in lines if line.startswith(b"moved ")]
+    if moved == [want] * played.count(b"move"):
+        return None
+    return f"the lines of its moves aren't {played.count(b'move')} times `{want.decode()}`"
 
 
 def status_of(printed):
@@ -114,11 +137,23 @@ def first_difference(printed, want):
     return f"{len(ones) - 1} lines are printed in place of {len(others) - 1}"
 
 
+def named_wrongly(device, scripts):
+    """The files and the names of the list that belong to no script, a line each."""
+    names = {path.stem for path in scripts}
+    for path in sorted((FOLDER / "scripts").iterdir()):
+        if path.stem not in names or path.suffix not in (".fs", ".out", ".err"):
+            yield f"{path.name} belongs to no script"
+    for name in sorted(device.lacks.keys() - names):
+        yield f"{name}: the device's list names it, and there is no such script"
+
+
 def play_all(device):
     """Plays each vector, a few at a time."""
+    scripts = sorted((FOLDER / "scripts").glob("*.fs"))
+    device.failures += named_wrongly(device, scripts)
     with ThreadPoolExecutor(4) as pool:
         jobs = []
-        for path in sorted((FOLDER / "scripts").glob("*.fs")):
+        for path in scripts:
             script, want = path.read_bytes(), path.with_suffix(".out").read_bytes()
             reason = path.with_suffix(".err")
             reason = reason.read_bytes() if reason.exists() else None
@@ -132,16 +167,25 @@ def play_all(device):
             job.result()
 
 
+def read_lacks(path):
+    """A list of what a device lacks: of each script how much it prints, and the command."""
+    lines = path.read_bytes().split(b"\n")
+    found = [LISTED.fullmatch(line) for line in lines if line and not line.startswith(b"#")]
+    if None in found or len({it[1] for it in found}) < len(found):
+        raise OSError(f"{path} has a line of another form, or a script twice")
+    return {it[1].decode(): (int(it[2]), it[3]) for it in found}
+
+
 def main(arguments):
     """Plays all vectors on one program."""
-    without = []
-    if arguments[:1] == ["--without"]:
-        without, arguments = arguments[1:2], arguments[2:]
+    listed = []
+    if arguments[:1] == ["--lacks"]:
+        listed, arguments = arguments[1:2], arguments[2:]
     if not arguments or arguments[0].startswith("-"):
         print(__doc__, file=sys.stderr)
         return 2
-    device = Device(arguments, ",".join(without).split(","))
     try:
+        device = Device(arguments, read_lacks(Path(*listed)) if listed else {})
         play_all(device)
     except OSError as error:
         print(f"play.py: {error}", file=sys.stderr)
@@ -152,9 +196,11 @@ def main(arguments):
     lacking = sorted(device.left.items())
     counts += [f"{count} {kind} up to a command that the device lacks" for kind, count in lacking]
     print("; ".join(counts))
-    total = sum(device.passed.values())
-    print(f"{total} passed, {len(device.failures)} failed")
-    return 1 if device.failures or not total else 0
+    for kind in {"as they are", "moved", "no commands"} - device.passed.keys():
+        device.failures.append(kind)
+        print(f"FAILED: no script passed of the kind: {kind}")
+    print(f"{sum(device.passed.values())} passed, {len(device.failures)} failed")
+    return 1 if device.failures else 0
 
 
 if __name__ == "__main__":
