@@ -3,11 +3,11 @@
 what the three print.
 
 usage: fuzz.py SECONDS [SEED], with the paths of built programs in PROGRAM and, if the handle is to
-be played, in HANDLE (./run --fuzz has both). Status 0 if nothing differed, 1 if something did or
-nothing was compared, 2 if it couldn't begin, 130 if it was interrupted before that."""
+be played, in HANDLE (./run --fuzz has both). Status 0 if nothing differed, 1 if something did or no
+script with a served chain was compared whole, 2 if it couldn't begin, 130 if it was interrupted
+before that."""
 
 import os
-import re
 import sys
 import time
 from collections import Counter
@@ -15,7 +15,7 @@ from pathlib import Path
 
 from guests import long_script, wraps
 from hostile import heavy
-from machine import TooMuchWork, play
+from machine import LACKING, TooMuchWork, play
 from programs import Built
 from scripts import made, stored
 from shrink import shrunk
@@ -25,11 +25,7 @@ FOLDER = Path(__file__).resolve().parent / "out"
 # cost much.
 SECONDS_TO_WRAP = 200
 MOST_DIFFERENCES = 10
-# A script ends with this status and line if it meets a command that the device lacks.
-LACKING = 4
-# The commands at which the handle may lack something (docs/SCRIPT.md, "On the handle").
-LACKED = {"the program": (), "the handle": (b"map", b"unmap", b"kick")}
-LAST_LINE = re.compile(rb"line (\d+): not on this device\n\Z")
+SERVED = "whole scripts with a served chain"
 
 
 class Device:
@@ -38,15 +34,6 @@ class Device:
     def __init__(self, name, path):
         self.name = name
         self.program = Built(path)
-
-    def agrees(self, script, want, found):
-        """Whether it printed the plain machine's lines, at least up to a command that it lacks."""
-        printed, status = found
-        if status != LACKING:
-            return want[:2] == found
-        last = LAST_LINE.search(printed)
-        return (last is not None and word_of(script, int(last[1])) in LACKED[self.name]
-            and want[0].startswith(printed[:last.start()]))
 
 
 class Fuzzer:
@@ -90,27 +77,31 @@ class Fuzzer:
                 self.skipped += 1
                 continue
             self.scripts += 1
-            self.coverage += want[2]
+            self.coverage += want[1]
             for device, results in zip(self.devices, found):
                 self.coverage[device.name, played(script, *results[index])] += 1
-                if not device.agrees(script, want, results[index]):
+                if results[index] != want[0][device.name]:
                     self.tell(name, script, device)
 
     def plain(self, script):
-        """What the plain machine prints, its status and its coverage, or None where it would take
-        too long."""
+        """What the plain machine prints and its status, by device, and its coverage; None where it
+        would take too long."""
         try:
             return play(script)
         except TooMuchWork:
             return None
+
+    def idle_devices(self):
+        """The devices that served no chain of a script that was compared whole."""
+        return [it.name for it in self.devices if not self.coverage[it.name, SERVED]]
 
     def differ(self, device, scripts):
         """For each script whether the device and the plain machine differ."""
         started = device.program.start(scripts)
         wanted = [self.plain(script) for script in scripts]
         results = device.program.results(started)
-        return [want is not None and not device.agrees(script, want, found)
-            for script, want, found in zip(scripts, wanted, results)]
+        return [want is not None and found != want[0][device.name]
+            for want, found in zip(wanted, results)]
 
     def tell(self, name, script, device):
         """Shrinks a script and tells what differs."""
@@ -122,7 +113,7 @@ class Fuzzer:
         path = FOLDER / f"{device.name} {name}.fs".replace(" ", "_")
         path.write_bytes(small)
         (found,) = device.program.results(device.program.start([small]))
-        want = self.plain(small)
+        want = self.plain(small)[0][device.name]
         say(f"  the smallest script is {path}")
         say(f"  {device.name} ends with {found[1]}, the plain machine with {want[1]}")
         for line, (one, other) in enumerate(zip_lines(found[0], want[0]), 1):
@@ -147,16 +138,12 @@ class Fuzzer:
 
 def played(script, printed, status):
     """How much of a script was played, for the coverage."""
-    last = LAST_LINE.search(printed) if status == LACKING else None
-    if last is None:
-        return "whole scripts"
-    return "up to " + word_of(script, int(last[1])).decode()
-
-
-def word_of(script, number):
-    """The first word of a script's line; of no line none."""
-    lines = script.split(b"\n")
-    return lines[number - 1].split(b" ")[0] if 0 < number <= len(lines) else b""
+    if status != LACKING:
+        return SERVED if b"\ndone " in printed else "whole scripts without one"
+    number = printed.rpartition(b"line ")[2].partition(b":")[0]
+    lines = dict(enumerate(script.split(b"\n"), 1))
+    word = lines.get(int(number) if number.isdigit() else 0, b"no line").split(b" ")[0]
+    return "up to " + word.decode("latin-1")
 
 
 def zip_lines(first, second):
@@ -195,6 +182,9 @@ def main(arguments):
         status = 130
     fuzzer.report()
     say(f"seeds from {seed} to {fuzzer.seed - 1}")
+    for name in fuzzer.idle_devices():
+        say(f"FAILED: {name} played no script whole in which a chain is served")
+        status = status or 1
     return 1 if fuzzer.differences else status
 
 

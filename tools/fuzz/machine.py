@@ -1,5 +1,6 @@
 """The plain machine: what a script prints, told by single addresses and whole lists. It shares
-nothing with the program."""
+nothing with the program. It also tells at which command the handle ends, which lacks a few
+(docs/SCRIPT.md, "On the handle")."""
 
 import re
 from collections import Counter
@@ -21,6 +22,11 @@ DESCRIPTOR_UNREACHABLE, NO_MEMORY, NO_QUEUE = 8, 9, 10
 # Refusals of other commands.
 NO_PLACE, EMPTY_BLOCK, UNKNOWN_BLOCK, BAD_REGION, OVERLAP = range(1, 6)
 NO_REGION, BAD_MAPPING, NO_SUCH_QUEUE = 6, 7, 8
+# What the handle lacks: more regions, and a reply of these opcodes whose header lies over its data.
+MOST_REGIONS, HEADER = 64, 16
+WITH_DATA = ("read", "readdir", "readdirplus")
+# The status of a script that ends at a command which the device lacks.
+LACKING = 4
 
 
 class Refused(Exception):
@@ -153,6 +159,11 @@ class Memory:
             raise Refused(NO_REGION)
         self.regions = kept
 
+    def fits_handle(self):
+        """Whether the handle takes the regions: few, and of whole pages."""
+        return len(self.regions) <= MOST_REGIONS and not any(
+            (base | size) % PAGE for base, size, _ in self.regions)
+
     def map(self, iova, target, length, may):
         """A range of I/O addresses is mapped."""
         if iova + length > LAST or target + length > LAST:
@@ -270,6 +281,8 @@ class Machine:
         self.files = Files()
         self.server = Server(self.files)
         self.coverage = coverage
+        # Whether the header of the last reply lies over its data.
+        self.header_meets_data = False
 
     def step(self, queue):
         """One chain goes back: the lines that it prints. None where none waits."""
@@ -313,6 +326,7 @@ class Machine:
         request, room = chain
         reply = b""
         self.files.calls = []
+        self.header_meets_data = False
         if fault is None:
             try:
                 reply = self.server.answer(request, len(room))
@@ -320,6 +334,8 @@ class Machine:
                 fault = found
             self.count_request(reply, fault)
             self.count_shape(room[:len(reply)], element + used_index)
+            self.header_meets_data = NAMES.get(self.server.opcode) in WITH_DATA and \
+                not set(room[:HEADER]).isdisjoint(room[HEADER:len(reply)])
         else:
             self.coverage["chain fault", str(fault)] += 1
         self.give_back(queue, head, element, used_index, room, reply)
@@ -375,25 +391,35 @@ class Player:
         self.machine = Machine(work, self.coverage)
         self.began = False
         self.printed = []
+        self.number = 0
+        # What the handle prints, if it ends at a command that it lacks.
+        self.on_handle = None
 
     def play(self, script):
         """What the script prints, and its status."""
         if len(script) > LONGEST_SCRIPT:
             return b"script too long\n", 1
-        for number, line in enumerate(script.split(b"\n"), 1):
+        for self.number, line in enumerate(script.split(b"\n"), 1):
             if line == b"" or line.startswith(b"#"):
                 continue
             command = parse(line)
             if command is None or not self.may_stand(command[0]):
                 self.coverage["command", "not a command"] += 1
-                self.printed.append(f"line {number}: not a command")
-                return self.text(), 1
+                self.printed.append(f"line {self.number}: not a command")
+                return text_of(self.printed), 1
             self.command(*command)
-        return self.text(), 0
+        return text_of(self.printed), 0
 
-    def text(self):
-        """What was printed."""
-        return "".join(line + "\n" for line in self.printed).encode()
+    def lack(self, lines=()):
+        """The handle ends at this command, of which it has printed some lines."""
+        if self.on_handle is None:
+            end = f"line {self.number}: not on this device"
+            self.on_handle = text_of([*self.printed, *lines, end])
+
+    def lack_parts(self, length, *numbers):
+        """The handle maps whole pages alone."""
+        if length and any(number % PAGE for number in (length, *numbers)):
+            self.lack()
 
     def may_stand(self, name):
         """Whether a command may stand here: queues come first, one at least and 64 at most."""
@@ -463,11 +489,13 @@ class Player:
     def map(self, iova, target, length, may):
         """I/O addresses are mapped."""
         self.machine.memory.map(iova, target, length, may)
+        self.lack_parts(length, iova, target)
         return ["ok"]
 
     def unmap(self, iova, length):
         """I/O addresses aren't mapped any more."""
         self.machine.memory.unmap(iova, length)
+        self.lack_parts(length, iova)
         return ["ok"]
 
     def iommu(self, on):
@@ -482,9 +510,13 @@ class Player:
         lines = []
         try:
             for _ in range(most):
+                if not self.machine.memory.fits_handle():
+                    self.lack()
                 step = self.machine.step(self.machine.queues[index])
                 if step is None:
                     break
+                if self.machine.header_meets_data:
+                    self.lack(lines)
                 lines += step
         except Refused as refused:
             self.coverage["refused kick", refused.number] += 1
@@ -504,6 +536,11 @@ class Player:
         for block in self.machine.memory.blocks:
             block.marks = set()
         return [f"moved {32 + 32 * len(self.machine.queues)}"]
+
+
+def text_of(lines):
+    """Lines as they are printed."""
+    return "".join(line + "\n" for line in lines).encode()
 
 
 def parse(line):
@@ -544,7 +581,9 @@ ARGUMENTS = {
 
 
 def play(script, work=6_000_000):
-    """What a script prints, its status, and what it covered."""
+    """What a script prints and its status, on the program and on the handle, and what it
+    covered."""
     player = Player(work)
-    printed, status = player.play(script)
-    return printed, status, player.coverage
+    whole = player.play(script)
+    on_handle = whole if player.on_handle is None else (player.on_handle, LACKING)
+    return {"the program": whole, "the handle": on_handle}, player.coverage
