@@ -322,6 +322,7 @@ returned_is_step_by {F} {G} may other s now after es c x notice last used seen m
             (Exchanged x (tells seen)) (effects_of c x last seen) (after_alone m c files)) (sym first.queue)
             (made.offer, made.offered, made.exchanges);
         acts = ap (λ (u : List Store). return_acts (reply_stores (room_of c) x.reply last ++ u) seen) h.used_is;
+        notice_is = h.told;
       },
     )
 
@@ -352,6 +353,7 @@ own_is_returned {F} G may s now after es c x notice last used seen request reply
               (ap (λ (p : Phase). options_left m.page_size m.options c p) is);
           told = refl;
         };
-        acts = λ notice. ap (λ (u : List Store). return_acts (reply_stores (room_of c) x.reply last ++ u) seen) h.used_is;
+        acts = ap (λ (u : List Store). return_acts (reply_stores (room_of c) x.reply last ++ u) seen) h.used_is;
+        notice_is = h.told;
       },
     )

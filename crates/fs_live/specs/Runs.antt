@@ -21,7 +21,7 @@ use Rattle.plain_machine.specs.StepBy.{Act, StepLoads, StepBy, ReturnsBy, after_
 use Rattle.plain_machine.specs.StepBy.{return_stores, stores_among}
 use Rattle.fs_live.specs.Several.{LiveQueue, InFlightId, QueueEvent, RunsOver, UsedFrom, heads_taken}
 use Rattle.fs_live.specs.Several.{heads_ended, returns_among, returning, avail_event_at, seen_at}
-use Rattle.fs_live.specs.Several.{used_event_at}
+use Rattle.fs_live.specs.Several.{used_event_at, wants}
 use Rattle.fs_live.specs.Several as several
 pub use Rattle.fs_live.specs.Live.{HasNoneInFlight}
 use Rattle.fs_live.specs.Live.{Phase, Asked, Own, OutChain, LiveState, LiveEvent, EndsPop, PushesChain}
@@ -96,7 +96,8 @@ chain_loads c lost =
 
 -- a returned chain is a step by its loads, of a machine that takes the two bytes that were seen for the
 -- flags. Its calls with their answers, and its exchange, are the step's. So are its acts, with the used
--- element and index of the queue's next used position
+-- element and index of the queue's next used position. Whether the driver is to be notified is by these two
+-- bytes: without the event index, as the step says (`tells seen`); with it, by used_event
 pub record IsAStep {G : Type 0} (other : May G) (m : State G) (files : G) (w : LiveQueue) (c : OutChain)
     (x : Exchange) (last : ℕ) (used : List Store) (seen : List ℕ) (notice : Bool) : Type 0 where
   pub lost : List Load
@@ -108,6 +109,7 @@ pub record IsAStep {G : Type 0} (other : May G) (m : State G) (files : G) (w : L
       }) (after_alone m c files)
   pub acts : event_acts (PushesChain c x notice last used seen)
       ≡ return_acts (return_stores (returning w) c.head (room_of c) x.reply last) seen
+  pub notice_is : notice ≡ wants w seen
 
 -- so it is for any acts of other chains between its pop and its return, and for any writes of the guest. The
 -- file system may be any of which the chain's own calls are a run
@@ -126,9 +128,10 @@ ReturnedIsStepBy {F} {G} may other =
     × IsAStep other m files w c x last used seen notice
 
 -- a chain with its caller's own bytes: its loads offer it. The bytes, the used element and the index are
--- stored as a step stores a reply, at the queue's next used position
+-- stored as a step stores a reply, at the queue's next used position. The driver is notified as in `IsAStep`
 pub record IsAReturn {G : Type 0} (m : State G) (limit : ℕ) (w : LiveQueue) (c : OutChain)
-    (request reply : List ℕ) (x : Exchange) (last : ℕ) (used : List Store) (seen : List ℕ) : Type 0 where
+    (request reply : List ℕ) (x : Exchange) (last : ℕ) (used : List Store) (seen : List ℕ) (notice : Bool) :
+    Type 0 where
   pub offered :
       OffersBy m.memory limit c.taken c.loaded request (Offers c.head (IsRequest request (room_of c)))
   pub fits : length reply ≤ length (room_of c)
@@ -138,9 +141,9 @@ pub record IsAReturn {G : Type 0} (m : State G) (limit : ℕ) (w : LiveQueue) (c
         acts = return_acts (return_stores c.taken c.head (room_of c) x.reply last) seen;
         last = last;
       }) (after_alone m c m.files)
-  pub acts : (notice : Bool) →
-      event_acts (PushesChain c x notice last used seen)
+  pub acts : event_acts (PushesChain c x notice last used seen)
       ≡ return_acts (return_stores (returning w) c.head (room_of c) x.reply last) seen
+  pub notice_is : notice ≡ wants w seen
 
 -- so it is for each such chain of a run: no call is made, and the options stay
 abbrev pub OwnIsReturned : {F : Type 0} → (G : Type 0) → May F → Type 0
@@ -154,7 +157,7 @@ OwnIsReturned {F} G may =
     IsBefore now c m →
     (w : LiveQueue)
     × (slice_get now.queues c.queue ≡ Some w)
-    × IsAReturn m now.limit w c request reply x last used seen
+    × IsAReturn m now.limit w c request reply x last used seen notice
 
 -- ---- where stores go
 

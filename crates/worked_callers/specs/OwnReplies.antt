@@ -68,7 +68,7 @@ ReturnsAsStep {F} G may s i before after request reply calls notice named =
     slice_get m.queues i ≡ Some (live_of before).queue →
     (w : LiveQueue)
     × (slice_get r.now.queues r.chain.queue ≡ Some w)
-    × IsAReturn m r.now.limit w r.chain request reply r.exchange 0 r.used loaded_flags)
+    × IsAReturn m r.now.limit w r.chain request reply r.exchange 0 r.used loaded_flags notice)
 
 -- the addresses that the return reports are those that the plain machine's step writes
 abbrev pub ReportsOwn : {F : Type 0} → (may : May F) → (s : LiveState F) → (i : ℕ) →
