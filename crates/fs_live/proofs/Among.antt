@@ -39,11 +39,12 @@ use Rattle.fs_chain.specs.declared.chain_handle.ChainHandle.{ChainHandle}
 use Rattle.fs_chain.proofs.WholeWalks.{ComesSo, walk_comes}
 use Rattle.fs_live.specs.Among.{HandleFindsStopped, HandleEndsPopAmong, LoadsAmong, WalksAmong}
 use Rattle.fs_live.specs.Handles.{IsPopDone, live_of}
-use Rattle.fs_live.specs.Live.{pop_refusal, with_live}
+use Rattle.fs_live.specs.Live.{LoadsAreMapped, pop_refusal, with_live}
 use Rattle.fs_live.specs.Several.{LiveQueue, avail_event_at, used_event_at}
 use Rattle.fs_live.proofs.Declined.{goes_there}
 use Rattle.fs_live.proofs.Popped.{IsUnrefused, begins_whole, begun_room, event_of, held_by, walked_events}
 use Rattle.fs_live.proofs.Loads.{IsInside, inside_of}
+use Rattle.fs_live.proofs.MappedLoads.{more_mapped, none_mapped}
 use Rattle.fs_live.proofs.Queues.{none_some, there_same}
 
 -- ---- the bytes of a load
@@ -73,6 +74,7 @@ pub record Stands (l : Loaded) (old w : ChainHandle) (before : QueueState) : Typ
   pub few : length w.part.items < asked_len walk
   pub there : IsThere (places_in old.regions) walk
   pub inside : IsInside walk
+  pub mapped : LoadsAreMapped (places_in old.regions) (queue_of (course_of before old.limit)) l
   pub stands : IsWalkAt (places_in old.regions) (queue_of (course_of before old.limit)) l w.descriptors.items walk
 
 -- calls that were refused leave it there
@@ -85,6 +87,7 @@ stands_still l old w v before same from = record {
   few = subst (λ (part : List ℕ). length part < asked_len from.walk) (sym same.3) from.few;
   there = from.there;
   inside = from.inside;
+  mapped = from.mapped;
   stands = subst (λ (ds : List Descriptor). IsWalkAt (places_in old.regions) (queue_of (course_of before old.limit)) l ds from.walk)
       (sym same.2) from.stands;
 }
@@ -98,6 +101,7 @@ pub record Came (l : Loaded) (old new : ChainHandle) (before now after : QueueSt
   pub regions : new.regions ≡ old.regions
   pub limit : new.limit ≡ old.limit
   pub part : new.part.items ≡ []
+  pub mapped : LoadsAreMapped (places_in old.regions) (queue_of (course_of before old.limit)) l
   pub comes : IsCourseStep (places_in old.regions) old.limit (queue_of (course_of before old.limit)) l new.descriptors.items came
   pub there : queue_of (course_of now old.limit) ≡ queue_of (course_of before old.limit)
   pub may : may_take now ≡ true
@@ -105,11 +109,11 @@ pub record Came (l : Loaded) (old new : ChainHandle) (before now after : QueueSt
 -- ---- what a call tells of the queue
 
 give_tests : (a b c : Bool) → (if not a then Some error.BadArgument else if not b then Some error.OtherQueue
-    else if not c then Some error.ChainInFlight else None) ≡ None → (b ≡ true) × (c ≡ true)
+    else if not c then Some error.ChainInFlight else None) ≡ None → (a ≡ true) × (b ≡ true) × (c ≡ true)
 give_tests false b c is = absurd (none_some error.BadArgument (sym is))
 give_tests true false c is = absurd (none_some error.OtherQueue (sym is))
 give_tests true true false is = absurd (none_some error.ChainInFlight (sym is))
-give_tests true true true is = (refl, refl)
+give_tests true true true is = (refl, refl, refl)
 
 same_layout : (a b : QueueLayout) (position : ℕ) → is_laid_out a b ≡ true → at_position a position ≡ at_position b position
 same_layout a b position is =
@@ -134,10 +138,10 @@ same_place now before limit is =
     ∙ same_layout now.layout before.layout before.next_avail one.1
 
 goes_at : (now before : QueueState) (limit asked len : ℕ) → give_error now (course_of before limit) (pop_id_of before) asked len ≡ None
-    → (queue_of (course_of now limit) ≡ queue_of (course_of before limit)) × (may_take now ≡ true)
+    → (queue_of (course_of now limit) ≡ queue_of (course_of before limit)) × (may_take now ≡ true) × (len ≡ asked)
 goes_at now before limit asked len is =
     let tests = give_tests (len == asked) (fits_pop now (course_of before limit) (pop_id_of before)) (may_take now) is in
-    (same_place now before limit tests.0, tests.1)
+    (same_place now before limit tests.1, tests.2, eqb-true len asked tests.0)
 
 -- ---- calls
 
@@ -163,6 +167,7 @@ on_unless : (stopped : Option QueueError) (bs : List ℕ) (l : Loaded) (old v ne
     (told : walked.PopOutcome) (from : Stands l old v before)
     → GoesOnUnless stopped (course_of before old.limit) (pop_id_of before) from.walk (whole v bs) v new now after told → new.part.items ≡ []
     → (queue_of (course_of now old.limit) ≡ queue_of (course_of before old.limit)) × (may_take now ≡ true)
+    × (length (whole v bs) ≡ asked_len from.walk)
     → AfterCall stopped bs l old v new before now after (wents.On told)
 on_unless (Some why) bs l old v new before now after told from on part there = on.0
 on_unless None bs l old v new before now after told from on part there =
@@ -188,6 +193,8 @@ on_unless None bs l old v new before now after told from on part there =
         regions = on.1.4.0 ∙ from.regions;
         limit = on.1.4.1 ∙ from.limit;
         part = part;
+        mapped = more_mapped (places_in old.regions) (queue_of course) l by.after v.descriptors.items walk all on.0 from.stands from.there
+            there.2 by.adds from.mapped;
         comes = came;
         there = there.0;
         may = there.1;
@@ -208,6 +215,7 @@ on_call bs l old v new before now after wents.Part from call = (
     few = few_still v new bs from.walk (course_of before old.limit) (pop_id_of before) from.state call.4 call.1;
     there = from.there;
     inside = from.inside;
+    mapped = from.mapped;
     stands = subst (λ (ds : List Descriptor). IsWalkAt (places_in old.regions) (queue_of (course_of before old.limit)) l ds from.walk)
         (kept_items v new call.3.2) from.stands;
   },
@@ -237,9 +245,10 @@ pub load_stands : (l : Loaded) (old new : ChainHandle) (before now after : Queue
     → says.Load n ≡ told_of new.descriptors.items came
     → new.state ≡ state_after (course_of before old.limit) (pop_id_of before) new.descriptors.items came → new.regions ≡ old.regions
     → new.limit ≡ old.limit
-    → new.part.items ≡ [] → IsCourseStep (places_in old.regions) old.limit (queue_of (course_of before old.limit)) l new.descriptors.items
-    came → Stands l old new before
-load_stands l old new before now after n (step.Load walk) told state_is regions limit part comes = record {
+    → new.part.items ≡ [] → LoadsAreMapped (places_in old.regions) (queue_of (course_of before old.limit)) l
+    → IsCourseStep (places_in old.regions) old.limit (queue_of (course_of before old.limit)) l new.descriptors.items came
+    → Stands l old new before
+load_stands l old new before now after n (step.Load walk) told state_is regions limit part mapped comes = record {
   walk = walk;
   state = state_is;
   regions = regions;
@@ -247,10 +256,12 @@ load_stands l old new before now after n (step.Load walk) told state_is regions 
   few = subst (λ (items : List ℕ). length items < asked_len walk) (sym part) (some_asked walk);
   there = comes.1;
   inside = inside_of (places_in old.regions) (queue_of (course_of before old.limit)) new.descriptors.items walk comes.2;
+  mapped = mapped;
   stands = comes.0;
 }
-load_stands l old new before now after n (step.Chain head None) told state_is regions limit part comes = absurd (subst IsALoad told tt)
-load_stands l old new before now after n came told state_is regions limit part comes = absurd (subst IsALoad told tt)
+load_stands l old new before now after n (step.Chain head None) told state_is regions limit part mapped comes =
+    absurd (subst IsALoad told tt)
+load_stands l old new before now after n came told state_is regions limit part mapped comes = absurd (subst IsALoad told tt)
 
 -- one that wants bytes stands somewhere
 pub standing : (stopped : Option QueueError) (given : List (List ℕ)) (old new : ChainHandle) (before now after : QueueState)
@@ -260,7 +271,8 @@ pub standing : (stopped : Option QueueError) (given : List (List ℕ)) (old new 
 standing stopped given old new before now after wents.Part walks wants so = so
 standing (Some why) given old new before now after (wents.On (says.Load n)) walks wants so = absurd (subst IsALoad so tt)
 standing None given old new before now after (wents.On (says.Load n)) walks wants so =
-    let c = so.2 in (so.0, so.1, load_stands so.0 old new before now after n c.came c.told_is c.state c.regions c.limit c.part c.comes)
+    let c = so.2 in
+    (so.0, so.1, load_stands so.0 old new before now after n c.came c.told_is c.state c.regions c.limit c.part c.mapped c.comes)
 standing stopped given old new before now after told walks wants so = absurd wants
 
 pub wants_unrefused : (w : ChainHandle) (q : QueueState) (told : went.LoadOutcome) → WantsBytes told → IsUnrefused told w q
@@ -286,6 +298,7 @@ first old new before after (wents.On told) walks goes has by =
         regions = so.1.4.0;
         limit = so.1.4.1;
         part = by.1.1;
+        mapped = none_mapped (places_in old.regions) (queue_of (course_of before old.limit));
         comes = so.2;
         there = refl;
         may = begun_room old new before after told by;
@@ -361,6 +374,9 @@ handle_walks_among {F} may s i given old new before now after told there places 
     subst (λ (k : Memory). IsCourseStep k s.limit (live_of now).queue loaded ds came) (sym places)
     (subst (λ (n : ℕ). IsCourseStep m n (live_of now).queue loaded ds came) (sym limit)
     (subst (λ (k : Queue). IsCourseStep m old.limit k loaded ds came) (sym queue) c.comes)) in
+    let mapped : LoadsAreMapped s.places (live_of now).queue loaded =
+    subst (λ (k : Memory). LoadsAreMapped k (live_of now).queue loaded) (sym places)
+    (subst (λ (k : Queue). LoadsAreMapped m k loaded) (sym queue) c.mapped) in
     let state_is : new.state ≡ state_after (course_of before s.limit) (pop_id_of before) ds came =
     c.state ∙ ap (λ (n : ℕ). state_after (course_of before n) (pop_id_of before) ds came) (sym limit) in
     let events : event_fault m now ≡ None =
@@ -373,7 +389,7 @@ handle_walks_among {F} may s i given old new before now after told there places 
       so.1,
       came,
       c.told_is,
-      record { w = live_of now; there = there; room = c.may; goes = clear; ends = event.0 },
+      record { w = live_of now; there = there; room = c.may; goes = clear; mapped = mapped; ends = event.0 },
       event.1,
       held_by s i (live_of now) before loaded came new queue state_is,
     )
@@ -395,7 +411,7 @@ ended_at st bs w new now after told why walking stopped walks = absurd walking
 
 walking_room : (st : state.ChainState) (now : QueueState) (len : ℕ) → IsWalking st → walk_error st now len ≡ None → may_take now ≡ true
 walking_room (at.Walking course pop_id walk) now len walking clear =
-    (give_tests (len == asked_len walk) (fits_pop now course pop_id) (may_take now) clear).1
+    (give_tests (len == asked_len walk) (fits_pop now course pop_id) (may_take now) clear).2
 walking_room st now len walking clear = absurd walking
 
 pub handle_finds_stopped : {F : Type 0} (may : May F) → HandleFindsStopped may

@@ -37,7 +37,8 @@ one_more None bs k l old v new before now after (wents.On (says.Load n)) wants f
     l (whole v bs) so.0 =
     subst (λ (s : state.ChainState). AddsSo s (wents.On (says.Load n)) new.descriptors.items l (whole v bs) so.0) from.state so.1 in
     let more = made_more (places_in old.regions) q l so.0 v.descriptors.items from.walk (whole v bs) adds.0 from.stands adds.2 in
-    (so.0, load_stands so.0 old new before now after n c.came c.told_is c.state c.regions c.limit c.part c.comes, omega (arith, more, come))
+    let stands = load_stands so.0 old new before now after n c.came c.told_is c.state c.regions c.limit c.part c.mapped c.comes in
+    (so.0, stands, omega (arith, more, come))
 one_more stopped bs k l old v new before now after told wants from come so = absurd wants
 
 -- so stands a walk that wants bytes, after all its loads

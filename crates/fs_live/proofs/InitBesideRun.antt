@@ -17,7 +17,7 @@ use Rattle.virtiofsd_fuse.specs.Examples.{le16}
 use Rattle.virtiofsd_fuse.specs.Grammar.{meaning, meant, row}
 use Rattle.virtiofsd_fuse.specs.Serving.{May}
 use Rattle.plain_machine.specs.Examples.{blank, queue}
-use Rattle.fs_live.specs.Live.{DecodesRequestSo, ReceivesAnswerSo, PushesChainSo, EndsPopSo}
+use Rattle.fs_live.specs.Live.{DecodesRequestSo, ReceivesAnswerSo, PushesChainSo, EndsPopSo, LoadsAreMapped}
 use Rattle.fs_live.specs.Overlap.{at_positions, state}
 use Rattle.fs_live.specs.InitBeside.{
   InitBeside,
@@ -72,9 +72,24 @@ second_fetches : FetchesBy blank 0x101000 (record queue { position = 1 }) second
 unfolding place addresses stored_all found_exactly
 second_fetches = (([], All-nil (IsLost blank), refl), second_offers)
 
+first_mapped : LoadsAreMapped blank queue first_loads
+unfolding place addresses
+first_mapped = record { index = λ some. refl; entry = λ some. refl; entries = ((refl, refl), ((refl, refl), tt)) }
+
+second_mapped : LoadsAreMapped blank (record queue { position = 1 }) second_loads
+unfolding place addresses
+second_mapped = record { index = λ some. refl; entry = λ some. refl; entries = ((refl, refl), ((refl, refl), tt)) }
+
 first_walks : {F : Type 0} (f : F) →
     EndsPopSo (state f (at_positions 0 0) 0 []) 0 first_loads first_table (step.Chain 0 None) (state f (at_positions 1 0) 0 (first ∷ []))
-first_walks f = record { w = at_positions 0 0; there = refl; room = refl; goes = refl; ends = (first_fetches, refl) }
+first_walks f = record {
+  w = at_positions 0 0;
+  there = refl;
+  room = refl;
+  goes = refl;
+  mapped = first_mapped;
+  ends = (first_fetches, refl);
+}
 
 first_asks : {F : Type 0} (f : F) →
     DecodesRequestSo (state f (at_positions 1 0) 0 (first ∷ [])) first lookup (looks ∷ []) (state f (at_positions 1 0) 0 (first_asked ∷ []))
@@ -83,7 +98,14 @@ first_asks f = record { before = []; behind = []; out = refl; fresh = refl; whol
 
 second_walks : {F : Type 0} (f : F) → EndsPopSo (state f (at_positions 1 0) 0 (first_asked ∷ [])) 0 second_loads second_table
     (step.Chain 2 None) (state f (at_positions 2 0) 0 (first_asked ∷ second ∷ []))
-second_walks f = record { w = at_positions 1 0; there = refl; room = refl; goes = refl; ends = (second_fetches, refl) }
+second_walks f = record {
+  w = at_positions 1 0;
+  there = refl;
+  room = refl;
+  goes = refl;
+  mapped = second_mapped;
+  ends = (second_fetches, refl);
+}
 
 second_asks : {F : Type 0} (f : F) → DecodesRequestSo (state f (at_positions 2 0) 0 (first_asked ∷ second ∷ [])) second init (starts ∷ [])
     (state f (at_positions 2 0) 0 (first_asked ∷ second_asked ∷ []))

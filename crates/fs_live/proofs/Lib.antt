@@ -11,6 +11,7 @@ pub mod InitBesideRun
 pub mod Left
 pub mod Listed
 pub mod Loads
+pub mod MappedLoads
 pub mod Moved
 pub mod NoneAmid
 pub mod Options

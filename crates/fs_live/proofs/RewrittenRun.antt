@@ -17,7 +17,7 @@ use Rattle.virtiofsd_fuse.specs.Examples.{le16}
 use Rattle.virtiofsd_fuse.specs.Grammar.{meaning, meant, row}
 use Rattle.virtiofsd_fuse.specs.Serving.{May}
 use Rattle.plain_machine.specs.Examples.{blank}
-use Rattle.fs_live.specs.Live.{DecodesRequestSo, ReceivesAnswerSo, PushesChainSo, EndsPopSo}
+use Rattle.fs_live.specs.Live.{DecodesRequestSo, ReceivesAnswerSo, PushesChainSo, EndsPopSo, LoadsAreMapped}
 use Rattle.fs_live.specs.Overlap.{state}
 use Rattle.fs_live.specs.Rewritten.{Rewritten, at_positions, exchange, first, first_answered, first_asked, first_loads, forget, queue}
 use Rattle.fs_live.specs.Rewritten.{second_loads, stopped_at, table, told, used}
@@ -46,13 +46,35 @@ second_offers = (
   refl,
 )
 
+first_mapped : LoadsAreMapped blank queue first_loads
+unfolding place addresses
+first_mapped = record { index = λ some. refl; entry = λ some. refl; entries = ((refl, refl), tt) }
+
+second_mapped : LoadsAreMapped blank (record queue { position = 1 }) second_loads
+unfolding place addresses
+second_mapped = record { index = λ some. refl; entry = λ some. refl; entries = tt }
+
 first_walks : {F : Type 0} (f : F) →
     EndsPopSo (state f (at_positions 0 0) 0 []) 0 first_loads table (step.Chain 0 None) (state f (at_positions 1 0) 0 (first ∷ []))
-first_walks f = record { w = at_positions 0 0; there = refl; room = refl; goes = refl; ends = (first_fetches, refl) }
+first_walks f = record {
+  w = at_positions 0 0;
+  there = refl;
+  room = refl;
+  goes = refl;
+  mapped = first_mapped;
+  ends = (first_fetches, refl);
+}
 
 second_walks : {F : Type 0} (f : F) → EndsPopSo (state f (at_positions 1 0) 0 (first ∷ [])) 0 second_loads [] (step.Refused HeadOutOfTable)
     (state f (stopped_at 1 0) 0 (first ∷ []))
-second_walks f = record { w = at_positions 1 0; there = refl; room = refl; goes = refl; ends = (second_offers, refl) }
+second_walks f = record {
+  w = at_positions 1 0;
+  there = refl;
+  room = refl;
+  goes = refl;
+  mapped = second_mapped;
+  ends = (second_offers, refl);
+}
 
 first_asks : {F : Type 0} (f : F) →
     DecodesRequestSo (state f (stopped_at 1 0) 0 (first ∷ [])) first forget (told ∷ []) (state f (stopped_at 1 0) 0 (first_asked ∷ []))

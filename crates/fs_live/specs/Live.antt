@@ -1,6 +1,7 @@
 -- A run of chains in flight on several queues, event by event, while the guest writes (VIRTIO 1.2, 2.7).
 use Rattle.std.specs.Prelude.{◌≡◌, ◌≤◌, ◌<◌, ◌+◌, ◌%◌, ◌^◌, ℕ, Bool, true, not, map, ◌==◌, IsTrue, List, []}
-use Rattle.std.specs.Prelude.{◌∷◌, ◌++◌, length, filter, Option, Some, None, slice_get, if◌then◌else◌}
+use Rattle.std.specs.Prelude.{◌∷◌, ◌++◌, length, filter, Option, Some, None, is_some, slice_get}
+use Rattle.std.specs.Prelude.{if◌then◌else◌}
 use Rattle.std.specs.List.{AllByRecursion, Contains}
 use Rattle.vm_iotlb.specs.declared.permissions.Permissions.TheVariants.{Read, Write}
 use Rattle.vm_memory_core.specs.Host.{changed_at}
@@ -10,7 +11,8 @@ use Rattle.fs_queue.specs.declared.fault.QueueError.{QueueError}
 use Rattle.fs_queue.specs.declared.fault.QueueError.TheVariants.{AvailFlagsUnreachable, Stopped}
 use Rattle.fs_queue.specs.declared.fault.QueueError.TheVariants.{UsedUnreachable}
 use Rattle.fs_queue.specs.Chain.{Descriptor}
-use Rattle.fs_queue.specs.Queue.{Queue}
+use Rattle.fs_queue.specs.Loads.{Load}
+use Rattle.fs_queue.specs.Queue.{Queue, avail_index_at, ring_entry_at}
 use Rattle.fs_queue.specs.Taking.{Idle, Refuses, addresses_of, readable, return_fault, writable, total_len}
 use Rattle.fs_queue.specs.Taking.{after_refusal}
 use Rattle.fs_queue.specs.Returning.{Store, stores_after_reply}
@@ -190,6 +192,17 @@ pop_refusal m w =
     else if not (reach m Write (avail_event_at w.queue) 2) then Some UsedUnreachable
     else None
 
+-- the 16 bytes of a table's entry were loaded, and are mapped
+abbrev pub IsMappedEntry : Memory → Load → Type 0
+IsMappedEntry m l = (is_some l.came ≡ true) × (reach m Read l.address 16 ≡ true)
+
+-- the loads that brought bytes are of mapped addresses: the available index and the available ring's entry,
+-- if they were loaded (2.7.6), and each entry of a descriptor table (2.7.5)
+pub record LoadsAreMapped (m : Memory) (q : Queue) (loaded : Loaded) : Type 0 where
+  pub index : is_some loaded.index ≡ true → reach m Read (avail_index_at q) 2 ≡ true
+  pub entry : is_some loaded.entry ≡ true → reach m Read (ring_entry_at q) 2 ≡ true
+  pub entries : AllByRecursion (IsMappedEntry m) loaded.entries
+
 -- a pop of a queue that isn't stopped, if one more of its chains may be in flight. With the event index
 -- used_event and avail_event are mapped
 pub record EndsPopSo {F : Type 0} (s : LiveState F) (i : ℕ) (loaded : Loaded) (ds : List Descriptor)
@@ -198,6 +211,7 @@ pub record EndsPopSo {F : Type 0} (s : LiveState F) (i : ℕ) (loaded : Loaded) 
   pub there : slice_get s.queues i ≡ Some w
   pub room : IsTrue (may_take w)
   pub goes : pop_refusal s.places w ≡ None
+  pub mapped : LoadsAreMapped s.places w.queue loaded
   pub ends : EndsPopIn s i w loaded ds came after
 
 -- a pop of a queue is refused with this error, if one more of its chains may be in flight

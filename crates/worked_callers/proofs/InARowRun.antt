@@ -22,7 +22,7 @@ use Rattle.fs_live.specs.Overlap.{at_positions, destroy, first, first_loads, fir
 use Rattle.fs_live.specs.Overlap.{unknown}
 use Rattle.fs_live.specs.Serial.{FoundIn, SerialRun, return_in}
 use Rattle.fs_live.specs.Several.{LiveQueue}
-use Rattle.fs_live.proofs.OverlapRun.{first_fetches, second_fetches}
+use Rattle.fs_live.proofs.OverlapRun.{first_fetches, first_mapped, second_fetches, second_mapped}
 use Rattle.fs_live.proofs.Queues.{same_some}
 use Rattle.worked_callers.specs.InARow.{after_both, after_one, first_asked, first_exchange, first_used, one, second_answered, second_asked}
 use Rattle.worked_callers.specs.InARow.{second_exchange, second_used, two, with_both}
@@ -31,7 +31,14 @@ use Rattle.worked_callers.specs.InARow.{second_exchange, second_used, two, with_
 
 first_walks : {F : Type 0} (f : F) →
     EndsPopSo (state f (at_positions 0 0) 1 []) 0 first_loads first_table (step.Chain 0 None) (state f (at_positions 1 0) 1 (first ∷ []))
-first_walks f = record { w = at_positions 0 0; there = refl; room = refl; goes = refl; ends = (first_fetches, refl) }
+first_walks f = record {
+  w = at_positions 0 0;
+  there = refl;
+  room = refl;
+  goes = refl;
+  mapped = first_mapped;
+  ends = (first_fetches, refl);
+}
 
 first_asks : {F : Type 0} (f : F) →
     DecodesRequestSo (state f (at_positions 1 0) 1 (first ∷ [])) first unknown [] (state f (at_positions 1 0) 1 (first_asked ∷ []))
@@ -56,7 +63,14 @@ first_returns f = record {
 
 second_walks : {F : Type 0} (f : F) →
     EndsPopSo (state f (at_positions 1 1) 1 []) 0 second_loads second_table (step.Chain 2 None) (state f (at_positions 2 1) 1 (second ∷ []))
-second_walks f = record { w = at_positions 1 1; there = refl; room = refl; goes = refl; ends = (second_fetches, refl) }
+second_walks f = record {
+  w = at_positions 1 1;
+  there = refl;
+  room = refl;
+  goes = refl;
+  mapped = second_mapped;
+  ends = (second_fetches, refl);
+}
 
 second_asks : {F : Type 0} (f : F) →
     DecodesRequestSo (state f (at_positions 2 1) 1 (second ∷ [])) second destroy (Destroy ∷ [])
