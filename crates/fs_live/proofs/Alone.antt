@@ -27,7 +27,7 @@ use Rattle.fs_live.specs.Live.{DecodesRequest, ReceivesAnswer}
 use Rattle.fs_live.specs.Live.{PushesChain}
 use Rattle.fs_live.specs.Live.{StoresNotification, ResetsQueue, FillsBuffer, GivesUpChain, Abandons, RepliesOwnBytes, Remaps, MovesDevice}
 use Rattle.fs_live.specs.Live.{Happens}
-use Rattle.fs_live.specs.Live.{IsUnreplied}
+use Rattle.fs_live.specs.Live.{IsMappedEntry, IsUnreplied, LoadsAreMapped}
 use Rattle.fs_live.specs.Live.{LiveRun, EndsPopIn}
 use Rattle.fs_live.specs.Live.{PushedWith, abandoned_chain, new_chain, fault_of_phase, own_exchange, room_of_phase, room_of, calls_in}
 use Rattle.fs_live.specs.Live.{serving}
@@ -65,28 +65,33 @@ IsWhole (Asked request options calls) ds = length request ≡ total_len (readabl
 IsWhole (Own request reply) ds = (length request ≡ total_len (readable ds)) × (length reply ≤ length (addresses_of (writable ds)))
 IsWhole _ ds = Unit {0}
 
--- its walk came to it by its loads, and its request is as long as it says
+-- its walk came to it by its loads, its request is as long as it says, and its loads are of mapped addresses
 abbrev pub Walked : ℕ → OutChain → Type 0
-Walked limit c = FetchesBy c.places limit c.taken c.loaded c.descriptors c.head (fault_of_phase c.phase) × IsWhole c.phase c.descriptors
+Walked limit c =
+    FetchesBy c.places limit c.taken c.loaded c.descriptors c.head (fault_of_phase c.phase)
+    × IsWhole c.phase c.descriptors
+    × LoadsAreMapped c.places c.taken c.loaded
 
 abbrev pub AllWalked : {F : Type 0} → LiveState F → Type 0
 AllWalked s = AllByRecursion (Walked s.limit) s.outs
 
 pub new_walked :
     {F : Type 0} (s : LiveState F) (i : ℕ) (w : LiveQueue) (loaded : Loaded) (ds : List Descriptor) (head : ℕ) (fault : Option ChainFault)
-    → FetchesBy s.places s.limit w.queue loaded ds head fault → Walked s.limit (new_chain s i w loaded ds head fault)
-new_walked s i w loaded ds head None h = (h, tt)
-new_walked s i w loaded ds head (Some why) h = (h, tt)
+    → FetchesBy s.places s.limit w.queue loaded ds head fault → LoadsAreMapped s.places w.queue loaded
+    → Walked s.limit (new_chain s i w loaded ds head fault)
+new_walked s i w loaded ds head None h mapped = (h, tt, mapped)
+new_walked s i w loaded ds head (Some why) h mapped = (h, tt, mapped)
 
 walk_keeps : {F : Type 0} (s after : LiveState F) (i : ℕ) (w : LiveQueue) (loaded : Loaded) (ds : List Descriptor) (came : comes.CourseStep)
-    → EndsPopIn s i w loaded ds came after
+    → EndsPopIn s i w loaded ds came after → LoadsAreMapped s.places w.queue loaded
     → AllWalked s → AllWalked after
-walk_keeps {F} s after i w loaded ds step.Idle h all = subst (λ (k : LiveState F). AllWalked k) (sym h.1) all
-walk_keeps {F} s after i w loaded ds (step.Refused e) h all = subst (λ (k : LiveState F). AllWalked k) (sym h.1) all
-walk_keeps {F} s after i w loaded ds (step.Chain head fault) h all =
+walk_keeps {F} s after i w loaded ds step.Idle h mapped all = subst (λ (k : LiveState F). AllWalked k) (sym h.1) all
+walk_keeps {F} s after i w loaded ds (step.Refused e) h mapped all = subst (λ (k : LiveState F). AllWalked k) (sym h.1) all
+walk_keeps {F} s after i w loaded ds (step.Chain head fault) h mapped all =
     subst (λ (k : LiveState F). AllWalked k) (sym h.1)
-    (all_both (Walked s.limit) s.outs (new_chain s i w loaded ds head fault ∷ []) all (new_walked s i w loaded ds head fault h.0, tt))
-walk_keeps s after i w loaded ds came h all = absurd h
+    (all_both (Walked s.limit) s.outs (new_chain s i w loaded ds head fault ∷ []) all
+    (new_walked s i w loaded ds head fault h.0 mapped, tt))
+walk_keeps s after i w loaded ds came h mapped all = absurd h
 
 -- a chain that is out, and the others
 pub one_walked : {F : Type 0} (s : LiveState F) (before behind : List OutChain) (c : OutChain) → s.outs ≡ before ++ c ∷ behind → AllWalked s
@@ -100,11 +105,11 @@ pub asked_walked : (limit : ℕ) (c : OutChain) (request : List ℕ) (options : 
     → length request ≡ total_len (readable c.descriptors)
     → Walked limit c → Walked limit (record c { phase = Asked request options calls })
 asked_walked limit c request options calls good whole h =
-    (subst (λ (f : Option ChainFault). FetchesBy c.places limit c.taken c.loaded c.descriptors c.head f) good h.0, whole)
+    (subst (λ (f : Option ChainFault). FetchesBy c.places limit c.taken c.loaded c.descriptors c.head f) good h.0, whole, h.2)
 
 -- a chain that is abandoned keeps what it was fetched by
 lost_walked : (limit : ℕ) (c : OutChain) → Walked limit c → Walked limit (abandoned_chain c)
-lost_walked limit c h = (h.0, tt)
+lost_walked limit c h = (h.0, tt, h.2)
 
 -- so does one that its caller replies to, whose bytes have room
 own_walked : (limit : ℕ) (c : OutChain) (p : Phase) (request reply : List ℕ) → c.phase ≡ p → IsUnreplied c p request
@@ -113,6 +118,7 @@ own_walked : (limit : ℕ) (c : OutChain) (p : Phase) (request reply : List ℕ)
 own_walked limit c Fetched request reply is un few h = (
   subst (λ (f : Option ChainFault). FetchesBy c.places limit c.taken c.loaded c.descriptors c.head f) (ap fault_of_phase is) h.0,
   (un, subst (λ (p : Phase). length reply ≤ length (room_of_phase p c.descriptors)) is few),
+  h.2,
 )
 own_walked limit c (Asked asked options calls) request reply is un few h = (
   subst (λ (f : Option ChainFault). FetchesBy c.places limit c.taken c.loaded c.descriptors c.head f) (ap fault_of_phase is) h.0,
@@ -120,11 +126,12 @@ own_walked limit c (Asked asked options calls) request reply is un few h = (
     ap length un ∙ subst (λ (p : Phase). IsWhole p c.descriptors) is h.1,
     subst (λ (p : Phase). length reply ≤ length (room_of_phase p c.descriptors)) is few,
   ),
+  h.2,
 )
 own_walked limit c p request reply is un few h = absurd un
 
 keeps : {F : Type 0} (may : May F) (s after : LiveState F) (e : LiveEvent) → Happens may s e after → AllWalked s → AllWalked after
-keeps may s after (EndsPop i loaded ds came) h all = walk_keeps s after i h.w loaded ds came h.ends all
+keeps may s after (EndsPop i loaded ds came) h all = walk_keeps s after i h.w loaded ds came h.ends h.mapped all
 keeps {F} may s after (RefusesPop i e) h all = subst (λ (k : LiveState F). AllWalked k) (sym h.state) all
 keeps {F} may s after (DecodesRequest c request told) h all =
     let P = Walked s.limit in
@@ -205,6 +212,20 @@ offers_over m n same limit q loaded request o by =
       lost_over m n same by.1 by.2,
       alike ∙ by.3,
     )
+
+entries_over : (m n : Memory) → location m ≡ location n → (ls : List Load) → AllByRecursion (IsMappedEntry n) ls →
+    AllByRecursion (IsMappedEntry m) ls
+entries_over m n same [] all = tt
+entries_over m n same (l ∷ ls) all =
+    ((all.0.0, reach_same m n same Read l.address 16 ∙ all.0.1), entries_over m n same ls all.1)
+
+mapped_over : (m n : Memory) → location m ≡ location n → (q : Queue) (loaded : Loaded) → LoadsAreMapped n q loaded →
+    LoadsAreMapped m q loaded
+mapped_over m n same q loaded mapped = record {
+  index = λ some. reach_same m n same Read (avail_index_at q) 2 ∙ mapped.index some;
+  entry = λ some. reach_same m n same Read (ring_entry_at q) 2 ∙ mapped.entry some;
+  entries = entries_over m n same loaded.entries mapped.entries;
+}
 
 -- ---- a chain that goes back
 
@@ -318,6 +339,7 @@ returned_is_step_by {F} {G} may other s now after es c x notice last used seen m
       record {
         lost = made.lost;
         lost_are = made.all_lost;
+        mapped = mapped_over m.memory c.places first.places c.taken c.loaded so.2;
         step = subst (λ (k : Option Queue). StepOfBy other m c.queue k (chain_loads c made.lost) (calls_in c.phase)
             (Exchanged x (tells seen)) (effects_of c x last seen) (after_alone m c files)) (sym first.queue)
             (made.offer, made.offered, made.exchanges);
@@ -343,6 +365,7 @@ own_is_returned {F} G may s now after es c x notice last used seen request reply
             (Offers c.head (IsRequest request (room_of c)))
             (subst (λ (r : List ℕ). OffersBy c.places now.limit c.taken c.loaded request (Offers c.head (IsRequest request r))) (sym room)
             (fetched.1 request whole.0));
+        mapped = mapped_over m.memory c.places first.places c.taken c.loaded walked.2;
         fits = subst (λ (r : List ℕ). length reply ≤ length r) (sym room) whole.1;
         returns = record {
           exchange = exchange;

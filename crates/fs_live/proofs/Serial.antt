@@ -28,8 +28,8 @@ use Rattle.plain_machine.specs.StepBy.{after_stores, stores_among, offered_by, r
 use Rattle.plain_machine.proofs.StepByLemmas.{step_by_is_step}
 use Rattle.fs_live.specs.Live.{Phase, PoppedFaulty, Fetched, Asked, OutChain, LiveState, LiveEvent, DecodesRequest, ReceivesAnswer}
 use Rattle.fs_live.specs.Live.{Happens, LiveRun}
-use Rattle.fs_live.specs.Live.{EndsPopSo, DecodesRequestSo, ReceivesAnswerSo, PushesChainSo, calls_in, fault_of_phase, new_chain}
-use Rattle.fs_live.specs.Live.{with_popped}
+use Rattle.fs_live.specs.Live.{EndsPopSo, DecodesRequestSo, LoadsAreMapped, ReceivesAnswerSo, PushesChainSo, calls_in, fault_of_phase}
+use Rattle.fs_live.specs.Live.{new_chain, with_popped}
 use Rattle.fs_live.specs.Live.{room_of, serving, event_acts}
 use Rattle.fs_live.specs.Live.{PushedWith}
 use Rattle.fs_live.specs.Runs.{IsAskedIn, IsServedPhase, options_left, after_alone, chain_loads, request_of_phase}
@@ -179,9 +179,10 @@ between_alone may s queues c k after es back of a run = absurd of.0
 
 start_alone : {F : Type 0} (may : May F) (s mid : LiveState F) (i : ℕ) (v : LiveQueue) (loaded : Loaded) (ds : List Descriptor) (head : ℕ)
     (fault : Option ChainFault)
-    → s.outs ≡ [] → FetchesBy s.places s.limit v.queue loaded ds head fault → mid ≡ with_popped s i v (new_chain s i v loaded ds head fault)
+    → s.outs ≡ [] → FetchesBy s.places s.limit v.queue loaded ds head fault → LoadsAreMapped s.places v.queue loaded
+    → mid ≡ with_popped s i v (new_chain s i v loaded ds head fault)
     → Alone may s (changed_at s.queues i (λ _. took v)) (new_chain s i v loaded ds head fault) mid
-start_alone {F} may s mid i v loaded ds head None none fetches is = record {
+start_alone {F} may s mid i v loaded ds head None none fetches mapped is = record {
   phase = Fetched;
   outs = ap (λ (x : LiveState F). x.outs) is ∙ ap (λ (l : List OutChain). l ++ new_chain s i v loaded ds head None ∷ []) none;
   queues_are = ap (λ (x : LiveState F). x.queues) is;
@@ -191,10 +192,10 @@ start_alone {F} may s mid i v loaded ds head None none fetches is = record {
   asked = tt;
   options = ap (λ (x : LiveState F). x.options) is;
   run = ap (λ (x : LiveState F). x.files) is;
-  walked = new_walked s i v loaded ds head None fetches;
+  walked = new_walked s i v loaded ds head None fetches mapped;
   served = tt;
 }
-start_alone {F} may s mid i v loaded ds head (Some why) none fetches is = record {
+start_alone {F} may s mid i v loaded ds head (Some why) none fetches mapped is = record {
   phase = PoppedFaulty why;
   outs = ap (λ (x : LiveState F). x.outs) is ∙ ap (λ (l : List OutChain). l ++ new_chain s i v loaded ds head (Some why) ∷ []) none;
   queues_are = ap (λ (x : LiveState F). x.queues) is;
@@ -204,7 +205,7 @@ start_alone {F} may s mid i v loaded ds head (Some why) none fetches is = record
   asked = tt;
   options = ap (λ (x : LiveState F). x.options) is;
   run = ap (λ (x : LiveState F). x.files) is;
-  walked = new_walked s i v loaded ds head (Some why) fetches;
+  walked = new_walked s i v loaded ds head (Some why) fetches mapped;
   served = tt;
 }
 
@@ -352,7 +353,7 @@ single_is_step {F} may s after r m w none there rest of run found =
     let c₀ = new_chain s i v r.loaded r.descriptors r.head r.fault in
     let qs = changed_at s.queues i (λ _. took v) in
     let back = between_alone may s qs c₀ run.0 after r.between (return_in r) of
-    (start_alone may s run.0 i v r.loaded r.descriptors r.head r.fault none walk.ends.0 walk.ends.1) run.2 in
+    (start_alone may s run.0 i v r.loaded r.descriptors r.head r.fault none walk.ends.0 walk.mapped walk.ends.1) run.2 in
     let k = back.0 in
     let a = back.1 in
     let b : PushesChainSo k r.chain r.exchange r.notice r.last r.used r.seen after = back.2 in

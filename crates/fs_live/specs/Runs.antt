@@ -29,7 +29,7 @@ use Rattle.fs_live.specs.Live.{StoresNotification}
 use Rattle.fs_live.specs.Live.{ResetsQueue, FillsBuffer, GivesUpChain, Remaps, MovesDevice, Happens, LiveRun}
 use Rattle.fs_live.specs.Live.{event_acts}
 use Rattle.fs_live.specs.Live.{calls_among}
-use Rattle.fs_live.specs.Live.{calls_in, room_of, serving}
+use Rattle.fs_live.specs.Live.{LoadsAreMapped, calls_in, room_of, serving}
 use Rattle.fs_live.specs.Live.{own_exchange}
 
 -- ---- the calls
@@ -96,12 +96,14 @@ chain_loads c lost =
 
 -- a returned chain is a step by its loads, of a machine that takes the two bytes that were seen for the
 -- flags. Its calls with their answers, and its exchange, are the step's. So are its acts, with the used
--- element and index of the queue's next used position. Whether the driver is to be notified is by these two
--- bytes: without the event index, as the step says (`tells seen`); with it, by used_event
+-- element and index of the queue's next used position. The loads that brought bytes are of mapped addresses.
+-- Whether the driver is to be notified is by the two bytes that were seen: without the event index, as the
+-- step says (`tells seen`); with it, by used_event
 pub record IsAStep {G : Type 0} (other : May G) (m : State G) (files : G) (w : LiveQueue) (c : OutChain)
     (x : Exchange) (last : ℕ) (used : List Store) (seen : List ℕ) (notice : Bool) : Type 0 where
   pub lost : List Load
   pub lost_are : All (IsLost m.memory) lost
+  pub mapped : LoadsAreMapped m.memory c.taken c.loaded
   pub step : StepBy other m c.queue (chain_loads c lost) (calls_in c.phase) (Exchanged x (tells seen))
       (record {
         acts = return_acts (return_stores c.taken c.head (room_of c) x.reply last) seen;
@@ -127,13 +129,15 @@ ReturnedIsStepBy {F} {G} may other =
     × (slice_get now.queues c.queue ≡ Some w)
     × IsAStep other m files w c x last used seen notice
 
--- a chain with its caller's own bytes: its loads offer it. The bytes, the used element and the index are
--- stored as a step stores a reply, at the queue's next used position. The driver is notified as in `IsAStep`
+-- a chain with its caller's own bytes: its loads offer it, and are of mapped addresses. The bytes, the used
+-- element and the index are stored as a step stores a reply, at the queue's next used position. The driver is
+-- notified as in `IsAStep`
 pub record IsAReturn {G : Type 0} (m : State G) (limit : ℕ) (w : LiveQueue) (c : OutChain)
     (request reply : List ℕ) (x : Exchange) (last : ℕ) (used : List Store) (seen : List ℕ) (notice : Bool) :
     Type 0 where
   pub offered :
       OffersBy m.memory limit c.taken c.loaded request (Offers c.head (IsRequest request (room_of c)))
+  pub mapped : LoadsAreMapped m.memory c.taken c.loaded
   pub fits : length reply ≤ length (room_of c)
   pub returns :
       ReturnsBy m c.queue c.taken (room_of c) (own_exchange c.head request reply) m.options x (tells seen)
