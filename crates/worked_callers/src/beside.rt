@@ -32,6 +32,7 @@ ghost use Rattle.fs_live.specs.Several.{LiveQueue, RunsOver, UsedFrom, returns_a
 ghost use Rattle.worked_callers.specs.Notified.{IsWalkedBy, given_so_far};
 ghost use Rattle.worked_callers.specs.ChainCalls.{AreCallsOf};
 ghost use Rattle.worked_callers.specs.Events.{IsFaultyChain, IsPopRefusedByLoads, IsServedChain};
+ghost use Rattle.worked_callers.specs.Refusals.{FailsToEnd};
 
 use crate::wholes::{push_reply, reply, walk_by, walk_chain};
 use fs_chain::{ChainError, ChainHandle, LoadOutcome, NotificationStore, PopOutcome, QueueState};
@@ -128,7 +129,7 @@ pub fn answer_beside<F: FileSystem>(
 }
 
 /// Pops a queue by these bytes, a call for each. Fails with `BadArgument` if the last call got only a part of
-/// its load.
+/// its load, else with the error of a refused call.
 pub fn walk_to_end(
     handle: &mut ChainHandle,
     queue: &mut QueueState,
@@ -139,6 +140,8 @@ pub fn walk_to_end(
         (λ told. IsWalked handle.old handle.new queue.old queue.new (LoadOutcome.On told)) }
     ensures given { IfOk result (λ told.
         IsWalkedBy given.now handle.old handle.new queue.old queue.new (LoadOutcome.On told)) }
+    ensures error { IfErr result
+        (FailsToEnd given.now handle.old handle.new queue.old queue.new) }
 {
     match walk_by(handle, queue, given)? {
         LoadOutcome::On(told) => Ok(told),
