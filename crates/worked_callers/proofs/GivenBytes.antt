@@ -1,14 +1,20 @@
 -- The bytes that the calls of a pop were given.
 use Rattle.std.proofs.Common.{arith, ◌≡◌, ◌<◌, ◌+◌, ℕ, zero, suc, List, [], ◌∷◌, ◌++◌, get_or, length, map, reverse, take}
-use Rattle.std.proofs.Common.{refl, sym, ap, subst, ◌∙◌}
+use Rattle.std.proofs.Common.{refl, sym, ap, subst, ◌∙◌, inl, inr, Result, Err, IfErr}
 use Rattle.std.proofs.lemmas.List.{reverse-append}
 use Rattle.std.specs.Borrow.{Bor}
-use Rattle.fs_chain.specs.Loads.{GoesSo, IsSame}
-use Rattle.fs_chain.specs.Whole.{WantsBytes}
+use Rattle.fs_chain.specs.Loads.{GoesSo, IsSame, RefusesWalk}
+use Rattle.fs_chain.specs.Whole.{WalksBy, WantsBytes}
 use Rattle.fs_chain.specs.declared.chain_handle.ChainHandle.{ChainHandle}
+use Rattle.fs_chain.specs.declared.error.ChainError.{ChainError}
 use Rattle.fs_chain.specs.declared.loads.LoadOutcome as went
 use Rattle.fs_chain.specs.declared.queue.QueueState.{QueueState}
 use Rattle.worked_callers.specs.Notified.{IsRefusedCall, WalksPast, given_so_far}
+use Rattle.worked_callers.specs.Refusals.{FailsAmid, FailsBy, IsFailedAmid, IsFailedBy, TakesOthers}
+
+-- what holds of an error holds of a result that is this error
+pub if_err : {A E : Type 0} (r : Result A E) (e : E) (P : E → Type 0) → r ≡ Err e → P e → IfErr r P
+if_err {A = A} {E = E} r e P is p = subst (λ (x : Result A E). IfErr x P) (sym is) p
 
 abbrev pub none : Bor (List ℕ)
 none = record { ref_ptr = (0, 0); now = [] }
@@ -43,3 +49,54 @@ amid_more bytes k bs wrong old w v new before q found after earlier told within 
       (w, v, q, earlier, walks.0, wants, same, subst (λ (j : QueueState). GoesSo v j bs told new after) left goes),
       (walks.1, refused),
     )
+
+-- the next call is refused
+pub fails_next : (bytes : List (Bor (List ℕ))) (k : ℕ) (bs : List ℕ) (old w new : ChainHandle) (before q after : QueueState)
+    (earlier : went.LoadOutcome) (e : ChainError) → k < length bytes → WalksBy (given_so_far k bytes) old w before q earlier
+    → WantsBytes earlier → RefusesWalk w q bs e → IsSame w new → after ≡ q → bs ≡ (get_or bytes k none).now
+    → IsFailedBy bytes old new before after e
+fails_next bytes k bs old w new before q after earlier e within walks wants refused same left is = (
+  k + 1,
+  subst (λ (given : List (List ℕ)). FailsBy given old new before after e) (sym (calls_next bytes k bs within is)) (
+    w,
+    earlier,
+    subst (λ (j : QueueState). WalksBy (given_so_far k bytes) old w before j earlier) (sym left) walks,
+    wants,
+    subst (λ (j : QueueState). RefusesWalk w j bs e) (sym left) refused,
+    same,
+  ),
+)
+
+-- the next call, which was refused with other bytes before, is refused too
+pub fails_amid : (bytes : List (Bor (List ℕ))) (k : ℕ) (bs wrong : List ℕ) (old w v new : ChainHandle) (before q found after : QueueState)
+    (earlier : went.LoadOutcome) (e : ChainError) → k < length bytes → WalksPast wrong (given_so_far k bytes) old w before q earlier
+    → WantsBytes earlier → IsRefusedCall w q wrong → IsSame w v → found ≡ q → RefusesWalk v found bs e → IsSame v new → after ≡ found
+    → bs ≡ (get_or bytes k none).now → IsFailedAmid wrong bytes old new before after e
+fails_amid bytes k bs wrong old w v new before q found after earlier e within walks wants refused same left why last stays is = (
+  k + 1,
+  subst (λ (given : List (List ℕ)). FailsAmid wrong given old new before after e) (sym (calls_next bytes k bs within is)) (
+    w,
+    q,
+    earlier,
+    walks,
+    wants,
+    inl (v, refused, same, subst (λ (j : QueueState). RefusesWalk v j bs e) left why, last, stays ∙ left),
+  ),
+)
+
+-- a call with other bytes isn't refused
+pub takes_amid : (bytes : List (Bor (List ℕ))) (k : ℕ) (bs wrong : List ℕ) (old w new : ChainHandle) (before q after : QueueState)
+    (earlier : went.LoadOutcome) (e : ChainError) → k < length bytes → WalksPast wrong (given_so_far k bytes) old w before q earlier
+    → WantsBytes earlier → TakesOthers wrong w new q after e → bs ≡ (get_or bytes k none).now
+    → IsFailedAmid wrong bytes old new before after e
+takes_amid bytes k bs wrong old w new before q after earlier e within walks wants takes is = (
+  k + 1,
+  subst (λ (given : List (List ℕ)). FailsAmid wrong given old new before after e) (sym (calls_next bytes k bs within is)) (
+    w,
+    q,
+    earlier,
+    walks,
+    wants,
+    inr takes,
+  ),
+)

@@ -4,6 +4,7 @@ pub mod InARow
 pub mod Notified
 pub mod OverMemory
 pub mod OwnReplies
+pub mod Refusals
 pub mod ServedSteps
 pub mod Turns
 pub mod WorkedRuns

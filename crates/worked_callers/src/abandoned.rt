@@ -7,6 +7,7 @@ ghost use Rattle.fs_regions.specs.Places.{places_in};
 ghost use Rattle.fuse_fs.specs.Calls as file;
 ghost use Rattle.fuse_values.specs.Values.{call_of};
 ghost use Rattle.fuse_values.specs.declared.call.FileCall as value;
+ghost use Rattle.fs_chain.specs.Pushes.{IsFreed};
 ghost use Rattle.fs_chain.specs.Queues.{took};
 ghost use Rattle.fs_chain.specs.declared.decoding.Decoded.TheVariants as asks;
 ghost use Rattle.fs_chain.specs.declared.state.ChainState.TheVariants as at;
@@ -23,9 +24,9 @@ use fuse_fs::FileSystem;
 use fuse_values::FileAnswer;
 use server_phases::Session;
 
-/// Decodes a chain's request and frees its handle. The late answer is then refused with `WrongOrder`, which
-/// is returned: no call is pending. In the run the chain is abandoned: once after the file system's answer,
-/// and once without it.
+/// Decodes a chain's request and frees its handle, while the call is pending and has no answer. The late
+/// answer is then refused with `WrongOrder`, which is returned: no call is pending any more. In the run the
+/// chain is abandoned: once after the file system's answer, and once without it.
 pub fn abandon_asked<F: FileSystem>(
     handle: &mut ChainHandle,
     queue: &mut QueueState,
@@ -39,16 +40,17 @@ pub fn abandon_asked<F: FileSystem>(
     ensures late { IfOk result (λ error. error ≡ ChainError.WrongOrder) }
     ensures queue { OnOk result (queue.new ≡ took queue.old) }
     ensures again { OnOk result (handle.new.state ≡ at.Free) }
-    ensures run { OnOk result ((s : LiveState F) (i : ℕ)
+    ensures run { OnOk result ((made : value.FileCall) × (asked : ChainHandle)
+        × DecodesPopped given.now handle.old queue.old session request.now (asks.Call made) asked
+        × IsFreed asked handle.new
+        × ((s : LiveState F) (i : ℕ)
         → IsReached F.may s
         → slice_get s.queues i ≡ Some (live_of queue.old)
         → s.places ≡ places_in handle.old.regions
         → s.limit ≡ handle.old.limit
         → s.limit ≤ 2 ^ 31
         → IsSessionOf s session
-        → (made : value.FileCall) × (asked : ChainHandle)
-        × DecodesPopped given.now handle.old queue.old session request.now (asks.Call made) asked
-        × ((es : List LiveEvent) × (end : LiveState F)
+        → ((es : List LiveEvent) × (end : LiveState F)
         × LiveRun F.may s es end
         × IsAbandonedAsked s i given.now handle.old queue.old request.now [] es
         × (calls_among es ≡ [])
@@ -62,7 +64,7 @@ pub fn abandon_asked<F: FileSystem>(
         ((call_of (drop 80 request.now) made, answer) ∷ []) es
         × (calls_among es ≡ (call_of (drop 80 request.now) made, answer) ∷ [])
         × (end.files ≡ files)
-        × (slice_get end.queues i ≡ Some (live_of queue.new)))) }
+        × (slice_get end.queues i ≡ Some (live_of queue.new))))) }
 {
     law_handles::<F>();
     let (_, request_len, _) = walk_chain(handle, queue, given)?;

@@ -13,6 +13,7 @@ ghost use Rattle.notify.specs.Threads.{may_act};
 ghost use Rattle.fs_notify.specs.Takers.{IsModelOf, ways_of};
 ghost use Rattle.worked_callers.specs.Notified.{IsRefusedCall, IsWalkedAmid, PopsAmid, WalksPast};
 ghost use Rattle.worked_callers.specs.Notified.{given_so_far};
+ghost use Rattle.worked_callers.specs.Refusals.{IsFailedAmid};
 
 use crate::takers::have_u16_numbers;
 use crate::wholes::wants_bytes;
@@ -38,7 +39,9 @@ pub fn refuse(
 }
 
 /// A pop with these bytes, one call for each, as long as it asks for bytes. Before each of them a call with
-/// these other bytes is refused. If it asks for more in the end, it was given all of them.
+/// these other bytes is refused. If it asks for more in the end, it was given all of them. Fails with the
+/// error of the first call with these bytes that is refused, and with `BadArgument` if a call with the other
+/// bytes isn't.
 pub fn walk_amid(
     handle: &mut ChainHandle,
     queue: &mut QueueState,
@@ -51,6 +54,8 @@ pub fn walk_amid(
     ensures all { IfOk result (λ told. WantsBytes told
         → WalksPast wrong.now (given_so_far (length given.now) given.now) handle.old handle.new queue.old
         queue.new told) }
+    ensures error { IfErr result
+        (IsFailedAmid wrong.now given.now handle.old handle.new queue.old queue.new) }
 {
     let mut told = handle.pop(queue, &[])?;
     for bytes in given {

@@ -66,27 +66,29 @@ pub fn look_after_refusal<F: FileSystem>(
 }
 
 /// A pop between whose calls another handle returns its chain, which is of the same queue. The pop makes few
-/// loads. If it finds no chain available, it is an event, and leaves the queue as that return did.
+/// loads. If it finds no chain available, it is an event, and leaves the queue as that return did. Returns
+/// whether to notify the driver of the returned chain, and the result of the pop's last call.
 pub fn look_among_returns<F: FileSystem>(
     handle: &mut ChainHandle,
     other: &mut ChainHandle,
     queue: &mut QueueState,
     index: &[u8],
-) -> Result<LoadOutcome, ChainError>
+) -> Result<(bool, LoadOutcome), ChainError>
     requires free { handle.old.state ≡ at.Free }
     requires goes { queue.old.stopped ≡ None }
-    ensures pushed { OnOk result ((room behind : List ℕ) → (acts : List Act) × (last : ℕ) × (notice : Bool)
-        × (back : PushedBy queue.old room behind other.old.state acts last notice)
+    ensures pushed { IfOk result (λ r. (room behind : List ℕ) → (acts : List Act) × (last : ℕ)
+        × (back : PushedBy queue.old room behind other.old.state acts last r.0)
         × (back.flags ≡ loaded_flags)) }
     ensures freed { OnOk result (other.new.state ≡ at.Free) }
-    ensures calls { IfOk result (λ told. (w : ChainHandle)
+    ensures calls { IfOk result (λ r. (w : ChainHandle)
         × BeginsAndWants handle.old w queue.old
-        × GoesSo w (gave queue.old) index.now told handle.new queue.new) }
-    ensures few { IfOk result (λ told.
-        (walks : WalksAmong (index.now ∷ []) handle.old handle.new queue.old (gave queue.old) queue.new told)
-        × (load_count_among (index.now ∷ []) handle.old handle.new queue.old (gave queue.old) queue.new told
+        × GoesSo w (gave queue.old) index.now r.1 handle.new queue.new) }
+    ensures few { IfOk result (λ r.
+        (walks : WalksAmong (index.now ∷ []) handle.old handle.new queue.old (gave queue.old) queue.new r.1)
+        × (load_count_among (index.now ∷ []) handle.old handle.new queue.old (gave queue.old) queue.new r.1
         walks ≤ queue.old.layout.size + 4)) }
-    ensures idle { result ≡ Ok (LoadOutcome.On PopOutcome.Idle)
+    ensures idle { (notice : Bool)
+        → result ≡ Ok (notice, LoadOutcome.On PopOutcome.Idle)
         → (s : LiveState F) (i : ℕ)
         → slice_get s.queues i ≡ Some (live_of (gave queue.old))
         → s.places ≡ places_in handle.old.regions
@@ -101,8 +103,9 @@ pub fn look_among_returns<F: FileSystem>(
     if !wants_bytes(&begun) {
         return Err(ChainError::WrongOrder);
     }
-    let _notice = push_reply(other, queue)?;
-    handle.pop(queue, index)
+    let notice = push_reply(other, queue)?;
+    let told = handle.pop(queue, index)?;
+    Ok((notice, told))
 }
 
 /// The next call of a pop. If the pop finds its queue stopped meanwhile, it is refused. The handle is free

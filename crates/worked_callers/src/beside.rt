@@ -1,7 +1,7 @@
 //! Calls of a handle as events of a run, beside any other chains in flight and a guest that writes.
 
-ghost use Rattle.std.specs.Prelude.{◌≡◌, ◌≤◌, ◌+◌, ◌^◌, ℕ, [], ◌∷◌, ◌++◌, drop, false, IfOk, IfSome};
-ghost use Rattle.std.specs.Prelude.{length, List, None, Ok, OnOk, Some, option_map, slice_get, true};
+ghost use Rattle.std.specs.Prelude.{◌≡◌, ◌≤◌, ◌+◌, ◌^◌, ℕ, [], ◌∷◌, ◌++◌, drop, false, IfErr, IfOk, IfSome};
+ghost use Rattle.std.specs.Prelude.{length, List, None, Ok, OnErr, OnOk, Some, option_map, slice_get, true};
 ghost use Rattle.std.specs.List.{AllByRecursion};
 ghost use Rattle.fs_queue.specs.declared.fault.QueueError.{QueueError};
 ghost use Rattle.fs_regions.specs.Places.{places_in};
@@ -11,10 +11,12 @@ ghost use Rattle.fuse_values.specs.Values.{call_of};
 ghost use Rattle.fuse_values.specs.declared.call.FileCall as value;
 ghost use Rattle.virtiofsd_fuse.specs.Grammar.{meaning};
 ghost use Rattle.server_phases.specs.Answering.{TellsBytes};
+ghost use Rattle.fs_chain.specs.Answers.{CanBeGiven, IfWaits, IsNotTaken};
 ghost use Rattle.fs_chain.specs.Events.{event_miss, notification_store, store_of};
 ghost use Rattle.fs_chain.specs.Queues.{gave, reset_to, took};
-ghost use Rattle.fs_chain.specs.Walks.{HasEvents};
-ghost use Rattle.fs_chain.specs.Whole.{IsWalked, WalksBy};
+ghost use Rattle.fs_chain.specs.Walks.{HasEvents, IsAllBut};
+ghost use Rattle.fs_chain.specs.Whole.{IsAnsweredBy, IsWalked, WalksBy};
+ghost use Rattle.fs_chain.specs.declared.answering.Replied.{Replied};
 ghost use Rattle.fs_chain.specs.declared.decoding.Decoded.TheVariants as asks;
 ghost use Rattle.fs_chain.specs.declared.state.ChainState.TheVariants as at;
 ghost use Rattle.plain_machine.specs.Step.{Calls};
@@ -30,6 +32,7 @@ ghost use Rattle.fs_live.specs.Several.{LiveQueue, RunsOver, UsedFrom, returns_a
 ghost use Rattle.worked_callers.specs.Notified.{IsWalkedBy, given_so_far};
 ghost use Rattle.worked_callers.specs.ChainCalls.{AreCallsOf};
 ghost use Rattle.worked_callers.specs.Events.{IsFaultyChain, IsPopRefusedByLoads, IsServedChain};
+ghost use Rattle.worked_callers.specs.Refusals.{FailsToEnd};
 
 use crate::wholes::{push_reply, reply, walk_by, walk_chain};
 use fs_chain::{ChainError, ChainHandle, LoadOutcome, NotificationStore, PopOutcome, QueueState};
@@ -87,14 +90,24 @@ pub fn serve_beside<F: FileSystem>(
     push_reply(handle, queue)
 }
 
-/// Answers a call without data, with the options of the call's decoding. The run's options stay those of this
-/// moment. After DESTROY, or an INIT that negotiates options, they are those of the handle's session.
+/// Answers a call without data, with the options of the call's decoding. The handle then has the chain's
+/// reply. The run's options stay those of this moment. After DESTROY, or an INIT that negotiates options,
+/// they are those of the handle's session. After an error nothing changed.
 pub fn answer_beside<F: FileSystem>(
     handle: &mut ChainHandle,
     serial: u32,
     answer: FileAnswer,
 ) -> Result<(), ChainError>
     requires data { TellsBytes [] answer }
+    ensures given { OnOk result ((told : Replied)
+        × IsAnsweredBy handle.old answer [] told handle.new
+        × IfWaits handle.old.state (λ out w. CanBeGiven w answer)) }
+    ensures mine { OnOk result (handle.old.serial ≡ serial) }
+    ensures refused { IfErr result (λ e. IsNotTaken handle.old serial answer e) }
+    ensures same { OnErr result (handle.new ≡ handle.old) }
+    ensures stays { IsAllBut handle.old handle.new
+        × (handle.new.part ≡ handle.old.part)
+        × (handle.new.session.page_size ≡ handle.old.session.page_size) }
     ensures answers { OnOk result ((s : LiveState F) (c : OutChain) (before behind : List OutChain)
         (request : List ℕ) (options : ℕ) (made : value.FileCall) (files : F)
         → s.outs ≡ before ++ c ∷ behind
@@ -116,7 +129,7 @@ pub fn answer_beside<F: FileSystem>(
 }
 
 /// Pops a queue by these bytes, a call for each. Fails with `BadArgument` if the last call got only a part of
-/// its load.
+/// its load, else with the error of a refused call.
 pub fn walk_to_end(
     handle: &mut ChainHandle,
     queue: &mut QueueState,
@@ -127,6 +140,8 @@ pub fn walk_to_end(
         (λ told. IsWalked handle.old handle.new queue.old queue.new (LoadOutcome.On told)) }
     ensures given { IfOk result (λ told.
         IsWalkedBy given.now handle.old handle.new queue.old queue.new (LoadOutcome.On told)) }
+    ensures error { IfErr result
+        (FailsToEnd given.now handle.old handle.new queue.old queue.new) }
 {
     match walk_by(handle, queue, given)? {
         LoadOutcome::On(told) => Ok(told),

@@ -53,12 +53,19 @@ pub fn begin(
 }
 
 /// Goes on with a pop. Its outcome is the offer of each memory that has the pop's loads, and the request's
-/// bytes. A memory that has the bytes of a part of a table has each entry that the pop reads out of them.
+/// bytes; None after a part of a load. A memory that has the bytes of a part of a table has each entry that
+/// the pop reads out of them.
 pub fn go_on(
     handle: &mut ChainHandle,
     queue: &mut QueueState,
     bytes: &[u8],
 ) -> Result<Option<PopOutcome>, ChainError>
+    ensures goes { IfOk result (λ on. IfSome on (λ told.
+        GoesSo handle.old queue.old bytes.now (LoadOutcome.On told) handle.new queue.new)) }
+    ensures part { IfOk result (λ on. IfNone on
+        (GoesSo handle.old queue.old bytes.now LoadOutcome.Part handle.new queue.new)) }
+    ensures error { IfErr result (RefusesWalk handle.old queue.old bytes.now) }
+    ensures same { OnErr result (IsSame handle.old handle.new × (queue.new ≡ queue.old)) }
     ensures offered { IfOk result
         (λ on. IfSome on (λ told. (loaded : Loaded) (course : Course) (pop_id : PopId) (walk : QueueWalk)
         → queue.old.stopped ≡ None

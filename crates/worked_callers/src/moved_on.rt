@@ -1,7 +1,7 @@
 //! A device without chains in flight goes on as if nothing had happened: after it moved to another host, or
 //! after its queue was reset to its own position.
 
-ghost use Rattle.std.specs.Prelude.{◌≡◌, ◌≤◌, ◌^◌, ℕ, [], ◌∷◌, ◌++◌, Bool, IfOk, List, None, Some, slice_get};
+ghost use Rattle.std.specs.Prelude.{◌≡◌, ◌≤◌, ◌^◌, ℕ, [], ◌∷◌, ◌++◌, IfOk, List, None, Some, slice_get};
 ghost use Rattle.std.specs.Prelude.{OnOk, true};
 ghost use Rattle.std.specs.List.{AllByRecursion};
 ghost use Rattle.std.specs.Io.KnownBytes.{Appends, Consumes};
@@ -40,7 +40,7 @@ pub fn agree_besides_record(one: &QueueState, two: &QueueState) -> bool
 
 /// A chain is returned here, the device moves by its record, and a chain is returned there. The events are
 /// those of a device that didn't move and whose guest's memory got the mappings of the other host. Over the
-/// same mappings they are those of both chains alone.
+/// same mappings they are those of both chains alone. Returns whether to notify the driver of each chain.
 pub fn move_and_go_on<F: FileSystem, S: RecordSink, T: RecordSource>(
     alloc: Global,
     here: &mut ChainHandle,
@@ -52,7 +52,7 @@ pub fn move_and_go_on<F: FileSystem, S: RecordSink, T: RecordSource>(
     source: &mut T,
     one: &ChainBytes<'_>,
     two: &ChainBytes<'_>,
-) -> Result<bool, ChainError>
+) -> Result<(bool, bool), ChainError>
     requires here_free { here.old.state ≡ at.Free }
     requires there_free { there.old.state ≡ at.Free }
     requires goes { queue.old.stopped ≡ None }
@@ -61,7 +61,7 @@ pub fn move_and_go_on<F: FileSystem, S: RecordSink, T: RecordSource>(
     requires known { HasKnownBits options.0 }
     ensures again { OnOk result ((here.new.state ≡ at.Free) × (there.new.state ≡ at.Free)) }
     ensures queue { OnOk result (queue.new ≡ gave (took queue.old)) }
-    ensures moves { IfOk result (λ notice.
+    ensures moves { IfOk result (λ r.
         (sent : List ℕ) × (taken : List ℕ) × (v : Version) × (left : ℕ) × (read : ring.Queue)
         × (begun : QueueState)
         × Appends (S.sent sink.old) (S.sent sink.new) sent
@@ -80,12 +80,12 @@ pub fn move_and_go_on<F: FileSystem, S: RecordSink, T: RecordSource>(
         → s.limit ≡ there.old.limit
         → s.limit ≤ 2 ^ 31
         → taken ≡ sent
-        → (early : List LiveEvent) × (late : List LiveEvent) × (told : Bool)
+        → (early : List LiveEvent) × (late : List LiveEvent)
         × (mid : LiveState F) × (end : LiveState F)
         × IsRepliedChain s 0 one.now.given.now here.old queue.old []
-        one.now.request.now one.now.bytes.now told early
+        one.now.request.now one.now.bytes.now r.0 early
         × IsRepliedChain mid 0 two.now.given.now there.old begun []
-        two.now.request.now two.now.bytes.now notice late
+        two.now.request.now two.now.bytes.now r.1 late
         × LiveRun F.may s
         (early ++ MovesDevice (places_in there.old.regions) (live_of begun ∷ []) ∷ late) end
         × LiveRun F.may s (early ++ Remaps (places_in there.old.regions) ∷ late) end
@@ -94,7 +94,7 @@ pub fn move_and_go_on<F: FileSystem, S: RecordSink, T: RecordSource>(
 {
     law_runs::<F, F>();
     have_u16_numbers(queue);
-    let _told = reply_beside::<F>(here, queue, one.given, one.request, one.bytes)?;
+    let told = reply_beside::<F>(here, queue, one.given, one.request, one.bytes)?;
     save_one(sink, options, queue)?;
     let (_, restored) = restore_one(alloc, source)?;
     let Some(read) = only(&restored) else {
@@ -111,7 +111,8 @@ pub fn move_and_go_on<F: FileSystem, S: RecordSink, T: RecordSource>(
     if !agree_besides_record(moved, queue) {
         return Err(ChainError::BadArgument);
     }
-    reply_beside::<F>(there, moved, two.given, two.request, two.bytes)
+    let notice = reply_beside::<F>(there, moved, two.given, two.request, two.bytes)?;
+    Ok((told, notice))
 }
 
 /// Pops the one chain in flight, returns it with bytes of the caller's own, and resets its queue to its own

@@ -1,10 +1,13 @@
 //! A device that moves to another host between two chains: a record of it is made here and read there.
 
-ghost use Rattle.std.specs.Prelude.{◌≡◌, ◌≤◌, ◌^◌, ℕ, [], ◌∷◌, ◌++◌, Bool, IfOk, IfSome, List, None, OnOk};
+ghost use Rattle.std.specs.Prelude.{◌≡◌, ◌≤◌, ◌^◌, ℕ, [], ◌∷◌, ◌++◌, IfErr, IfOk, IfSome, List, None, OnOk};
 ghost use Rattle.std.specs.Prelude.{length};
 ghost use Rattle.std.specs.Io.KnownBytes.{Appends, Consumes};
 ghost use Rattle.fs_queue.specs.Queue as ring;
-ghost use Rattle.fs_record.specs.Record.{HasKnownBits, IsRecord, Second, Version};
+ghost use Rattle.fs_record.specs.Record.{GoesWith, HasKnownBits, IsRecord, Second, Version, record_bytes};
+ghost use Rattle.fs_record.specs.Restoring.{LeavesSource, RefusesRecord};
+ghost use Rattle.fs_record.specs.Streams.{GoesOut};
+ghost use Rattle.fs_record.specs.declared.error.RestoreError.{RestoreError};
 ghost use Rattle.fs_regions.specs.Places.{places_in};
 ghost use Rattle.fs_chain.specs.Queues.{gave, took};
 ghost use Rattle.fs_chain.specs.declared.state.ChainState.TheVariants as at;
@@ -23,16 +26,20 @@ use fuse_base::FsOptions;
 use fuse_fs::FileSystem;
 use std::alloc::Global;
 
-/// Puts the record of a device of one queue into a sink.
+/// Puts the record of a device of one queue into a sink. Fails with `ShortBuffer` exactly if the sink fails,
+/// which has only a part of the record then.
 pub fn save_one<S: RecordSink>(
     sink: &mut S,
     options: FsOptions,
     queue: &QueueState,
 ) -> Result<(), ChainError>
     requires known { HasKnownBits options.0 }
-    ensures { OnOk result ((sent : List ℕ)
+    ensures sent { OnOk result ((sent : List ℕ)
         × Appends (S.sent sink.old) (S.sent sink.new) sent
         × IsRecord sent (Second 4096 0x101000) options.0 (recorded queue.now ∷ [])) }
+    ensures goes_out { GoesOut (record_bytes (Second 4096 0x101000) options.0 (recorded queue.now ∷ []))
+        (S.sent sink.old) (S.failed sink.old) result (S.sent sink.new) (S.failed sink.new) }
+    ensures error { IfErr result (λ e. e ≡ ChainError.ShortBuffer) }
 {
     let saved = [Queue::resume(queue.layout, queue.next_avail, queue.stopped.is_some())];
     match save_record(sink, options, &saved, 4096, 0x101000) {
@@ -53,14 +60,21 @@ pub fn only(queues: &[Queue]) -> Option<&Queue>
     }
 }
 
-/// Reads a record from a source: its options and its queues. Any failure is `BadArgument`.
+/// Reads a record from a source: its options and its queues. Fails with `BadArgument` exactly if the record
+/// isn't restored, and the bytes that were read explain why.
 pub fn restore_one<T: RecordSource>(
     alloc: Global,
     source: &mut T,
 ) -> Result<(FsOptions, Vec<Queue>), ChainError>
-    ensures { IfOk result (λ v. (taken : List ℕ) × (v' : Version)
+    ensures read { IfOk result (λ v. (taken : List ℕ) × (v' : Version)
         × Consumes (T.left source.old) (T.left source.new) taken
-        × IsRecord taken v' v.0.0 v.1.items) }
+        × IsRecord taken v' v.0.0 v.1.items
+        × GoesWith 4096 0x101000 v'
+        × (T.failed source.new ≡ T.failed source.old)) }
+    ensures error { IfErr result (λ e. (e ≡ ChainError.BadArgument) × (why : RestoreError) × (taken : List ℕ)
+        × Consumes (T.left source.old) (T.left source.new) taken
+        × RefusesRecord taken 4096 0x101000 why
+        × LeavesSource why (T.left source.new) (T.failed source.old) (T.failed source.new)) }
 {
     match restore_record(alloc, source, 4096, 0x101000) {
         Ok(read) => Ok(read),
@@ -70,7 +84,7 @@ pub fn restore_one<T: RecordSource>(
 
 /// A chain is returned here, and a record is made here and read there. The queue there is reset from it, and
 /// a chain is returned there. If the bytes that are read are the record that was made, that is a run, in
-/// which the queue goes on where it was.
+/// which the queue goes on where it was. Returns whether to notify the driver of each chain.
 pub fn move_amid<F: FileSystem, S: RecordSink, T: RecordSource>(
     alloc: Global,
     here: &mut ChainHandle,
@@ -82,7 +96,7 @@ pub fn move_amid<F: FileSystem, S: RecordSink, T: RecordSource>(
     source: &mut T,
     one: &ChainBytes<'_>,
     two: &ChainBytes<'_>,
-) -> Result<bool, ChainError>
+) -> Result<(bool, bool), ChainError>
     requires here_free { here.old.state ≡ at.Free }
     requires there_free { there.old.state ≡ at.Free }
     requires goes { queue.old.stopped ≡ None }
@@ -90,7 +104,7 @@ pub fn move_amid<F: FileSystem, S: RecordSink, T: RecordSource>(
     requires known { HasKnownBits options.0 }
     ensures again { OnOk result ((here.new.state ≡ at.Free) × (there.new.state ≡ at.Free)) }
     ensures queue { OnOk result (queue.new ≡ gave (took queue.old)) }
-    ensures run { IfOk result (λ notice.
+    ensures run { IfOk result (λ r.
         (sent : List ℕ) × (taken : List ℕ) × (v : Version) × (left : ℕ) × (read : ring.Queue)
         × (begun : QueueState)
         × Appends (S.sent sink.old) (S.sent sink.new) sent
@@ -112,22 +126,22 @@ pub fn move_amid<F: FileSystem, S: RecordSink, T: RecordSource>(
         → (es : List LiveEvent) × (end : LiveState F)
         × LiveRun F.may s es end
         × (early : List LiveEvent) × (late : List LiveEvent)
-        × (told : Bool) × (before : LiveState F) × (mid : LiveState F)
+        × (before : LiveState F) × (mid : LiveState F)
         × (es ≡ early ++ MovesDevice (places_in there.old.regions) (live_of begun ∷ []) ∷ late)
         × LiveRun F.may s early before
         × IsRepliedChain s 0 one.now.given.now here.old queue.old []
-        one.now.request.now one.now.bytes.now told early
+        one.now.request.now one.now.bytes.now r.0 early
         × (before.queues ≡ live_of queue.new ∷ [])
         × Happens F.may before (MovesDevice (places_in there.old.regions) (live_of begun ∷ [])) mid
         × LiveRun F.may mid late end
         × IsRepliedChain mid 0 two.now.given.now there.old begun []
-        two.now.request.now two.now.bytes.now notice late
+        two.now.request.now two.now.bytes.now r.1 late
         × (end.outs ≡ [])
         × (end.queues ≡ live_of moved.new ∷ [])
         × (end.options ≡ options.0)
         × (end.places ≡ places_in there.old.regions))) }
 {
-    let _told = reply_beside::<F>(here, queue, one.given, one.request, one.bytes)?;
+    let told = reply_beside::<F>(here, queue, one.given, one.request, one.bytes)?;
     save_one(sink, options, queue)?;
     let (_, restored) = restore_one(alloc, source)?;
     let Some(read) = only(&restored) else {
@@ -141,5 +155,6 @@ pub fn move_amid<F: FileSystem, S: RecordSink, T: RecordSource>(
     if moved.stopped.is_some() {
         return Err(ChainError::WrongOrder);
     }
-    reply_beside::<F>(there, moved, two.given, two.request, two.bytes)
+    let notice = reply_beside::<F>(there, moved, two.given, two.request, two.bytes)?;
+    Ok((told, notice))
 }

@@ -1,17 +1,21 @@
 //! Pops that lead to no chain, as events of a run: one that finds its queue stopped by another handle's pop,
 //! and one that finds no available chain.
 
-ghost use Rattle.std.specs.Prelude.{◌≡◌, ℕ, [], ◌∷◌, ◌++◌, IfOk, List, None, OnOk, Some, slice_get};
+ghost use Rattle.std.specs.Prelude.{◌≡◌, ◌⊎◌, ℕ, [], ◌∷◌, ◌++◌, IfErr, IfOk, List, None, OnOk, Some};
+ghost use Rattle.std.specs.Prelude.{slice_get};
 ghost use Rattle.fs_queue.specs.declared.fault.QueueError.{QueueError};
 ghost use Rattle.fs_regions.specs.Places.{places_in};
+ghost use Rattle.fs_chain.specs.Loads.{GoesSo};
 ghost use Rattle.fs_chain.specs.Orders.{IsWalking};
 ghost use Rattle.fs_chain.specs.Walks.{HasEvents};
 ghost use Rattle.fs_chain.specs.declared.popping.PopOutcome.{PopOutcome};
 ghost use Rattle.fs_chain.specs.declared.state.ChainState.TheVariants as at;
 ghost use Rattle.fs_live.specs.Handles.{live_of};
 ghost use Rattle.fs_live.specs.Live.{LiveEvent, LiveRun, LiveState, RefusesPop};
+ghost use Rattle.worked_callers.specs.ChainCalls.{BeginsAndWants};
 ghost use Rattle.worked_callers.specs.Events.{FindsNoChain, IsPopRefusedByLoads};
 ghost use Rattle.worked_callers.specs.Notified.{IsWalkedBy};
+ghost use Rattle.worked_callers.specs.Refusals.{FailsToEnd};
 
 use crate::beside::walk_to_end;
 use crate::takers::walk_idle;
@@ -28,6 +32,7 @@ pub fn begin_pop(handle: &mut ChainHandle, queue: &mut QueueState) -> Result<(),
     ensures walks { OnOk result (IsWalking handle.new.state) }
     ensures queue { OnOk result (queue.new ≡ queue.old) }
     ensures events { OnOk result (HasEvents handle.old queue.old) }
+    ensures calls { OnOk result (BeginsAndWants handle.old handle.new queue.old) }
 {
     let begun = handle.pop(queue, &[])?;
     if !wants_bytes(&begun) {
@@ -36,8 +41,9 @@ pub fn begin_pop(handle: &mut ChainHandle, queue: &mut QueueState) -> Result<(),
     Ok(())
 }
 
-/// Pops a queue by these bytes and is refused. Returns the error. Fails with `WrongOrder` if the pop ends
-/// otherwise.
+/// Pops a queue by these bytes and is refused. Returns the error, which stops the queue. For a queue that
+/// was stopped before, it is `Stopped`, and the queue stays as it is. Fails with `WrongOrder` if the pop has
+/// another outcome, with `BadArgument` after a part of a load, else with the error of a refused call.
 pub fn pop_refused(
     handle: &mut ChainHandle,
     queue: &mut QueueState,
@@ -46,7 +52,15 @@ pub fn pop_refused(
     requires free { handle.old.state ≡ at.Free }
     ensures given { IfOk result (λ e. IsWalkedBy given.now handle.old handle.new queue.old queue.new
         (LoadOutcome.On (PopOutcome.Refused e))) }
-    ensures stops { OnOk result ((why : QueueError) × (queue.new.stopped ≡ Some why)) }
+    ensures stops { IfOk result (λ e. queue.old.stopped ≡ None
+        → queue.new ≡ record queue.old { stopped = Some e }) }
+    ensures stopped { IfOk result (λ e. (why : QueueError)
+        → queue.old.stopped ≡ Some why
+        → (e ≡ QueueError.Stopped) × (queue.new ≡ queue.old)) }
+    ensures error { IfErr result (λ e. FailsToEnd given.now handle.old handle.new queue.old queue.new e
+        ⊎ ((e ≡ ChainError.WrongOrder) × (told : PopOutcome)
+        × IsWalkedBy given.now handle.old handle.new queue.old queue.new (LoadOutcome.On told)
+        × ((why : QueueError) → told ≡ PopOutcome.Refused why → ⊥))) }
 {
     match walk_to_end(handle, queue, given)? {
         PopOutcome::Refused(error) => Ok(error),
@@ -56,7 +70,8 @@ pub fn pop_refused(
 
 /// The first handle begins a pop. The second one's pop is refused, which stops the queue, and then the first
 /// one goes on with its load: it is refused with `Stopped`, and its handle is free. These are the run's two
-/// events. Returns the error of the second handle's pop, and the outcome of the first one's.
+/// events. Returns the error of the second handle's pop, which stopped the queue, and the outcome of the
+/// first one's.
 pub fn stop_amid<F: FileSystem>(
     first: &mut ChainHandle,
     second: &mut ChainHandle,
@@ -67,6 +82,13 @@ pub fn stop_amid<F: FileSystem>(
     requires first_free { first.old.state ≡ at.Free }
     requires second_free { second.old.state ≡ at.Free }
     requires goes { queue.old.stopped ≡ None }
+    ensures calls { IfOk result (λ r. (w : ChainHandle)
+        × BeginsAndWants first.old w queue.old
+        × IsWalkedBy given.now second.old second.new queue.old queue.new
+        (LoadOutcome.On (PopOutcome.Refused r.0))
+        × (queue.new ≡ record queue.old { stopped = Some r.0 })
+        × GoesSo w queue.new bytes.now (LoadOutcome.On r.1) first.new queue.new
+        × (r.1 ≡ PopOutcome.Refused QueueError.Stopped)) }
     ensures stopped { IfOk result (λ r. (s : LiveState F) (i : ℕ)
         → slice_get s.queues i ≡ Some (live_of queue.old)
         → s.places ≡ places_in first.old.regions

@@ -1,6 +1,6 @@
 //! The calls of a handle from the start of a pop on are a step of the plain machine.
 
-ghost use Rattle.std.specs.Prelude.{◌≡◌, ℕ, List, [], drop, length, None, Some, Ok, IfOk, OnOk, true};
+ghost use Rattle.std.specs.Prelude.{◌≡◌, ℕ, List, [], drop, length, None, Some, Ok, IfErr, IfOk, OnOk, true};
 ghost use Rattle.std.specs.Prelude.{false};
 ghost use Rattle.server_phases.specs.Answering.{TellsBytes};
 ghost use Rattle.plain_machine.specs.Step.{EachSuits, Idle, Refused, State, with_queue};
@@ -22,6 +22,7 @@ ghost use Rattle.fs_chain.specs.declared.state.ChainState.TheVariants as at;
 ghost use Rattle.worked_callers.specs.ChainCalls.{ArePopLoads, HasThisAnswer};
 ghost use Rattle.worked_callers.specs.Events.{loaded_flags};
 ghost use Rattle.worked_callers.specs.Notified.{IsWalkedBy, given_so_far};
+ghost use Rattle.worked_callers.specs.Refusals.{IsFailedBy};
 
 use fs_chain::laws::law_chains;
 use fs_chain::{ChainError, ChainHandle, Decoded, LoadOutcome, PopOutcome, QueueState};
@@ -41,7 +42,7 @@ pub fn wants_bytes(told: &LoadOutcome) -> bool
 }
 
 /// A pop with these bytes, one call for each, as long as it asks for bytes. If it asks for more in the end,
-/// it was given all of them.
+/// it was given all of them. Fails with the error of the first call that is refused.
 #[tactic(auto, using(fs_chain::proofs::WholeWalks::begins_by, fs_chain::proofs::WholeWalks::goes_on_by))]
 pub fn walk_by(
     handle: &mut ChainHandle,
@@ -55,6 +56,8 @@ pub fn walk_by(
     ensures all { IfOk result (λ told. WantsBytes told
         → WalksBy (given_so_far (length given.now) given.now) handle.old handle.new queue.old
         queue.new told) }
+    ensures error { IfErr result
+        (IsFailedBy given.now handle.old handle.new queue.old queue.new) }
 {
     let mut told = handle.pop(queue, &[])?;
     for bytes in given {

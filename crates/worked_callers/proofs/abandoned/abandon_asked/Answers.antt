@@ -1,5 +1,6 @@
-use Rattle.std.proofs.Common.{◌≡◌, ap, length, ◌∙◌, arith}
+use Rattle.std.proofs.Common.{◌≡◌, ap, length, subst, sym, ◌∙◌, arith}
 use Rattle.std.proofs.lemmas.Bool.Decides.{nat_tests}
+use Rattle.fs_chain.specs.Pushes.{IsFreed}
 use Rattle.fs_chain.specs.declared.chain_handle.ChainHandle.{ChainHandle}
 use Rattle.fs_chain.specs.declared.decoding.Decoded.TheVariants as asks
 use Rattle.worked_callers.proofs.CalledBy.{decodes_by}
@@ -31,12 +32,15 @@ returns-in-Err g c =
       late = late_refused c.abandon.new.self _ c.args.late c.in-Err.error c.abandon.ensures.0.3 c.in-Err.ensures.refused;
       again = ap (λ (w : ChainHandle). w.state) c.in-Err.ensures.same ∙ c.abandon.ensures.0.3;
       queue = c.in_ok-request_len.ensures.queue;
-      run = λ s i reached there places limit small session.
-          let so = lost_asked may handles.ends_pop handles.decodes_request handles.abandons c.args.given.now c.args.handle.now
-          c.walk_chain.new.handle
-          c.ask_call.new.handle c.args.queue.now
-          c.walk_chain.new.queue c.in_ok-request_len.field-0-0 c.in_ok-request_len.request_len c.in_ok-request_len.field-0-2 c.args.session
-          c.args.request.now asked.0
-          c.requires.goes c.in_ok-request_len.ensures.given asked.1 s i reached there places limit small session in
-          (asked.0, c.ask_call.new.handle, decoded, so.0, so.1);
+      run = (
+        asked.0,
+        c.ask_call.new.handle,
+        decoded,
+        subst (λ (w : ChainHandle). IsFreed c.ask_call.new.handle w) (sym c.in-Err.ensures.same) c.abandon.ensures,
+        λ s i reached there places limit small session. lost_asked may handles.ends_pop handles.decodes_request handles.abandons
+            c.args.given.now c.args.handle.now c.walk_chain.new.handle c.ask_call.new.handle c.args.queue.now c.walk_chain.new.queue
+            c.in_ok-request_len.field-0-0 c.in_ok-request_len.request_len c.in_ok-request_len.field-0-2 c.args.session
+            c.args.request.now asked.0 c.requires.goes c.in_ok-request_len.ensures.given asked.1 s i reached there places limit small
+            session,
+      );
     }

@@ -8,23 +8,27 @@ use Rattle.fs_chain.specs.declared.loads.LoadOutcome.TheVariants as wents
 use Rattle.fs_chain.specs.Loads.{GoesSo, whole}
 use Rattle.worked_callers.proofs.laws.go_on.Goals as goal
 
-pub returns-in-Ok-On : goal.returns-in-Ok-On
-returns-in-Ok-On c =
+pub returns-in-Ok-On-clause-offered : goal.returns-in-Ok-On-clause-offered
+returns-in-Ok-On-clause-offered c loaded course pop_id walk goes here stands =
     let w = c.args.handle.now in
     let q = c.args.queue.now in
     let bytes = c.args.bytes.now in
     let told = c.in-Ok-On.told in
     let on : GoesSo w q bytes (wents.On told) c.pop.new.self c.pop.new.queue =
     subst (λ (x : LoadOutcome). GoesSo w q bytes x c.pop.new.self c.pop.new.queue) c.in-Ok-On.field-0-is c.in-Ok-On.ensures.goes in
-    record {
-      offered = λ loaded course pop_id walk goes here stands.
-          c.law_walks.ensures.goes_on loaded course pop_id walk (whole w bytes) w c.pop.new.self q c.pop.new.queue told goes here
-          on.4 stands;
-      read_out = λ loaded course pop_id walk m goes here stands loads.
-          let from = entry_address (visit_of walk.walk) in
-          let bs = whole w bytes in
-          let by = c.law_walks.ensures.goes_on loaded course pop_id (asks.Entries walk) bs w c.pop.new.self q c.pop.new.queue told goes
-          here on.4 stands in
-          let adds : AddsEntries from bs by.came loaded by.after = by.adds in
-          (by.came, by.after, by.told_so, adds, c.law_read_out.ensures m from bs adds.reads loads adds.read_out);
-    }
+    c.law_walks.ensures.goes_on loaded course pop_id walk (whole w bytes) w c.pop.new.self q c.pop.new.queue told goes here on.4 stands
+
+pub returns-in-Ok-On-clause-read_out : goal.returns-in-Ok-On-clause-read_out
+returns-in-Ok-On-clause-read_out c loaded course pop_id walk m goes here stands loads =
+    let w = c.args.handle.now in
+    let q = c.args.queue.now in
+    let bytes = c.args.bytes.now in
+    let told = c.in-Ok-On.told in
+    let on : GoesSo w q bytes (wents.On told) c.pop.new.self c.pop.new.queue =
+    subst (λ (x : LoadOutcome). GoesSo w q bytes x c.pop.new.self c.pop.new.queue) c.in-Ok-On.field-0-is c.in-Ok-On.ensures.goes in
+    let from = entry_address (visit_of walk.walk) in
+    let bs = whole w bytes in
+    let by = c.law_walks.ensures.goes_on loaded course pop_id (asks.Entries walk) bs w c.pop.new.self q c.pop.new.queue told goes
+    here on.4 stands in
+    let adds : AddsEntries from bs by.came loaded by.after = by.adds in
+    (by.came, by.after, by.told_so, adds, c.law_read_out.ensures m from bs adds.reads loads adds.read_out)

@@ -11,7 +11,6 @@ use Rattle.fs_live.specs.Others.{recorded}
 use Rattle.fs_live.specs.Runs.{untold}
 use Rattle.fs_live.specs.Several.{LiveQueue}
 use Rattle.worked_callers.proofs.MovedAmid.{reached_run}
-use Rattle.worked_callers.proofs.Served.{if_ok_so, on_ok, on_ok_more}
 use Rattle.worked_callers.proofs.ServedBeside.{reached_by}
 use Rattle.worked_callers.proofs.ServedCrossed.{run_both}
 use Rattle.worked_callers.proofs.moved_on.move_and_go_on.Goals as goal
@@ -19,8 +18,9 @@ use Rattle.worked_callers.proofs.moved_on.move_and_go_on.Goals as goal
 pub returns : goal.returns
 returns g c =
     let may = g.F.FileSystemBase.may in
-    let saved = c.in_ok-save_one.ensures in
-    let found = c.in_ok-restored.ensures in
+    let saved = c.in_ok-save_one.ensures.sent in
+    let found = c.in_ok-restored.ensures.read in
+    let last = c.in_ok-notice.ensures.run in
     let left = c.reply_beside.new.queue in
     let begun = c.begin_by_record.new.queue in
     let final = c.reply_beside-2.new.queue in
@@ -31,59 +31,56 @@ returns g c =
     let taken_is : IsRecord found.0 found.1 read_options (q ∷ []) =
     subst (λ (qs : List Queue). IsRecord found.0 found.1 read_options qs) (sym c.deref.ensures.value ∙ c.in-Some.ensures.one) found.3 in
     record {
-      again = on_ok_more c.reply_beside-2.result _ _ (λ is. (c.in_ok-_told.ensures.again, is)) c.reply_beside-2.ensures.again;
-      queue = on_ok c.reply_beside-2.result _ c.in_ok-_told.ensures.queue;
-      moves = if_ok_so c.reply_beside-2.result _ _ _
-          (λ notice last whole. (
-            saved.0,
-            found.0,
-            found.1,
-            read_options,
-            q,
-            begun,
-            saved.1,
-            saved.2,
-            found.2,
-            taken_is,
-            c.begin_by_record.ensures.begins,
-            whole,
-            λ s reached none queues options places limit limit' small same.
-                let one = c.in_ok-_told.ensures.run s 0 reached (ap (λ (l : List LiveQueue). slice_get l 0) queues) places
-                limit small in
-                let s₁ = one.1 in
-                let queues₁ : s₁.queues ≡ live_of left ∷ [] =
-                one.5 ∙ ap (λ (l : List LiveQueue). changed_at l 0 (λ _. live_of left)) queues in
-                let made : IsRecord saved.0 version s₁.options (recorded left ∷ []) =
-                subst (λ (o : ℕ). IsRecord saved.0 version o (recorded left ∷ [])) (sym (one.6 ∙ options)) saved.2 in
-                let read : IsRecord saved.0 found.1 read_options (q ∷ []) =
-                subst (λ (bytes : List ℕ). IsRecord bytes found.1 read_options (q ∷ [])) same taken_is in
-                let moved = c.begin_by_record.ensures.moves s₁ left m saved.0 version found.1 read_options (one.4 ∙ none) queues₁
-                made read in
-                let s₂ = moved.1 in
-                let event : LiveEvent = MovesDevice m (live_of begun ∷ []) in
-                let limit₂ = moved.7 ∙ one.7 in
-                let two = last s₂ 0 (reached_by may s₁ s₂ event (reached_run may s s₁ one.0 reached one.2) moved.2)
-                (ap (λ (l : List LiveQueue). slice_get l 0) moved.3) moved.4 (limit₂ ∙ limit')
-                (subst (λ (n : ℕ). n ≤ 2 ^ 31) (sym limit₂) small) in
-                let even : AllByRecursion HasNoneInFlight s.queues =
-                subst (λ (l : List LiveQueue). AllByRecursion HasNoneInFlight l) (sym queues)
-                ((c.requires.none_out, c.have_u16_numbers.ensures.0), tt) in
-                let agree : untold (live_of begun) ≡ untold (live_of left) = c.agree_besides_record.ensures Prim.search in
-                let parts : map untold (live_of begun ∷ []) ≡ map untold s₁.queues =
-                ap (λ (p : ℕ × Bool). p ∷ []) agree ∙ ap (λ (l : List LiveQueue). map untold l) (sym queues₁) in
-                let on = c.law_runs.ensures.moves s s₁ s₂ one.0 m (live_of begun ∷ []) none even one.2 moved.2 parts in (
-                  one.0,
-                  two.0,
-                  c.in_ok-_told._told,
-                  s₂,
-                  two.1,
-                  one.9,
-                  two.9,
-                  run_both may s s₁ two.1 one.0 (event ∷ two.0) one.2 (s₂, moved.2, two.2),
-                  on.2 two.0 two.1 two.2,
-                  λ alike. on.3 (alike ∙ sym places ∙ sym one.8) two.0 two.1 two.2,
-                  two.5 ∙ ap (λ (l : List LiveQueue). changed_at l 0 (λ _. live_of final)) moved.3,
-                ),
-          ))
-          c.reply_beside-2.ensures.run c.reply_beside-2.ensures.queue;
+      again = (c.in_ok-told.ensures.again, c.in_ok-notice.ensures.again);
+      queue = c.in_ok-told.ensures.queue;
+      moves = (
+        saved.0,
+        found.0,
+        found.1,
+        read_options,
+        q,
+        begun,
+        saved.1,
+        saved.2,
+        found.2,
+        taken_is,
+        c.begin_by_record.ensures.begins,
+        c.in_ok-notice.ensures.queue,
+        λ s reached none queues options places limit limit' small same.
+            let one = c.in_ok-told.ensures.run s 0 reached (ap (λ (l : List LiveQueue). slice_get l 0) queues) places
+            limit small in
+            let s₁ = one.1 in
+            let queues₁ : s₁.queues ≡ live_of left ∷ [] =
+            one.5 ∙ ap (λ (l : List LiveQueue). changed_at l 0 (λ _. live_of left)) queues in
+            let made : IsRecord saved.0 version s₁.options (recorded left ∷ []) =
+            subst (λ (o : ℕ). IsRecord saved.0 version o (recorded left ∷ [])) (sym (one.6 ∙ options)) saved.2 in
+            let read : IsRecord saved.0 found.1 read_options (q ∷ []) =
+            subst (λ (bytes : List ℕ). IsRecord bytes found.1 read_options (q ∷ [])) same taken_is in
+            let moved = c.begin_by_record.ensures.moves s₁ left m saved.0 version found.1 read_options (one.4 ∙ none) queues₁
+            made read in
+            let s₂ = moved.1 in
+            let event : LiveEvent = MovesDevice m (live_of begun ∷ []) in
+            let limit₂ = moved.7 ∙ one.7 in
+            let two = last s₂ 0 (reached_by may s₁ s₂ event (reached_run may s s₁ one.0 reached one.2) moved.2)
+            (ap (λ (l : List LiveQueue). slice_get l 0) moved.3) moved.4 (limit₂ ∙ limit')
+            (subst (λ (n : ℕ). n ≤ 2 ^ 31) (sym limit₂) small) in
+            let even : AllByRecursion HasNoneInFlight s.queues =
+            subst (λ (l : List LiveQueue). AllByRecursion HasNoneInFlight l) (sym queues)
+            ((c.requires.none_out, c.have_u16_numbers.ensures.0), tt) in
+            let agree : untold (live_of begun) ≡ untold (live_of left) = c.agree_besides_record.ensures Prim.search in
+            let parts : map untold (live_of begun ∷ []) ≡ map untold s₁.queues =
+            ap (λ (p : ℕ × Bool). p ∷ []) agree ∙ ap (λ (l : List LiveQueue). map untold l) (sym queues₁) in
+            let on = c.law_runs.ensures.moves s s₁ s₂ one.0 m (live_of begun ∷ []) none even one.2 moved.2 parts in (
+              one.0,
+              two.0,
+              s₂,
+              two.1,
+              one.9,
+              two.9,
+              run_both may s s₁ two.1 one.0 (event ∷ two.0) one.2 (s₂, moved.2, two.2),
+              on.2 two.0 two.1 two.2,
+              λ alike. on.3 (alike ∙ sym places ∙ sym one.8) two.0 two.1 two.2,
+              two.5 ∙ ap (λ (l : List LiveQueue). changed_at l 0 (λ _. live_of final)) moved.3,
+            ),
+      );
     }
