@@ -92,7 +92,6 @@ mapped_amid {F} may m walks_law maps_law replies_law returns_law given old one t
       (s₁, first, (s₂, mapped, (s₃, replied.0, (s₄, next_used.2, refl)))),
       (
         c,
-        s.options,
         next_used.0,
         next_used.1,
         popped_by s i given old one before after head n r ds loaded walks walk.1 (told_so ds (says.Chain head n r) walk.2 came walk.3 is),

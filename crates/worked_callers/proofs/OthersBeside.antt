@@ -219,7 +219,6 @@ replied_beside {F} may walks_law replies_law returns_law given old one two befor
       refl,
       (
         c,
-        s.options,
         next_used.0,
         next_used.1,
         popped_by s i given old one before after head n r ds loaded walks walk.1 (told_so ds (says.Chain head n r) walk.2 came walk.3 is),

@@ -224,7 +224,6 @@ module _ {F : Type 0} (may : May F) (walks_law : HandleEndsPop may) (replies_law
       let pop = popped may walks_law old one before after head n r goes (given_so_far walks.0 given, walks.1) s i here in
       let whole = replied_fetched s i here in (
         new_chain s i (live_of before) pop.loaded ds head None,
-        s.options,
         whole.exchange,
         whole.used,
         popped_by s i given old one before after head n r ds pop.loaded walks pop.loads pop.told_is,
@@ -247,7 +246,6 @@ module _ {F : Type 0} (may : May F) (walks_law : HandleEndsPop may) (replies_law
       let returned : LiveEvent = PushesChain whole.chain whole.exchange notice 0 whole.used loaded_flags in (
         whole,
         c,
-        s.options,
         popped_by s i given old one before after head n r ds pop.loaded walks pop.loads pop.told_is,
         (
           refl,
@@ -372,7 +370,6 @@ module _ {F : Type 0} (may : May F) (walks_law : HandleEndsPop may) (asks_law : 
         (
           c,
           call ∷ [],
-          s.options,
           whole.exchange,
           whole.used,
           popped_by s i given old one before after head n r ds pop.loaded walks pop.loads pop.told_is,
@@ -422,17 +419,16 @@ module _ {F : Type 0} (may : May F) (walks_law : HandleEndsPop may) (asks_law : 
         room = held.room;
         is = keeps held.out held.is;
       } in
-      let replied = instead_law s₃ e s.outs [] three serial s.options s₃.options request reply calls refl refl held' clear in
+      let replied = instead_law s₃ e s.outs [] three serial s.options s.options request reply calls refl refl held' clear in
       let own = own_kept three.state three four (record e { phase = Own request reply }) reply replied.1 kept in
       let whole = replied_from may returns_law before after request reply notice goes s s₃ e four.state
-      (walked ∷ told ∷ ReceivesAnswer d call answer ∷ []) calls s₃.options
+      (walked ∷ told ∷ ReceivesAnswer d call answer ∷ []) calls s.options
       (s₁, pop.happens, (s₂, asking.0, (s₃, answered, refl))) refl refl here.there pop.there refl refl refl refl refl replied.0 own
       back in (
         whole,
         (
           c,
           call ∷ [],
-          s₃.options,
           whole.exchange,
           whole.used,
           popped_by s i given old one before after head n r ds pop.loaded walks pop.loads pop.told_is,

@@ -127,31 +127,31 @@ IsAbandonedAsked s i given old before request calls es =
     ≡ pop_event c None ∷ DecodesRequest c request told
     ∷ (answer_events c request s.options [] calls ++ Abandons (asked_chain c request s.options calls) ∷ []))
 
--- a chain of queue i is popped. After these events its caller replies to this request with bytes of its own,
--- and the chain is pushed
+-- a chain of queue i is popped. After these events its caller replies to this request with bytes of its own.
+-- The session keeps its options, and the chain is pushed
 abbrev pub IsRepliedChain : {F : Type 0} → LiveState F → (i : ℕ) → (given : List (Bor (List ℕ))) →
     (old : ChainHandle) → (before : QueueState) → (between : List LiveEvent) → (request reply : List ℕ) →
     (notice : Bool) → List LiveEvent → Type 0
 IsRepliedChain s i given old before between request reply notice es =
-    (c : OutChain) × (options : ℕ) × (x : Exchange) × (used : List Store)
+    (c : OutChain) × (x : Exchange) × (used : List Store)
     × IsPoppedChain s i given old before None c
     × (es
     ≡ pop_event c None
-    ∷ (between ++ RepliesOwnBytes c request reply options
+    ∷ (between ++ RepliesOwnBytes c request reply s.options
     ∷ PushesChain (record c { phase = Own request reply }) x notice 0 used loaded_flags ∷ []))
 
 -- a chain of queue i is popped and decoded from this request. After these calls its caller replies with bytes
--- of its own, and the chain is pushed
+-- of its own. The session keeps its options, and the chain is pushed
 abbrev pub IsRepliedInstead : {F : Type 0} → LiveState F → (i : ℕ) → (given : List (Bor (List ℕ))) →
     (old : ChainHandle) → (before : QueueState) → (request reply : List ℕ) → Calls → (notice : Bool) →
     List LiveEvent → Type 0
 IsRepliedInstead s i given old before request reply calls notice es =
-    (c : OutChain) × (told : List FileCall) × (options : ℕ) × (x : Exchange) × (used : List Store)
+    (c : OutChain) × (told : List FileCall) × (x : Exchange) × (used : List Store)
     × IsPoppedChain s i given old before None c
     × (es
     ≡ pop_event c None ∷ DecodesRequest c request told
     ∷ (answer_events c request s.options [] calls
-    ++ RepliesOwnBytes (asked_chain c request s.options calls) request reply options
+    ++ RepliesOwnBytes (asked_chain c request s.options calls) request reply s.options
     ∷ PushesChain (record c { phase = Own request reply }) x notice 0 used loaded_flags ∷ []))
 
 -- ---- a pop that leads to no chain

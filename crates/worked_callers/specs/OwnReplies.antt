@@ -96,10 +96,10 @@ abbrev pub LogsOwn : {F : Type 0} → (may : May F) → (s : LiveState F) → (i
     (request reply : List ℕ) → (notice : Bool) → Type 0
 LogsOwn {F} may s i given old before after request reply notice =
     (r : ReturnsOwn may s i before after request reply [] notice)
-    × (c : OutChain) × (options : ℕ)
+    × (c : OutChain)
     × IsPoppedChain s i given old before None c
     × (let popped = pop_event c None in
-    let replied = RepliesOwnBytes c request reply options in
+    let replied = RepliesOwnBytes c request reply s.options in
     let returned = PushesChain r.chain r.exchange notice 0 r.used loaded_flags in
     (r.earlier ≡ popped ∷ replied ∷ [])
     × (r.chain ≡ record c { phase = Own request reply })
