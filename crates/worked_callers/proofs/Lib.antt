@@ -6,6 +6,7 @@ pub mod FilledRuns
 pub mod GivenBytes
 pub mod InARowRun
 pub mod LoadedFlags
+pub mod KeptMemory
 pub mod Looks
 pub mod AbandonedAsked
 pub mod MappedAmid

@@ -1,5 +1,7 @@
 -- A chain that is popped, decoded, answered and pushed, call by call.
-use Rattle.std.proofs.Common.{◌≡◌, ℕ, Bool, List, length, Some, None, Result, Ok, Err, IfOk, OnOk, refl, subst, sym, ap, ◌∙◌, arith}
+use Rattle.std.proofs.Common.{◌≡◌, ℕ, ◌+◌, ◌^◌, Bool, List, length, Some, None, Result, Ok, Err, IfOk, OnOk, refl, subst, sym, ap, ◌∙◌}
+use Rattle.std.proofs.Common.{arith}
+use Rattle.std.specs.Prelude.{◌%◌, if◌then◌else◌}
 use Rattle.std.proofs.lemmas.List.{take_all}
 use Rattle.fs_queue.specs.Chain.{Descriptor}
 use Rattle.fs_queue.specs.declared.layout.QueueLayout.{QueueLayout}
@@ -11,6 +13,7 @@ use Rattle.server_phases.specs.Asking.{IsRequestFront}
 use Rattle.fs_chain.specs.declared.loads.LoadOutcome.TheVariants as wents
 use Rattle.fs_chain.specs.declared.queue.QueueState.{QueueState}
 use Rattle.fs_chain.specs.declared.pushing.PushStores.{PushStores}
+use Rattle.fs_chain.specs.declared.state.ChainReply.{ChainReply}
 use Rattle.fs_chain.specs.declared.state.InFlight.{InFlight}
 use Rattle.fs_chain.specs.declared.state.ChainState as state
 use Rattle.fs_chain.specs.declared.state.ChainState.TheVariants as at
@@ -20,8 +23,9 @@ use Rattle.fs_chain.specs.declared.popping.PopOutcome.TheVariants as says
 use Rattle.fs_chain.specs.declared.chain_handle.ChainHandle.{ChainHandle}
 use Rattle.fs_chain.specs.Decoding.{IfUndecoded}
 use Rattle.fs_chain.specs.Events.{seen_at, tells_of}
-use Rattle.fs_chain.specs.Orders.{front_len, return_error}
+use Rattle.fs_chain.specs.Orders.{front_len, is_out, return_error}
 use Rattle.fs_chain.specs.Queues.{pop_id_of}
+use Rattle.fs_chain.specs.Serials.{freed}
 use Rattle.fs_chain.specs.Pushes.{IfHasReply, PushesBy}
 use Rattle.fs_chain.specs.Walks.{RefusalHasEvents, course_of, queue_after, state_after, told_of}
 use Rattle.fs_chain.specs.Whole.{FromTaken, PushedBy, IsByFlags, IsToldBySeen, IsWalked, push_acts}
@@ -127,6 +131,24 @@ goes_back_by (at.Taken out) q len s flags room behind can two back = absurd (cc)
 goes_back_by (at.Waits out w) q len s flags room behind can two back = absurd (cc)
 goes_back_by (at.Lists out l) q len s flags room behind can two back = absurd (cc)
 goes_back_by (at.Pushing out) q len s flags room behind can two back = absurd (cc)
+
+-- a handle that pushed its chain is freed
+freed_of : (old : ChainHandle) (out : InFlight) (reply : ChainReply) → old.state ≡ at.HasReply out reply
+    → freed (record old { state = at.Pushing out }) ≡ freed old
+freed_of old out reply is = ap
+    (λ (b : Bool). record old { state = at.Free; serial = if b then (old.serial + 1) % 2 ^ 32 else old.serial; list_len = 0 })
+    (sym (ap is_out is))
+
+pub freed_back : (st : state.ChainState) (q : QueueState) (len : ℕ) (old mid new : ChainHandle) → old.state ≡ st
+    → return_error st q len ≡ None
+    → IfHasReply st (λ out reply. mid ≡ record old { state = at.Pushing out }) → new ≡ freed mid → new ≡ freed old
+freed_back (at.HasReply out reply) q len old mid new is can pushing free = free ∙ ap freed pushing ∙ freed_of old out reply is
+freed_back at.Free q len old mid new is can pushing free = absurd (cc)
+freed_back (at.Walking course pop_id walk) q len old mid new is can pushing free = absurd (cc)
+freed_back (at.Taken out) q len old mid new is can pushing free = absurd (cc)
+freed_back (at.Waits out w) q len old mid new is can pushing free = absurd (cc)
+freed_back (at.Lists out l) q len old mid new is can pushing free = absurd (cc)
+freed_back (at.Pushing out) q len old mid new is can pushing free = absurd (cc)
 
 pub if_ok : {A E : Type 0} (r : Result A E) (P Q : A → Type 0) → ((a : A) → P a → Q a) → IfOk r P → IfOk r Q
 if_ok (Ok a) P Q more p = more a p

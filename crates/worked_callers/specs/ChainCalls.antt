@@ -95,6 +95,10 @@ HasMemory old new regions limit =
     × (new.serial ≡ old.serial)
     × (new.list_len ≡ old.list_len)
 
+-- a handle has the regions, with their table, and the limit that this one has
+abbrev pub HasMemoryOf : (other handle : ChainHandle) → Type 0
+HasMemoryOf other handle = (handle.regions ≡ other.regions) × (handle.limit ≡ other.limit)
+
 -- the error with which a queue is stopped, if it is: a record doesn't have another
 abbrev pub stop_of : (stopped : Bool) → Option QueueError
 stop_of stopped = if stopped then Some Stopped else None

@@ -11,7 +11,7 @@ ghost use Rattle.fs_chain.specs.declared.state.ChainState.TheVariants as at;
 ghost use Rattle.plain_machine.specs.Step.{Calls};
 ghost use Rattle.fs_live.specs.Handles.{IsReached, IsSessionOf, live_of};
 ghost use Rattle.fs_live.specs.Live.{LiveEvent, LiveRun, LiveState, calls_among};
-ghost use Rattle.worked_callers.specs.ChainCalls.{AreCallsOf};
+ghost use Rattle.worked_callers.specs.ChainCalls.{AreCallsOf, HasMemoryOf};
 ghost use Rattle.worked_callers.specs.Events.{IsFaultyChain, IsGivenUpChain, IsServedChain};
 
 use crate::beside::take_faulty;
@@ -45,7 +45,7 @@ pub fn lend_table(handle: &mut ChainHandle, table: Option<Iotlb>) -> Result<(), 
 }
 
 /// Pops a chain with the table. Decodes and answers its request without it. Pushes the chain once the table
-/// is lent again.
+/// is lent again, which the handle keeps.
 pub fn serve_lent<F: FileSystem>(
     handle: &mut ChainHandle,
     queue: &mut QueueState,
@@ -59,6 +59,7 @@ pub fn serve_lent<F: FileSystem>(
     requires data { TellsBytes [] answer }
     ensures again { OnOk result (handle.new.state ≡ at.Free) }
     ensures queue { OnOk result (queue.new ≡ gave (took queue.old)) }
+    ensures memory { OnOk result (HasMemoryOf handle.old handle.new) }
     ensures run { IfOk result (λ notice. (s : LiveState F) (i : ℕ) (files : F)
         → IsReached F.may s
         → slice_get s.queues i ≡ Some (live_of queue.old)
@@ -87,7 +88,7 @@ pub fn serve_lent<F: FileSystem>(
     push_reply(handle, queue)
 }
 
-/// Pops a chain with the table, and gives it up without it.
+/// Pops a chain with the table, and gives it up without it. The handle has no table then.
 pub fn drop_lent<F: FileSystem>(
     handle: &mut ChainHandle,
     queue: &mut QueueState,
@@ -97,6 +98,7 @@ pub fn drop_lent<F: FileSystem>(
     requires goes { queue.old.stopped ≡ None }
     ensures again { OnOk result (handle.new.state ≡ at.Free) }
     ensures queue { OnOk result (queue.new ≡ gave_up (took queue.old)) }
+    ensures memory { OnOk result (HasMemoryOf (with_table handle.old None) handle.new) }
     ensures run { OnOk result ((s : LiveState F) (i : ℕ)
         → slice_get s.queues i ≡ Some (live_of queue.old)
         → s.places ≡ places_in handle.old.regions
@@ -113,7 +115,7 @@ pub fn drop_lent<F: FileSystem>(
     handle.give_up(queue)
 }
 
-/// Pops a faulty chain with the table, and pushes it without it.
+/// Pops a faulty chain with the table, and pushes it without it. The handle has no table then.
 pub fn push_faulty_lent<F: FileSystem>(
     handle: &mut ChainHandle,
     queue: &mut QueueState,
@@ -123,6 +125,7 @@ pub fn push_faulty_lent<F: FileSystem>(
     requires goes { queue.old.stopped ≡ None }
     ensures again { OnOk result (handle.new.state ≡ at.Free) }
     ensures queue { OnOk result (queue.new ≡ gave (took queue.old)) }
+    ensures memory { OnOk result (HasMemoryOf (with_table handle.old None) handle.new) }
     ensures run { IfOk result (λ notice. (s : LiveState F) (i : ℕ)
         → slice_get s.queues i ≡ Some (live_of queue.old)
         → s.places ≡ places_in handle.old.regions

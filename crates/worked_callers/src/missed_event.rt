@@ -1,6 +1,6 @@
 //! A queue with the event index whose used_event no table maps: a pop misses it.
 
-ghost use Rattle.std.specs.Prelude.{◌≡◌, ◌≤◌, ◌+◌, [], IfOk, None, true};
+ghost use Rattle.std.specs.Prelude.{◌≡◌, ◌≤◌, ◌+◌, [], IfOk, None, Some, true};
 ghost use Rattle.vm_iotlb.specs.AddressRuns.{run_of};
 ghost use Rattle.vm_iotlb.specs.declared.permissions.Permissions.{Permissions};
 ghost use Rattle.fs_regions.specs.Misses.{last_page};
@@ -13,8 +13,9 @@ use fs_regions::{GuestMap, GuestRegions};
 use std::alloc::Global;
 use vm_memory_core::Iotlb;
 
-/// Pops a queue with the event index, with a handle whose table maps nothing. The pop misses the two bytes of
-/// used_event, before any load. The queue stays as it was, and the handle is free.
+/// Pops a queue with the event index, with a handle that gets these regions and a table that maps nothing.
+/// The pop misses the two bytes of used_event, before any load. The queue stays as it was, and the handle is
+/// free.
 pub fn miss_used_event(
     alloc: Global,
     handle: &mut ChainHandle,
@@ -31,7 +32,12 @@ pub fn miss_used_event(
         × (queue.new ≡ queue.old)
         × (handle.new.state ≡ at.Free)
         × (handle.new.descriptors.items ≡ [])
-        × (handle.new.part.items ≡ [])) }
+        × (handle.new.part.items ≡ [])
+        × (handle.new.regions ≡ record { layout = regions; table = Some [] })
+        × (handle.new.limit ≡ 0x101000)
+        × (handle.new.session ≡ handle.old.session)
+        × (handle.new.serial ≡ handle.old.serial)
+        × (handle.new.list_len ≡ handle.old.list_len)) }
 {
     law_misses();
     handle.set_memory(GuestMap::behind(regions, Iotlb::new(alloc)), 0x101000)?;

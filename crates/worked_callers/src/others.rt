@@ -14,6 +14,7 @@ ghost use Rattle.fs_record.specs.Record.{IsRecord, Version};
 ghost use Rattle.fs_regions.specs.Places.{places_in};
 ghost use Rattle.fs_chain.specs.Orders.{memory_error};
 ghost use Rattle.fs_chain.specs.Queues.{gave, reset_to, took, gave_up};
+ghost use Rattle.fs_chain.specs.Serials.{freed};
 ghost use Rattle.fs_chain.specs.declared.state.ChainState.TheVariants as at;
 ghost use Rattle.plain_machine.specs.StepBy.{Act};
 ghost use Rattle.fs_live.specs.Handles.{IsReached, live_of};
@@ -92,6 +93,7 @@ pub fn push_own(handle: &mut ChainHandle, queue: &mut QueueState) -> Result<bool
         × (back : PushedOwn queue.old room reply handle.old.state acts last notice)
         × (back.flags ≡ loaded_flags)) }
     ensures queue { OnOk result (queue.new ≡ gave queue.old) }
+    ensures freed { OnOk result (handle.new ≡ freed handle.old) }
     ensures again { OnOk result (handle.new.state ≡ at.Free) }
 {
     let mut front = [0u8; 160];

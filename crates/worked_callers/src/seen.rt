@@ -18,6 +18,7 @@ ghost use Rattle.fs_regions.specs.Places.{memory_over, places_in};
 ghost use Rattle.fs_regions.specs.Walks.{Loaded, OffersBy, queue_of};
 ghost use Rattle.fs_chain.specs.Events.{seen_at, tells_of};
 ghost use Rattle.fs_chain.specs.Queues.{gave, took};
+ghost use Rattle.fs_chain.specs.Serials.{freed};
 ghost use Rattle.fs_chain.specs.Walks.{course_of};
 ghost use Rattle.fs_chain.specs.Whole.{PushedBy, IsMachineBefore, IsSession, IsToldByMemory, IsWalked};
 ghost use Rattle.fs_chain.specs.Whole.{LackPlaces, after_chain, step_loads};
@@ -48,6 +49,7 @@ pub fn push_by(
         × (back.flags ≡ seen)
         × (back.stores.seen_at ≡ told.1)) }
     ensures session { OnOk result (handle.new.session ≡ handle.old.session) }
+    ensures freed { OnOk result (handle.new ≡ freed handle.old) }
 {
     let mut front = [0u8; 160];
     let stores = handle.push(queue, &mut front)?;

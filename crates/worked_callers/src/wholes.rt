@@ -13,7 +13,8 @@ ghost use Rattle.fs_regions.specs.Places.{places_in};
 ghost use Rattle.fs_regions.specs.Walks.{Loaded, queue_of};
 ghost use Rattle.fs_chain.specs.Events.{event_fault, event_miss};
 ghost use Rattle.fs_chain.specs.Queues.{gave, took};
-ghost use Rattle.fs_chain.specs.Walks.{HasEvents, course_of};
+ghost use Rattle.fs_chain.specs.Serials.{freed};
+ghost use Rattle.fs_chain.specs.Walks.{HasEvents, IsAllBut, course_of};
 ghost use Rattle.fs_chain.specs.Whole.{FromTaken, ChainAnswer, PushedBy, IsRepliedBy, IsDecodedBy};
 ghost use Rattle.fs_chain.specs.Whole.{IsMachineBefore, IsWalked, LackPlaces, WalksBy, WantsBytes};
 ghost use Rattle.fs_chain.specs.Whole.{data_behind};
@@ -155,6 +156,7 @@ pub fn reply(
         × (data_behind given ≡ [])
         × HasThisAnswer answer given
         × EachSuits (file_calls (drop 80 request.now) made given)) }
+    ensures kept { OnOk result (IsAllBut handle.old handle.new) }
 {
     match handle.decode(session, request)? {
         Decoded::Call(_) => {
@@ -177,6 +179,7 @@ pub fn push_reply(handle: &mut ChainHandle, queue: &mut QueueState) -> Result<bo
         × (back : PushedBy queue.old room behind handle.old.state acts last notice)
         × (back.flags ≡ loaded_flags)) }
     ensures session { OnOk result (handle.new.session ≡ handle.old.session) }
+    ensures freed { OnOk result (handle.new ≡ freed handle.old) }
     ensures queue { OnOk result (queue.new ≡ gave queue.old) }
     ensures again { OnOk result (handle.new.state ≡ at.Free) }
 {

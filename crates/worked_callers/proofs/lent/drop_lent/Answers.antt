@@ -1,6 +1,7 @@
 use Rattle.std.proofs.Common.{◌≡◌, ap, subst, sym}
 use Rattle.fs_chain.specs.Whole.{FromTaken}
 use Rattle.fs_chain.specs.declared.chain_handle.ChainHandle.{ChainHandle}
+use Rattle.worked_callers.proofs.KeptMemory.{chain_keeps, memory_bare}
 use Rattle.worked_callers.proofs.OthersBeside.{dropped_beside, on_ok_two}
 use Rattle.worked_callers.proofs.Served.{on_ok_more, taken_so}
 use Rattle.worked_callers.proofs.TookQueue.{gave_up_taken}
@@ -18,6 +19,13 @@ returns g c =
           c.in_ok-_len.field-0-0 c.in_ok-_len._len c.in_ok-_len.field-0-2 c.requires.goes c.in_ok-_len.ensures.given
           (ap (λ (w : ChainHandle). w.state) c.in_ok-_table.ensures.taken) clear left)
           c.give_up.ensures.ok c.give_up.ensures.queue;
+      memory = on_ok_more c.give_up.result _ _
+          (λ free.
+          memory_bare c.args.handle.now c.walk_chain.new.handle c.take_table.new.handle c.give_up.new.self
+          (chain_keeps c.args.handle.now c.walk_chain.new.handle c.args.queue.now c.walk_chain.new.queue c.in_ok-_len.field-0-0
+          c.in_ok-_len._len c.in_ok-_len.field-0-2 c.requires.goes c.in_ok-_len.ensures.walked)
+          c.in_ok-_table.ensures.taken free)
+          c.give_up.ensures.free;
       again = on_ok_more c.give_up.result _ _ (λ is. ap (λ (w : ChainHandle). w.state) is) c.give_up.ensures.free;
       queue = gave_up_taken c.give_up.result c.take_table.new.handle.state (λ out. out.request_len ≡ c.in_ok-_len._len) _ _ _
           (subst (λ (w : ChainHandle). FromTaken w.state (λ out. out.request_len ≡ c.in_ok-_len._len)) (sym c.in_ok-_table.ensures.taken)

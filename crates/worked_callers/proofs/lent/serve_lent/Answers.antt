@@ -10,8 +10,9 @@ use Rattle.fs_live.specs.Handles.{live_of}
 use Rattle.worked_callers.specs.Events.{loaded_flags}
 use Rattle.worked_callers.specs.Notified.{given_so_far}
 use Rattle.worked_callers.proofs.CalledBy.{calls_of_answer}
+use Rattle.worked_callers.proofs.KeptMemory.{chain_keeps, memory_lent}
 use Rattle.worked_callers.proofs.NamedEvents.{served_named}
-use Rattle.worked_callers.proofs.Served.{if_ok_so, more_taken, taken_so}
+use Rattle.worked_callers.proofs.Served.{if_ok_so, more_taken, on_ok_more, taken_so}
 use Rattle.worked_callers.proofs.ServedBeside.{served_beside}
 use Rattle.worked_callers.proofs.TookQueue.{gave_took}
 use Rattle.worked_callers.proofs.lent.serve_lent.Goals as goal
@@ -71,6 +72,13 @@ returns g c =
                 ),
           ))
           c.push_reply.ensures.back c.push_reply.ensures.queue;
+      memory = on_ok_more c.push_reply.result _ _
+          (λ free.
+          memory_lent old one c.take_table.new.handle c.reply.new.handle c.lend_table.new.handle c.push_reply.new.handle c.in_ok-table.table
+          (chain_keeps old one before after c.in_ok-request_len.field-0-0 c.in_ok-request_len.request_len c.in_ok-request_len.field-0-2
+          c.requires.goes c.in_ok-request_len.ensures.walked)
+          c.in_ok-table.ensures.table c.in_ok-table.ensures.taken c.in_ok-reply.ensures.kept c.in_ok-lend_table.ensures.lent free)
+          c.push_reply.ensures.freed;
       again = c.push_reply.ensures.again;
       queue = gave_took c.push_reply.result _ _ _ c.in_ok-request_len.ensures.queue c.push_reply.ensures.queue;
     }

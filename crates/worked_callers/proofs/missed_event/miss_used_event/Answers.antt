@@ -26,7 +26,17 @@ returns c =
       missed = if_ok c.pop.result _ _
           (λ told goes.
           let m = c.law_misses.ensures.events [] AvailFlagsUnreachable at Read old new q after told c.requires.goes fault miss
-          (free, goes) in
-          (m.0, m.5, m.3.0.3 ∙ free, m.3.1, m.4))
+          (free, goes) in (
+            m.0,
+            m.5,
+            m.3.0.3 ∙ free,
+            m.3.1,
+            m.4,
+            m.3.0.0.0 ∙ is,
+            m.3.0.0.1 ∙ set.1,
+            m.3.0.4 ∙ set.4,
+            m.3.0.0.2 ∙ set.5,
+            m.3.0.0.3 ∙ set.6,
+          ))
           c.pop.ensures.goes;
     }

@@ -7,7 +7,7 @@ use Rattle.fs_chain.specs.declared.queue.QueueState.{QueueState}
 use Rattle.fs_live.specs.Others.{PushedOwn}
 use Rattle.worked_callers.specs.Events.{loaded_flags}
 use Rattle.worked_callers.proofs.OthersBeside.{own_goes_back}
-use Rattle.worked_callers.proofs.Served.{if_ok, on_ok_more}
+use Rattle.worked_callers.proofs.Served.{freed_back, if_ok, on_ok_more}
 use Rattle.worked_callers.proofs.others.push_own.Goals as goal
 
 pub returns : goal.returns
@@ -24,5 +24,10 @@ returns c =
           c.in_ok-_stores.ensures.stores))
           c.pushed.ensures.tells;
       queue = on_ok_more c.pushed.result _ _ (λ is. is ∙ ap gave c.in_ok-_stores.ensures.queue) c.pushed.ensures.queue;
+      freed = on_ok_more c.pushed.result _ _
+          (λ free.
+          freed_back st q _ c.args.handle.now c.push.new.self c.pushed.new.self refl c.in_ok-_stores.ensures.ok
+          c.in_ok-_stores.ensures.pushing free)
+          c.pushed.ensures.free;
       again = on_ok_more c.pushed.result _ _ (λ is. ap (λ (w : ChainHandle). w.state) is) c.pushed.ensures.free;
     }

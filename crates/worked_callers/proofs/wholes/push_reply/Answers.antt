@@ -6,7 +6,7 @@ use Rattle.fs_chain.specs.Whole.{PushedBy}
 use Rattle.fs_chain.specs.declared.chain_handle.ChainHandle.{ChainHandle}
 use Rattle.fs_chain.specs.declared.queue.QueueState.{QueueState}
 use Rattle.worked_callers.specs.Events.{loaded_flags}
-use Rattle.worked_callers.proofs.Served.{goes_back_by, if_ok, on_ok_more}
+use Rattle.worked_callers.proofs.Served.{freed_back, goes_back_by, if_ok, on_ok_more}
 use Rattle.worked_callers.proofs.wholes.push_reply.Goals as goal
 
 pub returns-clause-back : goal.returns-clause-back
@@ -27,3 +27,10 @@ returns-clause-queue c = on_ok_more c.pushed.result _ _ (λ is. is ∙ ap gave c
 
 pub returns-clause-again : goal.returns-clause-again
 returns-clause-again c = on_ok_more c.pushed.result _ _ (λ is. ap (λ (w : ChainHandle). w.state) is) c.pushed.ensures.free
+
+pub returns-clause-freed : goal.returns-clause-freed
+returns-clause-freed c = on_ok_more c.pushed.result _ _
+    (λ free.
+    freed_back c.args.handle.now.state c.args.queue.now _ c.args.handle.now c.push.new.self c.pushed.new.self refl
+    c.in_ok-_stores.ensures.ok c.in_ok-_stores.ensures.pushing free)
+    c.pushed.ensures.free

@@ -1,4 +1,4 @@
-use Rattle.std.proofs.Common.{[], refl, sym, subst}
+use Rattle.std.proofs.Common.{[], refl, sym, subst, ◌∙◌}
 use Rattle.std.specs.Prelude.{IsTrue, drop}
 use Rattle.fuse_fs.specs.Calls.{suits}
 use Rattle.fuse_values.specs.Answers.{answer_of}
@@ -23,6 +23,8 @@ returns-in-Ok c =
     let given = OneAnswer c.args.answer [] c.in-Ok.field-0 in
     let s = c.args.session in
     let made = c.in-Call.field-0 in
+    let decoded = c.in_ok-decode.ensures.same.0 in
+    let answered = c.in-Ok.ensures.stays.0 in
     let suits : IsTrue (suits (call_of (drop 80 request) made) (answer_of [] c.args.answer)) =
     of_taken st _
     (more_taken st _ _
@@ -47,6 +49,7 @@ returns-in-Ok c =
         subst (λ (t : Decoded). EachSuits (file_calls (drop 80 request) t given)) (sym c.in-Call.is)
             (suits, forget_suits c.in-Ok.field-0.forget),
       );
+      kept = (answered.0 ∙ decoded.0, answered.1 ∙ decoded.1, answered.2 ∙ decoded.2, answered.3 ∙ decoded.3);
     }
 
 pub returns-in-Nothing : goal.returns-in-Nothing
@@ -68,6 +71,7 @@ returns-in-Nothing c =
         tt,
         subst (λ (t : Decoded). EachSuits (file_calls (drop 80 request) t NoAnswer)) (sym c.in-Nothing.is) tt,
       );
+      kept = c.in_ok-decode.ensures.same.0;
     }
 
 pub returns-in-Fault : goal.returns-in-Fault
@@ -89,4 +93,5 @@ returns-in-Fault c =
         tt,
         subst (λ (t : Decoded). EachSuits (file_calls (drop 80 request) t NoAnswer)) (sym c.in-Fault.is) tt,
       );
+      kept = c.in_ok-decode.ensures.same.0;
     }
