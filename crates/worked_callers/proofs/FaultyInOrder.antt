@@ -33,6 +33,7 @@ use Rattle.fs_live.proofs.Queues.{same_some, there_same}
 use Rattle.fs_notify.specs.Takers.{HasU16Numbers, IsModelOf, TakesByWalk, ways_of}
 use Rattle.worked_callers.specs.Events.{AreFaultyInOrder, IsPoppedChain, loaded_flags}
 use Rattle.worked_callers.specs.Notified.{ActsTo, IsWalkedBy, PopsWithIndex, given_so_far}
+use Rattle.worked_callers.proofs.Fronts.{no_front}
 use Rattle.worked_callers.proofs.LoadedFlags.{pushed_with}
 use Rattle.worked_callers.proofs.ServedBeside.{taken_of}
 use Rattle.worked_callers.proofs.ServedCrossed.{late_of}
@@ -141,6 +142,9 @@ module _ {F : Type 0} (may : May F) (pops : HandleEndsPop may) (pushes : HandleF
       let s₄ : LiveState F = after_push s₃ s.outs [] c' (live_of (gave after)) in
       let x_is : returned.0 ≡ faulty head fault = returned.2.goes in
       let x_is' : returned'.0 ≡ faulty head' fault' = returned'.2.goes in
+      let last_is : goes_back.1 ≡ 0 = no_front after [] [] one.state goes_back.0 goes_back.1 notice _ held.state goes_back.2 in
+      let last_is' : goes_back'.1 ≡ 0 =
+      no_front (gave after) [] [] two.state goes_back'.0 goes_back'.1 notice' _ held'.state goes_back'.2 in
       let push = PushesChain c returned.0 notice goes_back.1 returned.1 loaded_flags in
       let push' = PushesChain c' returned'.0 notice' goes_back'.1 returned'.1 loaded_flags in
       let es : List LiveEvent = EndsPop i walk.0 ds came ∷ EndsPop i walk'.0 ds' came' ∷ push ∷ push' ∷ [] in
@@ -160,11 +164,9 @@ module _ {F : Type 0} (may : May F) (pops : HandleEndsPop may) (pushes : HandleF
         (
           c,
           fault,
-          goes_back.1,
           returned.1,
           c',
           fault',
-          goes_back'.1,
           returned'.1,
           popped_faulty s i bytes old one before mid head fault ds walk.0 walks walk.1,
           popped_faulty s i bytes' old' two mid after head' fault' ds' walk'.0 walks' walk'.1,
@@ -172,7 +174,13 @@ module _ {F : Type 0} (may : May F) (pops : HandleEndsPop may) (pushes : HandleF
               ∷ PushesChain c x notice goes_back.1 returned.1 loaded_flags ∷ push' ∷ []) x_is
               ∙ ap (λ (x : Exchange). EndsPop i walk.0 ds came ∷ EndsPop i walk'.0 ds' came'
               ∷ PushesChain c (faulty head fault) notice goes_back.1 returned.1 loaded_flags
-              ∷ PushesChain c' x notice' goes_back'.1 returned'.1 loaded_flags ∷ []) x_is',
+              ∷ PushesChain c' x notice' goes_back'.1 returned'.1 loaded_flags ∷ []) x_is'
+              ∙ ap (λ (n : ℕ). EndsPop i walk.0 ds came ∷ EndsPop i walk'.0 ds' came'
+              ∷ PushesChain c (faulty head fault) notice n returned.1 loaded_flags
+              ∷ PushesChain c' (faulty head' fault') notice' goes_back'.1 returned'.1 loaded_flags ∷ []) last_is
+              ∙ ap (λ (n : ℕ). EndsPop i walk.0 ds came ∷ EndsPop i walk'.0 ds' came'
+              ∷ PushesChain c (faulty head fault) notice 0 returned.1 loaded_flags
+              ∷ PushesChain c' (faulty head' fault') notice' n returned'.1 loaded_flags ∷ []) last_is',
         ),
         subst (λ (l : List QueueEvent). AtTheirPlaces (going q) (returns_among l)) (sym on_is)
             (order (going q) on even few (refl, (next, tt))),

@@ -3,6 +3,7 @@ pub mod CallsSuit
 pub mod Ended
 pub mod FaultyInOrder
 pub mod FilledRuns
+pub mod Fronts
 pub mod GivenBytes
 pub mod InARowRun
 pub mod LoadedFlags

@@ -72,15 +72,16 @@ refusal_is ds came error told = absurd (subst IsRefusal told tt)
 
 pub served_named : {F : Type 0} (may : May F) (s : LiveState F) (i : ℕ) (given : List (Bor (List ℕ))) (old one : ChainHandle)
     (before after : QueueState) (head n r : ℕ) (walks : IsWalkedBy given old one before after (wents.On (says.Chain head n r)))
-    (request : List ℕ) (calls : Calls) (notice : Bool)
-    (so : ServedRun may s i old one before after head n r (given_so_far walks.0 given, walks.1) request calls notice)
-    → IsServedChain s i given old before request calls notice so.es
-served_named may s i given old one before after head n r walks request calls notice so = (
+    (request : List ℕ) (calls : Calls) (bytes : List ℕ) (files : F) (notice : Bool)
+    (so : ServedRun may s i old one before after head n r (given_so_far walks.0 given, walks.1) request calls bytes files notice)
+    → IsServedChain s i given old before request calls bytes notice so.es
+served_named may s i given old one before after head n r walks request calls bytes files notice so = (
   new_chain s i (live_of before) so.loaded one.descriptors.items head None,
   so.told_calls,
   so.exchange,
   so.stored_last,
   so.used,
   popped_by s i given old one before after head n r one.descriptors.items so.loaded walks so.loads so.told_is,
+  so.front_is,
   so.es_are,
 )

@@ -69,8 +69,9 @@ use Rattle.fs_live.specs.Serial.{IsOfChain, Single, events_in}
 use Rattle.fs_live.specs.Several.{LiveQueue, took}
 use Rattle.fs_live.proofs.Alone.{all_both}
 use Rattle.fs_live.proofs.Queues.{same_some, there_same}
-use Rattle.worked_callers.specs.Events.{IsFaultyChain, answer_events, loaded_flags}
+use Rattle.worked_callers.specs.Events.{HasFront, IsFaultyChain, answer_events, loaded_flags}
 use Rattle.worked_callers.specs.Notified.{IsWalkedBy, given_so_far}
+use Rattle.worked_callers.proofs.Fronts.{front_of, no_front}
 use Rattle.worked_callers.proofs.LoadedFlags.{pushed_with}
 
 -- ---- runs
@@ -222,11 +223,12 @@ faulty_later limit c one later same held =
 -- these calls are answered and the chain goes back, whatever other chains are out: a run, which begins no queue anew
 pub record ServedRun {F : Type 0} (may : May F) (s : LiveState F) (i : ℕ) (old one : ChainHandle) (before after : QueueState)
     (head n r : ℕ) (walks : IsWalked old one before after (wents.On (says.Chain head n r))) (request : List ℕ) (calls : Calls)
-    (notice : Bool) : Type 0 where
+    (bytes : List ℕ) (files : F) (notice : Bool) : Type 0 where
   pub es : List LiveEvent
   pub end : LiveState F
   pub run : LiveRun may s es end
   pub calls_are : calls_among es ≡ calls
+  pub files_are : end.files ≡ files
   pub outs : end.outs ≡ s.outs
   pub there : slice_get end.queues i ≡ Some (live_of (gave after))
   pub anew : AllByRecursion (NoReset i) es
@@ -242,6 +244,7 @@ pub record ServedRun {F : Type 0} (may : May F) (s : LiveState F) (i : ℕ) (old
   pub told_calls : List FileCall
   pub exchange : Exchange
   pub stored_last : ℕ
+  pub front_is : HasFront exchange.reply bytes stored_last
   pub used : List Store
   pub es_are : es ≡ EndsPop i loaded one.descriptors.items (step.Chain head None)
       ∷ DecodesRequest (new_chain s i (live_of before) loaded one.descriptors.items head None) request told_calls
@@ -253,16 +256,17 @@ pub record ServedRun {F : Type 0} (may : May F) (s : LiveState F) (i : ℕ) (old
 module _ {F : Type 0} (may : May F) (walks_law : HandleEndsPop may) (asks_law : HandleDecodesRequest may) (calls_law : HandleCalls may)
     (returns_law : HandlePushesChain may) (old one later two three : ChainHandle)
     (before after : QueueState) (head n r : ℕ) (session : Session) (request : List ℕ) (made : Decoded) (given : ChainAnswer)
-    (notice : Bool) (goes : before.stopped ≡ None)
+    (bytes : List ℕ) (notice : Bool) (goes : before.stopped ≡ None)
     (walks : IsWalked old one before after (wents.On (says.Chain head n r))) (same : later.state ≡ one.state)
     (asked : IsDecodedBy later session request request made two)
-    (has : IsRepliedBy made two given three) (back : (room behind : List ℕ)
+    (has : IsRepliedBy made two given three) (bytes_are : data_behind given ≡ bytes) (back : (room behind : List ℕ)
     → (acts : List Act) × (last : ℕ) × (back : PushedBy after room behind three.state acts last notice)
     × (back.flags ≡ loaded_flags)) where
   pub served_beside : (s : LiveState F) (i : ℕ) (files : F) → IsReached may s → slice_get s.queues i ≡ Some (live_of before)
       → s.places ≡ places_in old.regions → s.limit ≡ old.limit
       → s.limit ≤ 2 ^ 31 → IsSessionOf s session → FileRun may s.files (file_calls (drop 80 request) made given) files
-      → ServedRun may s i old one before after head n r walks request (file_calls (drop 80 request) made given) notice
+      → ServedRun may s i old one before after head n r walks request (file_calls (drop 80 request) made given) bytes files
+      notice
   served_beside s i files reached there places limit small in_session run =
       let q = live_of before in
       let calls = file_calls (drop 80 request) made given in
@@ -297,6 +301,9 @@ module _ {F : Type 0} (may : May F) (walks_law : HandleEndsPop may) (asks_law : 
       (each_suits may s.files files calls run) kept₃ has goes_back.2 in
       let next_used = pushed_with may ans.end s.outs [] d after goes_back.0 goes_back.1 notice goes_back.2.stores three.state (room_of d)
       (data_behind given) goes_back.2 goes_back.3 returned in
+      let front : HasFront next_used.0.reply (data_behind given) goes_back.1 =
+      front_of ans.end.page_size s.options request d made given two three after goes_back.0 goes_back.1 notice next_used.0 kept₃ has
+      goes_back.2 next_used.2.goes in
       let last = PushesChain d next_used.0 notice goes_back.1 next_used.1 loaded_flags in
       let s₄ : LiveState F = after_push ans.end s.outs [] d (live_of after) in
       record {
@@ -305,6 +312,7 @@ module _ {F : Type 0} (may : May F) (walks_law : HandleEndsPop may) (asks_law : 
         end = s₄;
         run = (s₁, first, (s₂, asking.0, run_more may s₂ ans.end s₄ ans.es last ans.run next_used.2));
         calls_are = calls_of_both ans.es (last ∷ []) ∙ append-nil (calls_among ans.es) ∙ ans.calls;
+        files_are = ans.files_are;
         outs = append-nil s.outs;
         there = next_used.3;
         anew = (tt, (tt, all_both (NoReset i) ans.es (last ∷ []) (ans.anew i) (tt, tt)));
@@ -333,6 +341,7 @@ module _ {F : Type 0} (may : May F) (walks_law : HandleEndsPop may) (asks_law : 
         told_calls = calls_decoded (drop 80 request) made;
         exchange = next_used.0;
         stored_last = goes_back.1;
+        front_is = subst (λ (bs : List ℕ). HasFront next_used.0.reply bs goes_back.1) bytes_are front;
         used = next_used.1;
         es_are = ap
             (λ (es : List LiveEvent). EndsPop i loaded ds (step.Chain head None)
@@ -394,17 +403,19 @@ faulty_beside {F} may walks_law faulty_law given old one later before after fina
     let next_used = pushed_with may s₁ s.outs [] c after goes_back.0 goes_back.1 notice goes_back.2.stores later.state [] []
     goes_back.2 goes_back.3 returned in
     let s₂ : LiveState F = after_push s₁ s.outs [] c (live_of after) in
-    let exchange_is : next_used.0 ≡ faulty head fault = next_used.2.goes in (
+    let exchange_is : next_used.0 ≡ faulty head fault = next_used.2.goes in
+    let last_is : goes_back.1 ≡ 0 = no_front after [] [] later.state goes_back.0 goes_back.1 notice _
+    (faulty_later s.limit c one later same held).state goes_back.2 in (
       EndsPop i loaded ds came ∷ PushesChain c next_used.0 notice goes_back.1 next_used.1 loaded_flags ∷ [],
       s₂,
       (s₁, first, (s₂, next_used.2, refl)),
       (
         c,
         fault,
-        goes_back.1,
         next_used.1,
         ((walks.0, one, after, walks.1, walk.1), refl),
-        ap (λ (x : Exchange). EndsPop i loaded ds came ∷ PushesChain c x notice goes_back.1 next_used.1 loaded_flags ∷ []) exchange_is,
+        ap (λ (x : Exchange). EndsPop i loaded ds came ∷ PushesChain c x notice goes_back.1 next_used.1 loaded_flags ∷ []) exchange_is
+            ∙ ap (λ (n : ℕ). EndsPop i loaded ds came ∷ PushesChain c (faulty head fault) notice n next_used.1 loaded_flags ∷ []) last_is,
       ),
       refl,
       append-nil s.outs,

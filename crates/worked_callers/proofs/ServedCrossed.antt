@@ -30,6 +30,7 @@ use Rattle.fs_live.specs.Several.{LiveQueue, took}
 use Rattle.fs_live.proofs.Queues.{same_some, there_same}
 use Rattle.worked_callers.specs.Events.{AreCrossedChains, answer_events, loaded_flags}
 use Rattle.worked_callers.specs.Notified.{IsWalkedBy, given_so_far}
+use Rattle.worked_callers.proofs.Fronts.{front_of}
 use Rattle.worked_callers.proofs.LoadedFlags.{pushed_with}
 use Rattle.worked_callers.proofs.NamedEvents.{popped_by, told_so}
 use Rattle.worked_callers.proofs.TakenTwo.{goes_still}
@@ -72,7 +73,8 @@ module _ {F : Type 0} (may : May F) (walks_law : HandleEndsPop may) (asks_law : 
       → s.limit ≡ old.limit → s.limit ≡ old'.limit → s.limit ≤ 2 ^ 31 → IsSessionOf s session → IsSessionOf s session'
       → FileRun may s.files early between → FileRun may between late files
       → (es : List LiveEvent) × (end : LiveState F) × LiveRun may s es end
-      × AreCrossedChains s i bytes bytes' old old' before mid request request' late early notice notice' es
+      × AreCrossedChains s i bytes bytes' old old' before mid request request' late early (data_behind given) (data_behind given')
+      notice notice' es
       × (calls_among es ≡ early ++ late) × (end.outs ≡ s.outs)
       × (slice_get end.queues i ≡ Some (live_of final))
   served_crossed final final_is s i between files reached there places places' limit limit' small in_session in_session' run' run =
@@ -190,6 +192,10 @@ module _ {F : Type 0} (may : May F) (walks_law : HandleEndsPop may) (asks_law : 
           popped_by s i bytes old one before mid head n r ds walk.0 walks walk.1 (told_so ds (says.Chain head n r) walk.2 came walk.3 is),
           popped_by s i bytes' old' two mid after head' n' r' ds' walk'.0 walks' walk'.1
               (told_so ds' (says.Chain head' n' r') walk'.2 came' walk'.3 is'),
+          front_of ans.end.page_size s.options request e made given one₂ one₃ (gave after) goes_back.0 goes_back.1 notice next_used.0
+              kept₆ has goes_back.2 next_used.2.goes,
+          front_of ans'.end.page_size s.options request' e' made' given' two₂ two₃ after goes_back'.0 goes_back'.1 notice' returned'.0
+              kept₄ has' goes_back'.2 returned'.2.goes,
           ap
               (λ (l : List LiveEvent). EndsPop i walk.0 ds came ∷ EndsPop i walk'.0 ds' came' ∷ asks ∷ asks' ∷ (l ++ last' ∷ ends))
               ans'.es_are

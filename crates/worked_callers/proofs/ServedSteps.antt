@@ -97,8 +97,8 @@ module _ {F : Type 0} (may : May F) where
 
 module _ {F : Type 0} (may : May F) (s : LiveState F) (i : ℕ) (given : List (Bor (List ℕ))) (old one : ChainHandle)
     (before after : QueueState) (head n r : ℕ) (walks : IsWalkedBy given old one before after (wents.On (says.Chain head n r)))
-    (request : List ℕ) (calls : Calls) (notice : Bool)
-    (so : ServedRun may s i old one before after head n r (given_so_far walks.0 given, walks.1) request calls notice) where
+    (request : List ℕ) (calls : Calls) (files : F) (notice : Bool)
+    (so : ServedRun may s i old one before after head n r (given_so_far walks.0 given, walks.1) request calls [] files notice) where
   abbrev popped_chain : OutChain
   popped_chain = new_chain s i (live_of before) so.loaded one.descriptors.items head None
 
@@ -132,6 +132,7 @@ module _ {F : Type 0} (may : May F) (s : LiveState F) (i : ℕ) (given : List (B
         page_size_is = keeps.1;
         exchange = so.exchange;
         last = so.stored_last;
+        front_is = so.front_is;
         used = so.used;
         end = so.end;
         returns = split.2;
@@ -139,20 +140,20 @@ module _ {F : Type 0} (may : May F) (s : LiveState F) (i : ℕ) (given : List (B
         there = so.there;
       }
 
-  pub returned_named : IsServedChain s i given old before request calls notice
+  pub returned_named : IsServedChain s i given old before request calls [] notice
       (returned_served.earlier
       ++ PushesChain returned_served.chain returned_served.exchange notice returned_served.last returned_served.used loaded_flags
       ∷ [])
   returned_named =
-      subst (λ (es : List LiveEvent). IsServedChain s i given old before request calls notice es) so.es_are
-      (served_named may s i given old one before after head n r walks request calls notice so)
+      subst (λ (es : List LiveEvent). IsServedChain s i given old before request calls [] notice es) so.es_are
+      (served_named may s i given old one before after head n r walks request calls [] files notice so)
 
 -- ---- what theorems say of the return
 
 module _ {F : Type 0} (may : May F) (s : LiveState F) (i : ℕ) (given : List (Bor (List ℕ))) (old : ChainHandle)
     (before after : QueueState) (request : List ℕ) (calls : Calls) (notice : Bool)
     (r : ReturnsServed may s i before after request calls notice)
-    (named : IsServedChain s i given old before request calls notice
+    (named : IsServedChain s i given old before request calls [] notice
     (r.earlier ++ PushesChain r.chain r.exchange notice r.last r.used loaded_flags ∷ [])) where
   pub serves_as_step : {G : Type 0} (other : May G) → ReturnedIsStepBy may other → IsReached may s
       → ServesAsStep may other s i given old before after request calls notice

@@ -83,10 +83,10 @@ module _ {F : Type 0} (may : May F) where
 
 pub turn_served : {F : Type 0} (may : May F) (s : LiveState F) (i : ℕ) (given : List (Bor (List ℕ))) (old one : ChainHandle)
     (before after : QueueState) (head n r : ℕ) (walks : IsWalkedBy given old one before after (wents.On (says.Chain head n r)))
-    (request : List ℕ) (calls : Calls) (notice : Bool)
-    → ServedRun may s i old one before after head n r (given_so_far walks.0 given, walks.1) request calls notice
-    → ServesTurn may s i given old before (gave after) request calls notice
-turn_served {F} may s i given old one before after head n r walks request calls notice so =
+    (request : List ℕ) (calls : Calls) (files : F) (notice : Bool)
+    → ServedRun may s i old one before after head n r (given_so_far walks.0 given, walks.1) request calls [] files notice
+    → ServesTurn may s i given old before (gave after) request calls files notice
+turn_served {F} may s i given old one before after head n r walks request calls files notice so =
     let es : List LiveEvent = events_in so.single in
     let keeps : AllByRecursion KeepsPlaces es =
     (tt, all_both KeepsPlaces so.single.between (return_in so.single ∷ []) (all_keep so.single.between so.of_chain) (tt, tt)) in
@@ -96,8 +96,9 @@ turn_served {F} may s i given old one before after head n r walks request calls 
       queue_is = so.queue_is;
       of_chain = so.of_chain;
       run = so.single_run;
-      named = subst (λ (es : List LiveEvent). IsServedChain s i given old before request calls notice es) (sym so.single_is)
-          (served_named may s i given old one before after head n r walks request calls notice so);
+      named = subst (λ (es : List LiveEvent). IsServedChain s i given old before request calls [] notice es) (sym so.single_is)
+          (served_named may s i given old one before after head n r walks request calls [] files notice so);
+      files_are = so.files_are;
       outs_are = so.outs;
       places_are = run_stays may s so.end es keeps so.single_run;
       limit_is = (run_keeps may s so.end es so.single_run).0;

@@ -1,5 +1,5 @@
 -- The events of one chain, or of one pop, in a run.
-use Rattle.std.specs.Prelude.{◌≡◌, ℕ, Bool, List, [], ◌∷◌, ◌++◌, Option, Some, None}
+use Rattle.std.specs.Prelude.{◌≡◌, ℕ, Bool, List, [], ◌∷◌, ◌++◌, length, Option, Some, None}
 use Rattle.std.specs.Borrow.{Bor}
 use Rattle.fs_queue.specs.Chain.{Descriptor}
 use Rattle.fs_queue.specs.Returning.{Store}
@@ -9,7 +9,9 @@ use Rattle.fs_regions.specs.Walks.{Loaded}
 use Rattle.fs_regions.specs.declared.step.CourseStep.TheVariants as step
 use Rattle.fuse_fs.specs.Calls.{FileCall}
 use Rattle.plain_machine.specs.Step.{Calls, Exchange, faulty}
+use Rattle.fs_chain.specs.Orders.{front_in}
 use Rattle.fs_chain.specs.Walks.{told_of}
+use Rattle.fs_chain.specs.Whole.{front_if}
 use Rattle.fs_chain.specs.declared.chain_handle.ChainHandle.{ChainHandle}
 use Rattle.fs_chain.specs.declared.loads.LoadOutcome as went
 use Rattle.fs_chain.specs.declared.loads.LoadOutcome.TheVariants as wents
@@ -49,29 +51,39 @@ answer_events c request options earlier (one ∷ later) =
     ReceivesAnswer (asked_chain c request options earlier) one.0 one.1
     ∷ answer_events c request options (earlier ++ one ∷ []) later
 
--- a chain of queue i is popped and decoded from this request. These are its calls with their answers. It is
--- pushed, and `notice` says whether the driver is notified
+-- a reply is a front of `last` bytes with these bytes of data behind it. Without a front there is no reply
+abbrev pub HasFront : (reply bytes : List ℕ) → (last : ℕ) → Type 0
+HasFront reply bytes last =
+    (front : Option (List ℕ)) × (reply ≡ front_if front bytes) × (last ≡ length (front_in front))
+
+-- a chain of queue i is popped and decoded from this request. These are its calls with their answers, and the
+-- bytes of data that are answered. It is pushed, the reply's front is stored last, and `notice` says whether
+-- the driver is notified
 abbrev pub IsServedChain : {F : Type 0} → LiveState F → (i : ℕ) → (given : List (Bor (List ℕ))) →
-    (old : ChainHandle) → (before : QueueState) → (request : List ℕ) → Calls → (notice : Bool) →
-    List LiveEvent → Type 0
-IsServedChain s i given old before request calls notice es =
+    (old : ChainHandle) → (before : QueueState) → (request : List ℕ) → Calls → (bytes : List ℕ) →
+    (notice : Bool) → List LiveEvent → Type 0
+IsServedChain s i given old before request calls bytes notice es =
     (c : OutChain) × (told : List FileCall) × (x : Exchange) × (last : ℕ) × (used : List Store)
     × IsPoppedChain s i given old before None c
+    × HasFront x.reply bytes last
     × (es
     ≡ pop_event c None ∷ DecodesRequest c request told
     ∷ (answer_events c request s.options [] calls
     ++ PushesChain (asked_chain c request s.options calls) x notice last used loaded_flags ∷ []))
 
 -- two chains of queue i are popped, the second one from a queue in between, and both are decoded. The second
--- one is answered and pushed, and then the first one
+-- one is answered with its data and pushed, and then the first one with its own
 abbrev pub AreCrossedChains : {F : Type 0} → LiveState F → (i : ℕ) → (given given' : List (Bor (List ℕ))) →
     (old old' : ChainHandle) → (before left : QueueState) → (request request' : List ℕ) →
-    (late early : Calls) → (notice notice' : Bool) → List LiveEvent → Type 0
-AreCrossedChains s i given given' old old' before left request request' late early notice notice' es =
+    (late early : Calls) → (bytes bytes' : List ℕ) → (notice notice' : Bool) → List LiveEvent → Type 0
+AreCrossedChains s i given given' old old' before left request request' late early bytes bytes' notice notice'
+    es =
     (c : OutChain) × (told : List FileCall) × (x : Exchange) × (last : ℕ) × (used : List Store)
     × (c' : OutChain) × (told' : List FileCall) × (x' : Exchange) × (last' : ℕ) × (used' : List Store)
     × IsPoppedChain s i given old before None c
     × IsPoppedChain s i given' old' left None c'
+    × HasFront x.reply bytes last
+    × HasFront x'.reply bytes' last'
     × (es
     ≡ pop_event c None ∷ pop_event c' None ∷ DecodesRequest c request told ∷ DecodesRequest c' request' told'
     ∷ (answer_events c' request' s.options [] early
@@ -83,23 +95,23 @@ AreCrossedChains s i given given' old old' before left request request' late ear
 abbrev pub IsFaultyChain : {F : Type 0} → LiveState F → (i : ℕ) → (given : List (Bor (List ℕ))) →
     (old : ChainHandle) → (before : QueueState) → (notice : Bool) → List LiveEvent → Type 0
 IsFaultyChain s i given old before notice es =
-    (c : OutChain) × (why : ChainFault) × (last : ℕ) × (used : List Store)
+    (c : OutChain) × (why : ChainFault) × (used : List Store)
     × IsPoppedChain s i given old before (Some why) c
-    × (es ≡ pop_event c (Some why) ∷ PushesChain c (faulty c.head why) notice last used loaded_flags ∷ [])
+    × (es ≡ pop_event c (Some why) ∷ PushesChain c (faulty c.head why) notice 0 used loaded_flags ∷ [])
 
 -- two faulty chains of queue i are popped, the second one from a queue in between. They are pushed in the
 -- order of their pops
 abbrev pub AreFaultyInOrder : {F : Type 0} → LiveState F → (i : ℕ) → (given given' : List (Bor (List ℕ))) →
     (old old' : ChainHandle) → (before left : QueueState) → (notice notice' : Bool) → List LiveEvent → Type 0
 AreFaultyInOrder s i given given' old old' before left notice notice' es =
-    (c : OutChain) × (why : ChainFault) × (last : ℕ) × (used : List Store)
-    × (c' : OutChain) × (why' : ChainFault) × (last' : ℕ) × (used' : List Store)
+    (c : OutChain) × (why : ChainFault) × (used : List Store)
+    × (c' : OutChain) × (why' : ChainFault) × (used' : List Store)
     × IsPoppedChain s i given old before (Some why) c
     × IsPoppedChain s i given' old' left (Some why') c'
     × (es
     ≡ pop_event c (Some why) ∷ pop_event c' (Some why')
-    ∷ PushesChain c (faulty c.head why) notice last used loaded_flags
-    ∷ PushesChain c' (faulty c'.head why') notice' last' used' loaded_flags ∷ [])
+    ∷ PushesChain c (faulty c.head why) notice 0 used loaded_flags
+    ∷ PushesChain c' (faulty c'.head why') notice' 0 used' loaded_flags ∷ [])
 
 -- a chain of queue i is popped, and given up
 abbrev pub IsGivenUpChain : {F : Type 0} → LiveState F → (i : ℕ) → (given : List (Bor (List ℕ))) →

@@ -14,10 +14,10 @@ use Rattle.fs_live.specs.Live.{Asked, Happens, LiveEvent, LiveRun, LiveState, Ou
 use Rattle.fs_live.specs.Live.{calls_among, room_of}
 use Rattle.fs_live.specs.Runs.{EachIsTold, HasNoneInFlight, IsAStep, ReturnHasPlaces, has_places}
 use Rattle.fs_live.specs.Several.{LiveQueue}
-use Rattle.worked_callers.specs.Events.{IsServedChain, loaded_flags}
+use Rattle.worked_callers.specs.Events.{HasFront, IsServedChain, loaded_flags}
 
 -- a chain of queue i that was decoded from this request is returned: the events before its return, with these
--- calls, and the return. The other chains stay in flight
+-- calls, whose answers have no data, and the return. The other chains stay in flight
 pub record ReturnsServed {F : Type 0} (may : May F) (s : LiveState F) (i : ℕ) (before after : QueueState)
     (request : List ℕ) (calls : Calls) (notice : Bool) : Type 0 where
   pub earlier : List LiveEvent
@@ -33,6 +33,7 @@ pub record ReturnsServed {F : Type 0} (may : May F) (s : LiveState F) (i : ℕ) 
   pub page_size_is : now.page_size ≡ s.page_size
   pub exchange : Exchange
   pub last : ℕ
+  pub front_is : HasFront exchange.reply [] last
   pub used : List Store
   pub end : LiveState F
   pub returns : Happens may now (PushesChain chain exchange notice last used loaded_flags) end
@@ -47,7 +48,7 @@ abbrev pub ServesAsStep : {F G : Type 0} → (may : May F) → (other : May G) �
     Calls → (notice : Bool) → Type 0
 ServesAsStep {F} {G} may other s i given old before after request calls notice =
     (r : ReturnsServed may s i before after request calls notice)
-    × IsServedChain s i given old before request calls notice
+    × IsServedChain s i given old before request calls [] notice
     (r.earlier ++ PushesChain r.chain r.exchange notice r.last r.used loaded_flags ∷ [])
     × ((m : State G) (files : G) →
     location m.memory ≡ location s.places →
@@ -76,7 +77,7 @@ abbrev pub ServesAtPlaces : {F : Type 0} → (may : May F) → (s : LiveState F)
     Calls → (notice : Bool) → Type 0
 ServesAtPlaces may s i given old before after request calls notice =
     (r : ReturnsServed may s i before after request calls notice)
-    × IsServedChain s i given old before request calls notice
+    × IsServedChain s i given old before request calls [] notice
     (r.earlier ++ PushesChain r.chain r.exchange notice r.last r.used loaded_flags ∷ [])
     × (w : LiveQueue)
     × (slice_get r.now.queues r.chain.queue ≡ Some w)
@@ -91,6 +92,6 @@ abbrev pub ServesMarking : {F : Type 0} → (may : May F) → (s : LiveState F) 
 ServesMarking may s i given old before after request calls notice =
     (r : ReturnsServed may s i before after request calls notice)
     × (let es = r.earlier ++ PushesChain r.chain r.exchange notice r.last r.used loaded_flags ∷ [] in
-    IsServedChain s i given old before request calls notice es
+    IsServedChain s i given old before request calls [] notice es
     × (run : LiveRun may s es r.end)
     × EachIsTold may s es r.end run)

@@ -1,5 +1,5 @@
 -- A chain that is served as one turn of a run for an available buffer notification.
-use Rattle.std.specs.Prelude.{◌≡◌, ℕ, Bool, List, Some, slice_get}
+use Rattle.std.specs.Prelude.{◌≡◌, ℕ, Bool, List, [], Some, slice_get}
 use Rattle.std.specs.Borrow.{Bor}
 use Rattle.std.specs.List.{AllByRecursion}
 use Rattle.vm_memory.specs.Memory.{Memory}
@@ -13,17 +13,19 @@ use Rattle.fs_live.specs.Live.{LiveRun, LiveState, event_acts}
 use Rattle.fs_live.specs.Serial.{IsOfChain, Single, events_in, return_in}
 use Rattle.worked_callers.specs.Events.{IsServedChain}
 
--- a chain of queue i is popped by the first of the given bytes, decoded from this request, answered and
--- returned, and nothing else happens between. The other chains stay in flight, and the mappings stay
+-- a chain of queue i is popped by the first of the given bytes, decoded from this request, answered without
+-- data and returned, and nothing else happens between. The other chains stay in flight, and the mappings
+-- stay. These are the files afterwards
 pub record ServesTurn {F : Type 0} (may : May F) (s : LiveState F) (i : ℕ) (given : List (Bor (List ℕ)))
-    (old : ChainHandle) (before after : QueueState) (request : List ℕ) (calls : Calls) (notice : Bool) :
-    Type 0 where
+    (old : ChainHandle) (before after : QueueState) (request : List ℕ) (calls : Calls) (files : F)
+    (notice : Bool) : Type 0 where
   pub single : Single
   pub end : LiveState F
   pub queue_is : single.queue ≡ i
   pub of_chain : AllByRecursion IsOfChain single.between
   pub run : LiveRun may s (events_in single) end
-  pub named : IsServedChain s i given old before request calls notice (events_in single)
+  pub named : IsServedChain s i given old before request calls [] notice (events_in single)
+  pub files_are : end.files ≡ files
   pub outs_are : end.outs ≡ s.outs
   pub places_are : end.places ≡ s.places
   pub limit_is : end.limit ≡ s.limit

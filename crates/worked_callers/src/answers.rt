@@ -69,7 +69,7 @@ pub fn read_beside<F: FileSystem>(
         × (FileRun F.may s.files calls files
         → (es : List LiveEvent) × (end : LiveState F)
         × LiveRun F.may s es end
-        × IsServedChain s i given.now handle.old queue.old request.now calls notice es
+        × IsServedChain s i given.now handle.old queue.old request.now calls bytes.now notice es
         × (calls_among es ≡ calls)
         × (end.outs ≡ s.outs)
         × (slice_get end.queues i ≡ Some (live_of queue.new))))) }
@@ -115,7 +115,7 @@ pub fn list_beside<F: FileSystem>(
         × (FileRun F.may s.files calls files
         → (es : List LiveEvent) × (end : LiveState F)
         × LiveRun F.may s es end
-        × IsServedChain s i given.now handle.old queue.old request.now calls notice es
+        × IsServedChain s i given.now handle.old queue.old request.now calls (take len list.new) notice es
         × (calls_among es ≡ calls)
         × (end.outs ≡ s.outs)
         × (slice_get end.queues i ≡ Some (live_of queue.new))))) }

@@ -68,7 +68,7 @@ pub fn serve_beside<F: FileSystem>(
         × AreCallsOf given.now handle.old queue.old session request.now answer calls
         × (FileRun F.may s.files calls files
         → (es : List LiveEvent) × (end : LiveState F) × (run : LiveRun F.may s es end)
-        × IsServedChain s i given.now handle.old queue.old request.now calls notice es
+        × IsServedChain s i given.now handle.old queue.old request.now calls [] notice es
         × (calls_among es ≡ calls)
         × (end.outs ≡ s.outs)
         × (slice_get end.queues i ≡ Some (live_of queue.new))

@@ -74,7 +74,8 @@ pub fn serve_crossed<F: FileSystem>(
         → (es : List LiveEvent) × (end : LiveState F)
         × LiveRun F.may s es end
         × AreCrossedChains s i one.now.given.now two.now.given.now first.old second.old queue.old
-        of_one.decoded.after one.now.request.now two.now.request.now late early notices.1 notices.0 es
+        of_one.decoded.after one.now.request.now two.now.request.now late early one.now.bytes.now
+        two.now.bytes.now notices.1 notices.0 es
         × (calls_among es ≡ early ++ late)
         × (end.outs ≡ s.outs)
         × (slice_get end.queues i ≡ Some (live_of queue.new))))) }

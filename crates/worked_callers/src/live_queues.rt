@@ -90,7 +90,7 @@ pub fn serve_single<F: FileSystem>(
         × (FileRun F.may s.files calls files
         → (r : Single) × (end : LiveState F)
         × LiveRun F.may s (events_in r) end
-        × IsServedChain s i given.now handle.old queue.old request.now calls notice (events_in r)
+        × IsServedChain s i given.now handle.old queue.old request.now calls [] notice (events_in r)
         × (slice_get end.queues i ≡ Some (live_of queue.new))
         × ((m : Memory)
         → FoundIn m s r

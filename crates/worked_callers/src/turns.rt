@@ -54,7 +54,7 @@ pub fn serve_turn<F: FileSystem>(
         × AreCallsOf bytes.now.given.now handle.old queue.old session bytes.now.request.now answer calls
         × (FileRun F.may s.files calls files
         → ServesTurn F.may s i bytes.now.given.now handle.old queue.old queue.new bytes.now.request.now calls
-        notice)) }
+        files notice)) }
     ensures goes { OnOk result (queue.new.stopped ≡ None) }
 {
     law_handles::<F>();
@@ -96,13 +96,13 @@ pub fn serve_two_turns<F: FileSystem>(
         × AreCallsOf one.now.given.now first.old queue.old sessions.0 one.now.request.now answers.0 calls
         × (FileRun F.may s.files calls files
         → (t : ServesTurn F.may s i one.now.given.now first.old queue.old left one.now.request.now calls
-        notices.0)
+        files notices.0)
         × (IsSessionOf t.end sessions.1
         → (more : Calls)
         × AreCallsOf two.now.given.now second.old left sessions.1 two.now.request.now answers.1 more
         × (FileRun F.may t.end.files more later
         → (u : ServesTurn F.may t.end i two.now.given.now second.old left queue.new two.now.request.now more
-        notices.1)
+        later notices.1)
         × ((m : Memory)
         → FoundIn m s t.single
         → FoundIn (with_return m t.single) t.end u.single

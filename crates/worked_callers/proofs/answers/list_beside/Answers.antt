@@ -61,15 +61,15 @@ returns g c =
                   one two three
                   c.args.queue.now c.walk_chain.new.queue c.in_ok-request_len.field-0-0 c.in_ok-request_len.request_len
                   c.in_ok-request_len.field-0-2
-                  c.args.session request (asks.Call call.0) answer notice c.requires.goes
+                  c.args.session request (asks.Call call.0) answer bytes notice c.requires.goes
                   (given_so_far walks.0 c.args.given.now, walks.1) refl
-                  call.1 told.lists back s i files reached there places limit small session files_run in (
+                  call.1 told.lists refl back s i files reached there places limit small session files_run in (
                     so.es,
                     so.end,
                     so.run,
                     served_named may s i c.args.given.now old one c.args.queue.now c.walk_chain.new.queue c.in_ok-request_len.field-0-0
                         c.in_ok-request_len.request_len c.in_ok-request_len.field-0-2 walks request
-                        (file_calls (drop 80 request) (asks.Call call.0) answer) notice so,
+                        (file_calls (drop 80 request) (asks.Call call.0) answer) bytes files notice so,
                     so.calls_are,
                     so.outs,
                     so.there ∙ ap (λ (q : QueueState). Some (live_of q)) (sym final_is),

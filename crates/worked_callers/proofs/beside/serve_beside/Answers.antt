@@ -1,4 +1,4 @@
-use Rattle.std.proofs.Common.{◌≡◌, Some, length, refl, sym, ap, ◌∙◌, arith}
+use Rattle.std.proofs.Common.{◌≡◌, [], Some, length, refl, sym, ap, ◌∙◌, arith}
 use Rattle.std.specs.Prelude.{drop}
 use Rattle.std.proofs.lemmas.Bool.Decides.{nat_tests}
 use Rattle.fs_chain.specs.Whole.{file_calls}
@@ -46,13 +46,13 @@ returns g c =
                 let so = served_beside may handles.ends_pop handles.decodes_request handles.calls handles.pushes_chain old one one replied.1
                 c.reply.new.handle before after
                 c.in_ok-request_len.field-0-0 c.in_ok-request_len.request_len c.in_ok-request_len.field-0-2 c.args.session request replied.0
-                replied.2 notice c.requires.goes (given_so_far walks.0 c.args.given.now, walks.1) refl
-                replied.3 replied.4 back s i files reached there places limit small session files_run in (
+                replied.2 [] notice c.requires.goes (given_so_far walks.0 c.args.given.now, walks.1) refl
+                replied.3 replied.4 replied.5 back s i files reached there places limit small session files_run in (
                   so.es,
                   so.end,
                   so.run,
                   served_named may s i c.args.given.now old one before after c.in_ok-request_len.field-0-0 c.in_ok-request_len.request_len
-                      c.in_ok-request_len.field-0-2 walks request calls notice so,
+                      c.in_ok-request_len.field-0-2 walks request calls [] files notice so,
                   so.calls_are,
                   so.outs,
                   so.there ∙ ap (λ (q : QueueState). Some (live_of q)) (sym final_is),

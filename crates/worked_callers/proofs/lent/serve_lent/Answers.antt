@@ -54,9 +54,9 @@ returns g c =
                 c.take_table.new.handle
                 replied.1 c.reply.new.handle before after
                 c.in_ok-request_len.field-0-0 c.in_ok-request_len.request_len c.in_ok-request_len.field-0-2 c.args.session request replied.0
-                replied.2 notice c.requires.goes (given_so_far walks.0 c.args.given.now, walks.1)
+                replied.2 [] notice c.requires.goes (given_so_far walks.0 c.args.given.now, walks.1)
                 (ap (λ (w : ChainHandle). w.state) c.in_ok-table.ensures.taken)
-                replied.3 replied.4
+                replied.3 replied.4 replied.5
                 (subst (λ (st : state.ChainState). (room behind : List ℕ) → (acts : List Act) × (last : ℕ)
                 × (back : PushedBy after room behind st acts last notice) × (back.flags ≡ loaded_flags))
                 (ap (λ (w : ChainHandle). w.state) c.in_ok-lend_table.ensures.lent) back)
@@ -65,7 +65,7 @@ returns g c =
                   so.end,
                   so.run,
                   served_named may s i c.args.given.now old one before after c.in_ok-request_len.field-0-0 c.in_ok-request_len.request_len
-                      c.in_ok-request_len.field-0-2 walks request (file_calls (drop 80 request) replied.0 replied.2) notice so,
+                      c.in_ok-request_len.field-0-2 walks request (file_calls (drop 80 request) replied.0 replied.2) [] files notice so,
                   so.calls_are,
                   so.outs,
                   so.there ∙ ap (λ (q : QueueState). Some (live_of q)) (sym final_is),

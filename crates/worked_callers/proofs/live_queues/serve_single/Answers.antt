@@ -1,4 +1,4 @@
-use Rattle.std.proofs.Common.{◌≡◌, ℕ, List, length, Some, slice_get, subst, sym, ap, refl, ◌∙◌, arith}
+use Rattle.std.proofs.Common.{◌≡◌, ℕ, List, [], length, Some, slice_get, subst, sym, ap, refl, ◌∙◌, arith}
 use Rattle.std.specs.Prelude.{drop}
 use Rattle.std.proofs.lemmas.Bool.Decides.{nat_tests}
 use Rattle.fs_chain.specs.Whole.{file_calls}
@@ -50,17 +50,17 @@ returns g c =
                 let so = served_beside may handles.ends_pop handles.decodes_request handles.calls handles.pushes_chain old one one replied.1
                 c.reply.new.handle before after
                 c.in_ok-request_len.field-0-0 c.in_ok-request_len.request_len c.in_ok-request_len.field-0-2 c.args.session request replied.0
-                replied.2 notice c.requires.goes (given_so_far walks.0 c.args.given.now, walks.1) refl
-                replied.3 replied.4 back s i files here.reached here.there here.places here.limit here.small session files_run in
+                replied.2 [] notice c.requires.goes (given_so_far walks.0 c.args.given.now, walks.1) refl
+                replied.3 replied.4 replied.5 back s i files here.reached here.there here.places here.limit here.small session files_run in
                 let r = so.single in
                 let rest : IsAtRest (live_of before) = (c.requires.by_flags, c.requires.none_out) in (
                   r,
                   so.end,
                   so.single_run,
                   subst
-                      (λ (es : List LiveEvent). IsServedChain s i c.args.given.now old before request calls notice es) (sym so.single_is)
+                      (λ (es : List LiveEvent). IsServedChain s i c.args.given.now old before request calls [] notice es) (sym so.single_is)
                       (served_named may s i c.args.given.now old one before after c.in_ok-request_len.field-0-0
-                      c.in_ok-request_len.request_len c.in_ok-request_len.field-0-2 walks request calls notice so),
+                      c.in_ok-request_len.request_len c.in_ok-request_len.field-0-2 walks request calls [] files notice so),
                   so.there ∙ ap (λ (q : QueueState). Some (live_of q)) (sym final_is),
                   λ m found.
                       let law = c.law_serial.ensures.single s so.end r m (live_of before) none

@@ -1,4 +1,4 @@
-use Rattle.std.proofs.Common.{◌≡◌, length, refl, subst, sym, ◌∙◌, arith}
+use Rattle.std.proofs.Common.{◌≡◌, [], length, refl, subst, sym, ◌∙◌, arith}
 use Rattle.std.specs.Prelude.{drop}
 use Rattle.std.proofs.lemmas.Bool.Decides.{nat_tests}
 use Rattle.fs_chain.specs.Queues.{gave}
@@ -51,15 +51,16 @@ returns g c =
             called,
             λ files_run.
                 let so = served_beside may handles.ends_pop handles.decodes_request handles.calls handles.pushes_chain old one one
-                replied.1 c.reply.new.handle before after head n r c.args.session request replied.0 replied.2 notice c.requires.goes
-                (given_so_far walks.0 given, walks.1) refl replied.3 replied.4 back s i files here.reached here.there here.places here.limit
+                replied.1 c.reply.new.handle before after head n r c.args.session request replied.0 replied.2 [] notice c.requires.goes
+                (given_so_far walks.0 given, walks.1) refl replied.3 replied.4 replied.5 back s i files
+                here.reached here.there here.places here.limit
                 here.small session files_run in
                 subst
                 (λ (q : QueueState). ServesAsStep may g.G.FileSystemBase.may s i given old before q request calls notice)
                 (sym final_is)
                 (serves_as_step may s i given old before (gave after) request calls notice
-                (returned_served may s i given old one before after head n r walks request calls notice so)
-                (returned_named may s i given old one before after head n r walks request calls notice so) g.G.FileSystemBase.may
+                (returned_served may s i given old one before after head n r walks request calls files notice so)
+                (returned_named may s i given old one before after head n r walks request calls files notice so) g.G.FileSystemBase.may
                 runs.step here.reached),
           ))
           c.push_reply.ensures.back c.push_reply.ensures.queue;
@@ -69,13 +70,14 @@ returns g c =
             called,
             λ files_run.
                 let so = served_beside may handles.ends_pop handles.decodes_request handles.calls handles.pushes_chain old one one
-                replied.1 c.reply.new.handle before after head n r c.args.session request replied.0 replied.2 notice c.requires.goes
-                (given_so_far walks.0 given, walks.1) refl replied.3 replied.4 back s i files here.reached here.there here.places here.limit
+                replied.1 c.reply.new.handle before after head n r c.args.session request replied.0 replied.2 [] notice c.requires.goes
+                (given_so_far walks.0 given, walks.1) refl replied.3 replied.4 replied.5 back s i files
+                here.reached here.there here.places here.limit
                 here.small session files_run in
                 subst (λ (q : QueueState). ServesAtPlaces may s i given old before q request calls notice) (sym final_is)
                 (serves_at_places may s i given old before (gave after) request calls notice
-                (returned_served may s i given old one before after head n r walks request calls notice so)
-                (returned_named may s i given old one before after head n r walks request calls notice so) runs.places even),
+                (returned_served may s i given old one before after head n r walks request calls files notice so)
+                (returned_named may s i given old one before after head n r walks request calls files notice so) runs.places even),
           ))
           c.push_reply.ensures.back c.push_reply.ensures.queue;
       pages = if_ok_so c.push_reply.result _ _ _
@@ -84,13 +86,14 @@ returns g c =
             called,
             λ files_run.
                 let so = served_beside may handles.ends_pop handles.decodes_request handles.calls handles.pushes_chain old one one
-                replied.1 c.reply.new.handle before after head n r c.args.session request replied.0 replied.2 notice c.requires.goes
-                (given_so_far walks.0 given, walks.1) refl replied.3 replied.4 back s i files here.reached here.there here.places here.limit
+                replied.1 c.reply.new.handle before after head n r c.args.session request replied.0 replied.2 [] notice c.requires.goes
+                (given_so_far walks.0 given, walks.1) refl replied.3 replied.4 replied.5 back s i files
+                here.reached here.there here.places here.limit
                 here.small session files_run in
                 subst (λ (q : QueueState). ServesMarking may s i given old before q request calls notice) (sym final_is)
                 (serves_marking may s i given old before (gave after) request calls notice
-                (returned_served may s i given old one before after head n r walks request calls notice so)
-                (returned_named may s i given old one before after head n r walks request calls notice so) runs.pages),
+                (returned_served may s i given old one before after head n r walks request calls files notice so)
+                (returned_named may s i given old one before after head n r walks request calls files notice so) runs.pages),
           ))
           c.push_reply.ensures.back c.push_reply.ensures.queue;
     }

@@ -1,4 +1,4 @@
-use Rattle.std.proofs.Common.{◌≡◌, length, refl, subst, sym, ap, ◌∙◌, arith}
+use Rattle.std.proofs.Common.{◌≡◌, [], length, refl, subst, sym, ap, ◌∙◌, arith}
 use Rattle.std.specs.Prelude.{drop}
 use Rattle.std.proofs.lemmas.Bool.Decides.{nat_tests}
 use Rattle.fs_chain.specs.Whole.{file_calls}
@@ -49,11 +49,12 @@ returns g c =
                 replied.0 replied.2 walks replied.3 replied.4 replied.6 replied.7,
             λ files_run.
                 let so = served_beside may handles.ends_pop handles.decodes_request handles.calls handles.pushes_chain old one one
-                replied.1 c.reply.new.handle before after head n r c.args.session request replied.0 replied.2 notice c.requires.goes
-                (given_so_far walks.0 given, walks.1) refl replied.3 replied.4 back s i files here.reached here.there here.places here.limit
+                replied.1 c.reply.new.handle before after head n r c.args.session request replied.0 replied.2 [] notice c.requires.goes
+                (given_so_far walks.0 given, walks.1) refl replied.3 replied.4 replied.5 back s i files
+                here.reached here.there here.places here.limit
                 here.small session files_run in
-                subst (λ (q : QueueState). ServesTurn may s i given old before q request calls notice) (sym final_is)
-                (turn_served may s i given old one before after head n r walks request calls notice so),
+                subst (λ (q : QueueState). ServesTurn may s i given old before q request calls files notice) (sym final_is)
+                (turn_served may s i given old one before after head n r walks request calls files notice so),
           ))
           c.push_reply.ensures.back c.push_reply.ensures.queue;
       goes = on_ok_more c.push_reply.result _ _
