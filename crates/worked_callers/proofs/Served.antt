@@ -28,7 +28,7 @@ use Rattle.fs_chain.specs.Queues.{pop_id_of}
 use Rattle.fs_chain.specs.Serials.{freed}
 use Rattle.fs_chain.specs.Pushes.{IfHasReply, PushesBy}
 use Rattle.fs_chain.specs.Walks.{RefusalHasEvents, course_of, queue_after, state_after, told_of}
-use Rattle.fs_chain.specs.Whole.{FromTaken, PushedBy, IsByFlags, IsToldBySeen, IsWalked, push_acts}
+use Rattle.fs_chain.specs.Whole.{FromReplied, FromTaken, PushedBy, IsByFlags, IsToldBySeen, IsWalked, push_acts}
 use Rattle.fs_chain.proofs.WholeWalks.{walk_comes}
 
 abbrev IsAChain : walked.PopOutcome → Type 0
@@ -117,7 +117,7 @@ pub goes_back_by : (st : state.ChainState) (q : QueueState) (len : ℕ) (s : Pus
     return_error st q len ≡ None → length flags ≡ 2 →
     IfHasReply st (λ out reply. PushesBy q out reply s) →
     (acts : List Act) × (last : ℕ) × (back : PushedBy q room behind st acts last (tells_of q flags)) × (back.flags ≡ flags)
-    × (back.stores.seen_at ≡ s.seen_at)
+    × (back.stores ≡ s)
 goes_back_by (at.HasReply out reply) q len s flags room behind can two back = (
   push_acts room reply behind s flags,
   front_len reply,
@@ -131,6 +131,12 @@ goes_back_by (at.Taken out) q len s flags room behind can two back = absurd (cc)
 goes_back_by (at.Waits out w) q len s flags room behind can two back = absurd (cc)
 goes_back_by (at.Lists out l) q len s flags room behind can two back = absurd (cc)
 goes_back_by (at.Pushing out) q len s flags room behind can two back = absurd (cc)
+
+-- as many bytes of the reply are stored last as push told
+pub front_stored : (kept : QueueState) (st : state.ChainState) (s : PushStores) (last : ℕ) (P : ChainReply → PushStores → Type 0)
+    → FromReplied kept st (λ reply s₁. (last ≡ front_len reply) × P reply s₁) s → last ≡ s.front_len
+front_stored kept (at.HasReply out reply) s last P back = back.1.0 ∙ sym back.0.0
+front_stored kept st s last P back = absurd back
 
 -- a handle that pushed its chain is freed
 freed_of : (old : ChainHandle) (out : InFlight) (reply : ChainReply) → old.state ≡ at.HasReply out reply

@@ -29,32 +29,32 @@ ghost use Rattle.worked_callers.specs.OverMemory.{HasEachLoad, KeepsReplyApart};
 
 use crate::wholes::{reply, walk_by, walk_chain};
 use fs_chain::laws::law_chains;
-use fs_chain::{ChainError, ChainHandle, LoadOutcome, PopOutcome, QueueState};
+use fs_chain::{ChainError, ChainHandle, LoadOutcome, PopOutcome, PushStores, QueueState};
 use fs_queue::ChainFault;
 use fuse_fs::FileSystem;
 use fuse_values::FileAnswer;
 use server_phases::Session;
 
 /// Returns a chain whose reply is known, while these two bytes are seen: whether the driver is notified, and
-/// the address of the two bytes.
+/// the stores of the push.
 pub fn push_by(
     handle: &mut ChainHandle,
     queue: &mut QueueState,
     seen: [u8; 2],
-) -> Result<(bool, u64), ChainError>
+) -> Result<(bool, PushStores), ChainError>
     ensures again { OnOk result (handle.new.state ≡ at.Free) }
     ensures queue { OnOk result (queue.new ≡ gave queue.old) }
     ensures back { IfOk result (λ told. (room behind : List ℕ) → (acts : List Act) × (last : ℕ)
         × (back : PushedBy queue.old room behind handle.old.state acts last told.0)
         × (back.flags ≡ seen)
-        × (back.stores.seen_at ≡ told.1)) }
+        × (back.stores ≡ told.1)) }
     ensures session { OnOk result (handle.new.session ≡ handle.old.session) }
     ensures freed { OnOk result (handle.new ≡ freed handle.old) }
 {
     let mut front = [0u8; 160];
     let stores = handle.push(queue, &mut front)?;
     match handle.pushed(queue, seen) {
-        Ok(notice) => Ok((notice, stores.seen_at)),
+        Ok(notice) => Ok((notice, stores)),
         Err(error) => Err(error),
     }
 }
@@ -63,7 +63,7 @@ pub fn push_by(
 /// as by a machine whose queue is at the position of the push. If it is in flight alone, it is a step by the
 /// two bytes seen. Take a memory that has all loaded bytes, and in which the start of the reply buffer never
 /// overlaps its rest. Over it the chain is the machine's step. Returns whether the driver is notified, and
-/// the address of the two bytes.
+/// the stores of the push.
 pub fn serve_by<F: FileSystem>(
     handle: &mut ChainHandle,
     queue: &mut QueueState,
@@ -72,14 +72,14 @@ pub fn serve_by<F: FileSystem>(
     request: &[u8],
     answer: FileAnswer,
     seen: [u8; 2],
-) -> Result<(bool, u64), ChainError>
+) -> Result<(bool, PushStores), ChainError>
     requires free { handle.old.state ≡ at.Free }
     requires goes { queue.old.stopped ≡ None }
     requires data { TellsBytes [] answer }
     ensures again { OnOk result (handle.new.state ≡ at.Free) }
     ensures queue { OnOk result (queue.new ≡ gave (took queue.old)) }
     ensures told { IfOk result (λ told. (told.0 ≡ tells_of queue.old seen)
-        × (told.1 ≡ seen_at queue.old.event_index queue.old.layout)) }
+        × (told.1.seen_at ≡ seen_at queue.old.event_index queue.old.layout)) }
     ensures answered { IfOk result (λ told. (i : ℕ) (m : State F) (files : F)
         → handle.old.limit ≤ 2 ^ 31
         → IsSession session m
@@ -90,6 +90,7 @@ pub fn serve_by<F: FileSystem>(
         × ArePopLoads given.now handle.old queue.old
         (LoadOutcome.On (PopOutcome.Chain head lens.0 lens.1)) loaded
         × (room : List ℕ) × (x : Exchange) × (e : Effects)
+        × (e.last ≡ told.1.front_len)
         × OffersBy (places_in handle.old.regions) handle.old.limit
         (queue_of (course_of queue.old handle.old.limit)) loaded request.now
         (Offers head (IsRequest request.now room))
@@ -108,6 +109,7 @@ pub fn serve_by<F: FileSystem>(
         (LoadOutcome.On (PopOutcome.Chain head lens.0 lens.1)) loaded
         × LackPlaces handle.old queue.old loaded lost
         × (x : Exchange) × (e : Effects)
+        × (e.last ≡ told.1.front_len)
         × (x.head ≡ head)
         × (x.request ≡ request.now)
         × StepBy F.may m i (step_loads loaded lost request.now) calls (Exchanged x (tells seen)) e
@@ -164,21 +166,22 @@ pub fn walk_faulty(
 }
 
 /// Pops and pushes a faulty chain. It is pushed without a reply at any position, and is a step if it is in
-/// flight alone. Returns whether the driver is notified, and the address of the two bytes.
+/// flight alone. Returns whether the driver is notified, and the stores of the push.
 pub fn serve_faulty<F: FileSystem>(
     handle: &mut ChainHandle,
     queue: &mut QueueState,
     given: &[&[u8]],
     seen: [u8; 2],
-) -> Result<(bool, u64), ChainError>
+) -> Result<(bool, PushStores), ChainError>
     requires free { handle.old.state ≡ at.Free }
     requires goes { queue.old.stopped ≡ None }
     ensures again { OnOk result (handle.new.state ≡ at.Free) }
     ensures queue { OnOk result (queue.new ≡ gave (took queue.old)) }
     ensures told { IfOk result (λ told. (told.0 ≡ tells_of queue.old seen)
-        × (told.1 ≡ seen_at queue.old.event_index queue.old.layout)) }
+        × (told.1.seen_at ≡ seen_at queue.old.event_index queue.old.layout)) }
     ensures answered { IfOk result (λ told. (i : ℕ) (m : State F)
         → (head : ℕ) × (fault : ChainFault) × (loaded : Loaded) × (x : Exchange) × (e : Effects)
+        × (e.last ≡ told.1.front_len)
         × ArePopLoads given.now handle.old queue.old (LoadOutcome.On (PopOutcome.Faulty head fault)) loaded
         × OffersBy (places_in handle.old.regions) handle.old.limit
         (queue_of (course_of queue.old handle.old.limit)) loaded [] (Offers head (CannotFetch fault))
@@ -191,6 +194,7 @@ pub fn serve_faulty<F: FileSystem>(
         × ArePopLoads given.now handle.old queue.old (LoadOutcome.On (PopOutcome.Faulty head fault)) loaded
         × LackPlaces handle.old queue.old loaded lost
         × (x : Exchange) × (e : Effects)
+        × (e.last ≡ told.1.front_len)
         × (x.head ≡ head)
         × StepBy F.may m i (step_loads loaded lost []) [] (Exchanged x (tells seen)) e
         (after_chain m i (queue_of (course_of queue.old handle.old.limit)) m.options m.files)) }

@@ -18,7 +18,7 @@ returns-in-Ok-clause-back c =
     let same = ap (λ (k : QueueState). tells_of k seen) c.in_ok-stores.ensures.queue in
     λ room behind.
     subst (λ (n : Bool). (acts : List Act) × (last : ℕ) × (back : PushedBy q room behind st acts last n) × (back.flags ≡ seen)
-    × (back.stores.seen_at ≡ s.seen_at))
+    × (back.stores ≡ s))
     (sym (c.in-Ok.ensures.tells ∙ same))
     (goes_back_by st q _ s seen room behind c.in_ok-stores.ensures.ok two c.in_ok-stores.ensures.stores)
 

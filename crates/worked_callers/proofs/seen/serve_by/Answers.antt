@@ -1,4 +1,4 @@
-use Rattle.std.proofs.Common.{◌≡◌, ℕ, Bool, List, length, refl, sym, subst, ◌∙◌, arith}
+use Rattle.std.proofs.Common.{◌≡◌, ℕ, Bool, List, length, refl, sym, subst, ap, ◌∙◌, arith}
 use Rattle.std.specs.Prelude.{drop}
 use Rattle.std.proofs.lemmas.Bool.Decides.{nat_tests}
 use Rattle.fs_queue.specs.Returning.{tells, wants_notice}
@@ -11,13 +11,14 @@ use Rattle.plain_machine.specs.Step.{Exchanged, Step}
 use Rattle.plain_machine.specs.StepBy.{Act, AnswersBy, Effects, StepBy, after_stores, stores_among}
 use Rattle.fs_chain.specs.Events.{seen_at, tells_of}
 use Rattle.fs_chain.specs.Walks.{course_of}
-use Rattle.fs_chain.specs.Whole.{ChainBy, PushedBy, IsToldByMemory, WalksBy, after_chain, data_behind, file_calls, step_loads}
+use Rattle.fs_chain.specs.Whole.{ChainBy, PushedBy, IsToldByMemory, WalksBy, after_chain, data_behind, file_calls, push_acts, step_loads}
 use Rattle.fs_chain.specs.declared.loads.LoadOutcome.TheVariants as wents
 use Rattle.fs_chain.specs.declared.popping.PopOutcome.TheVariants as says
+use Rattle.fs_chain.specs.declared.pushing.PushStores.{PushStores}
 use Rattle.fs_chain.specs.declared.queue.QueueState.{QueueState}
 use Rattle.worked_callers.specs.Notified.{given_so_far}
 use Rattle.worked_callers.proofs.CalledBy.{calls_of_answer}
-use Rattle.worked_callers.proofs.Served.{if_ok, if_ok_so, more_taken, queue_keeps, taken_so, told_before}
+use Rattle.worked_callers.proofs.Served.{front_stored, if_ok, if_ok_so, more_taken, queue_keeps, taken_so, told_before}
 use Rattle.worked_callers.proofs.TookQueue.{gave_took}
 use Rattle.worked_callers.proofs.seen.serve_by.Goals as goal
 
@@ -78,7 +79,7 @@ returns g c =
           let law = c.law_chains.ensures.told.of_chain given request calls goes.0 goes.1 head told.0 old new before session
           c.requires.goes (by goes.0 goes.1 told.0 goes.2) in
           let so = told_before before.layout before back_queue goes.2.stores goes.2.flags told.0 keeps.0 keeps.1 law in
-          (subst (λ (bs : List ℕ). told.0 ≡ tells_of before bs) goes.3 so.0, sym goes.4 ∙ so.1))
+          (subst (λ (bs : List ℕ). told.0 ≡ tells_of before bs) goes.3 so.0, sym (ap (λ (s : PushStores). s.seen_at) goes.4) ∙ so.1))
           c.push_by.ensures.back;
       answered = if_ok_so c.push_by.result _ _ _
           (λ told back session_is i m files limit is. (
@@ -96,6 +97,9 @@ returns g c =
                   room,
                   law.3,
                   e,
+                  front_stored back_queue new.state goes.2.stores goes.1
+                      (λ reply s. goes.0 ≡ push_acts room reply (data_behind replied.2) s goes.2.flags) goes.2.returns
+                      ∙ ap (λ (s : PushStores). s.front_len) goes.4,
                   law.2,
                   subst (λ (s : Session). AnswersBy may m i there head request room calls law.3 (tells seen) e
                       (after_chain m i there s.options.0 files)) (sym session_is)
@@ -124,6 +128,9 @@ returns g c =
                   law.3,
                   law.4,
                   e,
+                  front_stored back_queue new.state goes.2.stores goes.1
+                      (λ reply s. goes.0 ≡ push_acts room reply (data_behind replied.2) s goes.2.flags) goes.2.returns
+                      ∙ ap (λ (s : PushStores). s.front_len) goes.4,
                   law.5,
                   law.6,
                   subst (λ (s : Session). StepBy may m i (step_loads law.0 law.2 request) calls (Exchanged law.4 (tells seen)) e

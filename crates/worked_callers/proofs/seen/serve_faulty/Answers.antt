@@ -1,4 +1,4 @@
-use Rattle.std.proofs.Common.{◌≡◌, ℕ, List, [], sym, subst, ◌∙◌}
+use Rattle.std.proofs.Common.{◌≡◌, ℕ, List, [], sym, subst, ap, ◌∙◌}
 use Rattle.fs_queue.specs.Returning.{tells}
 use Rattle.fs_queue.specs.WalkingView.{at_position}
 use Rattle.fs_regions.specs.Walks.{queue_of}
@@ -6,10 +6,11 @@ use Rattle.plain_machine.specs.Step.{Exchanged}
 use Rattle.plain_machine.specs.StepBy.{Effects, ReturnsFaultyBy, StepBy}
 use Rattle.fs_chain.specs.Events.{tells_of}
 use Rattle.fs_chain.specs.Walks.{course_of}
-use Rattle.fs_chain.specs.Whole.{FaultyChainBy, after_chain, step_loads}
+use Rattle.fs_chain.specs.Whole.{FaultyChainBy, after_chain, push_acts, step_loads}
 use Rattle.fs_chain.specs.declared.popping.PopOutcome.TheVariants as says
+use Rattle.fs_chain.specs.declared.pushing.PushStores.{PushStores}
 use Rattle.worked_callers.specs.Notified.{given_so_far}
-use Rattle.worked_callers.proofs.Served.{if_ok, queue_keeps, told_before}
+use Rattle.worked_callers.proofs.Served.{front_stored, if_ok, queue_keeps, told_before}
 use Rattle.worked_callers.proofs.TookQueue.{gave_took}
 use Rattle.worked_callers.proofs.seen.serve_faulty.Goals as goal
 
@@ -35,7 +36,7 @@ returns g c =
           record { popped_handle = popped_handle; taken = back_queue; walks = walked.1; back = back_queue; returns = goes.2 } in
           let law = c.law_chains.ensures.told.of_faulty given fault goes.0 goes.1 head told.0 old before c.requires.goes run in
           let so = told_before before.layout before back_queue goes.2.stores goes.2.flags told.0 keeps.0 keeps.1 law in
-          (subst (λ (bs : List ℕ). told.0 ≡ tells_of before bs) goes.3 so.0, sym goes.4 ∙ so.1))
+          (subst (λ (bs : List ℕ). told.0 ≡ tells_of before bs) goes.3 so.0, sym (ap (λ (s : PushStores). s.seen_at) goes.4) ∙ so.1))
           c.push_by.ensures.back;
       answered = if_ok c.push_by.result _ _
           (λ told back i m.
@@ -49,6 +50,8 @@ returns g c =
             law.0,
             law.3,
             e,
+            front_stored back_queue popped_handle.state goes.2.stores goes.1 (λ reply s. goes.0 ≡ push_acts [] reply [] s goes.2.flags)
+                goes.2.returns ∙ ap (λ (s : PushStores). s.front_len) goes.4,
             (walked.0, popped_handle, back_queue, walked.1, law.1),
             law.2,
             subst (λ (bs : List ℕ). ReturnsFaultyBy m i there head fault [] law.3 (tells bs) e (after_chain m i there m.options m.files))
@@ -71,6 +74,8 @@ returns g c =
             law.3,
             law.4,
             record { acts = goes.0; last = goes.1 },
+            front_stored back_queue popped_handle.state goes.2.stores goes.1 (λ reply s. goes.0 ≡ push_acts [] reply [] s goes.2.flags)
+                goes.2.returns ∙ ap (λ (s : PushStores). s.front_len) goes.4,
             law.5,
             subst (λ (bs : List ℕ). StepBy g.F.FileSystemBase.may m i (step_loads law.0 law.2 []) [] (Exchanged law.4 (tells bs))
                 (record { acts = goes.0; last = goes.1 })
