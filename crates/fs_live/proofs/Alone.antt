@@ -22,7 +22,8 @@ use Rattle.plain_machine.specs.Step.{State, Exchange, Exchanged, Calls}
 use Rattle.plain_machine.specs.StepBy.{StepOfBy, ExchangesBy, Effects, AnswersBy, ReturnsFaultyBy, return_acts, return_stores, reply_stores}
 use Rattle.plain_machine.specs.StepBy.{offered_by}
 use Rattle.fs_live.specs.Several.{LiveQueue}
-use Rattle.fs_live.specs.Live.{Phase, PoppedFaulty, Fetched, Asked, Own, Abandoned, OutChain, LiveState, LiveEvent, EndsPop, RefusesPop}
+use Rattle.fs_live.specs.Live.{Phase, PoppedFaulty, Fetched, Asked, Own, Abandoned, InFlightChain, LiveState, LiveEvent, EndsPop}
+use Rattle.fs_live.specs.Live.{RefusesPop}
 use Rattle.fs_live.specs.Live.{DecodesRequest, ReceivesAnswer}
 use Rattle.fs_live.specs.Live.{PushesChain}
 use Rattle.fs_live.specs.Live.{StoresNotification, ResetsQueue, FillsBuffer, GivesUpChain, Abandons, RepliesOwnBytes, Remaps, MovesDevice}
@@ -66,14 +67,14 @@ IsWhole (Own request reply) ds = (length request ≡ total_len (readable ds)) ×
 IsWhole _ ds = Unit {0}
 
 -- its walk came to it by its loads, its request is as long as it says, and its loads are of mapped addresses
-abbrev pub Walked : ℕ → OutChain → Type 0
+abbrev pub Walked : ℕ → InFlightChain → Type 0
 Walked limit c =
     FetchesBy c.places limit c.taken c.loaded c.descriptors c.head (fault_of_phase c.phase)
     × IsWhole c.phase c.descriptors
     × LoadsAreMapped c.places c.taken c.loaded
 
 abbrev pub AllWalked : {F : Type 0} → LiveState F → Type 0
-AllWalked s = AllByRecursion (Walked s.limit) s.outs
+AllWalked s = AllByRecursion (Walked s.limit) s.chains
 
 pub new_walked :
     {F : Type 0} (s : LiveState F) (i : ℕ) (w : LiveQueue) (loaded : Loaded) (ds : List Descriptor) (head : ℕ) (fault : Option ChainFault)
@@ -89,30 +90,31 @@ walk_keeps {F} s after i w loaded ds step.Idle h mapped all = subst (λ (k : Liv
 walk_keeps {F} s after i w loaded ds (step.Refused e) h mapped all = subst (λ (k : LiveState F). AllWalked k) (sym h.1) all
 walk_keeps {F} s after i w loaded ds (step.Chain head fault) h mapped all =
     subst (λ (k : LiveState F). AllWalked k) (sym h.1)
-    (all_both (Walked s.limit) s.outs (new_chain s i w loaded ds head fault ∷ []) all
+    (all_both (Walked s.limit) s.chains (new_chain s i w loaded ds head fault ∷ []) all
     (new_walked s i w loaded ds head fault h.0 mapped, tt))
 walk_keeps s after i w loaded ds came h mapped all = absurd h
 
 -- a chain that is out, and the others
-pub one_walked : {F : Type 0} (s : LiveState F) (before behind : List OutChain) (c : OutChain) → s.outs ≡ before ++ c ∷ behind → AllWalked s
+pub one_walked : {F : Type 0} (s : LiveState F) (before behind : List InFlightChain) (c : InFlightChain) → s.chains ≡ before ++ c ∷ behind →
+    AllWalked s
     → AllByRecursion (Walked s.limit) before × Walked s.limit c × AllByRecursion (Walked s.limit) behind
 one_walked s before behind c out all =
     let split = subst (AllByRecursion (Walked s.limit)) out all in
     let right = all_right (Walked s.limit) before (c ∷ behind) split in
     (all_left (Walked s.limit) before (c ∷ behind) split, right.0, right.1)
 
-pub asked_walked : (limit : ℕ) (c : OutChain) (request : List ℕ) (options : ℕ) (calls : Calls) → fault_of_phase c.phase ≡ None
+pub asked_walked : (limit : ℕ) (c : InFlightChain) (request : List ℕ) (options : ℕ) (calls : Calls) → fault_of_phase c.phase ≡ None
     → length request ≡ total_len (readable c.descriptors)
     → Walked limit c → Walked limit (record c { phase = Asked request options calls })
 asked_walked limit c request options calls good whole h =
     (subst (λ (f : Option ChainFault). FetchesBy c.places limit c.taken c.loaded c.descriptors c.head f) good h.0, whole, h.2)
 
 -- a chain that is abandoned keeps what it was fetched by
-lost_walked : (limit : ℕ) (c : OutChain) → Walked limit c → Walked limit (abandoned_chain c)
+lost_walked : (limit : ℕ) (c : InFlightChain) → Walked limit c → Walked limit (abandoned_chain c)
 lost_walked limit c h = (h.0, tt, h.2)
 
 -- so does one that its caller replies to, whose bytes have room
-own_walked : (limit : ℕ) (c : OutChain) (p : Phase) (request reply : List ℕ) → c.phase ≡ p → IsUnreplied c p request
+own_walked : (limit : ℕ) (c : InFlightChain) (p : Phase) (request reply : List ℕ) → c.phase ≡ p → IsUnreplied c p request
     → length reply ≤ length (room_of c) → Walked limit c
     → Walked limit (record c { phase = Own request reply })
 own_walked limit c Fetched request reply is un few h = (
@@ -151,7 +153,7 @@ keeps {F} may s after (PushesChain c x notice last used seen) h all =
     subst (λ (k : LiveState F). AllWalked k) (sym h.state) (all_both (Walked s.limit) h.before h.behind parts.0 parts.2)
 keeps {F} may s after (StoresNotification i store) h all = subst (λ (k : LiveState F). AllWalked k) (sym h.state) all
 keeps {F} may s after (ResetsQueue i w) h all =
-    subst (λ (k : LiveState F). AllWalked k) (sym h.state) (all_filter (Walked s.limit) (λ c. not (c.queue == i)) s.outs all)
+    subst (λ (k : LiveState F). AllWalked k) (sym h.state) (all_filter (Walked s.limit) (λ c. not (c.queue == i)) s.chains all)
 keeps {F} may s after (FillsBuffer c stores) h all = subst (λ (k : LiveState F). AllWalked k) (sym h.state) all
 keeps {F} may s after (GivesUpChain c) h all =
     let parts = one_walked s h.before h.behind c h.out all in
@@ -233,11 +235,11 @@ abbrev pub room_offered : Offer → List ℕ
 room_offered (Offers head (IsRequest request room)) = room
 room_offered _ = []
 
-abbrev pub effects_of : OutChain → Exchange → (last : ℕ) → (seen : List ℕ) → Effects
+abbrev pub effects_of : InFlightChain → Exchange → (last : ℕ) → (seen : List ℕ) → Effects
 effects_of c x last seen = record { acts = return_acts (return_stores c.taken c.head (room_of c) x.reply last) seen; last = last }
 
 -- its loads tell its offer, and by it the chain is exchanged
-pub record Exchanging {G : Type 0} (other : May G) (m : State G) (files : G) (c : OutChain) (x : Exchange) (last : ℕ) (seen : List ℕ) :
+pub record Exchanging {G : Type 0} (other : May G) (m : State G) (files : G) (c : InFlightChain) (x : Exchange) (last : ℕ) (seen : List ℕ) :
     Type 0 where
   pub lost : List Load
   pub ring : RingIsAsked m.memory c.taken c.loaded
@@ -259,7 +261,7 @@ pub exchange_of : {G : Type 0} (other : May G) (m : State G) (files : G) (places
     → Exchanging other m files (record { places = places; queue = i; taken = q; loaded = loaded; descriptors = ds; head = head; phase = p })
     x last seen
 exchange_of {G} other m files places i q loaded ds head (PoppedFaulty why) x last seen at served walked options goes two run =
-    let c : OutChain =
+    let c : InFlightChain =
     record { places = places; queue = i; taken = q; loaded = loaded; descriptors = ds; head = head; phase = PoppedFaulty why } in
     let by : OffersBy m.memory m.limit q loaded [] (Offers head (CannotFetch why)) =
     offers_over m.memory places at m.limit q loaded [] (Offers head (CannotFetch why)) walked.0 in
@@ -288,7 +290,7 @@ exchange_of other m files places i q loaded ds head Fetched x last seen at serve
 exchange_of other m files places i q loaded ds head (Own request reply) x last seen at served walked options goes two run = absurd served
 exchange_of other m files places i q loaded ds head (Abandoned fault) x last seen at served walked options goes two run = absurd goes
 exchange_of {G} other m files places i q loaded ds head (Asked request asked calls) x last seen at served walked options goes two run =
-    let c : OutChain =
+    let c : InFlightChain =
     record { places = places; queue = i; taken = q; loaded = loaded; descriptors = ds; head = head; phase = Asked request asked calls } in
     let room = room_of c in
     let by : OffersBy m.memory m.limit q loaded request (Offers head (IsRequest request room)) =
@@ -320,9 +322,10 @@ exchange_of {G} other m files places i q loaded ds head (Asked request asked cal
     }
 
 -- a chain that is out of a run was walked
-pub walked_there : {F : Type 0} (may : May F) (s now : LiveState F) (es : List LiveEvent) (c : OutChain) (before behind : List OutChain)
-    → s.outs ≡ [] → LiveRun may s es now
-    → now.outs ≡ before ++ c ∷ behind → Walked now.limit c
+pub walked_there : {F : Type 0} (may : May F) (s now : LiveState F) (es : List LiveEvent) (c : InFlightChain)
+    (before behind : List InFlightChain)
+    → s.chains ≡ [] → LiveRun may s es now
+    → now.chains ≡ before ++ c ∷ behind → Walked now.limit c
 walked_there may s now es c before behind none run out =
     let start : AllWalked s = subst (AllByRecursion (Walked s.limit)) (sym none) tt in
     (one_walked now before behind c out (run_keeps may s now es run start)).1

@@ -7,8 +7,8 @@ use Rattle.vm_memory.specs.Memory.{Memory}
 use Rattle.fs_queue.specs.Queue.{Queue}
 use Rattle.virtiofsd_fuse.specs.Serving.{May}
 use Rattle.fs_live.specs.Several.{LiveQueue, InFlightId}
-use Rattle.fs_live.specs.Live.{Happens, KeepsQueue, LiveEvent, LiveRun, LiveState, MovesDeviceSo, OutChain, Remaps, ResetsQueueSo}
-use Rattle.fs_live.specs.Runs.{HasNoneInFlight, MovedGoesOn, PositionsAgree, tickets_on, untold}
+use Rattle.fs_live.specs.Live.{Happens, KeepsQueue, LiveEvent, LiveRun, LiveState, MovesDeviceSo, InFlightChain, Remaps, ResetsQueueSo}
+use Rattle.fs_live.specs.Runs.{HasNoneInFlight, MovedGoesOn, PositionsAgree, in_flight_on, unrecorded}
 use Rattle.fs_live.proofs.Placed.{Ahead, run_kept, started}
 use Rattle.fs_live.proofs.Queues.{kept_not, one_ticket, same_some}
 
@@ -38,21 +38,22 @@ same_there {A} (y ∷ ys) (suc i) x there = ap (λ (l : List A). y ∷ l) (same_
 -- ---- standing
 
 module _ (i : ℕ) where
-  one_stays : (c : OutChain) (cs : List OutChain) (b : Bool) → (c.queue == i) ≡ b → tickets_on i (c ∷ cs) ≡ []
-      → (tickets_on i cs ≡ [] → filter (λ c. not (c.queue == i)) cs ≡ cs)
+  one_stays : (c : InFlightChain) (cs : List InFlightChain) (b : Bool) → (c.queue == i) ≡ b → in_flight_on i (c ∷ cs) ≡ []
+      → (in_flight_on i cs ≡ [] → filter (λ c. not (c.queue == i)) cs ≡ cs)
       → filter (λ c. not (c.queue == i)) (c ∷ cs) ≡ c ∷ cs
-  one_stays c cs true is none more = absurd (no_cons (c.taken.position, c.head) (tickets_on i cs) (sym (one_ticket i c cs true is) ∙ none))
+  one_stays c cs true is none more =
+      absurd (no_cons (c.taken.position, c.head) (in_flight_on i cs) (sym (one_ticket i c cs true is) ∙ none))
   one_stays c cs false is none more =
       kept_not (λ c. not (c.queue == i)) c cs true (ap not is)
-      ∙ ap (λ (l : List OutChain). c ∷ l) (more (sym (one_ticket i c cs false is) ∙ none))
+      ∙ ap (λ (l : List InFlightChain). c ∷ l) (more (sym (one_ticket i c cs false is) ∙ none))
 
-  none_filtered : (cs : List OutChain) → tickets_on i cs ≡ [] → filter (λ c. not (c.queue == i)) cs ≡ cs
+  none_filtered : (cs : List InFlightChain) → in_flight_on i cs ≡ [] → filter (λ c. not (c.queue == i)) cs ≡ cs
   none_filtered [] none = refl
   none_filtered (c ∷ cs) none = one_stays c cs (c.queue == i) refl none (none_filtered cs)
 
-  pub none_out_even : {F : Type 0} (may : May F) (s now : LiveState F) (es : List LiveEvent) (w : LiveQueue) → s.outs ≡ []
+  pub none_out_even : {F : Type 0} (may : May F) (s now : LiveState F) (es : List LiveEvent) (w : LiveQueue) → s.chains ≡ []
       → AllByRecursion HasNoneInFlight s.queues → LiveRun may s es now
-      → slice_get now.queues i ≡ Some w → tickets_on i now.outs ≡ [] → HasNoneInFlight w
+      → slice_get now.queues i ≡ Some w → in_flight_on i now.chains ≡ [] → HasNoneInFlight w
   none_out_even may s now es w none even run there out =
       let kept = run_kept i may s now es run (started i s none even) in
       subst (λ (ts : List InFlightId). Ahead now.places w (length ts)) out (kept w there)
@@ -63,9 +64,9 @@ stands_even {F} may s now es i w none even run there out = (
   λ after begins.
       let so : ResetsQueueSo now i w after = begins in
       so.state
-      ∙ ap (λ (l : List LiveQueue). record now { queues = l; outs = filter (λ c. not (c.queue == i)) now.outs })
+      ∙ ap (λ (l : List LiveQueue). record now { queues = l; chains = filter (λ c. not (c.queue == i)) now.chains })
       (same_there now.queues i w there)
-      ∙ ap (λ (cs : List OutChain). record now { queues = now.queues; outs = cs }) (none_filtered i now.outs out),
+      ∙ ap (λ (cs : List InFlightChain). record now { queues = now.queues; chains = cs }) (none_filtered i now.chains out),
 )
 
 -- ---- moves
@@ -76,14 +77,14 @@ all_even [] each = tt
 all_even (w ∷ ws) each = (each 0 w refl, all_even ws (λ i v there. each (suc i) v there))
 
 -- a queue is told by its parts
-same_queue : (w v : LiveQueue) → w.queue ≡ v.queue → w.next_used ≡ v.next_used → untold w ≡ untold v → w ≡ v
+same_queue : (w v : LiveQueue) → w.queue ≡ v.queue → w.next_used ≡ v.next_used → unrecorded w ≡ unrecorded v → w ≡ v
 same_queue w v queue next_used rest =
     ap (λ (q : Queue). record { queue = q; next_used = w.next_used; max_in_flight = w.max_in_flight; event_index = w.event_index }) queue
     ∙ ap (λ (r : ℕ). record { queue = v.queue; next_used = r; max_in_flight = w.max_in_flight; event_index = w.event_index }) next_used
     ∙ ap (λ (u : ℕ × Bool). record { queue = v.queue; next_used = v.next_used; max_in_flight = u.0; event_index = u.1 }) rest
 
 same_queues : (ws vs : List LiveQueue) → AllByRecursion HasNoneInFlight ws → AllByRecursion HasNoneInFlight vs →
-    map (λ w. w.queue) ws ≡ map (λ w. w.queue) vs → map untold ws ≡ map untold vs → ws ≡ vs
+    map (λ w. w.queue) ws ≡ map (λ w. w.queue) vs → map unrecorded ws ≡ map unrecorded vs → ws ≡ vs
 same_queues [] [] even stand queues rest_is = refl
 same_queues [] (v ∷ vs) even stand queues rest_is = absurd (no_cons v.queue (map (λ w. w.queue) vs) (sym queues))
 same_queues (w ∷ ws) [] even stand queues rest_is = absurd (no_cons w.queue (map (λ w. w.queue) ws) queues)
@@ -91,7 +92,7 @@ same_queues (w ∷ ws) (v ∷ vs) even stand queues rest_is =
     let queue : w.queue ≡ v.queue = ap (λ (l : List Queue). first_or w.queue l) queues in
     let first : w ≡ v =
     same_queue w v queue (even.0.0 ∙ ap (λ (q : Queue). q.position) queue ∙ sym stand.0.0)
-    (ap (λ (l : List (ℕ × Bool)). first_or (untold w) l) rest_is) in
+    (ap (λ (l : List (ℕ × Bool)). first_or (unrecorded w) l) rest_is) in
     let others : ws ≡ vs =
     same_queues ws vs even.1 stand.1 (ap (λ (l : List Queue). rest l) queues) (ap (λ (l : List (ℕ × Bool)). rest l) rest_is) in
     ap (λ (u : LiveQueue). u ∷ ws) first ∙ ap (λ (l : List LiveQueue). v ∷ l) others
@@ -107,11 +108,16 @@ moved_goes_on {F} may s now moved es m queues none even run moves told =
     let so : MovesDeviceSo now m queues moved = moves in
     let stand : AllByRecursion HasNoneInFlight now.queues =
     all_even now.queues
-    (λ i w there. none_out_even i may s now es w none even run there (ap (λ (cs : List OutChain). tickets_on i cs) so.none_out)) in
-    let same : queues ≡ now.queues = same_queues queues now.queues so.even stand so.same told in
+    (λ i w there. none_out_even i may s now es w none even run there
+    (ap (λ (cs : List InFlightChain). in_flight_on i cs) so.none_in_flight)) in
+    let same : queues ≡ now.queues = same_queues queues now.queues so.positions_agree stand so.same told in
     let state : moved ≡ record now { places = m } = so.state ∙ ap (λ (l : List LiveQueue). record now { places = m; queues = l }) same in
     let maps : Happens may now (Remaps m) moved =
-    record { keeps = subst (λ (cs : List OutChain). AllByRecursion (KeepsQueue now m) cs) (sym so.none_out) tt; state = state } in
+    record {
+      keeps = subst (λ (cs : List InFlightChain). AllByRecursion (KeepsQueue now m) cs) (sym so.none_in_flight) tt;
+      state =
+          state;
+    } in
     let stays : m ≡ now.places → moved ≡ now = λ places. state ∙ ap (λ (k : Memory). record now { places = k }) places in (
       maps,
       stays,

@@ -19,7 +19,7 @@ use Rattle.fs_queue.specs.Taking.{readable, writable, total_len, all_reach, addr
 use Rattle.fs_queue.specs.Taking.{Refuses, Offers, offer_of}
 use Rattle.fs_queue.specs.Taking as taking
 use Rattle.fs_regions.specs.Walks.{Loaded, FetchesBy, OffersBy}
-use Rattle.fs_live.specs.Runs.{has_places}
+use Rattle.fs_live.specs.Runs.{are_mapped}
 
 -- ---- rooms
 
@@ -37,7 +37,7 @@ all_append p (x ∷ xs) ys one two =
     let parts = and_true (p x) (list_all p xs) one in and_both (p x) (list_all p (xs ++ ys)) parts.0 (all_append p xs ys parts.1 two)
 
 room_has :
-    (m : Memory) (ds : List Descriptor) → all_reach m Write ds ≡ true → has_places m (flat_map (λ d. addresses d.addr d.len) ds) ≡ true
+    (m : Memory) (ds : List Descriptor) → all_reach m Write ds ≡ true → are_mapped m (flat_map (λ d. addresses d.addr d.len) ds) ≡ true
 room_has m [] is = refl
 room_has m (d ∷ ds) is =
     let parts = and_true (reach m Write d.addr d.len) (all_reach m Write ds) is in
@@ -49,7 +49,7 @@ room_has m (d ∷ ds) is =
 
 -- a chain that is offered can go back, and its room has places
 abbrev Fits : Memory → Queue → Offer → Type 0
-Fits m q (Offers head (IsRequest request room)) = (return_fault m q ≡ None) × (has_places m room ≡ true)
+Fits m q (Offers head (IsRequest request room)) = (return_fault m q ≡ None) × (are_mapped m room ≡ true)
 Fits m q (Offers head (CannotFetch why)) = return_fault m q ≡ None
 Fits m q _ = Unit {0}
 
@@ -73,7 +73,7 @@ on_nothing m q (Some bs) entry ls request o fits = tt
 
 -- what is fetched, by its tests
 module _ (m : Memory) (q : Queue) (goes : return_fault m q ≡ None) (head : ℕ) where
-  fetched : (bs room : List ℕ) (same : Bool) → has_places m room ≡ true →
+  fetched : (bs room : List ℕ) (same : Bool) → are_mapped m room ≡ true →
       Says m q (option_map (Offers head) (if same then Some (IsRequest bs room) else None))
   fetched bs room true has = (goes, has)
   fetched bs room false has = tt
@@ -82,7 +82,7 @@ module _ (m : Memory) (q : Queue) (goes : return_fault m q ≡ None) (head : ℕ
   no_fetch [] why = goes
   no_fetch (b ∷ bs) why = tt
 
-  fetched_tests : (bs request room : List ℕ) (over lost_request has_room : Bool) → (has_room ≡ true → has_places m room ≡ true) →
+  fetched_tests : (bs request room : List ℕ) (over lost_request has_room : Bool) → (has_room ≡ true → are_mapped m room ≡ true) →
       Says m q (option_map (Offers head)
       (with_request bs (if over then CannotFetch OverLimit else if lost_request then CannotFetch RequestUnreachable
       else if not has_room then CannotFetch RoomUnreachable else IsRequest request room)))
@@ -142,7 +142,7 @@ fits m limit q loaded request o by =
 -- ---- chains that are fetched
 
 abbrev pub RoomFits : Memory → List Descriptor → Option ChainFault → Type 0
-RoomFits m ds None = has_places m (addresses_of (writable ds)) ≡ true
+RoomFits m ds None = are_mapped m (addresses_of (writable ds)) ≡ true
 RoomFits m ds (Some why) = Unit {0}
 
 pub fetched_fits : (m : Memory) (limit : ℕ) (q : Queue) (loaded : Loaded) (ds : List Descriptor) (head : ℕ) (fault : Option ChainFault) →

@@ -31,12 +31,13 @@ use Rattle.plain_machine.specs.Step.{Exchange}
 use Rattle.plain_machine.specs.StepBy.{reply_stores, return_acts}
 use Rattle.fs_live.specs.Several.{LiveQueue, returning, seen_at}
 use Rattle.fs_live.specs.Several as several
-use Rattle.fs_live.specs.Live.{PushedWith, IsUnreplied, KeepsQueue, OutChain, Own, Phase, fault_of_phase, own_exchange, room_of_phase}
+use Rattle.fs_live.specs.Live.{PushedWith, IsUnreplied, KeepsQueue, InFlightChain, Own, Phase, fault_of_phase, own_exchange, room_of_phase}
 use Rattle.fs_live.specs.Live.{room_of}
 use Rattle.fs_live.specs.Handles.{live_of}
-use Rattle.fs_live.specs.Others.{AskedIsHeld, HandleAbandons, HandleGivesUpChain, HandleMovesDevice, HandleRemaps, HandleRepliesInstead}
+use Rattle.fs_live.specs.Others.{DecodedIsUnanswered, HandleAbandons, HandleGivesUpChain, HandleMovesDevice, HandleRemaps}
+use Rattle.fs_live.specs.Others.{HandleRepliesInstead}
 use Rattle.fs_live.specs.Others.{HandleRepliesOwnBytes}
-use Rattle.fs_live.specs.Others.{HandlePushesOwn, IfOut, IsOwn, recorded}
+use Rattle.fs_live.specs.Others.{HandlePushesOwn, IfUnreplied, HoldsOwnReply, recorded}
 use Rattle.fs_live.proofs.Alone.{Walked, walked_there}
 use Rattle.fs_live.proofs.Pushed.{seen_of}
 use Rattle.fs_live.proofs.Queues.{none_some, there_same}
@@ -127,15 +128,16 @@ handle_replies {F} may s c before behind w serial options request reply reached 
         counts = few.1;
         state = refl;
       },
-      subst (λ (st : state.ChainState). IfOut st
-          (λ out. IsOwn (record c { phase = Own request reply }) reply (at.HasReply out (own_reply (length reply))))) (sym held.state)
+      subst (λ (st : state.ChainState). IfUnreplied st
+          (λ out. HoldsOwnReply (record c { phase = Own request reply }) reply (at.HasReply out (own_reply (length reply)))))
+          (sym held.state)
           (record { out = o; head = refl; taken = held.taken; fits = few.0; counts = few.1; state = refl }),
     )
 
 -- of a chain that a handle has: the reply has room
-held_so : (out : InFlight) (st : state.ChainState) (mine serial len : ℕ) (P : InFlight → Type 0) → IfOut st (λ o. o ≡ out)
+held_so : (out : InFlight) (st : state.ChainState) (mine serial len : ℕ) (P : InFlight → Type 0) → IfUnreplied st (λ o. o ≡ out)
     → own_error st mine serial len ≡ None → (Fits out.room_len len → P out)
-    → Fits out.room_len len × IfOut st P
+    → Fits out.room_len len × IfUnreplied st P
 held_so out (at.Taken kept) mine serial len P is none more =
     let few : Fits out.room_len len = subst (λ (o : InFlight). Fits o.room_len len) is (chain_fits mine serial kept.room_len len none) in
     (few, subst P (sym is) (more few))
@@ -148,12 +150,12 @@ held_so out (at.Lists kept l) mine serial len P is none more =
 held_so out st mine serial len P is none more = absurd is
 
 keeps_out : (s : Setting) (m : Meaning) (behind : List ℕ) (made : made_call.FileCall) (out : InFlight) (st : state.ChainState) →
-    KeepsCall s m behind made out st → IfOut st (λ o. o ≡ out)
+    KeepsCall s m behind made out st → IfUnreplied st (λ o. o ≡ out)
 keeps_out s m behind made out (at.Waits kept w) keeps = keeps.0
 keeps_out s m behind made out (at.Lists kept l) keeps = keeps.0
 keeps_out s m behind made out st keeps = absurd keeps
 
-pub asked_is_held : AskedIsHeld
+pub asked_is_held : DecodedIsUnanswered
 asked_is_held page_size options request c made w kept =
     let o = kept.out in
     record {
@@ -168,7 +170,8 @@ asked_is_held page_size options request c made w kept =
 pub handle_replies_instead : {F : Type 0} (may : May F) → HandleRepliesInstead may
 handle_replies_instead {F} may s c before behind w serial asked options request reply calls out phase held none =
     let o = held.out in
-    let P : InFlight → Type 0 = λ out. IsOwn (record c { phase = Own request reply }) reply (at.HasReply out (own_reply (length reply))) in
+    let P : InFlight → Type 0 =
+    λ out. HoldsOwnReply (record c { phase = Own request reply }) reply (at.HasReply out (own_reply (length reply))) in
     let so = held_so o w.state w.serial serial (length reply) P held.is none
     (λ few. record { out = o; head = held.head; taken = held.taken; fits = few.0; counts = few.1; state = refl }) in (
       record {
@@ -241,9 +244,9 @@ handle_returns_own {F} may s c before behind st kept request reply acts last not
 
 pub handle_maps : {F : Type 0} (may : May F) → HandleRemaps may
 handle_maps {F} may s w keeps =
-    let all : AllByRecursion (KeepsQueue s (places_in w.regions)) s.outs =
+    let all : AllByRecursion (KeepsQueue s (places_in w.regions)) s.chains =
     elim keeps [
-      | inl none ↦ subst (λ (cs : List OutChain). AllByRecursion (KeepsQueue s (places_in w.regions)) cs) (sym none) tt
+      | inl none ↦ subst (λ (cs : List InFlightChain). AllByRecursion (KeepsQueue s (places_in w.regions)) cs) (sym none) tt
       | inr kept ↦ kept
     ] in record { keeps = all; state = refl }
 
@@ -258,9 +261,9 @@ handle_moves {F} may s here there m bytes v v' options queues none queues_are ma
     ap (λ (l : List LiveQueue). map (λ w. w.queue) l) queues_are ∙ all_recorded here in (
       sym one.1,
       record {
-        none_out = none;
+        none_in_flight = none;
         same = all_recorded there ∙ begun.same ∙ sym one.2 ∙ sym now;
-        even = begun.even;
+        positions_agree = begun.positions_agree;
         few = begun.few;
         state = refl;
       },

@@ -20,10 +20,11 @@ use Rattle.plain_machine.specs.StepBy.{reply_stores, stores_among}
 use Rattle.plain_machine.proofs.PageLemmas.{writes_mark}
 use Rattle.plain_machine.proofs.StepByLemmas.{reply_writes}
 use Rattle.fs_live.specs.Several.{LiveQueue, avail_event_at, returning, sleep_store}
-use Rattle.fs_live.specs.Live.{FillsBuffer, Happens, LiveEvent, LiveState, OutChain, PushesChain, PushesChainSo, StoresNotification}
+use Rattle.fs_live.specs.Live.{FillsBuffer, Happens, LiveEvent, LiveState, InFlightChain, PushesChain, PushesChainSo, StoresNotification}
 use Rattle.fs_live.specs.Live.{StoresNotificationSo, event_acts}
 use Rattle.fs_live.specs.Live.{room_of}
-use Rattle.fs_live.specs.Runs.{LogsAsTold, MarksAsTold, PagesAreTold, ReturnsTell, page_of, reported_by, queue_addresses, written_by}
+use Rattle.fs_live.specs.Runs.{LogsAsReported, MarksAsReported, PagesAreReported, ReturnsReport, page_of, reported_by, queue_addresses}
+use Rattle.fs_live.specs.Runs.{written_by}
 use Rattle.fs_live.proofs.Stored.{among_return, among_stores}
 
 -- ---- lists
@@ -99,7 +100,7 @@ module _ (q : Queue) (head : ℕ) (room reply : List ℕ) where
 
 -- both by one list of addresses that sets the same marks
 both_told : {F : Type 0} (s : LiveState F) (e : LiveEvent) →
-    ((p : ℕ → Bool) → list_any p (written_by (event_acts e)) ≡ list_any p (reported_by s e)) → MarksAsTold s e × LogsAsTold s e
+    ((p : ℕ → Bool) → list_any p (written_by (event_acts e)) ≡ list_any p (reported_by s e)) → MarksAsReported s e × LogsAsReported s e
 both_told s e same = (
   λ m.
       let ws = flat_map writes_of (stores_among (event_acts e)) in
@@ -114,7 +115,7 @@ both_told s e same = (
   λ page. same (λ a. page_of a == page),
 )
 
-returns_told : {F : Type 0} (s mid : LiveState F) (c : OutChain) (x : Exchange) (notice : Bool) (last : ℕ) (used : List Store)
+returns_told : {F : Type 0} (s mid : LiveState F) (c : InFlightChain) (x : Exchange) (notice : Bool) (last : ℕ) (used : List Store)
     (seen : List ℕ) → (h : PushesChainSo s c x notice last used seen mid)
     → reported_by s (PushesChain c x notice last used seen) ≡ returned_addresses (returning h.w) c.head (room_of c) x.reply
 returns_told s mid c x notice last used seen h =
@@ -159,13 +160,13 @@ one_event may s mid (FillsBuffer c stores) h p =
     ap (list_any p) (ap (λ (l : List Store). firsts (flat_map writes_of l)) (among_stores stores) ∙ fills_told stores)
 one_event may s mid e h p = refl
 
-pub pages_are_told : {F : Type 0} (may : May F) → PagesAreTold may
+pub pages_are_told : {F : Type 0} (may : May F) → PagesAreReported may
 pages_are_told may s after [] run = tt
 pages_are_told may s after (e ∷ es) run = (both_told s e (one_event may s run.0 e run.1), pages_are_told may run.0 after es run.2)
 
-pub returns_tell : {F : Type 0} (may : May F) → ReturnsTell may
+pub returns_tell : {F : Type 0} (may : May F) → ReturnsReport may
 returns_tell may s after c x notice last used seen h = (h.w, h.there, returns_told s after c x notice last used seen h)
 
 -- over a memory
-pub event_told : {F : Type 0} (may : May F) (s mid : LiveState F) (e : LiveEvent) → Happens may s e mid → MarksAsTold s e
+pub event_told : {F : Type 0} (may : May F) (s mid : LiveState F) (e : LiveEvent) → Happens may s e mid → MarksAsReported s e
 event_told may s mid e h = (both_told s e (one_event may s mid e h)).0

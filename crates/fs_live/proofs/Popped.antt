@@ -36,7 +36,7 @@ use Rattle.fs_chain.specs.Queues.{pop_id_of}
 use Rattle.fs_live.specs.Several.{LiveQueue, may_take}
 use Rattle.fs_live.specs.Several as several
 use Rattle.fs_live.specs.Live.{LiveState, EndsPopIn, after_pop, pop_refusal, with_live}
-use Rattle.fs_live.specs.Handles.{HandleRefusesPop, IsPopDone, IsHeld, live_of}
+use Rattle.fs_live.specs.Handles.{HandleRefusesPop, IsPopDone, HoldsResult, live_of}
 use Rattle.fs_live.proofs.Queues.{none_some, same_some, there_same}
 use Rattle.fs_live.proofs.Refusals.{refusal_stops}
 
@@ -80,7 +80,7 @@ event_of s i before after loaded ds (step.Chain head (Some fault)) there left do
 
 pub held_by : {F : Type 0} (s : LiveState F) (i : ℕ) (q : LiveQueue) (before : QueueState) (loaded : Loaded) (came : comes.CourseStep)
     (w : ChainHandle) → q.queue ≡ queue_of (course_of before s.limit)
-    → w.state ≡ state_after (course_of before s.limit) (pop_id_of before) w.descriptors.items came → IsHeld s i q loaded came w
+    → w.state ≡ state_after (course_of before s.limit) (pop_id_of before) w.descriptors.items came → HoldsResult s i q loaded came w
 held_by s i q before loaded (step.Chain head None) w goes is =
     record { kept = before; pop_id = pop_id_of before; taken = goes; state = is }
 held_by s i q before loaded (step.Chain head (Some why)) w goes is =

@@ -26,7 +26,7 @@ use Rattle.plain_machine.specs.Step.{State, Exchange, Exchanged, Step, Calls, an
 use Rattle.plain_machine.specs.StepBy.{Act, Effects, StepBy, StepOfBy, ExchangesBy, AreStepLoadsOf, IsOfMemory, FindFlags, MayStoreLast}
 use Rattle.plain_machine.specs.StepBy.{after_stores, stores_among, offered_by, reply_stores, return_acts}
 use Rattle.plain_machine.proofs.StepByLemmas.{step_by_is_step}
-use Rattle.fs_live.specs.Live.{Phase, PoppedFaulty, Fetched, Asked, OutChain, LiveState, LiveEvent, DecodesRequest, ReceivesAnswer}
+use Rattle.fs_live.specs.Live.{Phase, PoppedFaulty, Fetched, Asked, InFlightChain, LiveState, LiveEvent, DecodesRequest, ReceivesAnswer}
 use Rattle.fs_live.specs.Live.{Happens, LiveRun}
 use Rattle.fs_live.specs.Live.{EndsPopSo, DecodesRequestSo, LoadsAreMapped, ReceivesAnswerSo, PushesChainSo, calls_in, fault_of_phase}
 use Rattle.fs_live.specs.Live.{new_chain, with_popped}
@@ -66,7 +66,7 @@ alone {A} d (b ∷ []) behind c e = absurd (not_cons c behind (ap (λ (l : List 
 alone {A} d (b ∷ b₁ ∷ bs) behind c e = absurd (not_cons b₁ (bs ++ c ∷ behind) (ap (λ (l : List A). rest_of l) e))
 
 -- a chain in another phase
-abbrev pub in_phase : OutChain → Phase → OutChain
+abbrev pub in_phase : InFlightChain → Phase → InFlightChain
 in_phase c p = record c { phase = p }
 
 run_on : {F : Type 0} (may : May F) (a b c : F) (calls : Calls) (call : FileCall) (answer : FileAnswer) → FileRun may a calls b
@@ -81,9 +81,9 @@ answers-append calls call answer = map-append (λ (step : FileCall × FileAnswer
 
 -- between a walk and a return of a run with one chain at a time: the chain is out alone, and options and files are as it leaves them by
 -- itself
-pub record Alone {F : Type 0} (may : May F) (s : LiveState F) (queues : List LiveQueue) (c : OutChain) (k : LiveState F) : Type 0 where
+pub record Alone {F : Type 0} (may : May F) (s : LiveState F) (queues : List LiveQueue) (c : InFlightChain) (k : LiveState F) : Type 0 where
   pub phase : Phase
-  pub outs : k.outs ≡ in_phase c phase ∷ []
+  pub chains : k.chains ≡ in_phase c phase ∷ []
   pub queues_are : k.queues ≡ queues
   pub places : k.places ≡ s.places
   pub limit : k.limit ≡ s.limit
@@ -94,22 +94,23 @@ pub record Alone {F : Type 0} (may : May F) (s : LiveState F) (queues : List Liv
   pub walked : Walked s.limit (in_phase c phase)
   pub served : IsServedPhase phase
 
-asks_alone : {F : Type 0} (may : May F) (s : LiveState F) (queues : List LiveQueue) (c₀ : OutChain) (k mid : LiveState F) (c : OutChain)
+asks_alone : {F : Type 0} (may : May F) (s : LiveState F) (queues : List LiveQueue) (c₀ : InFlightChain) (k mid : LiveState F)
+    (c : InFlightChain)
     (request : List ℕ) (told : List FileCall)
     → Alone may s queues c₀ k → DecodesRequestSo k c request told mid → Alone may s queues c₀ mid
 asks_alone {F} may s queues c₀ k mid c request told a h =
-    let one = alone (in_phase c₀ a.phase) h.before h.behind c (sym a.outs ∙ h.out) in
-    let fresh : a.phase ≡ Fetched = sym (ap (λ (x : OutChain). x.phase) one.1) ∙ h.fresh in
+    let one = alone (in_phase c₀ a.phase) h.before h.behind c (sym a.chains ∙ h.out) in
+    let fresh : a.phase ≡ Fetched = sym (ap (λ (x : InFlightChain). x.phase) one.1) ∙ h.fresh in
     let now : k.options ≡ s.options =
     subst (λ (p : Phase). k.options ≡ options_left s.page_size s.options (in_phase c₀ p) p) fresh a.options in
     let next : Phase = Asked request k.options [] in
     let room = room_of (in_phase c₀ next) in
     record {
       phase = next;
-      outs = ap (λ (x : LiveState F). x.outs) h.state
-          ∙ ap (λ (l : List OutChain). l ++ in_phase c next ∷ h.behind) one.0
-          ∙ ap (λ (l : List OutChain). in_phase c next ∷ l) one.2
-          ∙ ap (λ (x : OutChain). in_phase x next ∷ []) one.1;
+      chains = ap (λ (x : LiveState F). x.chains) h.state
+          ∙ ap (λ (l : List InFlightChain). l ++ in_phase c next ∷ h.behind) one.0
+          ∙ ap (λ (l : List InFlightChain). in_phase c next ∷ l) one.2
+          ∙ ap (λ (x : InFlightChain). in_phase x next ∷ []) one.1;
       queues_are = ap (λ (x : LiveState F). x.queues) h.state ∙ a.queues_are;
       places = ap (λ (x : LiveState F). x.places) h.state ∙ a.places;
       limit = ap (λ (x : LiveState F). x.limit) h.state ∙ a.limit;
@@ -119,16 +120,16 @@ asks_alone {F} may s queues c₀ k mid c request told a h =
           ∙ sym (leaves_none (setting s.page_size k.options (length room)) (meaning k.options request (length room)));
       run = ap (λ (x : LiveState F). x.files) h.state ∙ subst (λ (p : Phase). FileRun may s.files (calls_in p) k.files) fresh a.run;
       walked = asked_walked s.limit (in_phase c₀ a.phase) request k.options [] (ap fault_of_phase fresh)
-          (h.whole ∙ ap (λ (x : OutChain). total_len (readable x.descriptors)) one.1) a.walked;
+          (h.whole ∙ ap (λ (x : InFlightChain). total_len (readable x.descriptors)) one.1) a.walked;
       served = tt;
     }
 
-answers_alone_too : {F : Type 0} (may : May F) (s : LiveState F) (queues : List LiveQueue) (c₀ : OutChain) (k mid : LiveState F)
-    (c : OutChain) (call : FileCall) (answer : FileAnswer)
+answers_alone_too : {F : Type 0} (may : May F) (s : LiveState F) (queues : List LiveQueue) (c₀ : InFlightChain) (k mid : LiveState F)
+    (c : InFlightChain) (call : FileCall) (answer : FileAnswer)
     → Alone may s queues c₀ k → ReceivesAnswerSo may k c call answer mid → Alone may s queues c₀ mid
 answers_alone_too {F} may s queues c₀ k mid c call answer a h =
-    let one = alone (in_phase c₀ a.phase) h.before h.behind c (sym a.outs ∙ h.out) in
-    let is : a.phase ≡ Asked h.request h.options h.calls = sym (ap (λ (x : OutChain). x.phase) one.1) ∙ h.asked in
+    let one = alone (in_phase c₀ a.phase) h.before h.behind c (sym a.chains ∙ h.out) in
+    let is : a.phase ≡ Asked h.request h.options h.calls = sym (ap (λ (x : InFlightChain). x.phase) one.1) ∙ h.asked in
     let more : Calls = h.calls ++ (call, answer) ∷ [] in
     let next : Phase = Asked h.request h.options more in
     let before : Phase = Asked h.request h.options h.calls in
@@ -145,10 +146,10 @@ answers_alone_too {F} may s queues c₀ k mid c call answer a h =
     ∙ sym (ap (λ (l : List FileAnswer). (served (setting s.page_size h.options n) m l).options) answers_are) in
     record {
       phase = next;
-      outs = ap (λ (x : LiveState F). x.outs) h.state
-          ∙ ap (λ (l : List OutChain). l ++ in_phase c next ∷ h.behind) one.0
-          ∙ ap (λ (l : List OutChain). in_phase c next ∷ l) one.2
-          ∙ ap (λ (x : OutChain). in_phase x next ∷ []) one.1;
+      chains = ap (λ (x : LiveState F). x.chains) h.state
+          ∙ ap (λ (l : List InFlightChain). l ++ in_phase c next ∷ h.behind) one.0
+          ∙ ap (λ (l : List InFlightChain). in_phase c next ∷ l) one.2
+          ∙ ap (λ (x : InFlightChain). in_phase x next ∷ []) one.1;
       queues_are = ap (λ (x : LiveState F). x.queues) h.state ∙ a.queues_are;
       places = ap (λ (x : LiveState F). x.places) h.state ∙ a.places;
       limit = ap (λ (x : LiveState F). x.limit) h.state ∙ a.limit;
@@ -156,7 +157,7 @@ answers_alone_too {F} may s queues c₀ k mid c call answer a h =
       asked = subst (λ (p : Phase). IsAskedIn p s.options) is a.asked;
       options = ap (λ (x : LiveState F). x.options) h.state
           ∙ ap (λ (p : ℕ). (serving p h.options k.options h.request (room_of c) more).options) a.page_size
-          ∙ ap (λ (x : OutChain). (serving s.page_size h.options k.options h.request (room_of x) more).options) same
+          ∙ ap (λ (x : InFlightChain). (serving s.page_size h.options k.options h.request (room_of x) more).options) same
           ∙ left;
       run = subst (λ (f : F). FileRun may s.files more f) (sym (ap (λ (x : LiveState F). x.files) h.state))
           (run_on may s.files k.files h.files h.calls call answer (subst (λ (p : Phase). FileRun may s.files (calls_in p) k.files) is a.run)
@@ -166,7 +167,7 @@ answers_alone_too {F} may s queues c₀ k mid c call answer a h =
       served = tt;
     }
 
-pub between_alone : {F : Type 0} (may : May F) (s : LiveState F) (queues : List LiveQueue) (c : OutChain) (k after : LiveState F)
+pub between_alone : {F : Type 0} (may : May F) (s : LiveState F) (queues : List LiveQueue) (c : InFlightChain) (k after : LiveState F)
     (es : List LiveEvent) (back : LiveEvent)
     → AllByRecursion IsOfChain es → Alone may s queues c k → LiveRun may k (es ++ back ∷ []) after
     → (now : LiveState F) × Alone may s queues c now × Happens may now back after
@@ -179,12 +180,12 @@ between_alone may s queues c k after es back of a run = absurd of.0
 
 start_alone : {F : Type 0} (may : May F) (s mid : LiveState F) (i : ℕ) (v : LiveQueue) (loaded : Loaded) (ds : List Descriptor) (head : ℕ)
     (fault : Option ChainFault)
-    → s.outs ≡ [] → FetchesBy s.places s.limit v.queue loaded ds head fault → LoadsAreMapped s.places v.queue loaded
+    → s.chains ≡ [] → FetchesBy s.places s.limit v.queue loaded ds head fault → LoadsAreMapped s.places v.queue loaded
     → mid ≡ with_popped s i v (new_chain s i v loaded ds head fault)
     → Alone may s (changed_at s.queues i (λ _. took v)) (new_chain s i v loaded ds head fault) mid
 start_alone {F} may s mid i v loaded ds head None none fetches mapped is = record {
   phase = Fetched;
-  outs = ap (λ (x : LiveState F). x.outs) is ∙ ap (λ (l : List OutChain). l ++ new_chain s i v loaded ds head None ∷ []) none;
+  chains = ap (λ (x : LiveState F). x.chains) is ∙ ap (λ (l : List InFlightChain). l ++ new_chain s i v loaded ds head None ∷ []) none;
   queues_are = ap (λ (x : LiveState F). x.queues) is;
   places = ap (λ (x : LiveState F). x.places) is;
   limit = ap (λ (x : LiveState F). x.limit) is;
@@ -197,7 +198,8 @@ start_alone {F} may s mid i v loaded ds head None none fetches mapped is = recor
 }
 start_alone {F} may s mid i v loaded ds head (Some why) none fetches mapped is = record {
   phase = PoppedFaulty why;
-  outs = ap (λ (x : LiveState F). x.outs) is ∙ ap (λ (l : List OutChain). l ++ new_chain s i v loaded ds head (Some why) ∷ []) none;
+  chains = ap (λ (x : LiveState F). x.chains) is
+      ∙ ap (λ (l : List InFlightChain). l ++ new_chain s i v loaded ds head (Some why) ∷ []) none;
   queues_are = ap (λ (x : LiveState F). x.queues) is;
   places = ap (λ (x : LiveState F). x.places) is;
   limit = ap (λ (x : LiveState F). x.limit) is;
@@ -267,7 +269,8 @@ room_in_offer (Some o) = room_offered o
 room_in_offer None = []
 
 -- an exchange by loads that a memory has is a step over it
-step_over : {F : Type 0} (may : May F) (before : State F) (files : F) (c : OutChain) (x : Exchange) (last : ℕ) (seen : List ℕ) (m : Memory)
+step_over : {F : Type 0} (may : May F) (before : State F) (files : F) (c : InFlightChain) (x : Exchange) (last : ℕ) (seen : List ℕ)
+    (m : Memory)
     → Exchanging may before files c x last seen → location m ≡ location before.memory → slice_get before.queues c.queue ≡ Some c.taken
     → HasLoaded m c.taken c.loaded (request_of_phase c.phase) → FindFlags m c.taken (effects_of c x last seen).acts
     → MayStoreLast m (room_of c) last
@@ -357,33 +360,33 @@ single_is_step {F} may s after r m w none there rest of run found =
     let k = back.0 in
     let a = back.1 in
     let b : PushesChainSo k r.chain r.exchange r.notice r.last r.used r.seen after = back.2 in
-    let d : OutChain = in_phase c₀ a.phase in
-    let one = alone d b.before b.behind r.chain (sym a.outs ∙ b.out) in
+    let d : InFlightChain = in_phase c₀ a.phase in
+    let one = alone d b.before b.behind r.chain (sym a.chains ∙ b.out) in
     let took_one : LiveQueue = took v in
     let w_is : b.w ≡ took_one =
     same_some b.w took_one
-    (sym b.there ∙ ap (λ (c : OutChain). slice_get k.queues c.queue) one.1 ∙ ap (λ (l : List LiveQueue). slice_get l i) a.queues_are
+    (sym b.there ∙ ap (λ (c : InFlightChain). slice_get k.queues c.queue) one.1 ∙ ap (λ (l : List LiveQueue). slice_get l i) a.queues_are
     ∙ there_same s.queues i i (λ _. took v) v refl walk.there) in
     let base : State F = plain s s.places in
     let at : slice_get base.queues i ≡ Some v.queue = get_map (λ (x : LiveQueue). x.queue) s.queues i v walk.there in
     let goes : PushedWith s.page_size d a.phase r.exchange =
     subst (λ (p : ℕ). PushedWith p d a.phase r.exchange) a.page_size
-    (subst (λ (c : OutChain). PushedWith k.page_size c c.phase r.exchange) one.1 b.goes) in
+    (subst (λ (c : InFlightChain). PushedWith k.page_size c c.phase r.exchange) one.1 b.goes) in
     let made : Exchanging may base k.files d r.exchange r.last r.seen =
     exchange_of may base k.files s.places i v.queue r.loaded r.descriptors r.head a.phase r.exchange r.last r.seen refl a.served a.walked
     a.asked goes b.two a.run in
     let behind_is : r.used ≡ stores_after_reply v.queue r.head (length r.exchange.reply) =
     b.used_is ∙ ap (λ (u : LiveQueue). stores_after_reply (returning u) r.chain.head (length r.exchange.reply)) w_is
-    ∙ ap (λ (c : OutChain). stores_after_reply (returning (took v)) c.head (length r.exchange.reply)) one.1
+    ∙ ap (λ (c : InFlightChain). stores_after_reply (returning (took v)) c.head (length r.exchange.reply)) one.1
     ∙ ap (λ (p : ℕ). stores_after_reply (record (v.queue) { position = p }) r.head (length r.exchange.reply)) calm.1 in
     let acts_are : event_acts (return_in r) ≡ (effects_of d r.exchange r.last r.seen).acts =
-    ap (λ (c : OutChain). return_acts (reply_stores (room_of c) r.exchange.reply r.last ++ r.used) r.seen) one.1
+    ap (λ (c : InFlightChain). return_acts (reply_stores (room_of c) r.exchange.reply r.last ++ r.used) r.seen) one.1
     ∙ ap (λ (u : List Store). return_acts (reply_stores (room_of d) r.exchange.reply r.last ++ u) r.seen) behind_is in
     let has : HasLoaded m v.queue r.loaded (request_of_phase a.phase) =
-    subst (λ (c : OutChain). HasLoaded m v.queue r.loaded (request_of_phase c.phase)) one.1 (found.loads v walk.there) in
+    subst (λ (c : InFlightChain). HasLoaded m v.queue r.loaded (request_of_phase c.phase)) one.1 (found.loads v walk.there) in
     let flags : FindFlags m v.queue (effects_of d r.exchange r.last r.seen).acts =
     subst (FindFlags m v.queue) acts_are (found.flags v walk.there) in
-    let apart : MayStoreLast m (room_of d) r.last = subst (λ (c : OutChain). MayStoreLast m (room_of c) r.last) one.1 found.apart in
+    let apart : MayStoreLast m (room_of d) r.last = subst (λ (c : InFlightChain). MayStoreLast m (room_of c) r.last) one.1 found.apart in
     let stepped = step_over may base k.files d r.exchange r.last r.seen m made found.places at has flags apart in
     let m' = after_stores m (stores_among (effects_of d r.exchange r.last r.seen).acts) in
     let memory_is : after_stores m (stores_among (event_acts (return_in r))) ≡ m' =
@@ -392,7 +395,7 @@ single_is_step {F} may s after r m w none there rest of run found =
     let queues_after : after.queues ≡ changed_at qs i (λ _. gave_one) =
     ap (λ (x : LiveState F). x.queues) b.state
     ∙ ap (λ (l : List LiveQueue). changed_at l r.chain.queue (λ _. gave b.w)) a.queues_are
-    ∙ ap (λ (c : OutChain). changed_at qs c.queue (λ _. gave b.w)) one.1
+    ∙ ap (λ (c : InFlightChain). changed_at qs c.queue (λ _. gave b.w)) one.1
     ∙ ap (λ (u : LiveQueue). changed_at qs i (λ _. gave u)) w_is in
     let plain_queues : map (λ (x : LiveQueue). x.queue) after.queues ≡ changed_at base.queues i (λ _. advanced v.queue) =
     ap (λ (l : List LiveQueue). map (λ (x : LiveQueue). x.queue) l) queues_after
@@ -410,9 +413,9 @@ single_is_step {F} may s after r m w none there rest of run found =
           (subst (λ (st : State F). Step may (plain s m) i (calls_in r.chain.phase) (Exchanged r.exchange r.notice) st) (sym after_is)
           (subst (λ (n : Bool). Step may (plain s m) i (calls_in r.chain.phase) (Exchanged r.exchange n)
           (record (after_alone base d k.files) { memory = m' })) (sym notice_is)
-          (subst (λ (c : OutChain). Step may (plain s m) i (calls_in c.phase) (Exchanged r.exchange (tells r.seen))
+          (subst (λ (c : InFlightChain). Step may (plain s m) i (calls_in c.phase) (Exchanged r.exchange (tells r.seen))
           (record (after_alone base d k.files) { memory = m' })) (sym one.1) stepped))),
-      ap (λ (x : LiveState F). x.outs) b.state ∙ ap (λ (l : List OutChain). l ++ b.behind) one.0 ∙ one.2,
+      ap (λ (x : LiveState F). x.chains) b.state ∙ ap (λ (l : List InFlightChain). l ++ b.behind) one.0 ∙ one.2,
       gave_one,
       ap (λ (l : List LiveQueue). slice_get l i) queues_after
           ∙ there_same qs i i (λ _. gave_one) took_one refl (there_same s.queues i i (λ _. took_one) v refl walk.there),

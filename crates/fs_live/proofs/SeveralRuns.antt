@@ -11,7 +11,7 @@ use Rattle.fs_queue.specs.Returning.{Store, stores_after_reply}
 use Rattle.fs_live.specs.Several.{ByEvent, LiveQueue, InFlightId, QueueEvent, PopsOne, DropsLast, PushesOne, RunsOver, UsedFrom}
 use Rattle.fs_live.specs.Several.{returns_among}
 use Rattle.fs_live.specs.Several.{took, gave, gave_up}
-use Rattle.fs_live.specs.Several.{wants, IsSerial, StoresAsTaken, heads_taken, heads_ended, IsOldestFirst, AtTheirPlaces}
+use Rattle.fs_live.specs.Several.{wants, IsSerial, StoresAsTaken, heads_taken, heads_ended, IsOldestFirst, AtTheirPositions}
 
 -- a take moves no return
 past_take : (w : LiveQueue) (rs : List (InFlightId × ℕ × List Store)) → UsedFrom (took w) rs → UsedFrom w rs
@@ -23,25 +23,26 @@ past_drop w [] h = tt
 past_drop w (r ∷ rs) h = (h.0, past_drop (gave w) rs h.1)
 
 pub used_in_order :
-    (w w' : LiveQueue) (outs outs' : List InFlightId) (es : List QueueEvent) → RunsOver w outs es w' outs' → UsedFrom w (returns_among es)
-used_in_order w w' outs outs' [] run = tt
-used_in_order w w' outs outs' (PopsOne head ∷ es) run =
-    past_take w (returns_among es) (used_in_order (took w) w' (outs ++ (w.queue.position, head) ∷ []) outs' es run.1)
-used_in_order w w' outs outs' (DropsLast t ∷ es) run =
-    past_drop w (returns_among es) (used_in_order (gave_up w) w' (run.0 ++ run.1) outs' es run.4)
-used_in_order w w' outs outs' (PushesOne t len stores ∷ es) run = (run.3, used_in_order (gave w) w' (run.0 ++ run.1) outs' es run.4)
+    (w w' : LiveQueue) (chains chains' : List InFlightId) (es : List QueueEvent) → RunsOver w chains es w' chains' →
+    UsedFrom w (returns_among es)
+used_in_order w w' chains chains' [] run = tt
+used_in_order w w' chains chains' (PopsOne head ∷ es) run =
+    past_take w (returns_among es) (used_in_order (took w) w' (chains ++ (w.queue.position, head) ∷ []) chains' es run.1)
+used_in_order w w' chains chains' (DropsLast t ∷ es) run =
+    past_drop w (returns_among es) (used_in_order (gave_up w) w' (run.0 ++ run.1) chains' es run.4)
+used_in_order w w' chains chains' (PushesOne t len stores ∷ es) run = (run.3, used_in_order (gave w) w' (run.0 ++ run.1) chains' es run.4)
 
 -- in a serial run the two positions are one
-pub one_at_a_time : (w w' : LiveQueue) (outs outs' : List InFlightId) (es : List QueueEvent) → w.next_used ≡ w.queue.position →
-    IsSerial es → RunsOver w outs es w' outs' → StoresAsTaken (w.queue) es
-one_at_a_time w w' outs outs' [] same serial run = tt
-one_at_a_time w w' outs outs' (PopsOne head ∷ PushesOne t len stores ∷ es) same serial run =
+pub one_at_a_time : (w w' : LiveQueue) (chains chains' : List InFlightId) (es : List QueueEvent) → w.next_used ≡ w.queue.position →
+    IsSerial es → RunsOver w chains es w' chains' → StoresAsTaken (w.queue) es
+one_at_a_time w w' chains chains' [] same serial run = tt
+one_at_a_time w w' chains chains' (PopsOne head ∷ PushesOne t len stores ∷ es) same serial run =
     let inner = run.1 in (
       inner.3 ∙ ap (λ (p : ℕ). stores_after_reply (record (w.queue) { position = p }) t.1 len) same
           ∙ ap (λ (h : ℕ). stores_after_reply (w.queue) h len) serial.0,
-      one_at_a_time (gave (took w)) w' (inner.0 ++ inner.1) outs' es (ap (λ (p : ℕ). (p + 1) % 2 ^ 16) same) serial.1 inner.4,
+      one_at_a_time (gave (took w)) w' (inner.0 ++ inner.1) chains' es (ap (λ (p : ℕ). (p + 1) % 2 ^ 16) same) serial.1 inner.4,
     )
-one_at_a_time w w' outs outs' es same serial run = absurd serial
+one_at_a_time w w' chains chains' es same serial run = absurd serial
 
 -- ---- each chain once
 
@@ -49,10 +50,10 @@ abbrev heads : List InFlightId → List ℕ
 heads ts = map (λ t. t.1) ts
 
 -- one more has ended, of these that were out
-one_ended : (ended taken left : List ℕ) (t : InFlightId) (before behind outs : List InFlightId) → outs ≡ before ++ t ∷ behind
+one_ended : (ended taken left : List ℕ) (t : InFlightId) (before behind chains : List InFlightId) → chains ≡ before ++ t ∷ behind
     → IsPermutation (ended ++ left) (heads (before ++ behind) ++ taken)
-    → IsPermutation (t.1 ∷ (ended ++ left)) (heads outs ++ taken)
-one_ended ended taken left t before behind outs is run =
+    → IsPermutation (t.1 ∷ (ended ++ left)) (heads chains ++ taken)
+one_ended ended taken left t before behind chains is run =
     let inner : IsPermutation (ended ++ left) ((heads before ++ heads behind) ++ taken) =
     subst (λ (xs : List ℕ). IsPermutation (ended ++ left) (xs ++ taken)) (map-append (λ (u : InFlightId). u.1) before behind) run in
     let more : IsPermutation (t.1 ∷ (ended ++ left)) (t.1 ∷ (heads before ++ (heads behind ++ taken))) =
@@ -64,20 +65,22 @@ one_ended ended taken left t before behind outs is run =
     ∙ ap (λ (xs : List ℕ). xs ++ taken) (sym (ap heads is ∙ map-append (λ (u : InFlightId). u.1) before (t ∷ behind))))
     there
 
-pub once : (w w' : LiveQueue) (outs outs' : List InFlightId) (es : List QueueEvent) → RunsOver w outs es w' outs' →
-    IsPermutation (heads_ended es ++ heads outs') (heads outs ++ heads_taken es)
-once w w' outs outs' [] run =
-    subst (λ (xs : List ℕ). IsPermutation (heads outs') xs) (ap heads run.1 ∙ sym (append-nil (heads outs)))
-    (IsPermutation-refl (heads outs'))
-once w w' outs outs' (PopsOne head ∷ es) run =
-    subst (λ (xs : List ℕ). IsPermutation (heads_ended es ++ heads outs') xs)
-    (ap (λ (xs : List ℕ). xs ++ heads_taken es) (map-append (λ (t : InFlightId). t.1) outs ((w.queue.position, head) ∷ []))
-    ∙ append_assoc (heads outs) (head ∷ []) (heads_taken es))
-    (once (took w) w' (outs ++ (w.queue.position, head) ∷ []) outs' es run.1)
-once w w' outs outs' (DropsLast t ∷ es) run =
-    one_ended (heads_ended es) (heads_taken es) (heads outs') t run.0 run.1 outs run.2 (once (gave_up w) w' (run.0 ++ run.1) outs' es run.4)
-once w w' outs outs' (PushesOne t len stores ∷ es) run =
-    one_ended (heads_ended es) (heads_taken es) (heads outs') t run.0 run.1 outs run.2 (once (gave w) w' (run.0 ++ run.1) outs' es run.4)
+pub once : (w w' : LiveQueue) (chains chains' : List InFlightId) (es : List QueueEvent) → RunsOver w chains es w' chains' →
+    IsPermutation (heads_ended es ++ heads chains') (heads chains ++ heads_taken es)
+once w w' chains chains' [] run =
+    subst (λ (xs : List ℕ). IsPermutation (heads chains') xs) (ap heads run.1 ∙ sym (append-nil (heads chains)))
+    (IsPermutation-refl (heads chains'))
+once w w' chains chains' (PopsOne head ∷ es) run =
+    subst (λ (xs : List ℕ). IsPermutation (heads_ended es ++ heads chains') xs)
+    (ap (λ (xs : List ℕ). xs ++ heads_taken es) (map-append (λ (t : InFlightId). t.1) chains ((w.queue.position, head) ∷ []))
+    ∙ append_assoc (heads chains) (head ∷ []) (heads_taken es))
+    (once (took w) w' (chains ++ (w.queue.position, head) ∷ []) chains' es run.1)
+once w w' chains chains' (DropsLast t ∷ es) run =
+    one_ended (heads_ended es) (heads_taken es) (heads chains') t run.0 run.1 chains run.2
+    (once (gave_up w) w' (run.0 ++ run.1) chains' es run.4)
+once w w' chains chains' (PushesOne t len stores ∷ es) run =
+    one_ended (heads_ended es) (heads_taken es) (heads chains') t run.0 run.1 chains run.2
+    (once (gave w) w' (run.0 ++ run.1) chains' es run.4)
 
 -- ---- the oldest first
 
@@ -104,32 +107,33 @@ unfolding Follow
 follow_less from to t [] small h = less from to small h.1
 follow_less from to t (u ∷ ts) small h = (h.0, follow_less ((from + 1) % 2 ^ 16) to t ts (small_next from) h.1)
 
-places_dropped : (w : LiveQueue) (rs : List (InFlightId × ℕ × List Store)) → AtTheirPlaces (gave_up w) rs → AtTheirPlaces w rs
+places_dropped : (w : LiveQueue) (rs : List (InFlightId × ℕ × List Store)) → AtTheirPositions (gave_up w) rs → AtTheirPositions w rs
 places_dropped w [] h = tt
 places_dropped w (r ∷ rs) h = (h.0, places_dropped (gave w) rs h.1)
 
-places_past : (w : LiveQueue) (rs : List (InFlightId × ℕ × List Store)) → AtTheirPlaces (took w) rs → AtTheirPlaces w rs
+places_past : (w : LiveQueue) (rs : List (InFlightId × ℕ × List Store)) → AtTheirPositions (took w) rs → AtTheirPositions w rs
 places_past w [] h = tt
 places_past w (r ∷ rs) h = (h.0, places_past (gave w) rs h.1)
 
-in_order : (w : LiveQueue) (outs : List InFlightId) (es : List QueueEvent) → w.next_used < 2 ^ 16 →
-    Follow w.next_used outs w.queue.position → IsOldestFirst w outs es → AtTheirPlaces w (returns_among es)
+in_order : (w : LiveQueue) (chains : List InFlightId) (es : List QueueEvent) → w.next_used < 2 ^ 16 →
+    Follow w.next_used chains w.queue.position → IsOldestFirst w chains es → AtTheirPositions w (returns_among es)
 unfolding Follow
-in_order w outs [] small follow oldest = tt
-in_order w outs (PopsOne head ∷ es) small follow oldest =
+in_order w chains [] small follow oldest = tt
+in_order w chains (PopsOne head ∷ es) small follow oldest =
     places_past w (returns_among es)
-    (in_order (took w) (outs ++ (w.queue.position, head) ∷ []) es small (follow_more w.next_used w.queue.position head outs follow) oldest)
-in_order w outs (DropsLast t ∷ es) small follow oldest =
+    (in_order (took w) (chains ++ (w.queue.position, head) ∷ []) es small
+    (follow_more w.next_used w.queue.position head chains follow) oldest)
+in_order w chains (DropsLast t ∷ es) small follow oldest =
     places_dropped w (returns_among es)
     (in_order (gave_up w) oldest.0 es small
     (follow_less w.next_used w.queue.position t oldest.0 small
     (subst (λ (ts : List InFlightId). Follow w.next_used ts w.queue.position) oldest.1 follow)) oldest.2)
 in_order w [] (PushesOne t len stores ∷ es) small follow oldest = absurd oldest
-in_order w (first ∷ outs) (PushesOne t len stores ∷ es) small follow oldest =
-    (ap (λ (u : InFlightId). u.0) oldest.0 ∙ follow.0, in_order (gave w) outs es (small_next w.next_used) follow.1 oldest.1)
+in_order w (first ∷ chains) (PushesOne t len stores ∷ es) small follow oldest =
+    (ap (λ (u : InFlightId). u.0) oldest.0 ∙ follow.0, in_order (gave w) chains es (small_next w.next_used) follow.1 oldest.1)
 
 pub keeps_order : (w : LiveQueue) (es : List QueueEvent) → w.next_used ≡ w.queue.position → w.queue.position < 2 ^ 16 →
-    IsOldestFirst w [] es → AtTheirPlaces w (returns_among es)
+    IsOldestFirst w [] es → AtTheirPositions w (returns_among es)
 unfolding Follow
 keeps_order w es same small oldest = in_order w [] es (subst (λ (p : ℕ). p < 2 ^ 16) (sym same) small) (sym same) oldest
 

@@ -45,7 +45,7 @@ handle_begins {F} may s i kept after layout position max_in_flight event_index s
   record {
     old = live_of kept;
     there = there;
-    both = (
+    positions_agree = (
       ap (λ (q : QueueState). q.next_used) is ∙ sym (ap (λ (q : QueueState). q.next_avail) is),
       subst (λ (q : QueueState). q.next_avail < 2 ^ 16) (sym is) small,
     );

@@ -14,7 +14,7 @@ use Rattle.virtiofsd_fuse.specs.Serving.{May}
 use Rattle.plain_machine.specs.StepBy.{StoresBytes, reply_stores, return_acts, stores_among}
 use Rattle.plain_machine.proofs.StepByLemmas.{reply_writes}
 use Rattle.fs_live.specs.Several.{LiveQueue, avail_event_at, returning, sleep_store}
-use Rattle.fs_live.specs.Live.{OutChain, LiveState, LiveEvent, PushesChain, StoresNotification, FillsBuffer}
+use Rattle.fs_live.specs.Live.{InFlightChain, LiveState, LiveEvent, PushesChain, StoresNotification, FillsBuffer}
 use Rattle.fs_live.specs.Live.{FillsBufferSo, Happens, IsStoredIn, PushesChainSo, StoresNotificationSo, event_acts, room_of}
 use Rattle.fs_live.specs.Runs.{StoresStayThere, StoresThere, queue_addresses, sleep_addresses}
 
@@ -109,7 +109,7 @@ stores_within room (store ∷ stores) all =
 one_event : {F : Type 0} (may : May F) (s mid : LiveState F) (e : LiveEvent) → Happens may s e mid → StoresThere s e
 one_event may s mid (PushesChain c x notice last used seen) h =
     let out : PushesChainSo s c x notice last used seen mid = h in (
-      subst (λ (l : List OutChain). Contains l c) (sym out.out)
+      subst (λ (l : List InFlightChain). Contains l c) (sym out.out)
           (Contains-append_right out.before (c ∷ out.behind) c (0, omega arith, refl)),
       subst (λ (k : Option LiveQueue). AllThere (room_of c ++ queue_addresses k)
           (flat_map writes_of (stores_among (event_acts (PushesChain c x notice last used seen))))) (sym out.there)
@@ -124,7 +124,8 @@ one_event may s mid (StoresNotification i store) h =
     )
 one_event may s mid (FillsBuffer c stores) h =
     let so : FillsBufferSo s c stores mid = h in (
-      subst (λ (l : List OutChain). Contains l c) (sym so.out) (Contains-append_right so.before (c ∷ so.behind) c (0, omega arith, refl)),
+      subst (λ (l : List InFlightChain). Contains l c) (sym so.out)
+          (Contains-append_right so.before (c ∷ so.behind) c (0, omega arith, refl)),
       subst (λ (l : List Store). AllThere (room_of c) (flat_map writes_of l)) (sym (among_stores stores))
           (stores_within (room_of c) stores so.within),
     )

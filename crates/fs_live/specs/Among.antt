@@ -18,7 +18,7 @@ use Rattle.fs_chain.specs.declared.popping.PopOutcome as walked
 use Rattle.fs_chain.specs.declared.popping.PopOutcome.TheVariants as says
 use Rattle.fs_chain.specs.declared.chain_handle.ChainHandle.{ChainHandle}
 use Rattle.fs_live.specs.Live.{RefusesPop, Happens, LiveState, EndsPop, after_pop}
-use Rattle.fs_live.specs.Handles.{IsPopDone, IsHeld, loads_after, live_of}
+use Rattle.fs_live.specs.Handles.{IsPopDone, HoldsResult, loads_after, live_of}
 
 -- a pop by calls of the handle, the last one first, which finds the queue as `now`. Before each call
 -- but the first, other handles may have changed the queue. Calls of the pop itself may have been
@@ -67,7 +67,7 @@ HandleEndsPopAmong {F} may =
     (after_pop s i (live_of now) loaded new.descriptors.items came)
     × (slice_get (after_pop s i (live_of now) loaded new.descriptors.items came).queues i
     ≡ Some (live_of after))
-    × IsHeld s i (live_of now) loaded came new
+    × HoldsResult s i (live_of now) loaded came new
 
 -- each load that such a pop asks for is mapped, so no call is refused for it
 abbrev pub WantedAmongIsMapped : Type 0

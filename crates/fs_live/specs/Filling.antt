@@ -10,7 +10,7 @@ use Rattle.fs_regions.specs.Windows.{IsRangeFrom, IsWindowFrom}
 use Rattle.virtiofsd_fuse.specs.Serving.{May}
 use Rattle.fs_chain.specs.declared.chain_handle.ChainHandle.{ChainHandle}
 use Rattle.plain_machine.specs.StepBy.{byte_store}
-use Rattle.fs_live.specs.Live.{Abandoned, FillsBuffer, Happens, LiveState, OutChain, Phase, PoppedFaulty}
+use Rattle.fs_live.specs.Live.{Abandoned, FillsBuffer, Happens, LiveState, InFlightChain, Phase, PoppedFaulty}
 use Rattle.fs_live.specs.Live.{room_of}
 use Rattle.fs_live.specs.Runs.{reported_by}
 
@@ -28,9 +28,10 @@ data_stores room from bytes = map byte_store (zip (drop from room) bytes)
 -- window has the places of their addresses
 abbrev pub HandleFillsBuffer : {F : Type 0} → May F → Type 0
 HandleFillsBuffer {F} may =
-    (s : LiveState F) (c : OutChain) (before behind : List OutChain) (w : ChainHandle) (from : ℕ) (v : Window)
+    (s : LiveState F) (c : InFlightChain) (before behind : List InFlightChain) (w : ChainHandle) (from : ℕ)
+    (v : Window)
     (bytes : List ℕ) →
-    s.outs ≡ before ++ c ∷ behind →
+    s.chains ≡ before ++ c ∷ behind →
     HasRoom c.phase →
     c.descriptors ≡ w.descriptors.items →
     IsWindowFrom w.regions true w.descriptors.items from v →
@@ -43,9 +44,10 @@ HandleFillsBuffer {F} may =
 -- reports these addresses
 abbrev pub HandleFillsRange : {F : Type 0} → May F → Type 0
 HandleFillsRange {F} may =
-    (s : LiveState F) (c : OutChain) (before behind : List OutChain) (w : ChainHandle) (from guest len : ℕ)
+    (s : LiveState F) (c : InFlightChain) (before behind : List InFlightChain) (w : ChainHandle)
+    (from guest len : ℕ)
     (bytes : List ℕ) →
-    s.outs ≡ before ++ c ∷ behind →
+    s.chains ≡ before ++ c ∷ behind →
     HasRoom c.phase →
     c.descriptors ≡ w.descriptors.items →
     IsRangeFrom true w.descriptors.items from guest len →

@@ -42,11 +42,12 @@ StaysThere (MovesDevice m queues) = ⊥
 StaysThere _ = Unit {0}
 
 -- the addresses that the guest wrote, and those that the events reported, in order
-abbrev pub told_through : {F : Type 0} → (may : May F) → (s : LiveState F) → (ms : List Moment) →
+abbrev pub reported_through : {F : Type 0} → (may : May F) → (s : LiveState F) → (ms : List Moment) →
     (after : LiveState F) → LiveRun may s (events_of ms) after → List ℕ
-told_through may s [] after run = []
-told_through may s (Writes ws ∷ ms) after run = map (λ w. w.0) ws ++ told_through may s ms after run
-told_through may s (DeviceEvent e ∷ ms) after run = reported_by s e ++ told_through may run.0 ms after run.2
+reported_through may s [] after run = []
+reported_through may s (Writes ws ∷ ms) after run = map (λ w. w.0) ws ++ reported_through may s ms after run
+reported_through may s (DeviceEvent e ∷ ms) after run =
+    reported_by s e ++ reported_through may run.0 ms after run.2
 
 -- the guest may write between any two events of a run. The pages that are marked in the end are those marked
 -- before, those of the guest's writes, and those that the events reported. No others are marked
@@ -54,4 +55,4 @@ abbrev pub PagesOfRun : {F : Type 0} → May F → Type 0
 PagesOfRun {F} may =
     (s after : LiveState F) (ms : List Moment) (m : Memory) (run : LiveRun may s (events_of ms) after) →
     AllByRecursion StaysThere (events_of ms) →
-    Marks m (told_through may s ms after run) (after_moments m ms).host
+    Marks m (reported_through may s ms after run) (after_moments m ms).host

@@ -47,7 +47,7 @@ use Rattle.fs_live.specs.Several.{LiveQueue, seen_at}
 use Rattle.fs_live.specs.Live.{Asked, RefusesPop, DecodesRequest, Fetched, LiveEvent, LiveRun, ReceivesAnswer}
 use Rattle.fs_live.specs.Live.{ResetsQueue}
 use Rattle.fs_live.specs.Live.{PoppedFaulty}
-use Rattle.fs_live.specs.Live.{LiveState, OutChain, PushesChain, StoresNotification, EndsPop}
+use Rattle.fs_live.specs.Live.{LiveState, InFlightChain, PushesChain, StoresNotification, EndsPop}
 use Rattle.fs_live.specs.Live.{Happens, StoreIsMapped, NonePending, after_answer, after_decoding, event_acts}
 use Rattle.fs_live.specs.Live.{after_reset, after_push, after_pop, asked_chain, new_chain, room_of}
 use Rattle.fs_live.specs.Live.{serving, pop_refusal}
@@ -71,27 +71,27 @@ IsPopDone _ = Unit {0}
 
 -- a chain of a run with this limit, in the handle that popped it. The handle may have another IOMMU's table
 -- by now, or none: its state alone keeps the chain
-pub record IsOut (limit : ℕ) (c : OutChain) (w : ChainHandle) : Type 0 where
+pub record HoldsPopped (limit : ℕ) (c : InFlightChain) (w : ChainHandle) : Type 0 where
   pub kept : QueueState
   pub pop_id : PopId
   pub taken : c.taken ≡ queue_of (course_of kept limit)
   pub state : w.state ≡ at.Taken (out_of (course_of kept limit) pop_id c.head c.descriptors)
 
 -- a faulty chain in its handle: its reply is known already, and is empty
-pub record IsFaultyOut (limit : ℕ) (c : OutChain) (w : ChainHandle) : Type 0 where
+pub record HoldsFaulty (limit : ℕ) (c : InFlightChain) (w : ChainHandle) : Type 0 where
   pub kept : QueueState
   pub pop_id : PopId
   pub taken : c.taken ≡ queue_of (course_of kept limit)
   pub state : w.state ≡ at.HasReply (faulty_out (course_of kept limit) pop_id c.head) no_reply
 
 -- the handle has the chain that its pop returned
-abbrev pub IsHeld :
+abbrev pub HoldsResult :
     {F : Type 0} → LiveState F → (i : ℕ) → LiveQueue → Loaded → comes.CourseStep → ChainHandle → Type 0
-IsHeld s i q loaded (step.Chain head None) w =
-    IsOut s.limit (new_chain s i q loaded w.descriptors.items head None) w
-IsHeld s i q loaded (step.Chain head (Some why)) w =
-    IsFaultyOut s.limit (new_chain s i q loaded w.descriptors.items head (Some why)) w
-IsHeld s i q loaded _ w = Unit {0}
+HoldsResult s i q loaded (step.Chain head None) w =
+    HoldsPopped s.limit (new_chain s i q loaded w.descriptors.items head None) w
+HoldsResult s i q loaded (step.Chain head (Some why)) w =
+    HoldsFaulty s.limit (new_chain s i q loaded w.descriptors.items head (Some why)) w
+HoldsResult s i q loaded _ w = Unit {0}
 
 -- a pop by calls of the handle, of a queue that isn't stopped, is the event of a pop by all its loads. The
 -- queue is then as the calls left it: a refusal has stopped it
@@ -114,7 +114,7 @@ HandleEndsPop {F} may =
     (after_pop s i (live_of before) loaded new.descriptors.items came)
     × (slice_get (after_pop s i (live_of before) loaded new.descriptors.items came).queues i
     ≡ Some (live_of after))
-    × IsHeld s i (live_of before) loaded came new
+    × HoldsResult s i (live_of before) loaded came new
 
 -- one load more, unless the call was given only a part of it
 abbrev pub loads_after : went.LoadOutcome → ℕ → ℕ
@@ -171,14 +171,14 @@ IsDecodedWhole _ = Unit {0}
 -- a state that a run reaches from a state without chains in flight
 abbrev pub IsReached : {F : Type 0} → May F → LiveState F → Type 0
 IsReached {F} may s =
-    (start : LiveState F) × (es : List LiveEvent) × (start.outs ≡ []) × LiveRun may start es s
+    (start : LiveState F) × (es : List LiveEvent) × (start.chains ≡ []) × LiveRun may start es s
 
 -- a session with the page size and the options of a run
 abbrev pub IsSessionOf : {F : Type 0} → LiveState F → Session → Type 0
 IsSessionOf s session = (session.page_size ≡ s.page_size) × (session.options.0 ≡ s.options)
 
 -- the handle's state after it decoded the request of a chain of a run
-pub record IsKept (page_size options : ℕ) (request : List ℕ) (c : OutChain) (made : Decoded)
+pub record HoldsDecoded (page_size options : ℕ) (request : List ℕ) (c : InFlightChain) (made : Decoded)
     (w : ChainHandle) : Type 0 where
   pub out : InFlight
   pub head : out.head ≡ c.head
@@ -192,30 +192,32 @@ pub record IsKept (page_size options : ℕ) (request : List ℕ) (c : OutChain) 
 -- a decoding by a handle is the event `DecodesRequest`; the handle keeps the decoded request
 abbrev pub HandleDecodesRequest : {F : Type 0} → May F → Type 0
 HandleDecodesRequest {F} may =
-    (s : LiveState F) (c : OutChain) (before behind : List OutChain) (w w' : ChainHandle) (session : Session)
+    (s : LiveState F) (c : InFlightChain) (before behind : List InFlightChain) (w w' : ChainHandle)
+    (session : Session)
     (request front : List ℕ) (made : Decoded) →
     IsReached may s →
     s.limit ≤ 2 ^ 31 →
-    s.outs ≡ before ++ c ∷ behind →
+    s.chains ≡ before ++ c ∷ behind →
     c.phase ≡ Fetched →
-    IsOut s.limit c w →
+    HoldsPopped s.limit c w →
     IsSessionOf s session →
     IsDecodedBy w session request front made w' →
     IsDecodedWhole made →
     Happens may s (DecodesRequest c request (calls_decoded (drop 80 request) made))
     (after_decoding s before behind c request)
-    × IsKept s.page_size s.options request (asked_chain c request s.options []) made w'
+    × HoldsDecoded s.page_size s.options request (asked_chain c request s.options []) made w'
 
 -- an answer by a handle is the event `ReceivesAnswer`; the handle's session then has the options that the
 -- chain leaves by itself
 abbrev pub HandleReceivesAnswer : {F : Type 0} → May F → Type 0
 HandleReceivesAnswer {F} may =
-    (s : LiveState F) (c : OutChain) (before behind : List OutChain) (w w' : ChainHandle) (request : List ℕ)
+    (s : LiveState F) (c : InFlightChain) (before behind : List InFlightChain) (w w' : ChainHandle)
+    (request : List ℕ)
     (options : ℕ) (made : made_call.FileCall) (a : made_answer.FileAnswer) (bytes : List ℕ)
     (told : Replied) (files : F) →
-    s.outs ≡ before ++ c ∷ behind →
+    s.chains ≡ before ++ c ∷ behind →
     c.phase ≡ Asked request options [] →
-    IsKept s.page_size options request c (asks.Call made) w →
+    HoldsDecoded s.page_size options request c (asks.Call made) w →
     IsAnsweredBy w a bytes told w' →
     IfWaits w.state (λ out waiting. CanBeGiven waiting a) →
     may s.files (call_of (drop 80 request) made) (answer_of bytes a) files →
@@ -233,12 +235,13 @@ HandleReceivesAnswer {F} may =
 -- After the last call, the handle's session has the options that the chain leaves by itself
 abbrev pub HandleCalls : {F : Type 0} → May F → Type 0
 HandleCalls {F} may =
-    (s : LiveState F) (c : OutChain) (before behind : List OutChain) (w w' : ChainHandle) (request : List ℕ)
+    (s : LiveState F) (c : InFlightChain) (before behind : List InFlightChain) (w w' : ChainHandle)
+    (request : List ℕ)
     (options : ℕ) (made : Decoded) (given : ChainAnswer) (earlier later : Calls) (call : FileCall)
     (answer : FileAnswer) (files : F) →
-    s.outs ≡ before ++ c ∷ behind →
+    s.chains ≡ before ++ c ∷ behind →
     c.phase ≡ Asked request options earlier →
-    IsKept s.page_size options request c made w →
+    HoldsDecoded s.page_size options request c made w →
     IsRepliedBy made w given w' →
     file_calls (drop 80 request) made given ≡ earlier ++ (call, answer) ∷ later →
     IsTrue (suits call answer) →
@@ -279,7 +282,8 @@ OptionsStay =
 
 -- the stores and loads for a chain are the event of its return, at its queue's next used position. `seen_at`
 -- of the stores is the address of the two bytes that are seen
-abbrev pub IsReturn : {F : Type 0} → May F → LiveState F → (before behind : List OutChain) → OutChain →
+abbrev pub IsReturn : {F : Type 0} → May F → LiveState F → (before behind : List InFlightChain) →
+    InFlightChain →
     QueueState → List Act → (last : ℕ) → (notice : Bool) → PushStores → Type 0
 IsReturn {F} may s before behind c kept acts last notice stores =
     (x : Exchange) × (used : List Store) × (seen : List ℕ)
@@ -292,15 +296,16 @@ IsReturn {F} may s before behind c kept acts last notice stores =
 -- queue may have been popped and returned meanwhile
 abbrev pub HandlePushesChain : {F : Type 0} → May F → Type 0
 HandlePushesChain {F} may =
-    (s : LiveState F) (c : OutChain) (before behind : List OutChain) (w w' : ChainHandle) (kept : QueueState)
+    (s : LiveState F) (c : InFlightChain) (before behind : List InFlightChain) (w w' : ChainHandle)
+    (kept : QueueState)
     (request : List ℕ) (options : ℕ) (made : Decoded) (given : ChainAnswer) (acts : List Act) (last : ℕ)
     (notice : Bool) →
-    s.outs ≡ before ++ c ∷ behind →
+    s.chains ≡ before ++ c ∷ behind →
     slice_get s.queues c.queue ≡ Some (live_of kept) →
     c.taken ≡ queue_of (course_of (record kept { next_avail = c.taken.position }) 0) →
     c.phase ≡ Asked request options (file_calls (drop 80 request) made given) →
     EachSuits (file_calls (drop 80 request) made given) →
-    IsKept s.page_size options request c made w →
+    HoldsDecoded s.page_size options request c made w →
     IsRepliedBy made w given w' →
     (back : PushedBy kept (room_of c) (data_behind given) w'.state acts last notice) →
     IsReturn may s before behind c kept acts last notice back.stores
@@ -308,13 +313,14 @@ HandlePushesChain {F} may =
 -- so is the return of a faulty chain, with an empty reply
 abbrev pub HandleFaulty : {F : Type 0} → May F → Type 0
 HandleFaulty {F} may =
-    (s : LiveState F) (c : OutChain) (before behind : List OutChain) (w : ChainHandle) (kept : QueueState)
+    (s : LiveState F) (c : InFlightChain) (before behind : List InFlightChain) (w : ChainHandle)
+    (kept : QueueState)
     (why : ChainFault) (acts : List Act) (last : ℕ) (notice : Bool) →
-    s.outs ≡ before ++ c ∷ behind →
+    s.chains ≡ before ++ c ∷ behind →
     slice_get s.queues c.queue ≡ Some (live_of kept) →
     c.taken ≡ queue_of (course_of (record kept { next_avail = c.taken.position }) 0) →
     c.phase ≡ PoppedFaulty why →
-    IsFaultyOut s.limit c w →
+    HoldsFaulty s.limit c w →
     (back : PushedBy kept [] [] w.state acts last notice) →
     IsReturn may s before behind c kept acts last notice back.stores
 
@@ -355,6 +361,6 @@ HandleResetsQueue {F} may =
     1 ≤ max_in_flight →
     max_in_flight ≤ layout.size →
     position < 2 ^ 16 →
-    AllByRecursion (λ c. NonePending s.page_size i c c.phase) s.outs →
+    AllByRecursion (λ c. NonePending s.page_size i c c.phase) s.chains →
     Happens may s (ResetsQueue i (live_of after)) (after_reset s i (live_of after))
     × (slice_get (after_reset s i (live_of after)).queues i ≡ Some (live_of after))

@@ -9,7 +9,8 @@ use Rattle.virtiofsd_fuse.specs.Examples.{le16, le32, le64, in_header_bytes, nob
 use Rattle.virtiofsd_fuse.specs.Serving.{May}
 use Rattle.plain_machine.specs.Examples.{blank, descriptor_bytes, queue}
 use Rattle.plain_machine.specs.Step.{Exchange}
-use Rattle.fs_live.specs.Live.{Fetched, Asked, OutChain, EndsPop, DecodesRequest, ReceivesAnswer, PushesChain}
+use Rattle.fs_live.specs.Live.{Fetched, Asked, InFlightChain, EndsPop, DecodesRequest, ReceivesAnswer}
+use Rattle.fs_live.specs.Live.{PushesChain}
 use Rattle.fs_live.specs.Live.{LiveRun}
 use Rattle.fs_live.specs.Overlap.{at_positions, entry, state}
 
@@ -60,7 +61,7 @@ second_table =
     ∷ record { addr = 0x4000; len = 80; flags = 2; next = 0 } ∷ []
 
 -- the first chain, as it is popped
-abbrev pub first : OutChain
+abbrev pub first : InFlightChain
 first =
     record {
       places = blank;
@@ -73,7 +74,7 @@ first =
     }
 
 -- the second chain, as it is popped
-abbrev pub second : OutChain
+abbrev pub second : InFlightChain
 second =
     record {
       places = blank;
@@ -86,19 +87,19 @@ second =
     }
 
 -- the first chain was decoded without options
-abbrev pub first_asked : OutChain
+abbrev pub first_asked : InFlightChain
 first_asked = record first { phase = Asked lookup 0 [] }
 
 -- LOOKUP was answered
-abbrev pub first_answered : OutChain
+abbrev pub first_answered : InFlightChain
 first_answered = record first { phase = Asked lookup 0 ((looks, Failed 2) ∷ []) }
 
 -- the second chain was decoded without options too
-abbrev pub second_asked : OutChain
+abbrev pub second_asked : InFlightChain
 second_asked = record second { phase = Asked init 0 [] }
 
 -- INIT was answered: the file system asks for no further option
-abbrev pub second_answered : OutChain
+abbrev pub second_answered : InFlightChain
 second_answered = record second { phase = Asked init 0 ((starts, Wants 0) ∷ []) }
 
 -- the reply to LOOKUP: ENOENT

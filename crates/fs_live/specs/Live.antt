@@ -45,7 +45,7 @@ pub data Phase : Type 0 where
 
 -- a chain in flight: the mappings when it was popped; its queue, as it was before the pop; the loads of the
 -- pop, the descriptors and the head; and its phase
-pub record OutChain : Type 0 where
+pub record InFlightChain : Type 0 where
   pub places : Memory
   pub queue : ℕ
   pub taken : Queue
@@ -67,11 +67,11 @@ room_of_phase (Abandoned fault) ds = []
 room_of_phase _ ds = addresses_of (writable ds)
 
 -- a chain that was decoded from this request, with these options, and whose calls so far are these
-abbrev pub asked_chain : OutChain → (request : List ℕ) → (options : ℕ) → Calls → OutChain
+abbrev pub asked_chain : InFlightChain → (request : List ℕ) → (options : ℕ) → Calls → InFlightChain
 asked_chain c request options calls = record c { phase = Asked request options calls }
 
 -- the addresses of the chain's reply buffer, in its phase
-abbrev pub room_of : OutChain → List ℕ
+abbrev pub room_of : InFlightChain → List ℕ
 room_of c = room_of_phase c.phase c.descriptors
 
 -- the calls of a chain that were answered so far, while the server is to reply; of any other phase none
@@ -88,7 +88,7 @@ pub record LiveState (F : Type 0) : Type 0 where
   pub page_size : ℕ
   pub queues : List LiveQueue
   pub options : ℕ
-  pub outs : List OutChain
+  pub chains : List InFlightChain
   pub files : F
 
 -- ---- events
@@ -100,27 +100,28 @@ pub data LiveEvent : Type 0 where
   -- a pop of queue i was refused with this error, before any load, or because the queue was stopped meanwhile
   RefusesPop : (i : ℕ) → QueueError → LiveEvent
   -- the request of a chain in flight was decoded: its first call, or none
-  DecodesRequest : OutChain → (request : List ℕ) → (told : List FileCall) → LiveEvent
+  DecodesRequest : InFlightChain → (request : List ℕ) → (told : List FileCall) → LiveEvent
   -- the pending call of the chain was answered
-  ReceivesAnswer : OutChain → FileCall → FileAnswer → LiveEvent
+  ReceivesAnswer : InFlightChain → FileCall → FileAnswer → LiveEvent
   -- a chain was pushed. `last` bytes of the reply were stored last, and the stores `used` after the reply.
   -- `seen` are the two bytes that were loaded last; `notice`: whether the driver is to be notified by them
   PushesChain :
-      OutChain → Exchange → (notice : Bool) → (last : ℕ) → (used : List Store) → (seen : List ℕ) → LiveEvent
+      InFlightChain → Exchange → (notice : Bool) → (last : ℕ) → (used : List Store) → (seen : List ℕ) →
+      LiveEvent
   -- before the device sleeps, and when it wakes, it enables or disables the notifications of queue i
   StoresNotification : (i : ℕ) → Store → LiveEvent
   -- queue i is reset
   ResetsQueue : (i : ℕ) → LiveQueue → LiveEvent
   -- before a chain in flight is returned, some bytes are stored in its reply buffer, which its reply may
   -- count or not
-  FillsBuffer : OutChain → List Store → LiveEvent
+  FillsBuffer : InFlightChain → List Store → LiveEvent
   -- the chain popped last from its queue, and not decoded, is given up: it is available again
-  GivesUpChain : OutChain → LiveEvent
+  GivesUpChain : InFlightChain → LiveEvent
   -- the handle of a chain is freed in any phase: the chain stays in flight
-  Abandons : OutChain → LiveEvent
+  Abandons : InFlightChain → LiveEvent
   -- the caller replies to a request with bytes of its own, instead of decoding it or of answering its pending
   -- call; it may set the options of the session then
-  RepliesOwnBytes : OutChain → (request reply : List ℕ) → (options : ℕ) → LiveEvent
+  RepliesOwnBytes : InFlightChain → (request reply : List ℕ) → (options : ℕ) → LiveEvent
   -- addresses have other mappings from now on: those of other regions, or others in the same regions
   Remaps : Memory → LiveEvent
   -- the device moves: a record of it is made here, and its queues are reset by it there, over these mappings
@@ -146,7 +147,7 @@ phase_by (Some why) = PoppedFaulty why
 
 -- a chain as it is popped
 abbrev pub new_chain : {F : Type 0} → LiveState F → ℕ → LiveQueue → Loaded → List Descriptor → (head : ℕ) →
-    Option ChainFault → OutChain
+    Option ChainFault → InFlightChain
 new_chain s i w loaded ds head fault =
     record {
       places = s.places;
@@ -159,8 +160,8 @@ new_chain s i w loaded ds head fault =
     }
 
 -- the chain is in flight, and the queue's next chain is popped from the next position
-abbrev pub with_popped : {F : Type 0} → LiveState F → ℕ → LiveQueue → OutChain → LiveState F
-with_popped s i w c = record s { queues = changed_at s.queues i (λ _. took w); outs = s.outs ++ c ∷ [] }
+abbrev pub with_popped : {F : Type 0} → LiveState F → ℕ → LiveQueue → InFlightChain → LiveState F
+with_popped s i w c = record s { queues = changed_at s.queues i (λ _. took w); chains = s.chains ++ c ∷ [] }
 
 -- how a pop of a queue ends. A pop that misses addresses is no event: it changes nothing
 abbrev pub EndsPopIn : {F : Type 0} → LiveState F → ℕ → LiveQueue → Loaded → List Descriptor →
@@ -225,37 +226,38 @@ pub record RefusesPopSo {F : Type 0} (s : LiveState F) (i : ℕ) (e : QueueError
 
 -- the state after a chain in flight was decoded
 abbrev pub after_decoding :
-    {F : Type 0} → LiveState F → (before behind : List OutChain) → OutChain → (request : List ℕ) → LiveState F
+    {F : Type 0} → LiveState F → (before behind : List InFlightChain) → InFlightChain → (request : List ℕ) →
+    LiveState F
 after_decoding s before behind c request =
-    record s { outs = before ++ asked_chain c request s.options [] ∷ behind }
+    record s { chains = before ++ asked_chain c request s.options [] ∷ behind }
 
 -- a chain in flight is decoded, with the options of this moment
-pub record DecodesRequestSo {F : Type 0} (s : LiveState F) (c : OutChain) (request : List ℕ)
+pub record DecodesRequestSo {F : Type 0} (s : LiveState F) (c : InFlightChain) (request : List ℕ)
     (told : List FileCall) (after : LiveState F) : Type 0 where
-  pub before : List OutChain
-  pub behind : List OutChain
-  pub out : s.outs ≡ before ++ c ∷ behind
+  pub before : List InFlightChain
+  pub behind : List InFlightChain
+  pub out : s.chains ≡ before ++ c ∷ behind
   pub fresh : c.phase ≡ Fetched
   pub whole : length request ≡ total_len (readable c.descriptors)
   pub tells : told ≡ (serving s.page_size s.options s.options request (room_of c) []).calls
   pub state : after ≡ after_decoding s before behind c request
 
 -- the state after the answers of these calls, the last of which was answered now
-abbrev pub after_answer : {F : Type 0} → LiveState F → (before behind : List OutChain) → OutChain →
+abbrev pub after_answer : {F : Type 0} → LiveState F → (before behind : List InFlightChain) → InFlightChain →
     (request : List ℕ) → (options : ℕ) → Calls → F → LiveState F
 after_answer s before behind c request options calls files = record s {
-  outs = before ++ asked_chain c request options calls ∷ behind;
+  chains = before ++ asked_chain c request options calls ∷ behind;
   options = (serving s.page_size options s.options request (room_of c) calls).options;
   files = files;
 }
 
 -- the pending call of a chain is answered, as the file system may answer by now. It is the call after those
 -- that were answered. An answer to INIT or DESTROY changes the session's options
-pub record ReceivesAnswerSo {F : Type 0} (may : May F) (s : LiveState F) (c : OutChain) (call : FileCall)
+pub record ReceivesAnswerSo {F : Type 0} (may : May F) (s : LiveState F) (c : InFlightChain) (call : FileCall)
     (answer : FileAnswer) (after : LiveState F) : Type 0 where
-  pub before : List OutChain
-  pub behind : List OutChain
-  pub out : s.outs ≡ before ++ c ∷ behind
+  pub before : List InFlightChain
+  pub behind : List InFlightChain
+  pub out : s.chains ≡ before ++ c ∷ behind
   pub request : List ℕ
   pub options : ℕ
   pub calls : Calls
@@ -273,7 +275,7 @@ own_exchange head request reply = record { head = head; request = request; reply
 
 -- the exchange with which a chain is returned: an empty reply, if it is faulty; the server's reply, once no
 -- call is pending; or its caller's own bytes
-abbrev pub PushedWith : (page_size : ℕ) → OutChain → Phase → Exchange → Type 0
+abbrev pub PushedWith : (page_size : ℕ) → InFlightChain → Phase → Exchange → Type 0
 PushedWith page_size c (PoppedFaulty why) x = x ≡ faulty c.head why
 PushedWith page_size c Fetched x = ⊥
 PushedWith page_size c (Own request reply) x = x ≡ own_exchange c.head request reply
@@ -284,16 +286,17 @@ PushedWith page_size c (Asked request options calls) x =
 
 -- the state after a chain was pushed
 abbrev pub after_push :
-    {F : Type 0} → LiveState F → (before behind : List OutChain) → OutChain → LiveQueue → LiveState F
+    {F : Type 0} → LiveState F → (before behind : List InFlightChain) → InFlightChain → LiveQueue →
+    LiveState F
 after_push s before behind c w =
-    record s { queues = changed_at s.queues c.queue (λ _. gave w); outs = before ++ behind }
+    record s { queues = changed_at s.queues c.queue (λ _. gave w); chains = before ++ behind }
 
 -- a chain is returned at its queue's next used position, in any order of the pops
-pub record PushesChainSo {F : Type 0} (s : LiveState F) (c : OutChain) (x : Exchange) (notice : Bool)
+pub record PushesChainSo {F : Type 0} (s : LiveState F) (c : InFlightChain) (x : Exchange) (notice : Bool)
     (last : ℕ) (used : List Store) (seen : List ℕ) (after : LiveState F) : Type 0 where
-  pub before : List OutChain
-  pub behind : List OutChain
-  pub out : s.outs ≡ before ++ c ∷ behind
+  pub before : List InFlightChain
+  pub behind : List InFlightChain
+  pub out : s.chains ≡ before ++ c ∷ behind
   pub w : LiveQueue
   pub there : slice_get s.queues c.queue ≡ Some w
   pub goes : PushedWith s.page_size c c.phase x
@@ -317,7 +320,7 @@ pub record StoresNotificationSo {F : Type 0} (s : LiveState F) (i : ℕ) (store 
   pub state : after ≡ s
 
 -- no call of the chain is pending, if it is of queue i
-abbrev pub NonePending : (page_size i : ℕ) → OutChain → Phase → Type 0
+abbrev pub NonePending : (page_size i : ℕ) → InFlightChain → Phase → Type 0
 NonePending page_size i c (Asked request options calls) =
     c.queue ≡ i → (serving page_size options options request (room_of c) calls).calls ≡ calls_alone calls
 NonePending page_size i c _ = Unit {0}
@@ -325,7 +328,7 @@ NonePending page_size i c _ = Unit {0}
 -- the state after a reset: no chain of the queue is in flight
 abbrev pub after_reset : {F : Type 0} → LiveState F → ℕ → LiveQueue → LiveState F
 after_reset s i w =
-    record s { queues = changed_at s.queues i (λ _. w); outs = filter (λ c. not (c.queue == i)) s.outs }
+    record s { queues = changed_at s.queues i (λ _. w); chains = filter (λ c. not (c.queue == i)) s.chains }
 
 -- the next chain is popped and returned at the same position, of 16 bits
 abbrev pub HasNoneInFlight : LiveQueue → Type 0
@@ -341,9 +344,9 @@ pub record ResetsQueueSo {F : Type 0} (s : LiveState F) (i : ℕ) (w : LiveQueue
     Type 0 where
   pub old : LiveQueue
   pub there : slice_get s.queues i ≡ Some old
-  pub both : HasNoneInFlight w
+  pub positions_agree : HasNoneInFlight w
   pub few : HasValidMaximum w
-  pub none_pending : AllByRecursion (λ c. NonePending s.page_size i c c.phase) s.outs
+  pub none_pending : AllByRecursion (λ c. NonePending s.page_size i c c.phase) s.chains
   pub state : after ≡ after_reset s i w
 
 -- each address of a store is in the reply buffer
@@ -351,12 +354,12 @@ abbrev pub IsStoredIn : List ℕ → Store → Type 0
 IsStoredIn room store = AllByRecursion (λ a. Contains room a) (addresses store.address (length store.bytes))
 
 -- stores in a chain's reply buffer change nothing of the state
-pub record FillsBufferSo {F : Type 0} (s : LiveState F) (c : OutChain) (stores : List Store)
+pub record FillsBufferSo {F : Type 0} (s : LiveState F) (c : InFlightChain) (stores : List Store)
     (after : LiveState F) :
     Type 0 where
-  pub before : List OutChain
-  pub behind : List OutChain
-  pub out : s.outs ≡ before ++ c ∷ behind
+  pub before : List InFlightChain
+  pub behind : List InFlightChain
+  pub out : s.chains ≡ before ++ c ∷ behind
   pub within : AllByRecursion (IsStoredIn (room_of c)) stores
   pub state : after ≡ s
 
@@ -364,15 +367,17 @@ pub record FillsBufferSo {F : Type 0} (s : LiveState F) (c : OutChain) (stores :
 
 -- the state after a chain was given up
 abbrev pub after_giving_up :
-    {F : Type 0} → LiveState F → (before behind : List OutChain) → OutChain → LiveQueue → LiveState F
+    {F : Type 0} → LiveState F → (before behind : List InFlightChain) → InFlightChain → LiveQueue →
+    LiveState F
 after_giving_up s before behind c w =
-    record s { queues = changed_at s.queues c.queue (λ _. gave_up w); outs = before ++ behind }
+    record s { queues = changed_at s.queues c.queue (λ _. gave_up w); chains = before ++ behind }
 
 -- a chain that wasn't decoded, and is the last one of its queue that is still popped, is no longer in flight
-pub record GivesUpChainSo {F : Type 0} (s : LiveState F) (c : OutChain) (after : LiveState F) : Type 0 where
-  pub before : List OutChain
-  pub behind : List OutChain
-  pub out : s.outs ≡ before ++ c ∷ behind
+pub record GivesUpChainSo {F : Type 0} (s : LiveState F) (c : InFlightChain)
+    (after : LiveState F) : Type 0 where
+  pub before : List InFlightChain
+  pub behind : List InFlightChain
+  pub out : s.chains ≡ before ++ c ∷ behind
   pub fresh : c.phase ≡ Fetched
   pub w : LiveQueue
   pub there : slice_get s.queues c.queue ≡ Some w
@@ -380,41 +385,42 @@ pub record GivesUpChainSo {F : Type 0} (s : LiveState F) (c : OutChain) (after :
   pub state : after ≡ after_giving_up s before behind c w
 
 -- an abandoned chain keeps its fault
-abbrev pub abandoned_chain : OutChain → OutChain
+abbrev pub abandoned_chain : InFlightChain → InFlightChain
 abandoned_chain c = record c { phase = Abandoned (fault_of_phase c.phase) }
 
 -- the state after a handle is freed
-abbrev pub after_abandoning : {F : Type 0} → LiveState F → (before behind : List OutChain) → OutChain
+abbrev pub after_abandoning : {F : Type 0} → LiveState F → (before behind : List InFlightChain) →
+    InFlightChain
     → LiveState F
-after_abandoning s before behind c = record s { outs = before ++ abandoned_chain c ∷ behind }
+after_abandoning s before behind c = record s { chains = before ++ abandoned_chain c ∷ behind }
 
 -- a chain's handle is freed, in any phase, also again: the chain is never pushed. If the file system did its
 -- pending call by then, the answer (`ReceivesAnswer`) is an event before this one
-pub record AbandonsSo {F : Type 0} (s : LiveState F) (c : OutChain) (after : LiveState F) : Type 0 where
-  pub before : List OutChain
-  pub behind : List OutChain
-  pub out : s.outs ≡ before ++ c ∷ behind
+pub record AbandonsSo {F : Type 0} (s : LiveState F) (c : InFlightChain) (after : LiveState F) : Type 0 where
+  pub before : List InFlightChain
+  pub behind : List InFlightChain
+  pub out : s.chains ≡ before ++ c ∷ behind
   pub state : after ≡ after_abandoning s before behind c
 
 -- the request of a chain that its caller may reply to. The chain wasn't decoded, or it was from this request;
 -- the file system may have answered some of its calls by then, or all
-abbrev pub IsUnreplied : OutChain → Phase → (request : List ℕ) → Type 0
+abbrev pub IsUnreplied : InFlightChain → Phase → (request : List ℕ) → Type 0
 IsUnreplied c Fetched request = length request ≡ total_len (readable c.descriptors)
 IsUnreplied c (Asked asked options calls) request = request ≡ asked
 IsUnreplied c _ request = ⊥
 
 -- the state after the caller's own reply
-abbrev pub after_own : {F : Type 0} → LiveState F → (before behind : List OutChain) → OutChain →
+abbrev pub after_own : {F : Type 0} → LiveState F → (before behind : List InFlightChain) → InFlightChain →
     (request reply : List ℕ) → (options : ℕ) → LiveState F
 after_own s before behind c request reply options =
-    record s { outs = before ++ (record c { phase = Own request reply }) ∷ behind; options = options }
+    record s { chains = before ++ (record c { phase = Own request reply }) ∷ behind; options = options }
 
 -- the caller's bytes fit in the reply buffer, and their number fits in the used element
-pub record RepliesOwnBytesSo {F : Type 0} (s : LiveState F) (c : OutChain) (request reply : List ℕ)
+pub record RepliesOwnBytesSo {F : Type 0} (s : LiveState F) (c : InFlightChain) (request reply : List ℕ)
     (options : ℕ) (after : LiveState F) : Type 0 where
-  pub before : List OutChain
-  pub behind : List OutChain
-  pub out : s.outs ≡ before ++ c ∷ behind
+  pub before : List InFlightChain
+  pub behind : List InFlightChain
+  pub out : s.chains ≡ before ++ c ∷ behind
   pub unreplied : IsUnreplied c c.phase request
   pub fits : length reply ≤ length (room_of c)
   pub counts : length reply < 2 ^ 32
@@ -435,14 +441,14 @@ IfKeepsReturns m m' None = Unit {0}
 IfKeepsReturns m m' (Some w) = KeepsReturns m m' w
 
 -- another memory keeps the mappings that the pushes of this chain's queue need
-abbrev pub KeepsQueue : {F : Type 0} → LiveState F → Memory → OutChain → Type 0
+abbrev pub KeepsQueue : {F : Type 0} → LiveState F → Memory → InFlightChain → Type 0
 KeepsQueue s m c = IfKeepsReturns s.places m (slice_get s.queues c.queue)
 
 -- addresses have other mappings from now on, or none. Those that the returns of chains in flight need stay
 -- mapped or not, as they were. A chain itself keeps the mappings of its pop. While none is in flight, any
 -- mapping may change
 pub record RemapsSo {F : Type 0} (s : LiveState F) (m : Memory) (after : LiveState F) : Type 0 where
-  pub keeps : AllByRecursion (KeepsQueue s m) s.outs
+  pub keeps : AllByRecursion (KeepsQueue s m) s.chains
   pub state : after ≡ record s { places = m }
 
 -- a device without chains in flight moves: each queue keeps its layout, its position, and whether it is
@@ -450,9 +456,9 @@ pub record RemapsSo {F : Type 0} (s : LiveState F) (m : Memory) (after : LiveSta
 -- in flight
 pub record MovesDeviceSo {F : Type 0} (s : LiveState F) (m : Memory) (queues : List LiveQueue)
     (after : LiveState F) : Type 0 where
-  pub none_out : s.outs ≡ []
+  pub none_in_flight : s.chains ≡ []
   pub same : map (λ w. w.queue) queues ≡ map (λ w. w.queue) s.queues
-  pub even : AllByRecursion HasNoneInFlight queues
+  pub positions_agree : AllByRecursion HasNoneInFlight queues
   pub few : AllByRecursion HasValidMaximum queues
   pub state : after ≡ record s { places = m; queues = queues }
 

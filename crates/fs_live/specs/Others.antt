@@ -29,11 +29,12 @@ use Rattle.plain_machine.specs.StepBy.{Act, reply_stores, return_acts}
 use Rattle.fs_live.specs.Live.{Abandons, Asked, GivesUpChain, Fetched, HasValidMaximum, KeepsQueue, LiveState}
 use Rattle.fs_live.specs.Live.{MovesDevice}
 use Rattle.fs_live.specs.Live.{Remaps}
-use Rattle.fs_live.specs.Live.{OutChain, Own, RepliesOwnBytes, Happens, after_giving_up, after_abandoning}
+use Rattle.fs_live.specs.Live.{InFlightChain, Own, RepliesOwnBytes, Happens, after_giving_up}
+use Rattle.fs_live.specs.Live.{after_abandoning}
 use Rattle.fs_live.specs.Live.{after_own}
 use Rattle.fs_live.specs.Live.{room_of}
 use Rattle.fs_live.specs.Runs.{HasNoneInFlight}
-use Rattle.fs_live.specs.Handles.{IsKept, IsOut, IsReached, IsReturn, live_of}
+use Rattle.fs_live.specs.Handles.{HoldsDecoded, HoldsPopped, IsReached, IsReturn, live_of}
 
 -- ---- chains that are given up, and handles that are freed
 
@@ -41,11 +42,12 @@ use Rattle.fs_live.specs.Handles.{IsKept, IsOut, IsReached, IsReturn, live_of}
 -- says. Giving up a pop that hasn't ended is no event: it changes no queue
 abbrev pub HandleGivesUpChain : {F : Type 0} → May F → Type 0
 HandleGivesUpChain {F} may =
-    (s : LiveState F) (c : OutChain) (before behind : List OutChain) (w : ChainHandle) (kept : QueueState) →
-    s.outs ≡ before ++ c ∷ behind →
+    (s : LiveState F) (c : InFlightChain) (before behind : List InFlightChain) (w : ChainHandle)
+    (kept : QueueState) →
+    s.chains ≡ before ++ c ∷ behind →
     slice_get s.queues c.queue ≡ Some (live_of kept) →
     c.phase ≡ Fetched →
-    IsOut s.limit c w →
+    HoldsPopped s.limit c w →
     give_up_error w.state kept ≡ None →
     Happens may s (GivesUpChain c) (after_giving_up s before behind c (live_of kept))
     × (slice_get (after_giving_up s before behind c (live_of kept)).queues c.queue
@@ -55,15 +57,15 @@ HandleGivesUpChain {F} may =
 -- in flight, and no queue changes
 abbrev pub HandleAbandons : {F : Type 0} → May F → Type 0
 HandleAbandons {F} may =
-    (s : LiveState F) (c : OutChain) (before behind : List OutChain) →
-    s.outs ≡ before ++ c ∷ behind →
+    (s : LiveState F) (c : InFlightChain) (before behind : List InFlightChain) →
+    s.chains ≡ before ++ c ∷ behind →
     Happens may s (Abandons c) (after_abandoning s before behind c)
     × ((after_abandoning s before behind c).queues ≡ s.queues)
 
 -- ---- replies of the caller's own bytes
 
 -- the state of a handle whose caller replied to the chain with these bytes
-pub record IsOwn (c : OutChain) (reply : List ℕ) (st : state.ChainState) : Type 0 where
+pub record HoldsOwnReply (c : InFlightChain) (reply : List ℕ) (st : state.ChainState) : Type 0 where
   pub out : InFlight
   pub head : out.head ≡ c.head
   pub taken : c.taken ≡ queue_of out.course
@@ -72,60 +74,64 @@ pub record IsOwn (c : OutChain) (reply : List ℕ) (st : state.ChainState) : Typ
   pub state : st ≡ at.HasReply out (own_reply (length reply))
 
 -- P, if a chain is in flight without a reply
-abbrev pub IfOut : state.ChainState → (InFlight → Type 0) → Type 0
-IfOut (at.Taken out) P = P out
-IfOut (at.Waits out waiting) P = P out
-IfOut (at.Lists out listing) P = P out
-IfOut _ P = ⊥
+abbrev pub IfUnreplied : state.ChainState → (InFlight → Type 0) → Type 0
+IfUnreplied (at.Taken out) P = P out
+IfUnreplied (at.Waits out waiting) P = P out
+IfUnreplied (at.Lists out listing) P = P out
+IfUnreplied _ P = ⊥
 
 -- a reply of the caller's own to a chain that wasn't decoded is the event `RepliesOwnBytes`. The request may
 -- be any, as its caller loaded it
 abbrev pub HandleRepliesOwnBytes : {F : Type 0} → May F → Type 0
 HandleRepliesOwnBytes {F} may =
-    (s : LiveState F) (c : OutChain) (before behind : List OutChain) (w : ChainHandle) (serial options : ℕ)
+    (s : LiveState F) (c : InFlightChain) (before behind : List InFlightChain) (w : ChainHandle)
+    (serial options : ℕ)
     (request reply : List ℕ) →
     IsReached may s →
     s.limit ≤ 2 ^ 31 →
-    s.outs ≡ before ++ c ∷ behind →
+    s.chains ≡ before ++ c ∷ behind →
     c.phase ≡ Fetched →
-    IsOut s.limit c w →
+    HoldsPopped s.limit c w →
     FromTaken w.state (λ out. out.request_len ≡ length request) →
     own_error w.state w.serial serial (length reply) ≡ None →
     Happens may s (RepliesOwnBytes c request reply options)
     (after_own s before behind c request reply options)
-    × IfOut w.state
-    (λ out. IsOwn (record c { phase = Own request reply }) reply (at.HasReply out (own_reply (length reply))))
+    × IfUnreplied w.state
+    (λ out. HoldsOwnReply (record c { phase = Own request reply }) reply
+    (at.HasReply out (own_reply (length reply))))
 
 -- a handle has this decoded chain: its pending call, or the listing that gathers entries, is the
 -- chain's
-pub record IsHeldAsked (c : OutChain) (w : ChainHandle) : Type 0 where
+pub record HoldsUnanswered (c : InFlightChain) (w : ChainHandle) : Type 0 where
   pub out : InFlight
   pub head : out.head ≡ c.head
   pub taken : c.taken ≡ queue_of out.course
   pub room : length (room_of c) ≡ out.room_len
-  pub is : IfOut w.state (λ o. o ≡ out)
+  pub is : IfUnreplied w.state (λ o. o ≡ out)
 
 -- a handle has its decoded chain, if the decoding returned a call
-abbrev pub AskedIsHeld : Type 0
-AskedIsHeld =
-    (page_size options : ℕ) (request : List ℕ) (c : OutChain) (made : made_call.FileCall) (w : ChainHandle) →
-    IsKept page_size options request c (asks.Call made) w →
-    IsHeldAsked c w
+abbrev pub DecodedIsUnanswered : Type 0
+DecodedIsUnanswered =
+    (page_size options : ℕ) (request : List ℕ) (c : InFlightChain) (made : made_call.FileCall)
+    (w : ChainHandle) →
+    HoldsDecoded page_size options request c (asks.Call made) w →
+    HoldsUnanswered c w
 
 -- a reply of the caller's own to a decoded chain, instead of the answer to its pending call, is the
 -- event `RepliesOwnBytes` too. The file system may have answered any of its calls by then
 abbrev pub HandleRepliesInstead : {F : Type 0} → May F → Type 0
 HandleRepliesInstead {F} may =
-    (s : LiveState F) (c : OutChain) (before behind : List OutChain) (w : ChainHandle)
+    (s : LiveState F) (c : InFlightChain) (before behind : List InFlightChain) (w : ChainHandle)
     (serial asked options : ℕ) (request reply : List ℕ) (calls : Calls) →
-    s.outs ≡ before ++ c ∷ behind →
+    s.chains ≡ before ++ c ∷ behind →
     c.phase ≡ Asked request asked calls →
-    IsHeldAsked c w →
+    HoldsUnanswered c w →
     own_error w.state w.serial serial (length reply) ≡ None →
     Happens may s (RepliesOwnBytes c request reply options)
     (after_own s before behind c request reply options)
-    × IfOut w.state
-    (λ out. IsOwn (record c { phase = Own request reply }) reply (at.HasReply out (own_reply (length reply))))
+    × IfUnreplied w.state
+    (λ out. HoldsOwnReply (record c { phase = Own request reply }) reply
+    (at.HasReply out (own_reply (length reply))))
 
 -- a chain is returned by its caller's stores and loads: the caller's bytes at the start of the reply buffer,
 -- in any two parts
@@ -142,13 +148,13 @@ pub record PushedOwn (back : QueueState) (room reply : List ℕ) (from : state.C
 -- returned meanwhile
 abbrev pub HandlePushesOwn : {F : Type 0} → May F → Type 0
 HandlePushesOwn {F} may =
-    (s : LiveState F) (c : OutChain) (before behind : List OutChain) (st : state.ChainState)
+    (s : LiveState F) (c : InFlightChain) (before behind : List InFlightChain) (st : state.ChainState)
     (kept : QueueState) (request reply : List ℕ) (acts : List Act) (last : ℕ) (notice : Bool) →
-    s.outs ≡ before ++ c ∷ behind →
+    s.chains ≡ before ++ c ∷ behind →
     slice_get s.queues c.queue ≡ Some (live_of kept) →
     c.taken ≡ queue_of (course_of (record kept { next_avail = c.taken.position }) 0) →
     c.phase ≡ Own request reply →
-    IsOwn c reply st →
+    HoldsOwnReply c reply st →
     (back : PushedOwn kept (room_of c) reply st acts last notice) →
     IsReturn may s before behind c kept acts last notice back.stores
 
@@ -159,7 +165,7 @@ HandlePushesOwn {F} may =
 abbrev pub HandleRemaps : {F : Type 0} → May F → Type 0
 HandleRemaps {F} may =
     (s : LiveState F) (w : ChainHandle) →
-    (s.outs ≡ []) ⊎ AllByRecursion (KeepsQueue s (places_in w.regions)) s.outs →
+    (s.chains ≡ []) ⊎ AllByRecursion (KeepsQueue s (places_in w.regions)) s.chains →
     Happens may s (Remaps (places_in w.regions)) (record s { places = places_in w.regions })
 
 -- ---- moves
@@ -169,9 +175,9 @@ abbrev pub recorded : QueueState → Queue
 recorded q = (live_of q).queue
 
 -- queues are reset from those of a record: each at its position, stopped or not
-pub record AreBegunBy (queues : List Queue) (kept : List QueueState) : Type 0 where
+pub record AreResetBy (queues : List Queue) (kept : List QueueState) : Type 0 where
   pub same : map recorded kept ≡ queues
-  pub even : AllByRecursion HasNoneInFlight (map live_of kept)
+  pub positions_agree : AllByRecursion HasNoneInFlight (map live_of kept)
   pub few : AllByRecursion HasValidMaximum (map live_of kept)
 
 -- making a record of a run's options and queues while no chain is in flight, and reading it elsewhere,
@@ -181,10 +187,10 @@ abbrev pub HandleMovesDevice : {F : Type 0} → May F → Type 0
 HandleMovesDevice {F} may =
     (s : LiveState F) (here there : List QueueState) (m : Memory) (bytes : List ℕ) (v v' : Version)
     (options : ℕ) (queues : List Queue) →
-    s.outs ≡ [] →
+    s.chains ≡ [] →
     s.queues ≡ map live_of here →
     IsRecord bytes v s.options (map recorded here) →
     IsRecord bytes v' options queues →
-    AreBegunBy queues there →
+    AreResetBy queues there →
     (options ≡ s.options)
     × Happens may s (MovesDevice m (map live_of there)) (record s { places = m; queues = map live_of there })

@@ -11,7 +11,8 @@ use Rattle.virtiofsd_fuse.specs.Serving.{May}
 use Rattle.plain_machine.specs.Examples.{blank, descriptor_bytes, queue}
 use Rattle.plain_machine.specs.Step.{Exchange}
 use Rattle.fs_live.specs.Several.{LiveQueue}
-use Rattle.fs_live.specs.Live.{Fetched, Asked, OutChain, LiveState, EndsPop, DecodesRequest, ReceivesAnswer}
+use Rattle.fs_live.specs.Live.{Fetched, Asked, InFlightChain, LiveState, EndsPop, DecodesRequest}
+use Rattle.fs_live.specs.Live.{ReceivesAnswer}
 use Rattle.fs_live.specs.Live.{PushesChain, LiveRun}
 
 -- DESTROY, which makes a call
@@ -67,20 +68,20 @@ at_positions taken next_used =
     }
 
 -- one queue over 64 KiB from address 0 on
-abbrev pub state : {F : Type 0} → F → LiveQueue → (options : ℕ) → List OutChain → LiveState F
-state files w options outs =
+abbrev pub state : {F : Type 0} → F → LiveQueue → (options : ℕ) → List InFlightChain → LiveState F
+state files w options chains =
     record {
       places = blank;
       limit = 0x101000;
       page_size = 4096;
       queues = w ∷ [];
       options = options;
-      outs = outs;
+      chains = chains;
       files = files;
     }
 
 -- the first chain, as it is popped
-abbrev pub first : OutChain
+abbrev pub first : InFlightChain
 first =
     record {
       places = blank;
@@ -93,7 +94,7 @@ first =
     }
 
 -- the second chain, as it is popped
-abbrev pub second : OutChain
+abbrev pub second : InFlightChain
 second =
     record {
       places = blank;
@@ -106,15 +107,15 @@ second =
     }
 
 -- the first chain was decoded with the options 1
-abbrev pub first_asked : OutChain
+abbrev pub first_asked : InFlightChain
 first_asked = record first { phase = Asked destroy 1 [] }
 
 -- the first chain, once DESTROY was answered
-abbrev pub first_answered : OutChain
+abbrev pub first_answered : InFlightChain
 first_answered = record first { phase = Asked destroy 1 ((Destroy, Done) ∷ []) }
 
 -- the second chain was decoded, and makes no call
-abbrev pub second_asked : OutChain
+abbrev pub second_asked : InFlightChain
 second_asked = record second { phase = Asked unknown 1 [] }
 
 -- DESTROY's chain has no reply

@@ -12,7 +12,8 @@ use Rattle.virtiofsd_fuse.specs.Serving.{May}
 use Rattle.plain_machine.specs.Examples.{blank, descriptor_bytes}
 use Rattle.plain_machine.specs.Step.{Exchange}
 use Rattle.fs_live.specs.Several.{LiveQueue}
-use Rattle.fs_live.specs.Live.{Fetched, Asked, OutChain, EndsPop, DecodesRequest, ReceivesAnswer, PushesChain}
+use Rattle.fs_live.specs.Live.{Fetched, Asked, InFlightChain, EndsPop, DecodesRequest, ReceivesAnswer}
+use Rattle.fs_live.specs.Live.{PushesChain}
 use Rattle.fs_live.specs.Live.{LiveRun}
 use Rattle.fs_live.specs.Overlap.{entry, state}
 
@@ -66,7 +67,7 @@ abbrev pub table : List Descriptor
 table = record { addr = 0x1000; len = 48; flags = 0; next = 0 } ∷ []
 
 -- the chain, as it is popped
-abbrev pub first : OutChain
+abbrev pub first : InFlightChain
 first =
     record {
       places = blank;
@@ -79,11 +80,11 @@ first =
     }
 
 -- the chain was decoded without options
-abbrev pub first_asked : OutChain
+abbrev pub first_asked : InFlightChain
 first_asked = record first { phase = Asked forget 0 [] }
 
 -- FORGET was answered
-abbrev pub first_answered : OutChain
+abbrev pub first_answered : InFlightChain
 first_answered = record first { phase = Asked forget 0 ((told, Done) ∷ []) }
 
 -- the chain is returned without a reply

@@ -24,7 +24,7 @@ use Rattle.fs_live.specs.Several.{heads_ended, returns_among, returning, avail_e
 use Rattle.fs_live.specs.Several.{used_event_at, wants}
 use Rattle.fs_live.specs.Several as several
 pub use Rattle.fs_live.specs.Live.{HasNoneInFlight}
-use Rattle.fs_live.specs.Live.{Phase, Asked, Own, OutChain, LiveState, LiveEvent, EndsPop, PushesChain}
+use Rattle.fs_live.specs.Live.{Phase, Asked, Own, InFlightChain, LiveState, LiveEvent, EndsPop, PushesChain}
 use Rattle.fs_live.specs.Live.{StoresNotification}
 use Rattle.fs_live.specs.Live.{ResetsQueue, FillsBuffer, GivesUpChain, Remaps, MovesDevice, Happens, LiveRun}
 use Rattle.fs_live.specs.Live.{event_acts}
@@ -56,7 +56,7 @@ IsAskedIn (Asked request asked calls) options = options ≡ asked
 IsAskedIn _ options = Unit {0}
 
 -- the options that a chain leaves by itself, by its answers so far
-abbrev pub options_left : (page_size options : ℕ) → OutChain → Phase → ℕ
+abbrev pub options_left : (page_size options : ℕ) → InFlightChain → Phase → ℕ
 options_left page_size options c (Asked request asked calls) =
     (serving page_size asked asked request (room_of c) calls).options
 options_left page_size options c _ = options
@@ -68,7 +68,7 @@ IsServedPhase _ = Unit {0}
 
 -- the plain machine before a chain: a memory with the mappings of the chain's pop, and any bytes; the queue
 -- as it was before the pop; the options of the decoding
-pub record IsBefore {F G : Type 0} (s : LiveState F) (c : OutChain) (m : State G) : Type 0 where
+pub record IsBefore {F G : Type 0} (s : LiveState F) (c : InFlightChain) (m : State G) : Type 0 where
   pub places : location m.memory ≡ location c.places
   pub limit : m.limit ≡ s.limit
   pub page_size : m.page_size ≡ s.page_size
@@ -76,7 +76,7 @@ pub record IsBefore {F G : Type 0} (s : LiveState F) (c : OutChain) (m : State G
   pub queue : slice_get m.queues c.queue ≡ Some c.taken
 
 -- the plain machine after the chain alone
-abbrev pub after_alone : {G : Type 0} → State G → OutChain → G → State G
+abbrev pub after_alone : {G : Type 0} → State G → InFlightChain → G → State G
 after_alone m c files =
     record m {
       queues = changed_at m.queues c.queue (λ _. advanced c.taken);
@@ -85,7 +85,7 @@ after_alone m c files =
     }
 
 -- the loads of its step. It may load `lost` entries that aren't mapped, which give it no bytes
-abbrev pub chain_loads : OutChain → (lost : List Load) → StepLoads
+abbrev pub chain_loads : InFlightChain → (lost : List Load) → StepLoads
 chain_loads c lost =
     record {
       index = c.loaded.index;
@@ -99,7 +99,7 @@ chain_loads c lost =
 -- element and index of the queue's next used position. The loads that brought bytes are of mapped addresses.
 -- Whether the driver is to be notified is by the two bytes that were seen: without the event index, as the
 -- step says (`tells seen`); with it, by used_event
-pub record IsAStep {G : Type 0} (other : May G) (m : State G) (files : G) (w : LiveQueue) (c : OutChain)
+pub record IsAStep {G : Type 0} (other : May G) (m : State G) (files : G) (w : LiveQueue) (c : InFlightChain)
     (x : Exchange) (last : ℕ) (used : List Store) (seen : List ℕ) (notice : Bool) : Type 0 where
   pub lost : List Load
   pub lost_are : All (IsLost m.memory) lost
@@ -117,9 +117,10 @@ pub record IsAStep {G : Type 0} (other : May G) (m : State G) (files : G) (w : L
 -- file system may be any of which the chain's own calls are a run
 abbrev pub ReturnedIsStepBy : {F G : Type 0} → May F → May G → Type 0
 ReturnedIsStepBy {F} {G} may other =
-    (s now after : LiveState F) (es : List LiveEvent) (c : OutChain) (x : Exchange) (notice : Bool) (last : ℕ)
+    (s now after : LiveState F) (es : List LiveEvent) (c : InFlightChain) (x : Exchange) (notice : Bool)
+    (last : ℕ)
     (used : List Store) (seen : List ℕ) (m : State G) (files : G) →
-    s.outs ≡ [] →
+    s.chains ≡ [] →
     LiveRun may s es now →
     Happens may now (PushesChain c x notice last used seen) after →
     IsServedPhase c.phase →
@@ -132,7 +133,7 @@ ReturnedIsStepBy {F} {G} may other =
 -- a chain with its caller's own bytes: its loads offer it, and are of mapped addresses. The bytes, the used
 -- element and the index are stored as a step stores a reply, at the queue's next used position. The driver is
 -- notified as in `IsAStep`
-pub record IsAReturn {G : Type 0} (m : State G) (limit : ℕ) (w : LiveQueue) (c : OutChain)
+pub record IsAReturn {G : Type 0} (m : State G) (limit : ℕ) (w : LiveQueue) (c : InFlightChain)
     (request reply : List ℕ) (x : Exchange) (last : ℕ) (used : List Store) (seen : List ℕ) (notice : Bool) :
     Type 0 where
   pub offered :
@@ -152,9 +153,10 @@ pub record IsAReturn {G : Type 0} (m : State G) (limit : ℕ) (w : LiveQueue) (c
 -- so it is for each such chain of a run: no call is made, and the options stay
 abbrev pub OwnIsReturned : {F : Type 0} → (G : Type 0) → May F → Type 0
 OwnIsReturned {F} G may =
-    (s now after : LiveState F) (es : List LiveEvent) (c : OutChain) (x : Exchange) (notice : Bool) (last : ℕ)
+    (s now after : LiveState F) (es : List LiveEvent) (c : InFlightChain) (x : Exchange) (notice : Bool)
+    (last : ℕ)
     (used : List Store) (seen : List ℕ) (request reply : List ℕ) (m : State G) →
-    s.outs ≡ [] →
+    s.chains ≡ [] →
     LiveRun may s es now →
     Happens may now (PushesChain c x notice last used seen) after →
     c.phase ≡ Own request reply →
@@ -186,15 +188,15 @@ may_store s (StoresNotification i store) = sleep_addresses (slice_get s.queues i
 may_store s _ = []
 
 -- the chain that is returned, or in whose reply buffer bytes are stored, is in flight at that moment
-abbrev pub IsOutThen : {F : Type 0} → LiveState F → LiveEvent → Type 0
-IsOutThen s (PushesChain c x notice last used seen) = Contains s.outs c
-IsOutThen s (FillsBuffer c stores) = Contains s.outs c
-IsOutThen s _ = Unit {0}
+abbrev pub IsInFlightThen : {F : Type 0} → LiveState F → LiveEvent → Type 0
+IsInFlightThen s (PushesChain c x notice last used seen) = Contains s.chains c
+IsInFlightThen s (FillsBuffer c stores) = Contains s.chains c
+IsInFlightThen s _ = Unit {0}
 
 -- the event stores nothing elsewhere
 abbrev pub StoresThere : {F : Type 0} → LiveState F → LiveEvent → Type 0
 StoresThere s e =
-    IsOutThen s e × AllByRecursion (λ (w : ℕ
+    IsInFlightThen s e × AllByRecursion (λ (w : ℕ
     × ℕ). Contains (may_store s e) w.0) (flat_map writes_of (stores_among (event_acts e)))
 
 -- no event of a run stores anything elsewhere
@@ -215,13 +217,13 @@ abbrev pub HasUsedEvent : Memory → LiveQueue → Type 0
 HasUsedEvent m w = w.event_index ≡ true → reach m Read (used_event_at w.queue) 2 ≡ true
 
 -- whether each address of a reply buffer is mapped, writable
-abbrev pub has_places : Memory → (room : List ℕ) → Bool
-has_places m room = list_all (λ a. is_some (location m Write a)) room
+abbrev pub are_mapped : Memory → (room : List ℕ) → Bool
+are_mapped m room = list_all (λ a. is_some (location m Write a)) room
 
 -- the addresses of a return in its queue, at the next used position, are mapped. Writable are the used
 -- element and the used index. Readable are the two bytes that decide the notification: the available flags,
 -- and with the event index used_event besides
-pub record ReturnHasPlaces (m : Memory) (w : LiveQueue) : Type 0 where
+pub record ReturnIsMapped (m : Memory) (w : LiveQueue) : Type 0 where
   pub element : reach m Write (element_at (returning w)) 8 ≡ true
   pub index : reach m Write (index_at (returning w)) 2 ≡ true
   pub flags : reach m Read w.queue.avail 2 ≡ true
@@ -232,19 +234,20 @@ pub record ReturnHasPlaces (m : Memory) (w : LiveQueue) : Type 0 where
 -- are mapped by the mappings of this moment, and by those of its chain's pop. Those of the reply buffer are
 -- mapped by the mappings of the pop. Chains may be returned in any order or be given up, the guest may write,
 -- and addresses may get other mappings
-abbrev pub ReturnsHavePlaces : {F : Type 0} → May F → Type 0
-ReturnsHavePlaces {F} may =
-    (s now after : LiveState F) (es : List LiveEvent) (c : OutChain) (x : Exchange) (notice : Bool) (last : ℕ)
+abbrev pub ReturnsAreMapped : {F : Type 0} → May F → Type 0
+ReturnsAreMapped {F} may =
+    (s now after : LiveState F) (es : List LiveEvent) (c : InFlightChain) (x : Exchange) (notice : Bool)
+    (last : ℕ)
     (used : List Store) (seen : List ℕ) →
-    s.outs ≡ [] →
+    s.chains ≡ [] →
     AllByRecursion HasNoneInFlight s.queues →
     LiveRun may s es now →
     Happens may now (PushesChain c x notice last used seen) after →
     (w : LiveQueue)
     × (slice_get now.queues c.queue ≡ Some w)
-    × ReturnHasPlaces now.places w
-    × ReturnHasPlaces c.places w
-    × (has_places c.places (room_of c) ≡ true)
+    × ReturnIsMapped now.places w
+    × ReturnIsMapped c.places w
+    × (are_mapped c.places (room_of c) ≡ true)
 
 -- ---- one queue of a run
 
@@ -261,8 +264,8 @@ abbrev pub events_on : ℕ → List LiveEvent → List QueueEvent
 events_on i es = flat_map (event_on i) es
 
 -- its chains in flight, by position and head
-abbrev pub tickets_on : ℕ → List OutChain → List InFlightId
-tickets_on i outs = map (λ c. (c.taken.position, c.head)) (filter (λ c. c.queue == i) outs)
+abbrev pub in_flight_on : ℕ → List InFlightChain → List InFlightId
+in_flight_on i chains = map (λ c. (c.taken.position, c.head)) (filter (λ c. c.queue == i) chains)
 
 -- a queue, stopped or not, as one that isn't: a refusal moves neither position
 abbrev pub going : LiveQueue → LiveQueue
@@ -283,17 +286,17 @@ RunsOnQueue {F} may =
     LiveRun may s es after →
     (w' : LiveQueue)
     × (slice_get after.queues i ≡ Some w')
-    × RunsOver (going w) (tickets_on i s.outs) (events_on i es) (going w') (tickets_on i after.outs)
+    × RunsOver (going w) (in_flight_on i s.chains) (events_on i es) (going w') (in_flight_on i after.chains)
 
 -- so each chain that was popped from it was returned once, or was given up once, or is in flight
 abbrev pub OncePerLiveChain : {F : Type 0} → May F → Type 0
 OncePerLiveChain {F} may =
     (s after : LiveState F) (es : List LiveEvent) (i : ℕ) (w : LiveQueue) →
     slice_get s.queues i ≡ Some w →
-    tickets_on i s.outs ≡ [] →
+    in_flight_on i s.chains ≡ [] →
     AllByRecursion (NoReset i) es →
     LiveRun may s es after →
-    IsPermutation (heads_ended (events_on i es) ++ map (λ t. t.1) (tickets_on i after.outs))
+    IsPermutation (heads_ended (events_on i es) ++ map (λ t. t.1) (in_flight_on i after.chains))
     (heads_taken (events_on i es))
 
 -- and its returns fill the used ring in order, in any order of the pops
@@ -328,31 +331,33 @@ reported_by s _ = []
 
 -- over each memory, an event's stores mark the pages of the addresses that it reports, of blocks or of I/O
 -- pages, and no others. So do those of the plain machine's step, which stores the same
-abbrev pub MarksAsTold : {F : Type 0} → LiveState F → LiveEvent → Type 0
-MarksAsTold s e = (m : Memory) → Marks m (reported_by s e) (after_stores m (stores_among (event_acts e))).host
+abbrev pub MarksAsReported : {F : Type 0} → LiveState F → LiveEvent → Type 0
+MarksAsReported s e = (m : Memory) →
+    Marks m (reported_by s e) (after_stores m (stores_among (event_acts e))).host
 
 -- and if the reported addresses are marked, a log by the guest's pages has just those that the stores write
 -- to
-abbrev pub LogsAsTold : {F : Type 0} → LiveState F → LiveEvent → Type 0
-LogsAsTold s e =
+abbrev pub LogsAsReported : {F : Type 0} → LiveState F → LiveEvent → Type 0
+LogsAsReported s e =
     (page : ℕ) → list_any (λ a. page_of a == page) (written_by (event_acts e))
     ≡ list_any (λ a. page_of a == page) (reported_by s e)
 
 -- so it is for each event of a run
-abbrev pub EachIsTold : {F : Type 0} → (may : May F) → (s : LiveState F) → (es : List LiveEvent) →
+abbrev pub EachIsReported : {F : Type 0} → (may : May F) → (s : LiveState F) → (es : List LiveEvent) →
     (after : LiveState F) → LiveRun may s es after → Type 0
-EachIsTold may s [] after run = Unit {0}
-EachIsTold may s (e ∷ es) after run = (MarksAsTold s e × LogsAsTold s e) × EachIsTold may run.0 es after run.2
+EachIsReported may s [] after run = Unit {0}
+EachIsReported may s (e ∷ es) after run = (MarksAsReported s e × LogsAsReported s e)
+    × EachIsReported may run.0 es after run.2
 
-abbrev pub PagesAreTold : {F : Type 0} → May F → Type 0
-PagesAreTold {F} may =
+abbrev pub PagesAreReported : {F : Type 0} → May F → Type 0
+PagesAreReported {F} may =
     (s after : LiveState F) (es : List LiveEvent) (run : LiveRun may s es after) →
-    EachIsTold may s es after run
+    EachIsReported may s es after run
 
 -- a return reports the addresses that the plain machine's step writes at the queue's next used position
-abbrev pub ReturnsTell : {F : Type 0} → May F → Type 0
-ReturnsTell {F} may =
-    (s after : LiveState F) (c : OutChain) (x : Exchange) (notice : Bool) (last : ℕ) (used : List Store)
+abbrev pub ReturnsReport : {F : Type 0} → May F → Type 0
+ReturnsReport {F} may =
+    (s after : LiveState F) (c : InFlightChain) (x : Exchange) (notice : Bool) (last : ℕ) (used : List Store)
     (seen : List ℕ) →
     Happens may s (PushesChain c x notice last used seen) after →
     (w : LiveQueue)
@@ -367,16 +372,16 @@ ReturnsTell {F} may =
 abbrev pub PositionsAgree : {F : Type 0} → May F → Type 0
 PositionsAgree {F} may =
     (s now : LiveState F) (es : List LiveEvent) (i : ℕ) (w : LiveQueue) →
-    s.outs ≡ [] →
+    s.chains ≡ [] →
     AllByRecursion HasNoneInFlight s.queues →
     LiveRun may s es now →
     slice_get now.queues i ≡ Some w →
-    tickets_on i now.outs ≡ [] →
+    in_flight_on i now.chains ≡ [] →
     HasNoneInFlight w × ((after : LiveState F) → Happens may now (ResetsQueue i w) after → after ≡ now)
 
 -- the parts of a queue that no record has
-abbrev pub untold : LiveQueue → ℕ × Bool
-untold w = (w.max_in_flight, w.event_index)
+abbrev pub unrecorded : LiveQueue → ℕ × Bool
+unrecorded w = (w.max_in_flight, w.event_index)
 
 -- a device moves between two chains, and is given there the parts that no record has. It goes on as one that
 -- didn't move and whose guest's memory got these mappings. Over the same mappings it goes on as if nothing
@@ -384,11 +389,11 @@ untold w = (w.max_in_flight, w.event_index)
 abbrev pub MovedGoesOn : {F : Type 0} → May F → Type 0
 MovedGoesOn {F} may =
     (s now moved : LiveState F) (es : List LiveEvent) (m : Memory) (queues : List LiveQueue) →
-    s.outs ≡ [] →
+    s.chains ≡ [] →
     AllByRecursion HasNoneInFlight s.queues →
     LiveRun may s es now →
     Happens may now (MovesDevice m queues) moved →
-    map untold queues ≡ map untold now.queues →
+    map unrecorded queues ≡ map unrecorded now.queues →
     Happens may now (Remaps m) moved
     × (m ≡ now.places → moved ≡ now)
     × ((later : List LiveEvent) (end : LiveState F) →

@@ -14,7 +14,7 @@ use Rattle.plain_machine.specs.Run.{KickRun, Turn}
 use Rattle.plain_machine.specs.Step.{State, Exchange, Exchanged, Step}
 use Rattle.plain_machine.specs.StepBy.{FindFlags, MayStoreLast, after_stores, stores_among}
 use Rattle.fs_live.specs.Several.{LiveQueue}
-use Rattle.fs_live.specs.Live.{OutChain, LiveState, LiveEvent, EndsPop, DecodesRequest, ReceivesAnswer}
+use Rattle.fs_live.specs.Live.{InFlightChain, LiveState, LiveEvent, EndsPop, DecodesRequest, ReceivesAnswer}
 use Rattle.fs_live.specs.Live.{PushesChain}
 use Rattle.fs_live.specs.Live.{LiveRun}
 use Rattle.fs_live.specs.Live.{calls_in, event_acts, room_of}
@@ -28,7 +28,7 @@ pub record Single : Type 0 where
   pub head : ℕ
   pub fault : Option ChainFault
   pub between : List LiveEvent
-  pub chain : OutChain
+  pub chain : InFlightChain
   pub exchange : Exchange
   pub notice : Bool
   pub last : ℕ
@@ -82,7 +82,7 @@ pub record FoundIn {F : Type 0} (m : Memory) (s : LiveState F) (r : Single) : Ty
 abbrev pub SingleIsStep : {F : Type 0} → May F → Type 0
 SingleIsStep {F} may =
     (s after : LiveState F) (r : Single) (m : Memory) (w : LiveQueue) →
-    s.outs ≡ [] →
+    s.chains ≡ [] →
     slice_get s.queues r.queue ≡ Some w →
     IsAtRest w →
     AllByRecursion IsOfChain r.between →
@@ -90,7 +90,7 @@ SingleIsStep {F} may =
     FoundIn m s r →
     Step may (plain s m) r.queue (calls_in r.chain.phase) (Exchanged r.exchange r.notice)
     (plain after (after_stores m (stores_among (event_acts (return_in r)))))
-    × (after.outs ≡ [])
+    × (after.chains ≡ [])
     × (w' : LiveQueue)
     × (slice_get after.queues r.queue ≡ Some w')
     × IsAtRest w'
@@ -115,7 +115,7 @@ turn_of r = record { exchange = r.exchange; notice = r.notice; calls = calls_in 
 abbrev pub SerialIsKick : {F : Type 0} → May F → Type 0
 SerialIsKick {F} may =
     (s after : LiveState F) (rs : List Single) (m m' : Memory) (i : ℕ) (w : LiveQueue) →
-    s.outs ≡ [] →
+    s.chains ≡ [] →
     slice_get s.queues i ≡ Some w →
     IsAtRest w →
     SerialRun may i m s rs m' after →

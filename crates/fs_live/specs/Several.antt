@@ -54,19 +54,19 @@ pub data QueueEvent : Type 0 where
 
 -- a run, with the chains in flight before and after it
 abbrev pub RunsOver : LiveQueue → List InFlightId → List QueueEvent → LiveQueue → List InFlightId → Type 0
-RunsOver w outs [] w' outs' = (w' ≡ w) × (outs' ≡ outs)
-RunsOver w outs (PopsOne head ∷ es) w' outs' =
-    IsTrue (may_take w) × RunsOver (took w) (outs ++ (w.queue.position, head) ∷ []) es w' outs'
-RunsOver w outs (DropsLast t ∷ es) w' outs' =
+RunsOver w chains [] w' chains' = (w' ≡ w) × (chains' ≡ chains)
+RunsOver w chains (PopsOne head ∷ es) w' chains' =
+    IsTrue (may_take w) × RunsOver (took w) (chains ++ (w.queue.position, head) ∷ []) es w' chains'
+RunsOver w chains (DropsLast t ∷ es) w' chains' =
     (before : List InFlightId) × (behind : List InFlightId)
-    × (outs ≡ before ++ t ∷ behind)
+    × (chains ≡ before ++ t ∷ behind)
     × (w.queue.position ≡ (t.0 + 1) % 2 ^ 16)
-    × RunsOver (gave_up w) (before ++ behind) es w' outs'
-RunsOver w outs (PushesOne t len stores ∷ es) w' outs' =
+    × RunsOver (gave_up w) (before ++ behind) es w' chains'
+RunsOver w chains (PushesOne t len stores ∷ es) w' chains' =
     (before : List InFlightId) × (behind : List InFlightId)
-    × (outs ≡ before ++ t ∷ behind)
+    × (chains ≡ before ++ t ∷ behind)
     × (stores ≡ stores_after_reply (returning w) t.1 len)
-    × RunsOver (gave w) (before ++ behind) es w' outs'
+    × RunsOver (gave w) (before ++ behind) es w' chains'
 
 -- the heads that were popped
 abbrev pub heads_taken : List QueueEvent → List ℕ
@@ -85,9 +85,9 @@ heads_ended (PushesOne t len stores ∷ es) = t.1 ∷ heads_ended es
 -- each chain that was popped was returned once, or was given up once, or is in flight
 abbrev pub OncePerChain : Type 0
 OncePerChain =
-    (w w' : LiveQueue) (outs' : List InFlightId) (es : List QueueEvent) →
-    RunsOver w [] es w' outs' →
-    IsPermutation (heads_ended es ++ map (λ t. t.1) outs') (heads_taken es)
+    (w w' : LiveQueue) (chains' : List InFlightId) (es : List QueueEvent) →
+    RunsOver w [] es w' chains' →
+    IsPermutation (heads_ended es ++ map (λ t. t.1) chains') (heads_taken es)
 
 -- the stores of the returns, in their order
 abbrev pub returns_among : List QueueEvent → List (InFlightId × ℕ × List Store)
@@ -103,8 +103,8 @@ UsedFrom w (r ∷ rs) = (r.2 ≡ stores_after_reply (returning w) r.0.1 r.1) × 
 
 abbrev pub UsedInOrder : Type 0
 UsedInOrder =
-    (w w' : LiveQueue) (outs outs' : List InFlightId) (es : List QueueEvent) →
-    RunsOver w outs es w' outs' →
+    (w w' : LiveQueue) (chains chains' : List InFlightId) (es : List QueueEvent) →
+    RunsOver w chains es w' chains' →
     UsedFrom w (returns_among es)
 
 -- one chain at a time: each pop is followed by its return
@@ -123,25 +123,27 @@ StoresAsTaken q _ = ⊥
 -- so it is for a queue without chains in flight
 abbrev pub OneAtATime : Type 0
 OneAtATime =
-    (w w' : LiveQueue) (outs' : List InFlightId) (es : List QueueEvent) →
+    (w w' : LiveQueue) (chains' : List InFlightId) (es : List QueueEvent) →
     w.next_used ≡ w.queue.position →
     IsSerial es →
-    RunsOver w [] es w' outs' →
+    RunsOver w [] es w' chains' →
     StoresAsTaken w.queue es
 
 -- VIRTIO_F_IN_ORDER (2.7.9): only the oldest chain is returned, and only the youngest is given up
 abbrev pub IsOldestFirst : LiveQueue → List InFlightId → List QueueEvent → Type 0
-IsOldestFirst w outs [] = Unit {0}
-IsOldestFirst w outs (PopsOne head ∷ es) = IsOldestFirst (took w) (outs ++ (w.queue.position, head) ∷ []) es
-IsOldestFirst w outs (DropsLast t ∷ es) =
-    (before : List InFlightId) × (outs ≡ before ++ t ∷ []) × IsOldestFirst (gave_up w) before es
+IsOldestFirst w chains [] = Unit {0}
+IsOldestFirst w chains (PopsOne head ∷ es) =
+    IsOldestFirst (took w) (chains ++ (w.queue.position, head) ∷ []) es
+IsOldestFirst w chains (DropsLast t ∷ es) =
+    (before : List InFlightId) × (chains ≡ before ++ t ∷ []) × IsOldestFirst (gave_up w) before es
 IsOldestFirst w [] (PushesOne t len stores ∷ es) = ⊥
-IsOldestFirst w (first ∷ outs) (PushesOne t len stores ∷ es) = (t ≡ first) × IsOldestFirst (gave w) outs es
+IsOldestFirst w (first ∷ chains) (PushesOne t len stores ∷ es) = (t ≡ first)
+    × IsOldestFirst (gave w) chains es
 
 -- each return is at the position of its chain's pop
-abbrev pub AtTheirPlaces : LiveQueue → List (InFlightId × ℕ × List Store) → Type 0
-AtTheirPlaces w [] = Unit {0}
-AtTheirPlaces w (r ∷ rs) = (r.0.0 ≡ w.next_used) × AtTheirPlaces (gave w) rs
+abbrev pub AtTheirPositions : LiveQueue → List (InFlightId × ℕ × List Store) → Type 0
+AtTheirPositions w [] = Unit {0}
+AtTheirPositions w (r ∷ rs) = (r.0.0 ≡ w.next_used) × AtTheirPositions (gave w) rs
 
 -- so it is for a queue without chains in flight
 abbrev pub KeepsOrder : Type 0
@@ -150,7 +152,7 @@ KeepsOrder =
     w.next_used ≡ w.queue.position →
     w.queue.position < 2 ^ 16 →
     IsOldestFirst w [] es →
-    AtTheirPlaces w (returns_among es)
+    AtTheirPositions w (returns_among es)
 
 -- ---- VIRTIO_F_EVENT_IDX (2.7.7.2, 2.7.10)
 

@@ -12,14 +12,15 @@ ghost use Rattle.fs_live.specs.Handles.{HandleFaulty, HandleLoads, HandlePushesC
 ghost use Rattle.fs_live.specs.Handles.{HandleStoresNotification, HandleEndsPop};
 ghost use Rattle.fs_live.specs.Handles.{OptionsStay};
 ghost use Rattle.fs_live.specs.InitBeside.{InitBeside};
-ghost use Rattle.fs_live.specs.Others.{AskedIsHeld, HandleAbandons, HandleGivesUpChain, HandleMovesDevice};
+ghost use Rattle.fs_live.specs.Others.{DecodedIsUnanswered, HandleAbandons, HandleGivesUpChain};
+ghost use Rattle.fs_live.specs.Others.{HandleMovesDevice};
 ghost use Rattle.fs_live.specs.Others.{HandleRemaps};
 ghost use Rattle.fs_live.specs.Others.{HandlePushesOwn, HandleRepliesInstead, HandleRepliesOwnBytes};
 ghost use Rattle.fs_live.specs.Overlap.{Overlap};
 ghost use Rattle.fs_live.specs.Rewritten.{Rewritten};
 ghost use Rattle.fs_live.specs.Runs.{CallsAreARun, LiveUsedInOrder, MovedGoesOn, OncePerLiveChain};
-ghost use Rattle.fs_live.specs.Runs.{OwnIsReturned, PagesAreTold, ReturnedIsStepBy, ReturnsHavePlaces};
-ghost use Rattle.fs_live.specs.Runs.{ReturnsTell, RunsOnQueue, PositionsAgree, StoresStayThere};
+ghost use Rattle.fs_live.specs.Runs.{OwnIsReturned, PagesAreReported, ReturnedIsStepBy, ReturnsAreMapped};
+ghost use Rattle.fs_live.specs.Runs.{ReturnsReport, RunsOnQueue, PositionsAgree, StoresStayThere};
 ghost use Rattle.fs_live.specs.Serial.{SingleIsStep, SerialIsKick};
 ghost use Rattle.fs_live.specs.Several.{ByEvent, KeepsOrder, OncePerChain, OneAtATime, UsedInOrder};
 
@@ -52,12 +53,12 @@ pub fn law_runs<F: FileSystem, G: FileSystem>()
     ensures step { ReturnedIsStepBy F.may G.may }
     ensures own { OwnIsReturned G F.may }
     ensures stores { StoresStayThere F.may }
-    ensures pages { PagesAreTold F.may }
-    ensures tell { ReturnsTell F.may }
+    ensures pages { PagesAreReported F.may }
+    ensures tell { ReturnsReport F.may }
     ensures log { PagesOfRun F.may }
     ensures positions { PositionsAgree F.may }
     ensures moves { MovedGoesOn F.may }
-    ensures places { ReturnsHavePlaces F.may }
+    ensures places { ReturnsAreMapped F.may }
     ensures queue { RunsOnQueue F.may }
     ensures once { OncePerLiveChain F.may }
     ensures used { LiveUsedInOrder F.may }
@@ -113,7 +114,7 @@ pub fn law_handles<F: FileSystem>()
     ensures abandons { HandleAbandons F.may }
     ensures replies_own_bytes { HandleRepliesOwnBytes F.may }
     ensures replies_instead { HandleRepliesInstead F.may }
-    ensures held { AskedIsHeld }
+    ensures held { DecodedIsUnanswered }
     ensures pushes_own { HandlePushesOwn F.may }
     ensures fills_buffer { HandleFillsBuffer F.may }
     ensures fills_range { HandleFillsRange F.may }

@@ -24,10 +24,11 @@ use Rattle.fs_chain.proofs.WholeWalks.{walk_comes}
 use Rattle.notify.specs.Threads.{Loads, TakesOne, ThreadedQueue, Walker, after_act, walks}
 use Rattle.plain_machine.specs.Step.{Exchange, faulty}
 use Rattle.plain_machine.specs.StepBy.{Act}
-use Rattle.fs_live.specs.Handles.{HandleEndsPop, HandleFaulty, IsFaultyOut, IsHeld, live_of}
-use Rattle.fs_live.specs.Live.{EndsPop, Happens, LiveEvent, LiveRun, LiveState, OutChain, PushesChain, after_pop, after_push, new_chain}
+use Rattle.fs_live.specs.Handles.{HandleEndsPop, HandleFaulty, HoldsFaulty, HoldsResult, live_of}
+use Rattle.fs_live.specs.Live.{EndsPop, Happens, LiveEvent, LiveRun, LiveState, InFlightChain, PushesChain, after_pop, after_push}
+use Rattle.fs_live.specs.Live.{new_chain}
 use Rattle.fs_live.specs.Runs.{events_on, going}
-use Rattle.fs_live.specs.Several.{AtTheirPlaces, KeepsOrder, LiveQueue, QueueEvent, returns_among, took}
+use Rattle.fs_live.specs.Several.{AtTheirPositions, KeepsOrder, LiveQueue, QueueEvent, returns_among, took}
 use Rattle.fs_live.specs.Several as several
 use Rattle.fs_live.proofs.Queues.{same_some, there_same}
 use Rattle.fs_notify.specs.Takers.{HasU16Numbers, IsModelOf, TakesByWalk, ways_of}
@@ -72,7 +73,7 @@ popped_faulty s i given old one before after head fault ds loaded walks loads = 
 -- ---- two in order
 
 -- the four events of the queue
-four_events : (i head head' : ℕ) (loads loads' : Loaded) (ds ds' : List Descriptor) (fault fault' : ChainFault) (c c' : OutChain)
+four_events : (i head head' : ℕ) (loads loads' : Loaded) (ds ds' : List Descriptor) (fault fault' : ChainFault) (c c' : InFlightChain)
     (x x' : Exchange) (notice notice' : Bool) (last last' : ℕ) (used used' : List Store) (seen seen' : List ℕ) → (i == i) ≡ true
     → (c.queue == i) ≡ true → (c'.queue == i) ≡ true
     → events_on i (EndsPop i loads ds (step.Chain head (Some fault)) ∷ EndsPop i loads' ds' (step.Chain head' (Some fault'))
@@ -96,7 +97,7 @@ module _ {F : Type 0} (may : May F) (pops : HandleEndsPop may) (pushes : HandleF
       → s.places ≡ places_in old'.regions → s.limit ≡ old.limit → s.limit ≡ old'.limit
       → (left : QueueState) × (es : List LiveEvent) × (end : LiveState F) × LiveRun may s es end
       × AreFaultyInOrder s i bytes bytes' old old' before left notice notice' es
-      × AtTheirPlaces (going (live_of before)) (returns_among (events_on i es)) × (end.outs ≡ s.outs)
+      × AtTheirPositions (going (live_of before)) (returns_among (events_on i es)) × (end.chains ≡ s.chains)
       × (slice_get end.queues i ≡ Some (live_of final))
   faulty_in_order s i there places places' limit limit' =
       let q = live_of before in
@@ -107,39 +108,40 @@ module _ {F : Type 0} (may : May F) (pops : HandleEndsPop may) (pushes : HandleF
       let came' = step.Chain head' (Some fault') in
       let walk = pops s i (given_so_far walks.0 bytes) old one before mid (says.Faulty head fault) there places limit goes tt walks.1 tt in
       let is = faulty_is ds walk.2 head fault walk.3 in
-      let c : OutChain = new_chain s i q walk.0 ds head (Some fault) in
+      let c : InFlightChain = new_chain s i q walk.0 ds head (Some fault) in
       let s₁ : LiveState F = after_pop s i q walk.0 ds came in
       let first : Happens may s (EndsPop i walk.0 ds came) s₁ =
       subst (λ (k : comes.CourseStep). Happens may s (EndsPop i walk.0 ds k) (after_pop s i q walk.0 ds k)) is walk.4 in
       let there₁ : slice_get s₁.queues i ≡ Some q' =
       subst (λ (k : comes.CourseStep). slice_get (after_pop s i q walk.0 ds k).queues i ≡ Some q') is walk.5 in
-      let held : IsFaultyOut s.limit c one = subst (λ (k : comes.CourseStep). IsHeld s i q walk.0 k one) is walk.6 in
+      let held : HoldsFaulty s.limit c one = subst (λ (k : comes.CourseStep). HoldsResult s i q walk.0 k one) is walk.6 in
       let goes' : mid.stopped ≡ None = still_goes old one before mid head fault goes (given_so_far walks.0 bytes, walks.1) in
       let walk' = pops s₁ i (given_so_far walks'.0 bytes') old' two mid after (says.Faulty head' fault') there₁ places' limit' goes' tt
       walks'.1 tt in
       let is' = faulty_is ds' walk'.2 head' fault' walk'.3 in
-      let c' : OutChain = new_chain s₁ i q' walk'.0 ds' head' (Some fault') in
+      let c' : InFlightChain = new_chain s₁ i q' walk'.0 ds' head' (Some fault') in
       let s₂ : LiveState F = after_pop s₁ i q' walk'.0 ds' came' in
       let second : Happens may s₁ (EndsPop i walk'.0 ds' came') s₂ =
       subst (λ (k : comes.CourseStep). Happens may s₁ (EndsPop i walk'.0 ds' k) (after_pop s₁ i q' walk'.0 ds' k)) is' walk'.4 in
       let there₂ : slice_get s₂.queues i ≡ Some (live_of after) =
       subst (λ (k : comes.CourseStep). slice_get (after_pop s₁ i q' walk'.0 ds' k).queues i ≡ Some (live_of after)) is' walk'.5 in
-      let held' : IsFaultyOut s.limit c' two = subst (λ (k : comes.CourseStep). IsHeld s₁ i q' walk'.0 k two) is' walk'.6 in
+      let held' : HoldsFaulty s.limit c' two = subst (λ (k : comes.CourseStep). HoldsResult s₁ i q' walk'.0 k two) is' walk'.6 in
       let taken : took q ≡ q' = same_some (took q) q' (sym (there_same s.queues i i (λ _. took q) q refl there) ∙ there₁) in
       let taken' : took q' ≡ live_of after =
       same_some (took q') (live_of after) (sym (there_same s₁.queues i i (λ _. took q') q' refl there₁) ∙ there₂) in
       let goes_back = back [] [] in
-      let first_push = pushes s₂ c s.outs (c' ∷ []) one after fault goes_back.0 goes_back.1 notice (append_assoc s.outs (c ∷ []) (c' ∷ []))
+      let first_push = pushes s₂ c s.chains (c' ∷ []) one after fault goes_back.0 goes_back.1 notice
+      (append_assoc s.chains (c ∷ []) (c' ∷ []))
       there₂ (late_of before mid after goes taken taken') refl held goes_back.2 in
-      let returned = pushed_with may s₂ s.outs (c' ∷ []) c after goes_back.0 goes_back.1 notice goes_back.2.stores one.state [] []
+      let returned = pushed_with may s₂ s.chains (c' ∷ []) c after goes_back.0 goes_back.1 notice goes_back.2.stores one.state [] []
       goes_back.2 goes_back.3 first_push in
-      let s₃ : LiveState F = after_push s₂ s.outs (c' ∷ []) c (live_of after) in
+      let s₃ : LiveState F = after_push s₂ s.chains (c' ∷ []) c (live_of after) in
       let goes_back' = back' [] [] in
-      let second_push = pushes s₃ c' s.outs [] two (gave after) fault' goes_back'.0 goes_back'.1 notice' refl returned.3
+      let second_push = pushes s₃ c' s.chains [] two (gave after) fault' goes_back'.0 goes_back'.1 notice' refl returned.3
       (taken_of mid after goes' taken') refl held' goes_back'.2 in
-      let returned' = pushed_with may s₃ s.outs [] c' (gave after) goes_back'.0 goes_back'.1 notice' goes_back'.2.stores two.state [] []
+      let returned' = pushed_with may s₃ s.chains [] c' (gave after) goes_back'.0 goes_back'.1 notice' goes_back'.2.stores two.state [] []
       goes_back'.2 goes_back'.3 second_push in
-      let s₄ : LiveState F = after_push s₃ s.outs [] c' (live_of (gave after)) in
+      let s₄ : LiveState F = after_push s₃ s.chains [] c' (live_of (gave after)) in
       let x_is : returned.0 ≡ faulty head fault = returned.2.goes in
       let x_is' : returned'.0 ≡ faulty head' fault' = returned'.2.goes in
       let last_is : goes_back.1 ≡ 0 = no_front after [] [] one.state goes_back.0 goes_back.1 notice _ held.state goes_back.2 in
@@ -182,8 +184,8 @@ module _ {F : Type 0} (may : May F) (pops : HandleEndsPop may) (pushes : HandleF
               ∷ PushesChain c (faulty head fault) notice 0 returned.1 loaded_flags
               ∷ PushesChain c' (faulty head' fault') notice' n returned'.1 loaded_flags ∷ []) last_is',
         ),
-        subst (λ (l : List QueueEvent). AtTheirPlaces (going q) (returns_among l)) (sym on_is)
+        subst (λ (l : List QueueEvent). AtTheirPositions (going q) (returns_among l)) (sym on_is)
             (order (going q) on even few (refl, (next, tt))),
-        append-nil s.outs,
+        append-nil s.chains,
         returned'.3 ∙ ap (λ (k : QueueState). Some (live_of k)) (sym final_is),
       )

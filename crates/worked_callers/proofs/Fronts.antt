@@ -45,8 +45,8 @@ use Rattle.fs_chain.proofs.WholeEntries.{unreadable}
 use Rattle.fs_chain.proofs.WholeSteps.{by_reply, serves_call}
 use Rattle.plain_machine.specs.Step.{Calls, Exchange, answers_alone, calls_alone}
 use Rattle.plain_machine.specs.StepBy.{Act}
-use Rattle.fs_live.specs.Handles.{IsKept}
-use Rattle.fs_live.specs.Live.{Asked, OutChain, PushedWith, room_of, serving}
+use Rattle.fs_live.specs.Handles.{HoldsDecoded}
+use Rattle.fs_live.specs.Live.{Asked, InFlightChain, PushedWith, room_of, serving}
 use Rattle.fs_live.proofs.Listed.{from_lists, list_command}
 use Rattle.worked_callers.specs.Events.{HasFront}
 
@@ -232,9 +232,9 @@ front_pushed kept st stores s m calls bytes last P keeps back =
     (keeps.1.front, keeps.3, by.1.0)
 
 -- of a chain that was answered
-pub front_of : (page_size options : ℕ) (request : List ℕ) (c : OutChain) (made : Decoded) (given : ChainAnswer) (w w' : ChainHandle)
+pub front_of : (page_size options : ℕ) (request : List ℕ) (c : InFlightChain) (made : Decoded) (given : ChainAnswer) (w w' : ChainHandle)
     (kept : QueueState) (acts : List Act) (last : ℕ) (notice : Bool) (x : Exchange)
-    → IsKept page_size options request c made w → IsRepliedBy made w given w'
+    → HoldsDecoded page_size options request c made w → IsRepliedBy made w given w'
     → PushedBy kept (room_of c) (data_behind given) w'.state acts last notice
     → PushedWith page_size c (Asked request options (file_calls (drop 80 request) made given)) x
     → HasFront x.reply (data_behind given) last

@@ -10,7 +10,7 @@ use Rattle.fs_chain.specs.declared.error.ChainError.{ChainError}
 use Rattle.fs_chain.specs.declared.loads.LoadOutcome as went
 use Rattle.fs_chain.specs.declared.queue.QueueState.{QueueState}
 use Rattle.worked_callers.specs.Notified.{IsRefusedCall, WalksPast, given_so_far}
-use Rattle.worked_callers.specs.Refusals.{FailsAmid, FailsBy, IsFailedAmid, IsFailedBy, TakesOthers}
+use Rattle.worked_callers.specs.Refusals.{FailsPastRefusals, FailsBy, IsFailedPastRefusals, IsFailedBy, TakesOthers}
 
 -- what holds of an error holds of a result that is this error
 pub if_err : {A E : Type 0} (r : Result A E) (e : E) (P : E → Type 0) → r ≡ Err e → P e → IfErr r P
@@ -68,13 +68,14 @@ fails_next bytes k bs old w new before q after earlier e within walks wants refu
 )
 
 -- the next call, which was refused with other bytes before, is refused too
-pub fails_amid : (bytes : List (Bor (List ℕ))) (k : ℕ) (bs wrong : List ℕ) (old w v new : ChainHandle) (before q found after : QueueState)
+pub fails_past_refusals : (bytes : List (Bor (List ℕ))) (k : ℕ) (bs wrong : List ℕ) (old w v new : ChainHandle)
+    (before q found after : QueueState)
     (earlier : went.LoadOutcome) (e : ChainError) → k < length bytes → WalksPast wrong (given_so_far k bytes) old w before q earlier
     → WantsBytes earlier → IsRefusedCall w q wrong → IsSame w v → found ≡ q → RefusesWalk v found bs e → IsSame v new → after ≡ found
-    → bs ≡ (get_or bytes k none).now → IsFailedAmid wrong bytes old new before after e
-fails_amid bytes k bs wrong old w v new before q found after earlier e within walks wants refused same left why last stays is = (
+    → bs ≡ (get_or bytes k none).now → IsFailedPastRefusals wrong bytes old new before after e
+fails_past_refusals bytes k bs wrong old w v new before q found after earlier e within walks wants refused same left why last stays is = (
   k + 1,
-  subst (λ (given : List (List ℕ)). FailsAmid wrong given old new before after e) (sym (calls_next bytes k bs within is)) (
+  subst (λ (given : List (List ℕ)). FailsPastRefusals wrong given old new before after e) (sym (calls_next bytes k bs within is)) (
     w,
     q,
     earlier,
@@ -88,10 +89,10 @@ fails_amid bytes k bs wrong old w v new before q found after earlier e within wa
 pub takes_amid : (bytes : List (Bor (List ℕ))) (k : ℕ) (bs wrong : List ℕ) (old w new : ChainHandle) (before q after : QueueState)
     (earlier : went.LoadOutcome) (e : ChainError) → k < length bytes → WalksPast wrong (given_so_far k bytes) old w before q earlier
     → WantsBytes earlier → TakesOthers wrong w new q after e → bs ≡ (get_or bytes k none).now
-    → IsFailedAmid wrong bytes old new before after e
+    → IsFailedPastRefusals wrong bytes old new before after e
 takes_amid bytes k bs wrong old w new before q after earlier e within walks wants takes is = (
   k + 1,
-  subst (λ (given : List (List ℕ)). FailsAmid wrong given old new before after e) (sym (calls_next bytes k bs within is)) (
+  subst (λ (given : List (List ℕ)). FailsPastRefusals wrong given old new before after e) (sym (calls_next bytes k bs within is)) (
     w,
     q,
     earlier,

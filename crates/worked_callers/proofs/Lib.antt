@@ -9,11 +9,11 @@ pub mod InARowRun
 pub mod LoadedFlags
 pub mod KeptMemory
 pub mod Looks
-pub mod AbandonedAsked
-pub mod MappedAmid
+pub mod AbandonedDecoded
+pub mod RemappedInFlight
 pub mod MissedEvent
 pub mod ModelActs
-pub mod MovedAmid
+pub mod MovedBetweenChains
 pub mod NamedEvents
 pub mod OthersBeside
 pub mod OwnRuns
@@ -22,7 +22,7 @@ pub mod ServedBeside
 pub mod ServedCrossed
 pub mod ServedSteps
 pub mod StaysAlike
-pub mod StoppedAmid
+pub mod StoppedByAnother
 pub mod TakenTwo
 pub mod TookQueue
 pub mod TurnServed

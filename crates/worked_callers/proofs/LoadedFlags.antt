@@ -14,7 +14,7 @@ use Rattle.plain_machine.specs.Step.{Exchange}
 use Rattle.plain_machine.specs.StepBy as act
 use Rattle.plain_machine.specs.StepBy.{Act, reply_stores, return_acts}
 use Rattle.fs_live.specs.Handles.{IsReturn, live_of}
-use Rattle.fs_live.specs.Live.{Happens, LiveState, OutChain, PushesChain, after_push, room_of}
+use Rattle.fs_live.specs.Live.{Happens, LiveState, InFlightChain, PushesChain, after_push, room_of}
 use Rattle.fs_live.specs.Others.{PushedOwn}
 use Rattle.worked_callers.specs.Events.{loaded_flags}
 
@@ -42,14 +42,14 @@ own_flags_from kept (at.HasReply out reply) used room bytes flags acts last back
 own_flags_from kept st used room bytes flags acts last back = absurd back
 
 -- the push of a chain, with these bytes loaded, is an event of a run
-abbrev pub IsPushed : {F : Type 0} → May F → LiveState F → (before behind : List OutChain) → OutChain → QueueState → (last : ℕ) →
+abbrev pub IsPushed : {F : Type 0} → May F → LiveState F → (before behind : List InFlightChain) → InFlightChain → QueueState → (last : ℕ) →
     (notice : Bool) → Type 0
 IsPushed {F} may s before behind c kept last notice =
     (x : Exchange) × (used : List Store)
     × Happens may s (PushesChain c x notice last used loaded_flags) (after_push s before behind c (live_of kept))
     × (slice_get (after_push s before behind c (live_of kept)).queues c.queue ≡ Some (live_of (gave kept)))
 
-module _ {F : Type 0} (may : May F) (s : LiveState F) (before behind : List OutChain) (c : OutChain) (kept : QueueState)
+module _ {F : Type 0} (may : May F) (s : LiveState F) (before behind : List InFlightChain) (c : InFlightChain) (kept : QueueState)
     (acts : List Act) (last : ℕ) (notice : Bool) (stores : PushStores) where
   by_flags : (flags : List ℕ) → flags_in acts ≡ flags → flags ≡ loaded_flags → IsReturn may s before behind c kept acts last notice stores
       → IsPushed may s before behind c kept last notice

@@ -30,17 +30,17 @@ use Rattle.fs_chain.specs.declared.state.ChainState.TheVariants as at
 use Rattle.fs_chain.specs.declared.popping.PopOutcome.TheVariants as says
 use Rattle.fs_chain.specs.declared.chain_handle.ChainHandle.{ChainHandle}
 use Rattle.plain_machine.specs.StepBy.{Act, reply_stores, return_acts}
-use Rattle.fs_live.specs.Handles.{HandleEndsPop, IsHeld, IsOut, IsReached, live_of}
+use Rattle.fs_live.specs.Handles.{HandleEndsPop, HoldsResult, HoldsPopped, IsReached, live_of}
 use Rattle.fs_live.specs.Live.{Abandons, GivesUpChain, Happens, HasNoneInFlight, HasValidMaximum, LiveEvent, LiveRun, LiveState}
 use Rattle.fs_live.specs.Live.{MovesDevice}
-use Rattle.fs_live.specs.Live.{OutChain, Own}
+use Rattle.fs_live.specs.Live.{InFlightChain, Own}
 use Rattle.fs_live.specs.Live.{RepliesOwnBytes}
 use Rattle.fs_live.specs.Live.{PushesChain, EndsPop, after_abandoning, after_giving_up, after_push, after_own, after_pop, calls_among}
 use Rattle.fs_live.specs.Live.{new_chain}
 use Rattle.fs_live.specs.Live.{room_of}
-use Rattle.fs_live.specs.Others.{AreBegunBy, PushedOwn, HandleAbandons, HandleGivesUpChain, HandleMovesDevice, HandlePushesOwn}
-use Rattle.fs_live.specs.Others.{HandleRepliesOwnBytes, IfOut}
-use Rattle.fs_live.specs.Others.{IsOwn, recorded}
+use Rattle.fs_live.specs.Others.{AreResetBy, PushedOwn, HandleAbandons, HandleGivesUpChain, HandleMovesDevice, HandlePushesOwn}
+use Rattle.fs_live.specs.Others.{HandleRepliesOwnBytes, IfUnreplied}
+use Rattle.fs_live.specs.Others.{HoldsOwnReply, recorded}
 use Rattle.fs_live.specs.Several.{took}
 use Rattle.fs_live.proofs.Queues.{same_some, there_same}
 use Rattle.worked_callers.specs.ChainCalls.{stop_of}
@@ -58,7 +58,7 @@ pub dropped_beside : {F : Type 0} (may : May F) (walks_law : HandleEndsPop may) 
     → last ≡ (if is_out later.state then gave_up after else after) → (s : LiveState F) (i : ℕ)
     → slice_get s.queues i ≡ Some (live_of before) → s.places ≡ places_in old.regions → s.limit ≡ old.limit
     → (es : List LiveEvent) × (end : LiveState F) × LiveRun may s es end × IsGivenUpChain s i given old before es
-    × (end.outs ≡ s.outs)
+    × (end.chains ≡ s.chains)
     × (slice_get end.queues i ≡ Some (live_of last))
 dropped_beside {F} may walks_law drops_law given old one later before after last head n r goes walks same clear left s i there places
     limit =
@@ -69,15 +69,15 @@ dropped_beside {F} may walks_law drops_law given old one later before after last
     let loaded = walk.0 in
     let is = chain_is ds walk.2 head n r walk.3 in
     let came = step.Chain head None in
-    let c : OutChain = new_chain s i q loaded ds head None in
+    let c : InFlightChain = new_chain s i q loaded ds head None in
     let s₁ : LiveState F = after_pop s i q loaded ds came in
     let first : Happens may s (EndsPop i loaded ds came) s₁ =
     subst (λ (k : comes.CourseStep). Happens may s (EndsPop i loaded ds k) (after_pop s i q loaded ds k)) is walk.4 in
     let there₁ : slice_get s₁.queues i ≡ Some (live_of after) =
     subst (λ (k : comes.CourseStep). slice_get (after_pop s i q loaded ds k).queues i ≡ Some (live_of after)) is walk.5 in
-    let held : IsOut s.limit c one = subst (λ (k : comes.CourseStep). IsHeld s i q loaded k one) is walk.6 in
-    let dropped = drops_law s₁ c s.outs [] later after refl there₁ refl (held_later s.limit c one later same held) clear in
-    let s₂ : LiveState F = after_giving_up s₁ s.outs [] c (live_of after) in
+    let held : HoldsPopped s.limit c one = subst (λ (k : comes.CourseStep). HoldsResult s i q loaded k one) is walk.6 in
+    let dropped = drops_law s₁ c s.chains [] later after refl there₁ refl (held_later s.limit c one later same held) clear in
+    let s₂ : LiveState F = after_giving_up s₁ s.chains [] c (live_of after) in
     let out : is_out later.state ≡ true = ap is_out (same ∙ held.state) in
     let left_is : gave_up after ≡ last = sym (left ∙ ap (λ (b : Bool). if b then gave_up after else after) out) in (
       EndsPop i loaded ds came ∷ GivesUpChain c ∷ [],
@@ -88,7 +88,7 @@ dropped_beside {F} may walks_law drops_law given old one later before after last
         popped_by s i given old one before after head n r ds loaded walks walk.1 (told_so ds (says.Chain head n r) walk.2 came walk.3 is),
         refl,
       ),
-      append-nil s.outs,
+      append-nil s.chains,
       dropped.1 ∙ ap (λ (k : QueueState). Some (live_of k)) left_is,
     )
 
@@ -107,17 +107,17 @@ lost_beside {F} may walks_law abandons_law given old one before after head n r g
     let loaded = walk.0 in
     let is = chain_is ds walk.2 head n r walk.3 in
     let came = step.Chain head None in
-    let c : OutChain = new_chain s i q loaded ds head None in
+    let c : InFlightChain = new_chain s i q loaded ds head None in
     let s₁ : LiveState F = after_pop s i q loaded ds came in
     let first : Happens may s (EndsPop i loaded ds came) s₁ =
     subst (λ (k : comes.CourseStep). Happens may s (EndsPop i loaded ds k) (after_pop s i q loaded ds k)) is walk.4 in
     let there₁ : slice_get s₁.queues i ≡ Some (live_of after) =
     subst (λ (k : comes.CourseStep). slice_get (after_pop s i q loaded ds k).queues i ≡ Some (live_of after)) is walk.5 in
-    let lost = abandons_law s₁ c s.outs [] refl in (
+    let lost = abandons_law s₁ c s.chains [] refl in (
       EndsPop i loaded ds came ∷ Abandons c
           ∷ [],
-      after_abandoning s₁ s.outs [] c,
-      (s₁, first, (after_abandoning s₁ s.outs [] c, lost.0, refl)),
+      after_abandoning s₁ s.chains [] c,
+      (s₁, first, (after_abandoning s₁ s.chains [] c, lost.0, refl)),
       (
         c,
         popped_by s i given old one before after head n r ds loaded walks walk.1 (told_so ds (says.Chain head n r) walk.2 came walk.3 is),
@@ -144,12 +144,12 @@ own_goes_back (at.Lists out l) q len s flags room reply last can two back = absu
 own_goes_back (at.Pushing out) q len s flags room reply last can two back = absurd (cc)
 
 -- the reply is kept
-pub own_kept : (st : state.ChainState) (one two : ChainHandle) (d : OutChain) (reply : List ℕ) →
-    IfOut st (λ out. IsOwn d reply (at.HasReply out (own_reply (length reply)))) →
-    IfUnanswered st (λ out. two ≡ record one { state = at.HasReply out (own_reply (length reply)) }) → IsOwn d reply two.state
-own_kept (at.Taken out) one two d reply own is = subst (λ (w : ChainHandle). IsOwn d reply w.state) (sym is) own
-own_kept (at.Waits out w) one two d reply own is = subst (λ (w : ChainHandle). IsOwn d reply w.state) (sym is) own
-own_kept (at.Lists out l) one two d reply own is = subst (λ (w : ChainHandle). IsOwn d reply w.state) (sym is) own
+pub own_kept : (st : state.ChainState) (one two : ChainHandle) (d : InFlightChain) (reply : List ℕ) →
+    IfUnreplied st (λ out. HoldsOwnReply d reply (at.HasReply out (own_reply (length reply)))) →
+    IfUnanswered st (λ out. two ≡ record one { state = at.HasReply out (own_reply (length reply)) }) → HoldsOwnReply d reply two.state
+own_kept (at.Taken out) one two d reply own is = subst (λ (w : ChainHandle). HoldsOwnReply d reply w.state) (sym is) own
+own_kept (at.Waits out w) one two d reply own is = subst (λ (w : ChainHandle). HoldsOwnReply d reply w.state) (sym is) own
+own_kept (at.Lists out l) one two d reply own is = subst (λ (w : ChainHandle). HoldsOwnReply d reply w.state) (sym is) own
 own_kept at.Free one two d reply own is = absurd own
 own_kept (at.Walking course pop_id walk) one two d reply own is = absurd own
 own_kept (at.HasReply out r) one two d reply own is = absurd own
@@ -173,7 +173,7 @@ pub replied_beside : {F : Type 0} (may : May F) (walks_law : HandleEndsPop may) 
     → (s : LiveState F) (i : ℕ)
     → IsReached may s → slice_get s.queues i ≡ Some (live_of before) → s.places ≡ places_in old.regions → s.limit ≡ old.limit
     → s.limit ≤ 2 ^ 31
-    → (es : List LiveEvent) × (end : LiveState F) × LiveRun may s es end × (calls_among es ≡ []) × (end.outs ≡ s.outs)
+    → (es : List LiveEvent) × (end : LiveState F) × LiveRun may s es end × (calls_among es ≡ []) × (end.chains ≡ s.chains)
     × (end.queues ≡ changed_at s.queues i (λ _. live_of final)) × (end.options ≡ s.options) × (end.limit ≡ s.limit)
     × (end.places ≡ s.places) × IsRepliedChain s i given old before [] request reply notice es
 replied_beside {F} may walks_law replies_law returns_law given old one two before after final head n r serial request reply notice goes
@@ -185,33 +185,33 @@ replied_beside {F} may walks_law replies_law returns_law given old one two befor
     let loaded = walk.0 in
     let is = chain_is ds walk.2 head n r walk.3 in
     let came = step.Chain head None in
-    let c : OutChain = new_chain s i q loaded ds head None in
+    let c : InFlightChain = new_chain s i q loaded ds head None in
     let s₁ : LiveState F = after_pop s i q loaded ds came in
     let first : Happens may s (EndsPop i loaded ds came) s₁ =
     subst (λ (k : comes.CourseStep). Happens may s (EndsPop i loaded ds k) (after_pop s i q loaded ds k)) is walk.4 in
     let there₁ : slice_get s₁.queues i ≡ Some (live_of after) =
     subst (λ (k : comes.CourseStep). slice_get (after_pop s i q loaded ds k).queues i ≡ Some (live_of after)) is walk.5 in
-    let held : IsOut s.limit c one = subst (λ (k : comes.CourseStep). IsHeld s i q loaded k one) is walk.6 in
-    let replied = replies_law s₁ c s.outs [] one serial s.options request reply (reached_by may s s₁
+    let held : HoldsPopped s.limit c one = subst (λ (k : comes.CourseStep). HoldsResult s i q loaded k one) is walk.6 in
+    let replied = replies_law s₁ c s.chains [] one serial s.options request reply (reached_by may s s₁
     (EndsPop i loaded ds came) reached first)
     small refl refl held len clear in
-    let d : OutChain = record c { phase = Own request reply } in
-    let s₂ : LiveState F = after_own s₁ s.outs [] c request reply s.options in
-    let own : IsOwn d reply two.state = own_kept one.state one two d reply replied.1 is_kept in
+    let d : InFlightChain = record c { phase = Own request reply } in
+    let s₂ : LiveState F = after_own s₁ s.chains [] c request reply s.options in
+    let own : HoldsOwnReply d reply two.state = own_kept one.state one two d reply replied.1 is_kept in
     let taken_is : took q ≡ live_of after =
     same_some (took q) (live_of after) (sym (there_same s.queues i i (λ _. took q) q refl there) ∙ there₁) in
     let goes_back = back (room_of d) reply 0 in
-    let returned = returns_law s₂ d s.outs [] two.state after request reply goes_back.0 0 notice refl there₁
+    let returned = returns_law s₂ d s.chains [] two.state after request reply goes_back.0 0 notice refl there₁
     (taken_of before after goes taken_is) refl own goes_back.1 in
-    let next_used = pushed_own may s₂ s.outs [] d after goes_back.0 0 notice goes_back.1.stores two.state (room_of d) reply goes_back.1
+    let next_used = pushed_own may s₂ s.chains [] d after goes_back.0 0 notice goes_back.1.stores two.state (room_of d) reply goes_back.1
     goes_back.2 returned in
-    let s₃ : LiveState F = after_push s₂ s.outs [] d (live_of after) in (
+    let s₃ : LiveState F = after_push s₂ s.chains [] d (live_of after) in (
       EndsPop i loaded ds came ∷ RepliesOwnBytes c request reply s.options ∷ PushesChain d next_used.0 notice 0 next_used.1 loaded_flags
           ∷ [],
       s₃,
       (s₁, first, (s₂, replied.0, (s₃, next_used.2, refl))),
       refl,
-      append-nil s.outs,
+      append-nil s.chains,
       changed_twice s.queues i (took q) (live_of (gave after))
           ∙ ap (λ (k : QueueState). changed_at s.queues i (λ _. live_of k)) (sym final_is),
       refl,
@@ -276,19 +276,19 @@ pub moved_by : {F : Type 0} (may : May F) (law : HandleMovesDevice may) (q after
     layout.desc ≡ read.desc → layout.avail ≡ read.avail → layout.used ≡ read.used → is_some stopped ≡ read.stopped →
     after ≡ record (reset_to q layout read.position) { stopped = stopped } →
     1 ≤ q.max_in_flight → q.max_in_flight ≤ read.size →
-    (s : LiveState F) (here : QueueState) (m : Memory) (bytes : List ℕ) (v v' : Version) (options : ℕ) → s.outs ≡ [] →
+    (s : LiveState F) (here : QueueState) (m : Memory) (bytes : List ℕ) (v v' : Version) (options : ℕ) → s.chains ≡ [] →
     s.queues ≡ live_of here ∷ [] → IsRecord bytes v s.options (recorded here ∷ []) → IsRecord bytes v' options (read ∷ []) →
     (options ≡ s.options) × (next : LiveState F) × Happens may s (MovesDevice m (live_of after ∷ [])) next
     × (next.queues ≡ live_of after ∷ [])
-    × (next.places ≡ m) × (next.outs ≡ [])
+    × (next.places ≡ m) × (next.chains ≡ [])
     × (next.options ≡ s.options) × (next.limit ≡ s.limit)
 moved_by {F} may law q after layout read stopped size desc avail used is after_is some few s here m bytes v v' options none queues
     made found =
     let small : read.position < 2 ^ 16 = (All-head IsSavedQueue read [] found.2.3).2 in
     let there : QueueState = record (reset_to q layout read.position) { stopped = stopped } in
-    let begun : AreBegunBy (read ∷ []) (after ∷ []) = record {
+    let begun : AreResetBy (read ∷ []) (after ∷ []) = record {
       same = ap (λ (x : Queue). x ∷ []) (ap recorded after_is ∙ begun_by q layout read stopped size desc avail used is);
-      even = (subst (λ (k : QueueState). HasNoneInFlight (live_of k)) (sym after_is) (refl, small), tt);
+      positions_agree = (subst (λ (k : QueueState). HasNoneInFlight (live_of k)) (sym after_is) (refl, small), tt);
       few = (
         subst (λ (k : QueueState). HasValidMaximum (live_of k)) (sym after_is)
             (some, subst (λ (n : ℕ). q.max_in_flight ≤ n) (sym size) few),

@@ -43,22 +43,24 @@ use Rattle.plain_machine.specs.MarkedPages.{returned_addresses}
 use Rattle.plain_machine.specs.Step.{Calls, Exchange}
 use Rattle.plain_machine.specs.StepBy.{Act}
 use Rattle.fs_live.specs.Guest.{DeviceEvent, PagesOfRun, Writes}
-use Rattle.fs_live.specs.Handles.{HandleDecodesRequest, HandleEndsPop, IsHeld, IsOut, IsReached, IsSessionOf, live_of}
-use Rattle.fs_live.specs.Live.{DecodesRequest, PushedWith, Happens, LiveEvent, LiveRun, LiveState, OutChain, Own, Phase, ReceivesAnswer}
+use Rattle.fs_live.specs.Handles.{HandleDecodesRequest, HandleEndsPop, HoldsResult, HoldsPopped, IsReached, IsSessionOf, live_of}
+use Rattle.fs_live.specs.Live.{DecodesRequest, PushedWith, Happens, LiveEvent, LiveRun, LiveState, InFlightChain, Own, Phase}
+use Rattle.fs_live.specs.Live.{ReceivesAnswer}
 use Rattle.fs_live.specs.Live.{PushesChain, RepliesOwnBytes}
 use Rattle.fs_live.specs.Live.{EndsPop, after_answer, after_decoding, after_push, after_own, after_pop, asked_chain, calls_among, new_chain}
 use Rattle.fs_live.specs.Live.{room_of}
-use Rattle.fs_live.specs.Others.{AskedIsHeld, PushedOwn, HandlePushesOwn, HandleRepliesInstead, HandleRepliesOwnBytes, IfOut, IsHeldAsked}
-use Rattle.fs_live.specs.Others.{IsOwn}
-use Rattle.fs_live.specs.Runs.{IsAskedIn, IsBefore, OwnIsReturned, ReturnsTell, RunsOnQueue, events_on, going, tickets_on, reported_by}
+use Rattle.fs_live.specs.Others.{DecodedIsUnanswered, PushedOwn, HandlePushesOwn, HandleRepliesInstead, HandleRepliesOwnBytes, IfUnreplied}
+use Rattle.fs_live.specs.Others.{HoldsUnanswered}
+use Rattle.fs_live.specs.Others.{HoldsOwnReply}
+use Rattle.fs_live.specs.Runs.{IsAskedIn, IsBefore, OwnIsReturned, ReturnsReport, RunsOnQueue, events_on, going, in_flight_on, reported_by}
 use Rattle.fs_live.specs.Several.{InFlightId, IsSerial, LiveQueue, OncePerChain, OneAtATime, QueueEvent, RunsOver, UsedInOrder}
 use Rattle.fs_live.specs.Several.{heads_taken, returning, took}
 use Rattle.fs_live.specs.Several as several
 use Rattle.fs_live.proofs.Moved.{joined}
 use Rattle.fs_live.proofs.Queues.{same_some, there_same}
-use Rattle.worked_callers.specs.Events.{IsRepliedChain, IsRepliedInstead, loaded_flags}
+use Rattle.worked_callers.specs.Events.{IsRepliedChain, IsOwnReplyOnceDecoded, loaded_flags}
 use Rattle.worked_callers.specs.Notified.{IsWalkedBy, given_so_far}
-use Rattle.worked_callers.specs.OwnReplies.{EndsAlone, IsAt, LogsOwn, ReturnsOwn, ReturnsAsStep}
+use Rattle.worked_callers.specs.OwnReplies.{EndsAlone, IsOfRun, LogsOwn, ReturnsOwn, ReturnsAsStep}
 use Rattle.worked_callers.proofs.LoadedFlags.{pushed_own}
 use Rattle.worked_callers.proofs.NamedEvents.{popped_by, told_so}
 use Rattle.worked_callers.proofs.OthersBeside.{changed_twice, own_kept}
@@ -74,13 +76,13 @@ pub record IsPopped {F : Type 0} (may : May F) (s : LiveState F) (i : ℕ) (old 
       (after_pop s i (live_of before) loaded one.descriptors.items (step.Chain head None))
   pub there : slice_get (after_pop s i (live_of before) loaded one.descriptors.items (step.Chain head None)).queues i
       ≡ Some (live_of after)
-  pub held : IsOut s.limit (new_chain s i (live_of before) loaded one.descriptors.items head None) one
+  pub held : HoldsPopped s.limit (new_chain s i (live_of before) loaded one.descriptors.items head None) one
   pub loads : LoadsOf walks.0 old one before after (wents.On (says.Chain head n r)) walks.1 loaded
   pub told_is : says.Chain head n r ≡ told_of one.descriptors.items (step.Chain head None)
 
 pub popped : {F : Type 0} (may : May F) (law : HandleEndsPop may) (old one : ChainHandle) (before after : QueueState) (head n r : ℕ)
     → before.stopped ≡ None → (walks : IsWalked old one before after (wents.On (says.Chain head n r))) → (s : LiveState F) (i : ℕ)
-    → IsAt may s i old before → IsPopped may s i old one before after head n r walks
+    → IsOfRun may s i old before → IsPopped may s i old one before after head n r walks
 popped {F} may law old one before after head n r goes walks s i here =
     let q = live_of before in
     let ds = one.descriptors.items in
@@ -90,7 +92,7 @@ popped {F} may law old one before after head n r goes walks s i here =
       loaded = walk.0;
       happens = subst (λ (k : comes.CourseStep). Happens may s (EndsPop i walk.0 ds k) (after_pop s i q walk.0 ds k)) is walk.4;
       there = subst (λ (k : comes.CourseStep). slice_get (after_pop s i q walk.0 ds k).queues i ≡ Some (live_of after)) is walk.5;
-      held = subst (λ (k : comes.CourseStep). IsHeld s i q walk.0 k one) is walk.6;
+      held = subst (λ (k : comes.CourseStep). HoldsResult s i q walk.0 k one) is walk.6;
       loads = walk.1;
       told_is = told_so ds (says.Chain head n r) walk.2 (step.Chain head None) walk.3 is;
     }
@@ -99,22 +101,22 @@ popped {F} may law old one before after head n r goes walks s i here =
 
 module _ {F : Type 0} (may : May F) (returns_law : HandlePushesOwn may) (before after : QueueState) (request reply : List ℕ)
     (notice : Bool) (goes : before.stopped ≡ None) where
-  abbrev pub replied_from : (s s₁ : LiveState F) (c : OutChain) (st : state.ChainState) (earlier : List LiveEvent) (calls : Calls)
-      (options : ℕ) → LiveRun may s earlier s₁ → calls_among earlier ≡ calls → s₁.outs ≡ s.outs ++ c ∷ []
+  abbrev pub replied_from : (s s₁ : LiveState F) (c : InFlightChain) (st : state.ChainState) (earlier : List LiveEvent) (calls : Calls)
+      (options : ℕ) → LiveRun may s earlier s₁ → calls_among earlier ≡ calls → s₁.chains ≡ s.chains ++ c ∷ []
       → slice_get s.queues c.queue ≡ Some (live_of before) → slice_get s₁.queues c.queue ≡ Some (live_of after)
       → s₁.queues ≡ changed_at s.queues c.queue (λ _. took (live_of before)) → c.taken ≡ (live_of before).queue → c.places ≡ s.places
       → s₁.limit ≡ s.limit → s₁.page_size ≡ s.page_size
-      → Happens may s₁ (RepliesOwnBytes c request reply options) (after_own s₁ s.outs [] c request reply options)
-      → IsOwn (record c { phase = Own request reply }) reply st
+      → Happens may s₁ (RepliesOwnBytes c request reply options) (after_own s₁ s.chains [] c request reply options)
+      → HoldsOwnReply (record c { phase = Own request reply }) reply st
       → ((room bytes : List ℕ) (last : ℕ) → (acts : List Act) × (back : PushedOwn after room bytes st acts last notice)
       × (back.flags ≡ loaded_flags))
       → ReturnsOwn may s c.queue before (gave after) request reply calls notice
-  replied_from s s₁ c st earlier calls options run calls_are outs there there₁ queues taken places limit page_size replies own back =
+  replied_from s s₁ c st earlier calls options run calls_are chains there there₁ queues taken places limit page_size replies own back =
       let q = live_of before in
       let i = c.queue in
       let replied : LiveEvent = RepliesOwnBytes c request reply options in
-      let d : OutChain = record c { phase = Own request reply } in
-      let s₂ : LiveState F = after_own s₁ s.outs [] c request reply options in
+      let d : InFlightChain = record c { phase = Own request reply } in
+      let s₂ : LiveState F = after_own s₁ s.chains [] c request reply options in
       let goes_back = back (room_of d) reply 0 in
       let taken_is : took q ≡ live_of after =
       same_some (took q) (live_of after)
@@ -122,10 +124,10 @@ module _ {F : Type 0} (may : May F) (returns_law : HandlePushesOwn may) (before 
       let laid : d.taken ≡ queue_of (course_of (record after { next_avail = d.taken.position }) 0) =
       subst (λ (k : Queue). k ≡ queue_of (course_of (record after { next_avail = k.position }) 0)) (sym taken)
       (taken_of before after goes taken_is) in
-      let made_by = returns_law s₂ d s.outs [] st after request reply goes_back.0 0 notice refl there₁ laid refl own goes_back.1 in
-      let returned = pushed_own may s₂ s.outs [] d after goes_back.0 0 notice goes_back.1.stores st (room_of d) reply goes_back.1
+      let made_by = returns_law s₂ d s.chains [] st after request reply goes_back.0 0 notice refl there₁ laid refl own goes_back.1 in
+      let returned = pushed_own may s₂ s.chains [] d after goes_back.0 0 notice goes_back.1.stores st (room_of d) reply goes_back.1
       goes_back.2 made_by in
-      let s₃ : LiveState F = after_push s₂ s.outs [] d (live_of after) in
+      let s₃ : LiveState F = after_push s₂ s.chains [] d (live_of after) in
       record {
         earlier = earlier ++ replied ∷ [];
         now = s₂;
@@ -142,7 +144,7 @@ module _ {F : Type 0} (may : May F) (returns_law : HandlePushesOwn may) (before 
         used = returned.1;
         end = s₃;
         returns = returned.2;
-        outs_are = append-nil s.outs;
+        outs_are = append-nil s.chains;
         queues_are = ap (λ (l : List LiveQueue). changed_at l i (λ _. live_of (gave after))) queues
             ∙ changed_twice s.queues i (took q) (live_of (gave after));
       }
@@ -175,7 +177,7 @@ module _ {F : Type 0} (may : May F) (s : LiveState F) (i : ℕ) (before after : 
   reply_is = ap (λ (x : Exchange). x.reply)
       (subst (λ (p : Phase). PushedWith r.now.page_size r.chain p r.exchange) r.phase_is r.returns.goes)
 
-  pub reports : ReturnsTell may → (w : LiveQueue) × (slice_get r.now.queues r.chain.queue ≡ Some w)
+  pub reports : ReturnsReport may → (w : LiveQueue) × (slice_get r.now.queues r.chain.queue ≡ Some w)
       × (reported_by r.now (PushesChain r.chain r.exchange notice 0 r.used loaded_flags)
       ≡ returned_addresses (returning w) r.chain.head (room_of r.chain) reply)
   reports law =
@@ -184,7 +186,8 @@ module _ {F : Type 0} (may : May F) (s : LiveState F) (i : ℕ) (before after : 
 
 -- ---- a request that wasn't decoded
 
-both_events : (i head : ℕ) (loaded : Loaded) (ds : List Descriptor) (c d : OutChain) (request reply : List ℕ) (options : ℕ) (x : Exchange)
+both_events : (i head : ℕ) (loaded : Loaded) (ds : List Descriptor) (c d : InFlightChain) (request reply : List ℕ) (options : ℕ)
+    (x : Exchange)
     (notice : Bool) (used : List Store) (seen : List ℕ) → (i == i) ≡ true → (d.queue == i) ≡ true
     → events_on i (EndsPop i loaded ds (step.Chain head None) ∷ RepliesOwnBytes c request reply options
     ∷ PushesChain d x notice 0 used seen ∷ [])
@@ -200,22 +203,22 @@ module _ {F : Type 0} (may : May F) (walks_law : HandleEndsPop may) (replies_law
     (kept : IfUnanswered one.state (λ out. two ≡ record one { state = at.HasReply out (own_reply (length reply)) }))
     (back : (room bytes : List ℕ) (last : ℕ) → (acts : List Act) × (back : PushedOwn after room bytes two.state acts last notice)
     × (back.flags ≡ loaded_flags)) where
-  abbrev pub replied_fetched : (s : LiveState F) (i : ℕ) → IsAt may s i old before
+  abbrev pub replied_fetched : (s : LiveState F) (i : ℕ) → IsOfRun may s i old before
       → ReturnsOwn may s i before (gave after) request reply [] notice
   replied_fetched s i here =
       let q = live_of before in
       let ds = one.descriptors.items in
       let pop = popped may walks_law old one before after head n r goes (given_so_far walks.0 given, walks.1) s i here in
-      let c : OutChain = new_chain s i q pop.loaded ds head None in
+      let c : InFlightChain = new_chain s i q pop.loaded ds head None in
       let s₁ : LiveState F = after_pop s i q pop.loaded ds (step.Chain head None) in
       let walked : LiveEvent = EndsPop i pop.loaded ds (step.Chain head None) in
-      let replied = replies_law s₁ c s.outs [] one serial s.options request reply (reached_by may s s₁ walked here.reached pop.happens)
+      let replied = replies_law s₁ c s.chains [] one serial s.options request reply (reached_by may s s₁ walked here.reached pop.happens)
       here.small refl refl pop.held len clear in
       let own = own_kept one.state one two (record c { phase = Own request reply }) reply replied.1 kept in
       replied_from may returns_law before after request reply notice goes s s₁ c two.state (walked ∷ []) [] s.options
       (s₁, pop.happens, refl) refl refl here.there pop.there refl refl refl refl refl replied.0 own back
 
-  pub fetched_named : (s : LiveState F) (i : ℕ) (here : IsAt may s i old before)
+  pub fetched_named : (s : LiveState F) (i : ℕ) (here : IsOfRun may s i old before)
       → IsRepliedChain s i given old before [] request reply notice
       ((replied_fetched s i here).earlier ++ PushesChain (replied_fetched s i here).chain (replied_fetched s i here).exchange notice 0
       (replied_fetched s i here).used loaded_flags ∷ [])
@@ -230,17 +233,17 @@ module _ {F : Type 0} (may : May F) (walks_law : HandleEndsPop may) (replies_law
         refl,
       )
 
-  pub logged : PagesOfRun may → (s : LiveState F) (i : ℕ) → IsAt may s i old before
+  pub logged : PagesOfRun may → (s : LiveState F) (i : ℕ) → IsOfRun may s i old before
       → LogsOwn may s i given old before (gave after) request reply notice
   logged law s i here =
       let q = live_of before in
       let ds = one.descriptors.items in
       let pop = popped may walks_law old one before after head n r goes (given_so_far walks.0 given, walks.1) s i here in
-      let c : OutChain = new_chain s i q pop.loaded ds head None in
+      let c : InFlightChain = new_chain s i q pop.loaded ds head None in
       let s₁ : LiveState F = after_pop s i q pop.loaded ds (step.Chain head None) in
       let walked : LiveEvent = EndsPop i pop.loaded ds (step.Chain head None) in
       let told : LiveEvent = RepliesOwnBytes c request reply s.options in
-      let replied = replies_law s₁ c s.outs [] one serial s.options request reply (reached_by may s s₁ walked here.reached pop.happens)
+      let replied = replies_law s₁ c s.chains [] one serial s.options request reply (reached_by may s s₁ walked here.reached pop.happens)
       here.small refl refl pop.held len clear in
       let whole = replied_fetched s i here in
       let returned : LiveEvent = PushesChain whole.chain whole.exchange notice 0 whole.used loaded_flags in (
@@ -263,17 +266,17 @@ module _ {F : Type 0} (may : May F) (walks_law : HandleEndsPop may) (replies_law
       )
 
   pub ended_alone : RunsOnQueue may → OncePerChain → UsedInOrder → OneAtATime → before.next_used ≡ before.next_avail
-      → (s : LiveState F) (i : ℕ) → IsAt may s i old before → tickets_on i s.outs ≡ []
+      → (s : LiveState F) (i : ℕ) → IsOfRun may s i old before → in_flight_on i s.chains ≡ []
       → EndsAlone may s i given old before (gave after) request reply notice
-  ended_alone runs once used one_at none_out s i here none =
+  ended_alone runs once used one_at none_in_flight s i here none =
       let q = live_of before in
       let ds = one.descriptors.items in
       let pop = popped may walks_law old one before after head n r goes (given_so_far walks.0 given, walks.1) s i here in
-      let c : OutChain = new_chain s i q pop.loaded ds head None in
+      let c : InFlightChain = new_chain s i q pop.loaded ds head None in
       let s₁ : LiveState F = after_pop s i q pop.loaded ds (step.Chain head None) in
       let walked : LiveEvent = EndsPop i pop.loaded ds (step.Chain head None) in
       let told : LiveEvent = RepliesOwnBytes c request reply s.options in
-      let replied = replies_law s₁ c s.outs [] one serial s.options request reply (reached_by may s s₁ walked here.reached pop.happens)
+      let replied = replies_law s₁ c s.chains [] one serial s.options request reply (reached_by may s s₁ walked here.reached pop.happens)
       here.small refl refl pop.held len clear in
       let whole = replied_fetched s i here in
       let returned : LiveEvent = PushesChain whole.chain whole.exchange notice 0 whole.used loaded_flags in
@@ -285,8 +288,9 @@ module _ {F : Type 0} (may : May F) (walks_law : HandleEndsPop may) (replies_law
       let are : events_on i es ≡ events = both_events i head pop.loaded ds c whole.chain request reply s.options whole.exchange notice
       whole.used loaded_flags (eq-eqb i i refl) (eq-eqb i i refl) in
       let queue = runs s whole.end es i q here.there (tt, (tt, (tt, tt))) run in
-      let alone : RunsOver (going q) [] (events_on i es) (going queue.0) (tickets_on i whole.end.outs) =
-      subst (λ (outs : List InFlightId). RunsOver (going q) outs (events_on i es) (going queue.0) (tickets_on i whole.end.outs)) none
+      let alone : RunsOver (going q) [] (events_on i es) (going queue.0) (in_flight_on i whole.end.chains) =
+      subst (λ (chains : List InFlightId). RunsOver (going q) chains (events_on i es) (going queue.0)
+      (in_flight_on i whole.end.chains)) none
       queue.2 in
       let serial_is : IsSerial (events_on i es) = subst IsSerial (sym are) (refl, tt) in (
         whole,
@@ -294,9 +298,9 @@ module _ {F : Type 0} (may : May F) (walks_law : HandleEndsPop may) (replies_law
           fetched_named s i here,
           run,
           ap heads_taken are,
-          once (going q) (going queue.0) (tickets_on i whole.end.outs) (events_on i es) alone,
-          used (going q) (going queue.0) [] (tickets_on i whole.end.outs) (events_on i es) alone,
-          one_at (going q) (going queue.0) (tickets_on i whole.end.outs) (events_on i es) none_out serial_is alone,
+          once (going q) (going queue.0) (in_flight_on i whole.end.chains) (events_on i es) alone,
+          used (going q) (going queue.0) [] (in_flight_on i whole.end.chains) (events_on i es) alone,
+          one_at (going q) (going queue.0) (in_flight_on i whole.end.chains) (events_on i es) none_in_flight serial_is alone,
         ),
       )
 
@@ -307,9 +311,9 @@ no_entry : (why : ChainError) → ◌≡◌ {A = Result Added ChainError} (Ok ad
 no_entry why is = cc
 
 added_keeps : (st st' : state.ChainState) (list list' : List ℕ) (e : Brought) (outcome : Listing → Result (Unit {0}) NotAdded)
-    (out : InFlight) → AddsTo st st' list list' e outcome (Ok added.In) → IfOut st (λ o. o ≡ out) → IfOut st' (λ o. o ≡ out)
+    (out : InFlight) → AddsTo st st' list list' e outcome (Ok added.In) → IfUnreplied st (λ o. o ≡ out) → IfUnreplied st' (λ o. o ≡ out)
 added_keeps (at.Lists kept l) st' list list' e outcome out adds is =
-    subst (λ (st : state.ChainState). IfOut st (λ o. o ≡ out)) (sym adds.1.1) is
+    subst (λ (st : state.ChainState). IfUnreplied st (λ o. o ≡ out)) (sym adds.1.1) is
 added_keeps (at.Waits kept w) st' list list' e outcome out adds is = absurd (no_entry error.OtherKind adds.0)
 added_keeps (at.Taken kept) st' list list' e outcome out adds is = absurd (no_entry error.WrongOrder adds.0)
 added_keeps at.Free st' list list' e outcome out adds is = absurd is
@@ -318,19 +322,19 @@ added_keeps (at.HasReply o reply) st' list list' e outcome out adds is = absurd 
 added_keeps (at.Pushing o) st' list list' e outcome out adds is = absurd is
 
 pub entry_keeps : (w w' : ChainHandle) (list list' : List ℕ) (e : Brought) (out : InFlight) → BringsEntry w list e (Ok added.In) w' list' →
-    IfOut w.state (λ o. o ≡ out) → IfOut w'.state (λ o. o ≡ out)
+    IfUnreplied w.state (λ o. o ≡ out) → IfUnreplied w'.state (λ o. o ≡ out)
 entry_keeps w w' list list' e out brings is = elim brings.0 [
   | inl adds ↦ added_keeps w.state w'.state list list' e (λ l. added_plain l (length list) (length e.0.name)) out adds is
   | inr adds ↦ added_keeps w.state w'.state list list' e (λ l. added_found l (length list) (length e.0.name)) out adds is
 ]
 
-module _ {F : Type 0} (may : May F) (walks_law : HandleEndsPop may) (asks_law : HandleDecodesRequest may) (held_law : AskedIsHeld)
+module _ {F : Type 0} (may : May F) (walks_law : HandleEndsPop may) (asks_law : HandleDecodesRequest may) (held_law : DecodedIsUnanswered)
     (instead_law : HandleRepliesInstead may) (returns_law : HandlePushesOwn may) (given : List (Bor (List ℕ)))
     (old one two three four : ChainHandle) (before after : QueueState) (head n r serial : ℕ) (session : Session) (request reply : List ℕ)
     (made : made_call.FileCall) (notice : Bool) (goes : before.stopped ≡ None)
     (walks : IsWalkedBy given old one before after (wents.On (says.Chain head n r)))
     (asked : IsDecodedBy one session request request (asks.Call made) two)
-    (keeps : (out : InFlight) → IfOut two.state (λ o. o ≡ out) → IfOut three.state (λ o. o ≡ out))
+    (keeps : (out : InFlight) → IfUnreplied two.state (λ o. o ≡ out) → IfUnreplied three.state (λ o. o ≡ out))
     (clear : own_error three.state three.serial serial (length reply) ≡ None)
     (kept : IfUnanswered three.state (λ out. four ≡ record three { state = at.HasReply out (own_reply (length reply)) }))
     (back : (room bytes : List ℕ) (last : ℕ) → (acts : List Act) × (back : PushedOwn after room bytes four.state acts last notice)
@@ -338,31 +342,31 @@ module _ {F : Type 0} (may : May F) (walks_law : HandleEndsPop may) (asks_law : 
   abbrev call : FileCall
   call = call_of (drop 80 request) made
 
-  pub replied_asked : (s : LiveState F) (i : ℕ) → IsAt may s i old before → IsSessionOf s session
+  pub replied_asked : (s : LiveState F) (i : ℕ) → IsOfRun may s i old before → IsSessionOf s session
       → (whole : ReturnsOwn may s i before (gave after) request reply [] notice)
-      × IsRepliedInstead s i given old before request reply [] notice
+      × IsOwnReplyOnceDecoded s i given old before request reply [] notice
       (whole.earlier ++ PushesChain whole.chain whole.exchange notice 0 whole.used loaded_flags ∷ [])
   replied_asked s i here in_session =
       let q = live_of before in
       let ds = one.descriptors.items in
       let pop = popped may walks_law old one before after head n r goes (given_so_far walks.0 given, walks.1) s i here in
-      let c : OutChain = new_chain s i q pop.loaded ds head None in
+      let c : InFlightChain = new_chain s i q pop.loaded ds head None in
       let s₁ : LiveState F = after_pop s i q pop.loaded ds (step.Chain head None) in
       let walked : LiveEvent = EndsPop i pop.loaded ds (step.Chain head None) in
       let told : LiveEvent = DecodesRequest c request (call ∷ []) in
-      let asking = asks_law s₁ c s.outs [] one two session request request (asks.Call made)
+      let asking = asks_law s₁ c s.chains [] one two session request request (asks.Call made)
       (reached_by may s s₁ walked here.reached pop.happens) here.small refl refl pop.held in_session asked tt in
-      let s₂ : LiveState F = after_decoding s₁ s.outs [] c request in
-      let d : OutChain = asked_chain c request s.options [] in
+      let s₂ : LiveState F = after_decoding s₁ s.chains [] c request in
+      let d : InFlightChain = asked_chain c request s.options [] in
       let held = held_law s.page_size s.options request d made two asking.1 in
-      let held' : IsHeldAsked d three = record {
+      let held' : HoldsUnanswered d three = record {
         out = held.out;
         head = held.head;
         taken = held.taken;
         room = held.room;
         is = keeps held.out held.is;
       } in
-      let replied = instead_law s₂ d s.outs [] three serial s.options s.options request reply [] refl refl held' clear in
+      let replied = instead_law s₂ d s.chains [] three serial s.options s.options request reply [] refl refl held' clear in
       let own = own_kept three.state three four (record d { phase = Own request reply }) reply replied.1 kept in
       let whole = replied_from may returns_law before after request reply notice goes s s₂ d four.state (walked ∷ told ∷ []) [] s.options
       (s₁, pop.happens, (s₂, asking.0, refl)) refl refl here.there pop.there refl refl refl refl refl replied.0 own back in (
@@ -377,29 +381,29 @@ module _ {F : Type 0} (may : May F) (walks_law : HandleEndsPop may) (asks_law : 
         ),
       )
 
-  pub replied_answered : (s : LiveState F) (i : ℕ) → IsAt may s i old before → IsSessionOf s session → (answer : FileAnswer) (files : F)
+  pub replied_answered : (s : LiveState F) (i : ℕ) → IsOfRun may s i old before → IsSessionOf s session → (answer : FileAnswer) (files : F)
       → IsTrue (suits call answer) → may s.files call answer files
       → (whole : ReturnsOwn may s i before (gave after) request reply ((call, answer) ∷ []) notice)
-      × IsRepliedInstead s i given old before request reply ((call, answer) ∷ []) notice
+      × IsOwnReplyOnceDecoded s i given old before request reply ((call, answer) ∷ []) notice
       (whole.earlier ++ PushesChain whole.chain whole.exchange notice 0 whole.used loaded_flags ∷ [])
   replied_answered s i here in_session answer files fits so =
       let q = live_of before in
       let ds = one.descriptors.items in
       let pop = popped may walks_law old one before after head n r goes (given_so_far walks.0 given, walks.1) s i here in
-      let c : OutChain = new_chain s i q pop.loaded ds head None in
+      let c : InFlightChain = new_chain s i q pop.loaded ds head None in
       let s₁ : LiveState F = after_pop s i q pop.loaded ds (step.Chain head None) in
       let walked : LiveEvent = EndsPop i pop.loaded ds (step.Chain head None) in
       let told : LiveEvent = DecodesRequest c request (call ∷ []) in
-      let asking = asks_law s₁ c s.outs [] one two session request request (asks.Call made)
+      let asking = asks_law s₁ c s.chains [] one two session request request (asks.Call made)
       (reached_by may s s₁ walked here.reached pop.happens) here.small refl refl pop.held in_session asked tt in
-      let s₂ : LiveState F = after_decoding s₁ s.outs [] c request in
-      let d : OutChain = asked_chain c request s.options [] in
+      let s₂ : LiveState F = after_decoding s₁ s.chains [] c request in
+      let d : InFlightChain = asked_chain c request s.options [] in
       let held = held_law s.page_size s.options request d made two asking.1 in
       let calls : Calls = (call, answer) ∷ [] in
-      let s₃ : LiveState F = after_answer s₂ s.outs [] d request s.options calls files in
-      let e : OutChain = asked_chain c request s.options calls in
+      let s₃ : LiveState F = after_answer s₂ s.chains [] d request s.options calls files in
+      let e : InFlightChain = asked_chain c request s.options calls in
       let answered : Happens may s₂ (ReceivesAnswer d call answer) s₃ = record {
-        before = s.outs;
+        before = s.chains;
         behind = [];
         out = refl;
         request = request;
@@ -412,14 +416,14 @@ module _ {F : Type 0} (may : May F) (walks_law : HandleEndsPop may) (asks_law : 
         may_so = so;
         state = refl;
       } in
-      let held' : IsHeldAsked e three = record {
+      let held' : HoldsUnanswered e three = record {
         out = held.out;
         head = held.head;
         taken = held.taken;
         room = held.room;
         is = keeps held.out held.is;
       } in
-      let replied = instead_law s₃ e s.outs [] three serial s.options s.options request reply calls refl refl held' clear in
+      let replied = instead_law s₃ e s.chains [] three serial s.options s.options request reply calls refl refl held' clear in
       let own = own_kept three.state three four (record e { phase = Own request reply }) reply replied.1 kept in
       let whole = replied_from may returns_law before after request reply notice goes s s₃ e four.state
       (walked ∷ told ∷ ReceivesAnswer d call answer ∷ []) calls s.options

@@ -32,8 +32,8 @@ use Rattle.plain_machine.specs.Step.{Calls, EachSuits, Exchange, faulty}
 use Rattle.plain_machine.specs.StepBy.{Act}
 use Rattle.fs_live.specs.Handles.{HandleCalls, HandleDecodesRequest, HandleFaulty, HandlePushesChain, HandleStoresNotification}
 use Rattle.fs_live.specs.Handles.{HandleEndsPop}
-use Rattle.fs_live.specs.Handles.{IsFaultyOut, IsHeld}
-use Rattle.fs_live.specs.Handles.{IsKept, IsOut, IsReached, IsSessionOf, IsDecodedWhole, calls_decoded, live_of}
+use Rattle.fs_live.specs.Handles.{HoldsFaulty, HoldsResult}
+use Rattle.fs_live.specs.Handles.{HoldsDecoded, HoldsPopped, IsReached, IsSessionOf, IsDecodedWhole, calls_decoded, live_of}
 use Rattle.fs_live.specs.Live.{
   ReceivesAnswer,
   DecodesRequest,
@@ -49,7 +49,7 @@ use Rattle.fs_live.specs.Live.{
   LiveState,
   Remaps,
   MovesDevice,
-  OutChain,
+  InFlightChain,
   RepliesOwnBytes,
   PushesChain,
   StoresNotification,
@@ -132,9 +132,9 @@ told_with_reply (asks.More n) w w' given has = absurd has
 told_with_reply asks.Nothing w w' given has = tt
 told_with_reply (asks.Fault e) w w' given has = tt
 
-pub kept_on : (page_size options : ℕ) (request : List ℕ) (c : OutChain) (earlier more : Calls) (made : Decoded) (w : ChainHandle)
-    → IsKept page_size options request (asked_chain c request options earlier) made w
-    → IsKept page_size options request (asked_chain c request options more) made w
+pub kept_on : (page_size options : ℕ) (request : List ℕ) (c : InFlightChain) (earlier more : Calls) (made : Decoded) (w : ChainHandle)
+    → HoldsDecoded page_size options request (asked_chain c request options earlier) made w
+    → HoldsDecoded page_size options request (asked_chain c request options more) made w
 kept_on page_size options request c earlier more made w kept =
     record {
       out = kept.out;
@@ -147,12 +147,12 @@ kept_on page_size options request c earlier more made w kept =
     }
 
 -- the calls of a chain are answered one after another
-pub record AllAnswered {F : Type 0} (may : May F) (s : LiveState F) (before behind : List OutChain) (c popped : OutChain)
+pub record AllAnswered {F : Type 0} (may : May F) (s : LiveState F) (before behind : List InFlightChain) (c popped : InFlightChain)
     (request : List ℕ) (options : ℕ) (earlier later : Calls) (files : F) : Type 0 where
   pub es : List LiveEvent
   pub end : LiveState F
   pub run : LiveRun may s es end
-  pub outs : end.outs ≡ before ++ c ∷ behind
+  pub chains : end.chains ≡ before ++ c ∷ behind
   pub queues_are : end.queues ≡ s.queues
   pub page_size : end.page_size ≡ s.page_size
   pub calls : calls_among es ≡ later
@@ -166,16 +166,16 @@ module _ {F : Type 0} (may : May F) (law : HandleCalls may) (w w' : ChainHandle)
   abbrev pub all : Calls
   all = file_calls (drop 80 request) made given
 
-  pub answered_all : (s : LiveState F) (c : OutChain) (before behind : List OutChain) (earlier later : Calls) (files : F)
-      → s.outs ≡ before ++ asked_chain c request options earlier ∷ behind
-      → IsKept s.page_size options request (asked_chain c request options earlier) made w → all ≡ earlier ++ later
+  pub answered_all : (s : LiveState F) (c : InFlightChain) (before behind : List InFlightChain) (earlier later : Calls) (files : F)
+      → s.chains ≡ before ++ asked_chain c request options earlier ∷ behind
+      → HoldsDecoded s.page_size options request (asked_chain c request options earlier) made w → all ≡ earlier ++ later
       → FileRun may s.files later files
       → AllAnswered may s before behind (asked_chain c request options all) c request options earlier later files
   answered_all s c before behind earlier [] files out kept calls_are run = record {
     es = [];
     end = s;
     run = refl;
-    outs = out ∙ ap (λ (calls : Calls). before ++ asked_chain c request options calls ∷ behind) (sym (calls_are ∙ append-nil earlier));
+    chains = out ∙ ap (λ (calls : Calls). before ++ asked_chain c request options calls ∷ behind) (sym (calls_are ∙ append-nil earlier));
     queues_are = refl;
     page_size = refl;
     calls = refl;
@@ -196,7 +196,7 @@ module _ {F : Type 0} (may : May F) (law : HandleCalls may) (w w' : ChainHandle)
         es = ReceivesAnswer d call answer ∷ rest.es;
         end = rest.end;
         run = (next, happens, rest.run);
-        outs = rest.outs;
+        chains = rest.chains;
         queues_are = rest.queues_are;
         page_size = rest.page_size;
         calls = ap (λ (calls : Calls). (call, answer) ∷ calls) rest.calls;
@@ -209,12 +209,13 @@ module _ {F : Type 0} (may : May F) (law : HandleCalls may) (w w' : ChainHandle)
 -- ---- another table
 
 -- a handle has its chain by its state alone: since the pop it may have been given another table, or none
-pub held_later : (limit : ℕ) (c : OutChain) (one later : ChainHandle) → later.state ≡ one.state → IsOut limit c one → IsOut limit c later
+pub held_later : (limit : ℕ) (c : InFlightChain) (one later : ChainHandle) → later.state ≡ one.state → HoldsPopped limit c one →
+    HoldsPopped limit c later
 held_later limit c one later same held =
     record { kept = held.kept; pop_id = held.pop_id; taken = held.taken; state = same ∙ held.state }
 
-pub faulty_later : (limit : ℕ) (c : OutChain) (one later : ChainHandle) → later.state ≡ one.state → IsFaultyOut limit c one →
-    IsFaultyOut limit c later
+pub faulty_later : (limit : ℕ) (c : InFlightChain) (one later : ChainHandle) → later.state ≡ one.state → HoldsFaulty limit c one →
+    HoldsFaulty limit c later
 faulty_later limit c one later same held =
     record { kept = held.kept; pop_id = held.pop_id; taken = held.taken; state = same ∙ held.state }
 
@@ -229,7 +230,7 @@ pub record ServedRun {F : Type 0} (may : May F) (s : LiveState F) (i : ℕ) (old
   pub run : LiveRun may s es end
   pub calls_are : calls_among es ≡ calls
   pub files_are : end.files ≡ files
-  pub outs : end.outs ≡ s.outs
+  pub chains : end.chains ≡ s.chains
   pub there : slice_get end.queues i ≡ Some (live_of (gave after))
   pub anew : AllByRecursion (NoReset i) es
   pub single : Single
@@ -274,38 +275,39 @@ module _ {F : Type 0} (may : May F) (walks_law : HandleEndsPop may) (asks_law : 
       let walk = walks_law s i walks.0 old one before after (says.Chain head n r) there places limit goes tt walks.1 tt in
       let loaded = walk.0 in
       let is = chain_is ds walk.2 head n r walk.3 in
-      let c : OutChain = new_chain s i q loaded ds head None in
+      let c : InFlightChain = new_chain s i q loaded ds head None in
       let s₁ : LiveState F = after_pop s i q loaded ds (step.Chain head None) in
       let first : Happens may s (EndsPop i loaded ds (step.Chain head None)) s₁ =
       subst (λ (k : comes.CourseStep). Happens may s (EndsPop i loaded ds k) (after_pop s i q loaded ds k)) is walk.4 in
       let there₁ : slice_get s₁.queues i ≡ Some (live_of after) =
       subst (λ (k : comes.CourseStep). slice_get (after_pop s i q loaded ds k).queues i ≡ Some (live_of after)) is walk.5 in
-      let held : IsOut s.limit c one = subst (λ (k : comes.CourseStep). IsHeld s i q loaded k one) is walk.6 in
-      let asking = asks_law s₁ c s.outs [] later two session request request made
+      let held : HoldsPopped s.limit c one = subst (λ (k : comes.CourseStep). HoldsResult s i q loaded k one) is walk.6 in
+      let asking = asks_law s₁ c s.chains [] later two session request request made
       (reached_by may s s₁ (EndsPop i loaded ds (step.Chain head None)) reached first) small refl refl
       (held_later s.limit c one later same held) in_session asked
       (told_with_reply made two three given has) in
-      let s₂ : LiveState F = after_decoding s₁ s.outs [] c request in
-      let kept : IsKept s₂.page_size s.options request (asked_chain c request s.options []) made two = asking.1 in
-      let ans = answered_all may calls_law two three request s.options made given has s₂ c s.outs [] [] calls files refl kept refl run in
-      let d : OutChain = asked_chain c request s.options calls in
+      let s₂ : LiveState F = after_decoding s₁ s.chains [] c request in
+      let kept : HoldsDecoded s₂.page_size s.options request (asked_chain c request s.options []) made two = asking.1 in
+      let ans = answered_all may calls_law two three request s.options made given has s₂ c s.chains [] [] calls files refl kept refl run in
+      let d : InFlightChain = asked_chain c request s.options calls in
       let taken_is : took q ≡ live_of after =
       same_some (took q) (live_of after) (sym (there_same s.queues i i (λ _. took q) q refl there) ∙ there₁) in
       let goes_back = back (room_of d) (data_behind given) in
       let there₃ : slice_get ans.end.queues i ≡ Some (live_of after) = ap (λ (l : List LiveQueue). slice_get l i) ans.queues_are ∙ there₁ in
-      let kept₃ : IsKept ans.end.page_size s.options request d made two =
-      subst (λ (p : ℕ). IsKept p s.options request d made two) (sym ans.page_size)
+      let kept₃ : HoldsDecoded ans.end.page_size s.options request d made two =
+      subst (λ (p : ℕ). HoldsDecoded p s.options request d made two) (sym ans.page_size)
       (kept_on s.page_size s.options request c [] calls made two kept) in
-      let returned = returns_law ans.end d s.outs [] two three after request s.options made given goes_back.0 goes_back.1 notice ans.outs
+      let returned = returns_law ans.end d s.chains [] two three after request s.options made given goes_back.0 goes_back.1 notice
+      ans.chains
       there₃ (taken_of before after goes taken_is) refl
       (each_suits may s.files files calls run) kept₃ has goes_back.2 in
-      let next_used = pushed_with may ans.end s.outs [] d after goes_back.0 goes_back.1 notice goes_back.2.stores three.state (room_of d)
+      let next_used = pushed_with may ans.end s.chains [] d after goes_back.0 goes_back.1 notice goes_back.2.stores three.state (room_of d)
       (data_behind given) goes_back.2 goes_back.3 returned in
       let front : HasFront next_used.0.reply (data_behind given) goes_back.1 =
       front_of ans.end.page_size s.options request d made given two three after goes_back.0 goes_back.1 notice next_used.0 kept₃ has
       goes_back.2 next_used.2.goes in
       let last = PushesChain d next_used.0 notice goes_back.1 next_used.1 loaded_flags in
-      let s₄ : LiveState F = after_push ans.end s.outs [] d (live_of after) in
+      let s₄ : LiveState F = after_push ans.end s.chains [] d (live_of after) in
       record {
         es = EndsPop i loaded ds (step.Chain head None) ∷ DecodesRequest c request (calls_decoded (drop 80 request) made)
             ∷ (ans.es ++ last ∷ []);
@@ -313,7 +315,7 @@ module _ {F : Type 0} (may : May F) (walks_law : HandleEndsPop may) (asks_law : 
         run = (s₁, first, (s₂, asking.0, run_more may s₂ ans.end s₄ ans.es last ans.run next_used.2));
         calls_are = calls_of_both ans.es (last ∷ []) ∙ append-nil (calls_among ans.es) ∙ ans.calls;
         files_are = ans.files_are;
-        outs = append-nil s.outs;
+        chains = append-nil s.chains;
         there = next_used.3;
         anew = (tt, (tt, all_both (NoReset i) ans.es (last ∷ []) (ans.anew i) (tt, tt)));
         single = record {
@@ -378,7 +380,7 @@ pub faulty_beside : {F : Type 0} (may : May F) (walks_law : HandleEndsPop may) (
     → final ≡ gave after → (s : LiveState F) (i : ℕ) → slice_get s.queues i ≡ Some (live_of before)
     → s.places ≡ places_in old.regions → s.limit ≡ old.limit
     → (es : List LiveEvent) × (end : LiveState F) × LiveRun may s es end × IsFaultyChain s i given old before notice es
-    × (calls_among es ≡ []) × (end.outs ≡ s.outs) × (slice_get end.queues i ≡ Some (live_of final))
+    × (calls_among es ≡ []) × (end.chains ≡ s.chains) × (slice_get end.queues i ≡ Some (live_of final))
 faulty_beside {F} may walks_law faulty_law given old one later before after final head fault notice goes walks same back final_is s i there
     places limit =
     let q = live_of before in
@@ -388,21 +390,21 @@ faulty_beside {F} may walks_law faulty_law given old one later before after fina
     let loaded = walk.0 in
     let is = faulty_is ds walk.2 head fault walk.3 in
     let came = step.Chain head (Some fault) in
-    let c : OutChain = new_chain s i q loaded ds head (Some fault) in
+    let c : InFlightChain = new_chain s i q loaded ds head (Some fault) in
     let s₁ : LiveState F = after_pop s i q loaded ds came in
     let first : Happens may s (EndsPop i loaded ds came) s₁ =
     subst (λ (k : comes.CourseStep). Happens may s (EndsPop i loaded ds k) (after_pop s i q loaded ds k)) is walk.4 in
     let there₁ : slice_get s₁.queues i ≡ Some (live_of after) =
     subst (λ (k : comes.CourseStep). slice_get (after_pop s i q loaded ds k).queues i ≡ Some (live_of after)) is walk.5 in
-    let held : IsFaultyOut s.limit c one = subst (λ (k : comes.CourseStep). IsHeld s i q loaded k one) is walk.6 in
+    let held : HoldsFaulty s.limit c one = subst (λ (k : comes.CourseStep). HoldsResult s i q loaded k one) is walk.6 in
     let taken_is : took q ≡ live_of after =
     same_some (took q) (live_of after) (sym (there_same s.queues i i (λ _. took q) q refl there) ∙ there₁) in
     let goes_back = back [] [] in
-    let returned = faulty_law s₁ c s.outs [] later after fault goes_back.0 goes_back.1 notice refl there₁
+    let returned = faulty_law s₁ c s.chains [] later after fault goes_back.0 goes_back.1 notice refl there₁
     (taken_of before after goes taken_is) refl (faulty_later s.limit c one later same held) goes_back.2 in
-    let next_used = pushed_with may s₁ s.outs [] c after goes_back.0 goes_back.1 notice goes_back.2.stores later.state [] []
+    let next_used = pushed_with may s₁ s.chains [] c after goes_back.0 goes_back.1 notice goes_back.2.stores later.state [] []
     goes_back.2 goes_back.3 returned in
-    let s₂ : LiveState F = after_push s₁ s.outs [] c (live_of after) in
+    let s₂ : LiveState F = after_push s₁ s.chains [] c (live_of after) in
     let exchange_is : next_used.0 ≡ faulty head fault = next_used.2.goes in
     let last_is : goes_back.1 ≡ 0 = no_front after [] [] later.state goes_back.0 goes_back.1 notice _
     (faulty_later s.limit c one later same held).state goes_back.2 in (
@@ -418,6 +420,6 @@ faulty_beside {F} may walks_law faulty_law given old one later before after fina
             ∙ ap (λ (n : ℕ). EndsPop i loaded ds came ∷ PushesChain c (faulty head fault) notice n next_used.1 loaded_flags ∷ []) last_is,
       ),
       refl,
-      append-nil s.outs,
+      append-nil s.chains,
       next_used.3 ∙ ap (λ (q : QueueState). Some (live_of q)) (sym final_is),
     )

@@ -20,10 +20,11 @@ use Rattle.fs_chain.specs.declared.popping.PopOutcome.TheVariants as says
 use Rattle.fs_chain.specs.declared.chain_handle.ChainHandle.{ChainHandle}
 use Rattle.plain_machine.specs.Step.{Calls}
 use Rattle.plain_machine.specs.StepBy.{Act}
-use Rattle.fs_live.specs.Handles.{HandleCalls, HandleDecodesRequest, HandlePushesChain, HandleEndsPop, IsHeld, IsKept, IsOut, IsReached}
+use Rattle.fs_live.specs.Handles.{HandleCalls, HandleDecodesRequest, HandlePushesChain, HandleEndsPop, HoldsResult, HoldsDecoded}
+use Rattle.fs_live.specs.Handles.{HoldsPopped, IsReached}
 use Rattle.fs_live.specs.Handles.{IsSessionOf}
 use Rattle.fs_live.specs.Handles.{calls_decoded, live_of}
-use Rattle.fs_live.specs.Live.{DecodesRequest, Happens, LiveEvent, LiveRun, LiveState, OutChain, PushesChain, EndsPop, after_decoding}
+use Rattle.fs_live.specs.Live.{DecodesRequest, Happens, LiveEvent, LiveRun, LiveState, InFlightChain, PushesChain, EndsPop, after_decoding}
 use Rattle.fs_live.specs.Live.{after_push}
 use Rattle.fs_live.specs.Live.{after_pop, asked_chain, calls_among, new_chain, room_of}
 use Rattle.fs_live.specs.Several.{LiveQueue, took}
@@ -75,7 +76,7 @@ module _ {F : Type 0} (may : May F) (walks_law : HandleEndsPop may) (asks_law : 
       → (es : List LiveEvent) × (end : LiveState F) × LiveRun may s es end
       × AreCrossedChains s i bytes bytes' old old' before mid request request' late early (data_behind given) (data_behind given')
       notice notice' es
-      × (calls_among es ≡ early ++ late) × (end.outs ≡ s.outs)
+      × (calls_among es ≡ early ++ late) × (end.chains ≡ s.chains)
       × (slice_get end.queues i ≡ Some (live_of final))
   served_crossed final final_is s i between files reached there places places' limit limit' small in_session in_session' run' run =
       let q = live_of before in
@@ -86,75 +87,75 @@ module _ {F : Type 0} (may : May F) (walks_law : HandleEndsPop may) (asks_law : 
       walks.1 tt in
       let is = chain_is ds walk.2 head n r walk.3 in
       let came = step.Chain head None in
-      let c : OutChain = new_chain s i q walk.0 ds head None in
+      let c : InFlightChain = new_chain s i q walk.0 ds head None in
       let s₁ : LiveState F = after_pop s i q walk.0 ds came in
       let first : Happens may s (EndsPop i walk.0 ds came) s₁ =
       subst (λ (k : comes.CourseStep). Happens may s (EndsPop i walk.0 ds k) (after_pop s i q walk.0 ds k)) is walk.4 in
       let there₁ : slice_get s₁.queues i ≡ Some q' =
       subst (λ (k : comes.CourseStep). slice_get (after_pop s i q walk.0 ds k).queues i ≡ Some q') is walk.5 in
-      let held : IsOut s.limit c one = subst (λ (k : comes.CourseStep). IsHeld s i q walk.0 k one) is walk.6 in
+      let held : HoldsPopped s.limit c one = subst (λ (k : comes.CourseStep). HoldsResult s i q walk.0 k one) is walk.6 in
       let goes' : mid.stopped ≡ None = goes_still old one before mid head n r goes (given_so_far walks.0 bytes, walks.1) in
       let walk' = walks_law s₁ i (given_so_far walks'.0 bytes') old' two mid after (says.Chain head' n' r')
       there₁ places' limit' goes' tt walks'.1 tt in
       let is' = chain_is ds' walk'.2 head' n' r' walk'.3 in
       let came' = step.Chain head' None in
-      let c' : OutChain = new_chain s₁ i q' walk'.0 ds' head' None in
+      let c' : InFlightChain = new_chain s₁ i q' walk'.0 ds' head' None in
       let s₂ : LiveState F = after_pop s₁ i q' walk'.0 ds' came' in
       let second : Happens may s₁ (EndsPop i walk'.0 ds' came') s₂ =
       subst (λ (k : comes.CourseStep). Happens may s₁ (EndsPop i walk'.0 ds' k) (after_pop s₁ i q' walk'.0 ds' k)) is' walk'.4 in
       let there₂ : slice_get s₂.queues i ≡ Some (live_of after) =
       subst (λ (k : comes.CourseStep). slice_get (after_pop s₁ i q' walk'.0 ds' k).queues i ≡ Some (live_of after)) is' walk'.5 in
-      let held' : IsOut s.limit c' two = subst (λ (k : comes.CourseStep). IsHeld s₁ i q' walk'.0 k two) is' walk'.6 in
+      let held' : HoldsPopped s.limit c' two = subst (λ (k : comes.CourseStep). HoldsResult s₁ i q' walk'.0 k two) is' walk'.6 in
       let reached₂ = reached_by may s₁ s₂ (EndsPop i walk'.0 ds' came') (reached_by may s s₁
       (EndsPop i walk.0 ds came) reached first) second in
-      let asking = asks_law s₂ c s.outs (c' ∷ []) one one₂ session request request made reached₂ small
-      (append_assoc s.outs (c ∷ []) (c' ∷ [])) refl held in_session asked
+      let asking = asks_law s₂ c s.chains (c' ∷ []) one one₂ session request request made reached₂ small
+      (append_assoc s.chains (c ∷ []) (c' ∷ [])) refl held in_session asked
       (told_with_reply made one₂ one₃ given has) in
       let asks = DecodesRequest c request (calls_decoded (drop 80 request) made) in
-      let s₃ : LiveState F = after_decoding s₂ s.outs (c' ∷ []) c request in
-      let d : OutChain = asked_chain c request s.options [] in
-      let others : List OutChain = s.outs ++ d ∷ [] in
+      let s₃ : LiveState F = after_decoding s₂ s.chains (c' ∷ []) c request in
+      let d : InFlightChain = asked_chain c request s.options [] in
+      let others : List InFlightChain = s.chains ++ d ∷ [] in
       let asking' = asks_law s₃ c' others [] two two₂ session' request' request' made' (reached_by may s₂ s₃ asks reached₂ asking.0) small
-      (sym (append_assoc s.outs (d ∷ []) (c' ∷ []))) refl held'
+      (sym (append_assoc s.chains (d ∷ []) (c' ∷ []))) refl held'
       in_session' asked' (told_with_reply made' two₂ two₃ given' has') in
       let asks' = DecodesRequest c' request' (calls_decoded (drop 80 request') made') in
       let s₄ : LiveState F = after_decoding s₃ others [] c' request' in
-      let kept : IsKept s.page_size s.options request d made one₂ = asking.1 in
-      let kept' : IsKept s.page_size s.options request' (asked_chain c' request' s.options []) made' two₂ = asking'.1 in
+      let kept : HoldsDecoded s.page_size s.options request d made one₂ = asking.1 in
+      let kept' : HoldsDecoded s.page_size s.options request' (asked_chain c' request' s.options []) made' two₂ = asking'.1 in
       let ans' = answered_all may calls_law two₂ two₃ request' s.options made' given' has' s₄ c' others [] [] early between refl kept'
       refl run' in
-      let e' : OutChain = asked_chain c' request' s.options early in
+      let e' : InFlightChain = asked_chain c' request' s.options early in
       let taken : took q ≡ q' = same_some (took q) q' (sym (there_same s.queues i i (λ _. took q) q refl there) ∙ there₁) in
       let taken' : took q' ≡ live_of after =
       same_some (took q') (live_of after) (sym (there_same s₁.queues i i (λ _. took q') q' refl there₁) ∙ there₂) in
       let goes_back' = back' (room_of e') (data_behind given') in
-      let kept₄ : IsKept ans'.end.page_size s.options request' e' made' two₂ =
-      subst (λ (p : ℕ). IsKept p s.options request' e' made' two₂) (sym ans'.page_size)
+      let kept₄ : HoldsDecoded ans'.end.page_size s.options request' e' made' two₂ =
+      subst (λ (p : ℕ). HoldsDecoded p s.options request' e' made' two₂) (sym ans'.page_size)
       (kept_on s.page_size s.options request' c' [] early made' two₂ kept') in
       let made_by' = returns_law ans'.end e' others [] two₂ two₃ after request' s.options made' given' goes_back'.0 goes_back'.1
-      notice' ans'.outs
+      notice' ans'.chains
       (ap (λ (l : List LiveQueue). slice_get l i) ans'.queues_are ∙ there₂) (taken_of mid after goes' taken') refl
       (each_suits may s.files between early run') kept₄ has' goes_back'.2 in
       let returned' = pushed_with may ans'.end others [] e' after goes_back'.0 goes_back'.1 notice' goes_back'.2.stores two₃.state
       (room_of e') (data_behind given') goes_back'.2 goes_back'.3 made_by' in
       let s₅ : LiveState F = after_push ans'.end others [] e' (live_of after) in
-      let kept₅ : IsKept s₅.page_size s.options request d made one₂ =
-      subst (λ (p : ℕ). IsKept p s.options request d made one₂) (sym ans'.page_size) kept in
-      let ans = answered_all may calls_law one₂ one₃ request s.options made given has s₅ c s.outs [] [] late files
+      let kept₅ : HoldsDecoded s₅.page_size s.options request d made one₂ =
+      subst (λ (p : ℕ). HoldsDecoded p s.options request d made one₂) (sym ans'.page_size) kept in
+      let ans = answered_all may calls_law one₂ one₃ request s.options made given has s₅ c s.chains [] [] late files
       (append-nil others) kept₅ refl
       (subst (λ (f : F). FileRun may f late files) (sym ans'.files_are) run) in
-      let e : OutChain = asked_chain c request s.options late in
+      let e : InFlightChain = asked_chain c request s.options late in
       let goes_back = back (room_of e) (data_behind given) in
-      let kept₆ : IsKept ans.end.page_size s.options request e made one₂ =
-      subst (λ (p : ℕ). IsKept p s.options request e made one₂) (sym (ans.page_size ∙ ans'.page_size))
+      let kept₆ : HoldsDecoded ans.end.page_size s.options request e made one₂ =
+      subst (λ (p : ℕ). HoldsDecoded p s.options request e made one₂) (sym (ans.page_size ∙ ans'.page_size))
       (kept_on s.page_size s.options request c [] late made one₂ kept) in
-      let made_by = returns_law ans.end e s.outs [] one₂ one₃ (gave after) request s.options made given goes_back.0 goes_back.1
-      notice ans.outs
+      let made_by = returns_law ans.end e s.chains [] one₂ one₃ (gave after) request s.options made given goes_back.0 goes_back.1
+      notice ans.chains
       (ap (λ (l : List LiveQueue). slice_get l i) ans.queues_are ∙ returned'.3) (late_of before mid after goes taken taken') refl
       (each_suits may between files late run) kept₆ has goes_back.2 in
-      let next_used = pushed_with may ans.end s.outs [] e (gave after) goes_back.0 goes_back.1 notice goes_back.2.stores one₃.state
+      let next_used = pushed_with may ans.end s.chains [] e (gave after) goes_back.0 goes_back.1 notice goes_back.2.stores one₃.state
       (room_of e) (data_behind given) goes_back.2 goes_back.3 made_by in
-      let s₆ : LiveState F = after_push ans.end s.outs [] e (live_of (gave after)) in
+      let s₆ : LiveState F = after_push ans.end s.chains [] e (live_of (gave after)) in
       let last' = PushesChain e' returned'.0 notice' goes_back'.1 returned'.1 loaded_flags in
       let last = PushesChain e next_used.0 notice goes_back.1 next_used.1 loaded_flags in
       let ends : List LiveEvent = ans.es ++ last ∷ [] in (
@@ -205,6 +206,6 @@ module _ {F : Type 0} (may : May F) (walks_law : HandleEndsPop may) (asks_law : 
         ),
         calls_of_both ans'.es (last' ∷ ends) ∙ ap (λ (l : Calls). l ++ calls_among ends) ans'.calls
             ∙ ap (λ (l : Calls). early ++ l) (calls_of_both ans.es (last ∷ []) ∙ append-nil (calls_among ans.es) ∙ ans.calls),
-        append-nil s.outs,
+        append-nil s.chains,
         next_used.3 ∙ ap (λ (q : QueueState). Some (live_of q)) (sym final_is),
       )

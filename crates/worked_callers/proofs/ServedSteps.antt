@@ -24,7 +24,7 @@ use Rattle.fs_live.specs.Live.{
   LiveRun,
   LiveState,
   MovesDevice,
-  OutChain,
+  InFlightChain,
   Phase,
   PushesChain,
   ReceivesAnswer,
@@ -39,12 +39,12 @@ use Rattle.fs_live.specs.Live.{
   new_chain,
   room_of,
 }
-use Rattle.fs_live.specs.Runs.{IsAskedIn, IsBefore, IsServedPhase, PagesAreTold, ReturnHasPlaces, ReturnedIsStepBy, ReturnsHavePlaces}
-use Rattle.fs_live.specs.Runs.{has_places}
+use Rattle.fs_live.specs.Runs.{IsAskedIn, IsBefore, IsServedPhase, PagesAreReported, ReturnIsMapped, ReturnedIsStepBy, ReturnsAreMapped}
+use Rattle.fs_live.specs.Runs.{are_mapped}
 use Rattle.fs_live.proofs.Moved.{joined}
 use Rattle.worked_callers.specs.Events.{IsServedChain, answer_events, loaded_flags}
 use Rattle.worked_callers.specs.Notified.{IsWalkedBy, given_so_far}
-use Rattle.worked_callers.specs.ServedSteps.{IsReachedEven, ReturnsServed, ServesAsStep, ServesAtPlaces, ServesMarking}
+use Rattle.worked_callers.specs.ServedSteps.{IsReachedFromNone, ReturnsServed, ServesAsStep, ServesMapped, ServesMarking}
 use Rattle.worked_callers.proofs.NamedEvents.{served_named}
 use Rattle.worked_callers.proofs.ServedBeside.{ServedRun, calls_of_both}
 
@@ -99,7 +99,7 @@ module _ {F : Type 0} (may : May F) (s : LiveState F) (i : ℕ) (given : List (B
     (before after : QueueState) (head n r : ℕ) (walks : IsWalkedBy given old one before after (wents.On (says.Chain head n r)))
     (request : List ℕ) (calls : Calls) (files : F) (notice : Bool)
     (so : ServedRun may s i old one before after head n r (given_so_far walks.0 given, walks.1) request calls [] files notice) where
-  abbrev popped_chain : OutChain
+  abbrev popped_chain : InFlightChain
   popped_chain = new_chain s i (live_of before) so.loaded one.descriptors.items head None
 
   abbrev before_return : List LiveEvent
@@ -136,7 +136,7 @@ module _ {F : Type 0} (may : May F) (s : LiveState F) (i : ℕ) (given : List (B
         used = so.used;
         end = so.end;
         returns = split.2;
-        outs_are = so.outs;
+        outs_are = so.chains;
         there = so.there;
       }
 
@@ -175,8 +175,8 @@ module _ {F : Type 0} (may : May F) (s : LiveState F) (i : ℕ) (given : List (B
         (subst (λ (p : Phase). FileRun other m.files (calls_in p) files) (sym r.phase_is) runs),
   )
 
-  pub serves_at_places : ReturnsHavePlaces may → IsReachedEven may s
-      → ServesAtPlaces may s i given old before after request calls notice
+  pub serves_at_places : ReturnsAreMapped may → IsReachedFromNone may s
+      → ServesMapped may s i given old before after request calls notice
   serves_at_places law even =
       let run = joined may even.0 s r.now even.1 r.earlier even.4 r.run in
       let there = law even.0 r.now r.end (even.1 ++ r.earlier) r.chain r.exchange notice r.last r.used loaded_flags even.2 even.3 run
@@ -186,11 +186,11 @@ module _ {F : Type 0} (may : May F) (s : LiveState F) (i : ℕ) (given : List (B
         there.0,
         there.1,
         there.2,
-        subst (λ (m : Memory). ReturnHasPlaces m there.0) r.places_are there.3,
-        ap (λ (m : Memory). has_places m (room_of r.chain)) (sym r.places_are) ∙ there.4,
+        subst (λ (m : Memory). ReturnIsMapped m there.0) r.places_are there.3,
+        ap (λ (m : Memory). are_mapped m (room_of r.chain)) (sym r.places_are) ∙ there.4,
       )
 
-  pub serves_marking : PagesAreTold may → ServesMarking may s i given old before after request calls notice
+  pub serves_marking : PagesAreReported may → ServesMarking may s i given old before after request calls notice
   serves_marking law =
       let last = PushesChain r.chain r.exchange notice r.last r.used loaded_flags in
       let run = joined may s r.now r.end r.earlier (last ∷ []) r.run (r.end, r.returns, refl) in

@@ -4,9 +4,9 @@ use Rattle.fs_queue.specs.Returning.{Store}
 use Rattle.plain_machine.specs.Step.{Exchange}
 use Rattle.virtiofsd_fuse.specs.Examples.{le16}
 use Rattle.virtiofsd_fuse.specs.Serving.{May}
-use Rattle.fs_live.specs.Live.{Happens, LiveEvent, LiveRun, LiveState, OutChain, PushesChain}
+use Rattle.fs_live.specs.Live.{Happens, LiveEvent, LiveRun, LiveState, InFlightChain, PushesChain}
 use Rattle.fs_live.specs.Runs.{IsServedPhase, ReturnedIsStepBy}
-use Rattle.worked_callers.specs.WorkedRuns.{ReturnsAsAStep}
+use Rattle.worked_callers.specs.WorkedRuns.{LeadsToAStep}
 
 -- the state before the last event of a run
 pub split_last : {F : Type 0} (may : May F) (s after : LiveState F) (es : List LiveEvent) (e : LiveEvent)
@@ -17,8 +17,8 @@ split_last {F} may s after (x ∷ es) e run =
     (rest.0, (run.0, run.1, rest.1), rest.2)
 
 pub returns_as_a_step : {F : Type 0} (may : May F) (law : ReturnedIsStepBy may may) (start after : LiveState F) (es : List LiveEvent)
-    (c : OutChain) (x : Exchange) (used : List Store) → start.outs ≡ [] → IsServedPhase c.phase
-    → LiveRun may start (es ++ PushesChain c x true 0 used (le16 0) ∷ []) after → ReturnsAsAStep may start es after c x used
+    (c : InFlightChain) (x : Exchange) (used : List Store) → start.chains ≡ [] → IsServedPhase c.phase
+    → LiveRun may start (es ++ PushesChain c x true 0 used (le16 0) ∷ []) after → LeadsToAStep may start es after c x used
 returns_as_a_step {F} may law start after es c x used none served run =
     let split = split_last may start after es (PushesChain c x true 0 used (le16 0)) run in (
       split.0,

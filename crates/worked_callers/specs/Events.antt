@@ -20,19 +20,19 @@ use Rattle.fs_chain.specs.declared.queue.QueueState.{QueueState}
 use Rattle.fs_live.specs.Among.{LoadsAmong, WalksAmong}
 use Rattle.fs_live.specs.Handles.{live_of}
 use Rattle.fs_live.specs.Live.{Abandons, DecodesRequest, EndsPop, GivesUpChain, LiveEvent, LiveState}
-use Rattle.fs_live.specs.Live.{OutChain, Own, PushesChain, ReceivesAnswer, RepliesOwnBytes, asked_chain}
+use Rattle.fs_live.specs.Live.{InFlightChain, Own, PushesChain, ReceivesAnswer, RepliesOwnBytes, asked_chain}
 use Rattle.fs_live.specs.Live.{new_chain}
 use Rattle.worked_callers.specs.ChainCalls.{ArePopLoads}
 
 -- ---- a chain's pop
 
 -- the event of a chain's pop, with this fault or none
-abbrev pub pop_event : OutChain → Option ChainFault → LiveEvent
+abbrev pub pop_event : InFlightChain → Option ChainFault → LiveEvent
 pop_event c fault = EndsPop c.queue c.loaded c.descriptors (step.Chain c.head fault)
 
 -- in state s a pop of queue i returns this chain, by the first of these bytes, with this fault or none
 abbrev pub IsPoppedChain : {F : Type 0} → LiveState F → (i : ℕ) → (given : List (Bor (List ℕ))) →
-    (old : ChainHandle) → (before : QueueState) → Option ChainFault → OutChain → Type 0
+    (old : ChainHandle) → (before : QueueState) → Option ChainFault → InFlightChain → Type 0
 IsPoppedChain s i given old before fault c =
     ArePopLoads given old before (wents.On (told_of c.descriptors (step.Chain c.head fault))) c.loaded
     × (c ≡ new_chain s i (live_of before) c.loaded c.descriptors c.head fault)
@@ -45,7 +45,7 @@ loaded_flags = 0 ∷ 0 ∷ []
 
 -- a decoded chain, the first calls of which were answered, receives the answers of the later ones
 abbrev pub answer_events :
-    OutChain → (request : List ℕ) → (options : ℕ) → (earlier later : Calls) → List LiveEvent
+    InFlightChain → (request : List ℕ) → (options : ℕ) → (earlier later : Calls) → List LiveEvent
 answer_events c request options earlier [] = []
 answer_events c request options earlier (one ∷ later) =
     ReceivesAnswer (asked_chain c request options earlier) one.0 one.1
@@ -63,7 +63,7 @@ abbrev pub IsServedChain : {F : Type 0} → LiveState F → (i : ℕ) → (given
     (old : ChainHandle) → (before : QueueState) → (request : List ℕ) → Calls → (bytes : List ℕ) →
     (notice : Bool) → List LiveEvent → Type 0
 IsServedChain s i given old before request calls bytes notice es =
-    (c : OutChain) × (told : List FileCall) × (x : Exchange) × (last : ℕ) × (used : List Store)
+    (c : InFlightChain) × (told : List FileCall) × (x : Exchange) × (last : ℕ) × (used : List Store)
     × IsPoppedChain s i given old before None c
     × HasFront x.reply bytes last
     × (es
@@ -78,8 +78,8 @@ abbrev pub AreCrossedChains : {F : Type 0} → LiveState F → (i : ℕ) → (gi
     (late early : Calls) → (bytes bytes' : List ℕ) → (notice notice' : Bool) → List LiveEvent → Type 0
 AreCrossedChains s i given given' old old' before left request request' late early bytes bytes' notice notice'
     es =
-    (c : OutChain) × (told : List FileCall) × (x : Exchange) × (last : ℕ) × (used : List Store)
-    × (c' : OutChain) × (told' : List FileCall) × (x' : Exchange) × (last' : ℕ) × (used' : List Store)
+    (c : InFlightChain) × (told : List FileCall) × (x : Exchange) × (last : ℕ) × (used : List Store)
+    × (c' : InFlightChain) × (told' : List FileCall) × (x' : Exchange) × (last' : ℕ) × (used' : List Store)
     × IsPoppedChain s i given old before None c
     × IsPoppedChain s i given' old' left None c'
     × HasFront x.reply bytes last
@@ -95,7 +95,7 @@ AreCrossedChains s i given given' old old' before left request request' late ear
 abbrev pub IsFaultyChain : {F : Type 0} → LiveState F → (i : ℕ) → (given : List (Bor (List ℕ))) →
     (old : ChainHandle) → (before : QueueState) → (notice : Bool) → List LiveEvent → Type 0
 IsFaultyChain s i given old before notice es =
-    (c : OutChain) × (why : ChainFault) × (used : List Store)
+    (c : InFlightChain) × (why : ChainFault) × (used : List Store)
     × IsPoppedChain s i given old before (Some why) c
     × (es ≡ pop_event c (Some why) ∷ PushesChain c (faulty c.head why) notice 0 used loaded_flags ∷ [])
 
@@ -104,8 +104,8 @@ IsFaultyChain s i given old before notice es =
 abbrev pub AreFaultyInOrder : {F : Type 0} → LiveState F → (i : ℕ) → (given given' : List (Bor (List ℕ))) →
     (old old' : ChainHandle) → (before left : QueueState) → (notice notice' : Bool) → List LiveEvent → Type 0
 AreFaultyInOrder s i given given' old old' before left notice notice' es =
-    (c : OutChain) × (why : ChainFault) × (used : List Store)
-    × (c' : OutChain) × (why' : ChainFault) × (used' : List Store)
+    (c : InFlightChain) × (why : ChainFault) × (used : List Store)
+    × (c' : InFlightChain) × (why' : ChainFault) × (used' : List Store)
     × IsPoppedChain s i given old before (Some why) c
     × IsPoppedChain s i given' old' left (Some why') c'
     × (es
@@ -117,7 +117,7 @@ AreFaultyInOrder s i given given' old old' before left notice notice' es =
 abbrev pub IsGivenUpChain : {F : Type 0} → LiveState F → (i : ℕ) → (given : List (Bor (List ℕ))) →
     (old : ChainHandle) → (before : QueueState) → List LiveEvent → Type 0
 IsGivenUpChain s i given old before es =
-    (c : OutChain)
+    (c : InFlightChain)
     × IsPoppedChain s i given old before None c
     × (es ≡ pop_event c None ∷ GivesUpChain c ∷ [])
 
@@ -125,15 +125,15 @@ IsGivenUpChain s i given old before es =
 abbrev pub IsAbandonedChain : {F : Type 0} → LiveState F → (i : ℕ) → (given : List (Bor (List ℕ))) →
     (old : ChainHandle) → (before : QueueState) → List LiveEvent → Type 0
 IsAbandonedChain s i given old before es =
-    (c : OutChain)
+    (c : InFlightChain)
     × IsPoppedChain s i given old before None c
     × (es ≡ pop_event c None ∷ Abandons c ∷ [])
 
 -- a chain of queue i is popped and decoded from this request. Its handle is freed after these calls
-abbrev pub IsAbandonedAsked : {F : Type 0} → LiveState F → (i : ℕ) → (given : List (Bor (List ℕ))) →
+abbrev pub IsAbandonedDecoded : {F : Type 0} → LiveState F → (i : ℕ) → (given : List (Bor (List ℕ))) →
     (old : ChainHandle) → (before : QueueState) → (request : List ℕ) → Calls → List LiveEvent → Type 0
-IsAbandonedAsked s i given old before request calls es =
-    (c : OutChain) × (told : List FileCall)
+IsAbandonedDecoded s i given old before request calls es =
+    (c : InFlightChain) × (told : List FileCall)
     × IsPoppedChain s i given old before None c
     × (es
     ≡ pop_event c None ∷ DecodesRequest c request told
@@ -145,7 +145,7 @@ abbrev pub IsRepliedChain : {F : Type 0} → LiveState F → (i : ℕ) → (give
     (old : ChainHandle) → (before : QueueState) → (between : List LiveEvent) → (request reply : List ℕ) →
     (notice : Bool) → List LiveEvent → Type 0
 IsRepliedChain s i given old before between request reply notice es =
-    (c : OutChain) × (x : Exchange) × (used : List Store)
+    (c : InFlightChain) × (x : Exchange) × (used : List Store)
     × IsPoppedChain s i given old before None c
     × (es
     ≡ pop_event c None
@@ -154,11 +154,11 @@ IsRepliedChain s i given old before between request reply notice es =
 
 -- a chain of queue i is popped and decoded from this request. After these calls its caller replies with bytes
 -- of its own. The session keeps its options, and the chain is pushed
-abbrev pub IsRepliedInstead : {F : Type 0} → LiveState F → (i : ℕ) → (given : List (Bor (List ℕ))) →
+abbrev pub IsOwnReplyOnceDecoded : {F : Type 0} → LiveState F → (i : ℕ) → (given : List (Bor (List ℕ))) →
     (old : ChainHandle) → (before : QueueState) → (request reply : List ℕ) → Calls → (notice : Bool) →
     List LiveEvent → Type 0
-IsRepliedInstead s i given old before request reply calls notice es =
-    (c : OutChain) × (told : List FileCall) × (x : Exchange) × (used : List Store)
+IsOwnReplyOnceDecoded s i given old before request reply calls notice es =
+    (c : InFlightChain) × (told : List FileCall) × (x : Exchange) × (used : List Store)
     × IsPoppedChain s i given old before None c
     × (es
     ≡ pop_event c None ∷ DecodesRequest c request told

@@ -7,7 +7,7 @@ use Rattle.virtiofsd_fuse.specs.Examples.{le16, le32, zeros}
 use Rattle.plain_machine.specs.Examples.{blank, descriptor_bytes, put}
 use Rattle.plain_machine.specs.Step.{Exchange}
 use Rattle.plain_machine.specs.StepBy.{after_stores, stores_among}
-use Rattle.fs_live.specs.Live.{Asked, DecodesRequest, OutChain, ReceivesAnswer, event_acts}
+use Rattle.fs_live.specs.Live.{Asked, DecodesRequest, InFlightChain, ReceivesAnswer, event_acts}
 use Rattle.fs_live.specs.Overlap.{destroy, first, first_loads, first_table, second, second_loads}
 use Rattle.fs_live.specs.Overlap.{second_table, unknown}
 use Rattle.fs_live.specs.Serial.{Single, return_in}
@@ -25,15 +25,15 @@ with_both =
     (le16 0 ++ le16 2 ++ le16 0 ++ le16 2)
 
 -- the first chain, decoded with the options 1: it makes no call
-abbrev pub first_asked : OutChain
+abbrev pub first_asked : InFlightChain
 first_asked = record first { phase = Asked unknown 1 [] }
 
 -- the second chain, decoded with the options 1
-abbrev pub second_asked : OutChain
+abbrev pub second_asked : InFlightChain
 second_asked = record second { phase = Asked destroy 1 [] }
 
 -- the second chain, after DESTROY was answered
-abbrev pub second_answered : OutChain
+abbrev pub second_answered : InFlightChain
 second_answered = record second { phase = Asked destroy 1 ((Destroy, Done) ∷ []) }
 
 -- the reply to the first chain: ENOSYS

@@ -70,9 +70,9 @@ WalksPast wrong given old new before after told =
     × RefusesBetween wrong given old new before after told walks
 
 -- such a pop that was given the first of these bytes has this result
-abbrev pub IsWalkedAmid : (wrong : List ℕ) → List (Bor (List ℕ)) → (old new : ChainHandle) →
+abbrev pub IsWalkedPastRefusals : (wrong : List ℕ) → List (Bor (List ℕ)) → (old new : ChainHandle) →
     (before after : QueueState) → went.LoadOutcome → Type 0
-IsWalkedAmid wrong bytes old new before after told =
+IsWalkedPastRefusals wrong bytes old new before after told =
     (n : ℕ) × WalksPast wrong (given_so_far n bytes) old new before after told
 
 -- such a pop has a result whose loaded index satisfies P

@@ -13,17 +13,17 @@ use Rattle.plain_machine.specs.MarkedPages.{Marks, returned_addresses}
 use Rattle.plain_machine.specs.Step.{Calls, Exchange, State}
 use Rattle.fs_live.specs.Guest.{DeviceEvent, Writes, after_moments}
 use Rattle.fs_live.specs.Handles.{IsReached, live_of}
-use Rattle.fs_live.specs.Live.{Happens, LiveEvent, LiveRun, LiveState, OutChain, Own, PushesChain}
+use Rattle.fs_live.specs.Live.{Happens, LiveEvent, LiveRun, LiveState, InFlightChain, Own, PushesChain}
 use Rattle.fs_live.specs.Live.{RepliesOwnBytes, calls_among}
 use Rattle.fs_live.specs.Live.{room_of}
-use Rattle.fs_live.specs.Runs.{IsAReturn, events_on, going, tickets_on, reported_by}
+use Rattle.fs_live.specs.Runs.{IsAReturn, events_on, going, in_flight_on, reported_by}
 use Rattle.fs_live.specs.Several.{LiveQueue, StoresAsTaken, UsedFrom, heads_ended, heads_taken, returning}
 use Rattle.fs_live.specs.Several.{returns_among}
 use Rattle.worked_callers.specs.Events.{IsPoppedChain, IsRepliedChain, loaded_flags, pop_event}
 
 -- a state that a run reaches. Its queue i, mappings and limit, of at most 2^31, are those of the caller's
 -- queue and handle
-pub record IsAt {F : Type 0} (may : May F) (s : LiveState F) (i : ℕ) (handle : ChainHandle)
+pub record IsOfRun {F : Type 0} (may : May F) (s : LiveState F) (i : ℕ) (handle : ChainHandle)
     (queue : QueueState) : Type 0 where
   pub reached : IsReached may s
   pub there : slice_get s.queues i ≡ Some (live_of queue)
@@ -39,7 +39,7 @@ pub record ReturnsOwn {F : Type 0} (may : May F) (s : LiveState F) (i : ℕ) (be
   pub now : LiveState F
   pub run : LiveRun may s earlier now
   pub calls_are : calls_among earlier ≡ calls
-  pub chain : OutChain
+  pub chain : InFlightChain
   pub queue_is : chain.queue ≡ i
   pub taken_is : chain.taken ≡ (live_of before).queue
   pub places_are : chain.places ≡ s.places
@@ -50,7 +50,7 @@ pub record ReturnsOwn {F : Type 0} (may : May F) (s : LiveState F) (i : ℕ) (be
   pub used : List Store
   pub end : LiveState F
   pub returns : Happens may now (PushesChain chain exchange notice 0 used loaded_flags) end
-  pub outs_are : end.outs ≡ s.outs
+  pub outs_are : end.chains ≡ s.chains
   pub queues_are : end.queues ≡ changed_at s.queues i (λ _. live_of after)
 
 -- the events of such a chain, its return too, are those that `named` says. Each plain machine over these
@@ -96,7 +96,7 @@ abbrev pub LogsOwn : {F : Type 0} → (may : May F) → (s : LiveState F) → (i
     (request reply : List ℕ) → (notice : Bool) → Type 0
 LogsOwn {F} may s i given old before after request reply notice =
     (r : ReturnsOwn may s i before after request reply [] notice)
-    × (c : OutChain)
+    × (c : InFlightChain)
     × IsPoppedChain s i given old before None c
     × (let popped = pop_event c None in
     let replied = RepliesOwnBytes c request reply s.options in
@@ -126,7 +126,7 @@ EndsAlone {F} may s i given old before after request reply notice =
     IsRepliedChain s i given old before [] request reply notice es
     × LiveRun may s es r.end
     × (heads_taken (events_on i es) ≡ r.chain.head ∷ [])
-    × IsPermutation (heads_ended (events_on i es) ++ map (λ t. t.1) (tickets_on i r.end.outs))
+    × IsPermutation (heads_ended (events_on i es) ++ map (λ t. t.1) (in_flight_on i r.end.chains))
     (heads_taken (events_on i es))
     × UsedFrom (going (live_of before)) (returns_among (events_on i es))
     × StoresAsTaken (going (live_of before)).queue (events_on i es))

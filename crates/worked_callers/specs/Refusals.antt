@@ -53,17 +53,18 @@ RefusesBoth wrong bytes w new q after e =
 
 -- a pop by these bytes, the last ones first, before each call of which a call with these other bytes was
 -- refused. It fails with this error: its last call is refused, or the call with other bytes before it isn't
-abbrev pub FailsAmid : (wrong : List ℕ) → (given : List (List ℕ)) → (old new : ChainHandle) →
+abbrev pub FailsPastRefusals : (wrong : List ℕ) → (given : List (List ℕ)) → (old new : ChainHandle) →
     (before after : QueueState) → ChainError → Type 0
-FailsAmid wrong [] old new before after e = RefusesWalk old before [] e × IsSame old new × (after ≡ before)
-FailsAmid wrong (bs ∷ given) old new before after e =
+FailsPastRefusals wrong [] old new before after e = RefusesWalk old before [] e × IsSame old new
+    × (after ≡ before)
+FailsPastRefusals wrong (bs ∷ given) old new before after e =
     (w : ChainHandle) × (q : QueueState) × (earlier : went.LoadOutcome)
     × WalksPast wrong given old w before q earlier
     × WantsBytes earlier
     × (RefusesBoth wrong bs w new q after e ⊎ TakesOthers wrong w new q after e)
 
 -- so does such a pop by the first of these bytes
-abbrev pub IsFailedAmid : (wrong : List ℕ) → List (Bor (List ℕ)) → (old new : ChainHandle) →
+abbrev pub IsFailedPastRefusals : (wrong : List ℕ) → List (Bor (List ℕ)) → (old new : ChainHandle) →
     (before after : QueueState) → ChainError → Type 0
-IsFailedAmid wrong bytes old new before after e =
-    (n : ℕ) × FailsAmid wrong (given_so_far n bytes) old new before after e
+IsFailedPastRefusals wrong bytes old new before after e =
+    (n : ℕ) × FailsPastRefusals wrong (given_so_far n bytes) old new before after e

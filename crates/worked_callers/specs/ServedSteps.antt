@@ -10,9 +10,9 @@ use Rattle.fs_chain.specs.declared.chain_handle.ChainHandle.{ChainHandle}
 use Rattle.fs_chain.specs.declared.queue.QueueState.{QueueState}
 use Rattle.plain_machine.specs.Step.{Calls, Exchange, State}
 use Rattle.fs_live.specs.Handles.{live_of}
-use Rattle.fs_live.specs.Live.{Asked, Happens, LiveEvent, LiveRun, LiveState, OutChain, PushesChain}
+use Rattle.fs_live.specs.Live.{Asked, Happens, LiveEvent, LiveRun, LiveState, InFlightChain, PushesChain}
 use Rattle.fs_live.specs.Live.{calls_among, room_of}
-use Rattle.fs_live.specs.Runs.{EachIsTold, HasNoneInFlight, IsAStep, ReturnHasPlaces, has_places}
+use Rattle.fs_live.specs.Runs.{EachIsReported, HasNoneInFlight, IsAStep, ReturnIsMapped, are_mapped}
 use Rattle.fs_live.specs.Several.{LiveQueue}
 use Rattle.worked_callers.specs.Events.{HasFront, IsServedChain, loaded_flags}
 
@@ -24,7 +24,7 @@ pub record ReturnsServed {F : Type 0} (may : May F) (s : LiveState F) (i : ℕ) 
   pub now : LiveState F
   pub run : LiveRun may s earlier now
   pub calls_are : calls_among earlier ≡ calls
-  pub chain : OutChain
+  pub chain : InFlightChain
   pub queue_is : chain.queue ≡ i
   pub taken_is : chain.taken ≡ (live_of before).queue
   pub places_are : chain.places ≡ s.places
@@ -37,7 +37,7 @@ pub record ReturnsServed {F : Type 0} (may : May F) (s : LiveState F) (i : ℕ) 
   pub used : List Store
   pub end : LiveState F
   pub returns : Happens may now (PushesChain chain exchange notice last used loaded_flags) end
-  pub outs_are : end.outs ≡ s.outs
+  pub outs_are : end.chains ≡ s.chains
   pub there : slice_get end.queues i ≡ Some (live_of after)
 
 -- a chain of queue i is popped by the first of the given bytes, served and returned. Each plain machine over
@@ -63,27 +63,27 @@ ServesAsStep {F} {G} may other s i given old before after request calls notice =
 
 -- a state that a run reaches from a state without chains in flight, where each queue is popped and returned
 -- at one position
-abbrev pub IsReachedEven : {F : Type 0} → May F → LiveState F → Type 0
-IsReachedEven {F} may s =
+abbrev pub IsReachedFromNone : {F : Type 0} → May F → LiveState F → Type 0
+IsReachedFromNone {F} may s =
     (start : LiveState F) × (es : List LiveEvent)
-    × (start.outs ≡ [])
+    × (start.chains ≡ [])
     × AllByRecursion HasNoneInFlight start.queues
     × LiveRun may start es s
 
 -- the addresses of such a return are mapped: those in its queue at the moment of the return and of the pop,
 -- and those of the reply buffer at the moment of the pop
-abbrev pub ServesAtPlaces : {F : Type 0} → (may : May F) → (s : LiveState F) → (i : ℕ) →
+abbrev pub ServesMapped : {F : Type 0} → (may : May F) → (s : LiveState F) → (i : ℕ) →
     (given : List (Bor (List ℕ))) → (old : ChainHandle) → (before after : QueueState) → (request : List ℕ) →
     Calls → (notice : Bool) → Type 0
-ServesAtPlaces may s i given old before after request calls notice =
+ServesMapped may s i given old before after request calls notice =
     (r : ReturnsServed may s i before after request calls notice)
     × IsServedChain s i given old before request calls [] notice
     (r.earlier ++ PushesChain r.chain r.exchange notice r.last r.used loaded_flags ∷ [])
     × (w : LiveQueue)
     × (slice_get r.now.queues r.chain.queue ≡ Some w)
-    × ReturnHasPlaces r.now.places w
-    × ReturnHasPlaces s.places w
-    × (has_places s.places (room_of r.chain) ≡ true)
+    × ReturnIsMapped r.now.places w
+    × ReturnIsMapped s.places w
+    × (are_mapped s.places (room_of r.chain) ≡ true)
 
 -- each event of such a chain marks the pages of the addresses that it reports, and no others
 abbrev pub ServesMarking : {F : Type 0} → (may : May F) → (s : LiveState F) → (i : ℕ) →
@@ -94,4 +94,4 @@ ServesMarking may s i given old before after request calls notice =
     × (let es = r.earlier ++ PushesChain r.chain r.exchange notice r.last r.used loaded_flags ∷ [] in
     IsServedChain s i given old before request calls [] notice es
     × (run : LiveRun may s es r.end)
-    × EachIsTold may s es r.end run)
+    × EachIsReported may s es r.end run)

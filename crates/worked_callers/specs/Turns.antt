@@ -26,11 +26,11 @@ pub record ServesTurn {F : Type 0} (may : May F) (s : LiveState F) (i : ℕ) (gi
   pub run : LiveRun may s (events_in single) end
   pub named : IsServedChain s i given old before request calls [] notice (events_in single)
   pub files_are : end.files ≡ files
-  pub outs_are : end.outs ≡ s.outs
+  pub outs_are : end.chains ≡ s.chains
   pub places_are : end.places ≡ s.places
   pub limit_is : end.limit ≡ s.limit
   pub there : slice_get end.queues i ≡ Some (live_of after)
 
 -- the memory after the stores of such a chain's return
-abbrev pub with_return : Memory → Single → Memory
-with_return m single = after_stores m (stores_among (event_acts (return_in single)))
+abbrev pub after_return : Memory → Single → Memory
+after_return m single = after_stores m (stores_among (event_acts (return_in single)))

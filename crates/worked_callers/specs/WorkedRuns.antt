@@ -8,7 +8,7 @@ use Rattle.plain_machine.specs.Step.{Exchange, State}
 use Rattle.virtiofsd_fuse.specs.Examples.{le16}
 use Rattle.virtiofsd_fuse.specs.Serving.{May}
 use Rattle.fs_live.specs.InitBeside as init
-use Rattle.fs_live.specs.Live.{DecodesRequest, EndsPop, Happens, LiveEvent, LiveRun, LiveState, OutChain}
+use Rattle.fs_live.specs.Live.{DecodesRequest, EndsPop, Happens, LiveEvent, LiveRun, LiveState, InFlightChain}
 use Rattle.fs_live.specs.Live.{PushesChain, ReceivesAnswer, calls_in}
 use Rattle.fs_live.specs.Overlap as overlap
 use Rattle.fs_live.specs.Rewritten as rewritten
@@ -50,9 +50,9 @@ init_events =
 
 -- these events lead from one state to another, where the chain is returned. For each plain machine before the
 -- chain, of which its calls are a run, the chain is a step by its own loads
-abbrev pub ReturnsAsAStep : {F : Type 0} → (may : May F) → (start : LiveState F) → List LiveEvent →
-    (after : LiveState F) → OutChain → Exchange → List Store → Type 0
-ReturnsAsAStep {F} may start es after c x used =
+abbrev pub LeadsToAStep : {F : Type 0} → (may : May F) → (start : LiveState F) → List LiveEvent →
+    (after : LiveState F) → InFlightChain → Exchange → List Store → Type 0
+LeadsToAStep {F} may start es after c x used =
     (now : LiveState F)
     × LiveRun may start es now
     × Happens may now (PushesChain c x true 0 used (le16 0)) after

@@ -14,9 +14,9 @@ ghost use Rattle.fs_chain.specs.declared.state.ChainState.TheVariants as at;
 ghost use Rattle.fs_live.specs.Handles.{IsReached, IsSessionOf, live_of};
 ghost use Rattle.fs_live.specs.Live.{LiveEvent, LiveRun, LiveState, calls_among};
 ghost use Rattle.worked_callers.specs.ChainCalls.{DecodesPopped};
-ghost use Rattle.worked_callers.specs.Events.{IsAbandonedAsked};
+ghost use Rattle.worked_callers.specs.Events.{IsAbandonedDecoded};
 
-use crate::listings::ask_call;
+use crate::listings::decode_call;
 use crate::wholes::walk_chain;
 use fs_chain::{ChainError, ChainHandle, QueueState};
 use fs_live::law_handles;
@@ -27,7 +27,7 @@ use server_phases::Session;
 /// Decodes a chain's request and frees its handle, while the call is pending and has no answer. The late
 /// answer is then refused with `WrongOrder`, which is returned: no call is pending any more. In the run the
 /// chain is abandoned: once after the file system's answer, and once without it.
-pub fn abandon_asked<F: FileSystem>(
+pub fn abandon_decoded<F: FileSystem>(
     handle: &mut ChainHandle,
     queue: &mut QueueState,
     given: &[&[u8]],
@@ -52,7 +52,7 @@ pub fn abandon_asked<F: FileSystem>(
         → IsSessionOf s session
         → ((es : List LiveEvent) × (end : LiveState F)
         × LiveRun F.may s es end
-        × IsAbandonedAsked s i given.now handle.old queue.old request.now [] es
+        × IsAbandonedDecoded s i given.now handle.old queue.old request.now [] es
         × (calls_among es ≡ [])
         × (slice_get end.queues i ≡ Some (live_of queue.new)))
         × ((answer : file.FileAnswer) (files : F)
@@ -60,7 +60,7 @@ pub fn abandon_asked<F: FileSystem>(
         → F.may s.files (call_of (drop 80 request.now) made) answer files
         → (es : List LiveEvent) × (end : LiveState F)
         × LiveRun F.may s es end
-        × IsAbandonedAsked s i given.now handle.old queue.old request.now
+        × IsAbandonedDecoded s i given.now handle.old queue.old request.now
         ((call_of (drop 80 request.now) made, answer) ∷ []) es
         × (calls_among es ≡ (call_of (drop 80 request.now) made, answer) ∷ [])
         × (end.files ≡ files)
@@ -71,7 +71,7 @@ pub fn abandon_asked<F: FileSystem>(
     if request_len != request.len() {
         return Err(ChainError::BadArgument);
     }
-    ask_call(handle, session, request)?;
+    decode_call(handle, session, request)?;
     let serial = handle.serial();
     handle.abandon();
     match handle.answer(serial, late) {

@@ -110,7 +110,7 @@ pub fn look_among_returns<F: FileSystem>(
 
 /// The next call of a pop. If the pop finds its queue stopped meanwhile, it is refused. The handle is free
 /// then, and the queue stays as it is, in the run too.
-pub fn find_stopped<F: FileSystem>(
+pub fn continue_pop<F: FileSystem>(
     handle: &mut ChainHandle,
     queue: &mut QueueState,
     bytes: &[u8],

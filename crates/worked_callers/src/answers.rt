@@ -18,7 +18,7 @@ ghost use Rattle.fs_live.specs.Live.{LiveEvent, LiveRun, LiveState, calls_among}
 ghost use Rattle.worked_callers.specs.ChainCalls.{AreCallsBy, both_entries, with_data};
 ghost use Rattle.worked_callers.specs.Events.{IsServedChain};
 
-use crate::listings::{Pair, ask_call, list_two};
+use crate::listings::{TwoEntries, decode_call, list_two};
 use crate::wholes::{push_reply, walk_chain};
 use fs_chain::{ChainError, ChainHandle, QueueState};
 use fs_live::law_handles;
@@ -28,7 +28,7 @@ use server_phases::Session;
 
 /// Answers the pending call with data. The caller stores the data in the reply buffer, after the reply's
 /// front.
-pub fn give_data(handle: &mut ChainHandle, bytes: &[u8]) -> Result<(), ChainError>
+pub fn answer_data(handle: &mut ChainHandle, bytes: &[u8]) -> Result<(), ChainError>
     ensures given { OnOk result ((told : Replied)
         × IsAnsweredBy handle.old (FileAnswer.Bytes (length bytes.now)) bytes.now told handle.new) }
     ensures taken { OnOk result (IfWaits handle.old.state
@@ -71,7 +71,7 @@ pub fn read_beside<F: FileSystem>(
         × LiveRun F.may s es end
         × IsServedChain s i given.now handle.old queue.old request.now calls bytes.now notice es
         × (calls_among es ≡ calls)
-        × (end.outs ≡ s.outs)
+        × (end.chains ≡ s.chains)
         × (slice_get end.queues i ≡ Some (live_of queue.new))))) }
 {
     law_handles::<F>();
@@ -79,8 +79,8 @@ pub fn read_beside<F: FileSystem>(
     if request_len != request.len() {
         return Err(ChainError::BadArgument);
     }
-    ask_call(handle, session, request)?;
-    give_data(handle, bytes)?;
+    decode_call(handle, session, request)?;
+    answer_data(handle, bytes)?;
     push_reply(handle, queue)
 }
 
@@ -93,7 +93,7 @@ pub fn list_beside<F: FileSystem>(
     session: Session,
     request: &[u8],
     list: &mut [u8],
-    entries: &Pair<'_>,
+    entries: &TwoEntries<'_>,
     nodes: (Entry<u64>, Entry<u64>),
 ) -> Result<bool, ChainError>
     requires free { handle.old.state ≡ at.Free }
@@ -117,7 +117,7 @@ pub fn list_beside<F: FileSystem>(
         × LiveRun F.may s es end
         × IsServedChain s i given.now handle.old queue.old request.now calls (take len list.new) notice es
         × (calls_among es ≡ calls)
-        × (end.outs ≡ s.outs)
+        × (end.chains ≡ s.chains)
         × (slice_get end.queues i ≡ Some (live_of queue.new))))) }
 {
     law_handles::<F>();
@@ -125,7 +125,7 @@ pub fn list_beside<F: FileSystem>(
     if request_len != request.len() {
         return Err(ChainError::BadArgument);
     }
-    ask_call(handle, session, request)?;
+    decode_call(handle, session, request)?;
     let _len = list_two(handle, list, entries, nodes)?;
     push_reply(handle, queue)
 }

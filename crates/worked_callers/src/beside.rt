@@ -20,21 +20,22 @@ ghost use Rattle.fs_chain.specs.declared.answering.Replied.{Replied};
 ghost use Rattle.fs_chain.specs.declared.decoding.Decoded.TheVariants as asks;
 ghost use Rattle.fs_chain.specs.declared.state.ChainState.TheVariants as at;
 ghost use Rattle.plain_machine.specs.Step.{Calls};
-ghost use Rattle.fs_live.specs.Handles.{IsKept, IsReached, IsSessionOf, changes_options, live_of, load_count};
+ghost use Rattle.fs_live.specs.Handles.{HoldsDecoded, IsReached, IsSessionOf, changes_options, live_of};
+ghost use Rattle.fs_live.specs.Handles.{load_count};
 ghost use Rattle.fs_live.specs.Live.{Asked, RefusesPop, Happens, StoreIsMapped, LiveEvent, ReceivesAnswer};
 ghost use Rattle.fs_live.specs.Live.{ResetsQueue};
 ghost use Rattle.fs_live.specs.Live.{LiveRun};
-ghost use Rattle.fs_live.specs.Live.{LiveState, NonePending, OutChain, StoresNotification, calls_among};
+ghost use Rattle.fs_live.specs.Live.{LiveState, NonePending, InFlightChain, StoresNotification, calls_among};
 ghost use Rattle.fs_live.specs.Live.{room_of};
 ghost use Rattle.fs_live.specs.Live.{pop_refusal};
-ghost use Rattle.fs_live.specs.Runs.{EachStoresThere, events_on, going, tickets_on};
+ghost use Rattle.fs_live.specs.Runs.{EachStoresThere, events_on, going, in_flight_on};
 ghost use Rattle.fs_live.specs.Several.{LiveQueue, RunsOver, UsedFrom, returns_among};
 ghost use Rattle.worked_callers.specs.Notified.{IsWalkedBy, given_so_far};
 ghost use Rattle.worked_callers.specs.ChainCalls.{AreCallsOf};
 ghost use Rattle.worked_callers.specs.Events.{IsFaultyChain, IsPopRefusedByLoads, IsServedChain};
 ghost use Rattle.worked_callers.specs.Refusals.{FailsToEnd};
 
-use crate::wholes::{push_reply, reply, walk_by, walk_chain};
+use crate::wholes::{decode_and_answer, push_reply, walk_by, walk_chain};
 use fs_chain::{ChainError, ChainHandle, LoadOutcome, NotificationStore, PopOutcome, QueueState};
 use fs_live::{law_handles, law_runs};
 use fs_queue::{ChainFault, QueueError, QueueLayout};
@@ -43,7 +44,8 @@ use fuse_values::FileAnswer;
 use server_phases::Session;
 
 /// A chain from its pop to its return, beside any other chains in flight. Its calls are those of the run and
-/// are a run of the file system. Its stores stay where they may be, and its queue is as a queue alone.
+/// are a run of the file system. It stores in its reply buffer and in the used ring alone. Its queue's events
+/// are a run of that queue alone.
 pub fn serve_beside<F: FileSystem>(
     handle: &mut ChainHandle,
     queue: &mut QueueState,
@@ -70,15 +72,15 @@ pub fn serve_beside<F: FileSystem>(
         → (es : List LiveEvent) × (end : LiveState F) × (run : LiveRun F.may s es end)
         × IsServedChain s i given.now handle.old queue.old request.now calls [] notice es
         × (calls_among es ≡ calls)
-        × (end.outs ≡ s.outs)
+        × (end.chains ≡ s.chains)
         × (slice_get end.queues i ≡ Some (live_of queue.new))
         × FileRun F.may s.files (calls_among es) end.files
         × EachStoresThere F.may s es end run
         × UsedFrom (going (live_of queue.old)) (returns_among (events_on i es))
         × ((w : LiveQueue)
         × (slice_get end.queues i ≡ Some w)
-        × RunsOver (going (live_of queue.old)) (tickets_on i s.outs) (events_on i es) (going w)
-        (tickets_on i end.outs)))) }
+        × RunsOver (going (live_of queue.old)) (in_flight_on i s.chains) (events_on i es) (going w)
+        (in_flight_on i end.chains)))) }
 {
     law_handles::<F>();
     law_runs::<F, F>();
@@ -86,7 +88,7 @@ pub fn serve_beside<F: FileSystem>(
     if request_len != request.len() {
         return Err(ChainError::BadArgument);
     }
-    reply(handle, session, request, answer)?;
+    decode_and_answer(handle, session, request, answer)?;
     push_reply(handle, queue)
 }
 
@@ -108,11 +110,11 @@ pub fn answer_beside<F: FileSystem>(
     ensures stays { IsAllBut handle.old handle.new
         × (handle.new.part ≡ handle.old.part)
         × (handle.new.session.page_size ≡ handle.old.session.page_size) }
-    ensures answers { OnOk result ((s : LiveState F) (c : OutChain) (before behind : List OutChain)
+    ensures answers { OnOk result ((s : LiveState F) (c : InFlightChain) (before behind : List InFlightChain)
         (request : List ℕ) (options : ℕ) (made : value.FileCall) (files : F)
-        → s.outs ≡ before ++ c ∷ behind
+        → s.chains ≡ before ++ c ∷ behind
         → c.phase ≡ Asked request options []
-        → IsKept s.page_size options request c (asks.Call made) handle.old
+        → HoldsDecoded s.page_size options request c (asks.Call made) handle.old
         → F.may s.files (call_of (drop 80 request) made) (answer_of [] answer) files
         → (next : LiveState F)
         × Happens F.may s (ReceivesAnswer c (call_of (drop 80 request) made) (answer_of [] answer)) next
@@ -149,7 +151,7 @@ pub fn walk_to_end(
     }
 }
 
-/// A pop by these bytes makes few loads, of any bytes.
+/// A pop by these bytes, whatever they are, makes at most size + 4 loads.
 pub fn walk_in_few_loads<F: FileSystem>(
     handle: &mut ChainHandle,
     queue: &mut QueueState,
@@ -168,8 +170,9 @@ pub fn walk_in_few_loads<F: FileSystem>(
     walk_to_end(handle, queue, given)
 }
 
-/// A pop that is refused by its loads, or by the queue, leaves the run's queue as it leaves the `QueueState`.
-pub fn refuse_beside<F: FileSystem>(
+/// Pops a queue by these bytes. If the pop is refused, by its loads or before any, that is an event, and the
+/// run's queue is this one afterwards.
+pub fn pop_or_be_refused<F: FileSystem>(
     handle: &mut ChainHandle,
     queue: &mut QueueState,
     given: &[&[u8]],
@@ -240,7 +243,7 @@ pub fn push_faulty_beside<F: FileSystem>(
         × LiveRun F.may s es end
         × IsFaultyChain s i given.now handle.old queue.old notice es
         × (calls_among es ≡ [])
-        × (end.outs ≡ s.outs)
+        × (end.chains ≡ s.chains)
         × (slice_get end.queues i ≡ Some (live_of queue.new))) }
 {
     law_handles::<F>();
@@ -248,8 +251,12 @@ pub fn push_faulty_beside<F: FileSystem>(
     push_reply(handle, queue)
 }
 
-/// The device's store before it sleeps is an event, if its address is mapped, and stays where it may be.
-pub fn sleep_beside<F: FileSystem>(queue: &QueueState, wanted: bool) -> Option<NotificationStore>
+/// Returns the store that enables or disables notifications. If its address is mapped, it is an event, and
+/// writes avail_event or the used ring's flags alone.
+pub fn store_notification_beside<F: FileSystem>(
+    queue: &QueueState,
+    wanted: bool,
+) -> Option<NotificationStore>
     ensures told { option_map store_of result ≡ notification_store queue.now wanted }
     ensures sleeps { IfSome result (λ store. (s : LiveState F) (i : ℕ)
         → slice_get s.queues i ≡ Some (live_of queue.now)
@@ -263,13 +270,13 @@ pub fn sleep_beside<F: FileSystem>(queue: &QueueState, wanted: bool) -> Option<N
 }
 
 /// The reset of a queue is an event, once no call of its chains is pending.
-pub fn begin_beside<F: FileSystem>(queue: &mut QueueState, layout: QueueLayout, position: u16)
+pub fn reset_beside<F: FileSystem>(queue: &mut QueueState, layout: QueueLayout, position: u16)
     ensures reset { queue.new ≡ reset_to queue.old layout position }
     ensures begins { (s : LiveState F) (i : ℕ)
         → slice_get s.queues i ≡ Some (live_of queue.old)
         → 1 ≤ queue.old.max_in_flight
         → queue.old.max_in_flight ≤ layout.size
-        → AllByRecursion (λ c. NonePending s.page_size i c c.phase) s.outs
+        → AllByRecursion (λ c. NonePending s.page_size i c c.phase) s.chains
         → (next : LiveState F)
         × Happens F.may s (ResetsQueue i (live_of queue.new)) next
         × (slice_get next.queues i ≡ Some (live_of queue.new)) }

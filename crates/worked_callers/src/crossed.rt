@@ -16,8 +16,8 @@ ghost use Rattle.fs_live.specs.Live.{LiveEvent, LiveRun, LiveState, calls_among}
 ghost use Rattle.worked_callers.specs.ChainCalls.{AreCallsBy, with_data};
 ghost use Rattle.worked_callers.specs.Events.{AreCrossedChains};
 
-use crate::answers::give_data;
-use crate::listings::ask_call;
+use crate::answers::answer_data;
+use crate::listings::decode_call;
 use crate::wholes::{push_reply, walk_chain};
 use fs_chain::{ChainError, ChainHandle, QueueState};
 use fs_live::law_handles;
@@ -77,7 +77,7 @@ pub fn serve_crossed<F: FileSystem>(
         of_one.decoded.after one.now.request.now two.now.request.now late early one.now.bytes.now
         two.now.bytes.now notices.1 notices.0 es
         × (calls_among es ≡ early ++ late)
-        × (end.outs ≡ s.outs)
+        × (end.chains ≡ s.chains)
         × (slice_get end.queues i ≡ Some (live_of queue.new))))) }
 {
     law_handles::<F>();
@@ -90,11 +90,11 @@ pub fn serve_crossed<F: FileSystem>(
     if second_len != two.request.len() {
         return Err(ChainError::BadArgument);
     }
-    ask_call(first, of_first, one.request)?;
-    ask_call(second, of_second, two.request)?;
-    give_data(second, two.bytes)?;
+    decode_call(first, of_first, one.request)?;
+    decode_call(second, of_second, two.request)?;
+    answer_data(second, two.bytes)?;
     let early = push_reply(second, queue)?;
-    give_data(first, one.bytes)?;
+    answer_data(first, one.bytes)?;
     let late = push_reply(first, queue)?;
     Ok((early, late))
 }

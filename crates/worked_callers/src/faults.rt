@@ -9,7 +9,7 @@ ghost use Rattle.notify.specs.Threads.{Loads, TakesOne, ThreadedQueue, Walker, a
 ghost use Rattle.fs_live.specs.Handles.{live_of};
 ghost use Rattle.fs_live.specs.Live.{LiveEvent, LiveRun, LiveState};
 ghost use Rattle.fs_live.specs.Runs.{events_on, going};
-ghost use Rattle.fs_live.specs.Several.{AtTheirPlaces, returns_among};
+ghost use Rattle.fs_live.specs.Several.{AtTheirPositions, returns_among};
 ghost use Rattle.fs_notify.specs.Takers.{IsModelOf, ways_of};
 ghost use Rattle.worked_callers.specs.Events.{AreFaultyInOrder};
 ghost use Rattle.worked_callers.specs.Notified.{ActsTo, PopsWithIndex, given_so_far};
@@ -48,7 +48,7 @@ pub fn take_one_faulty(
 
 /// Two handles pop a faulty chain each, of a queue without chains in flight, and return them oldest first.
 /// Each is returned at the position of its pop.
-pub fn give_two_in_order<F: FileSystem>(
+pub fn push_two_in_order<F: FileSystem>(
     first: &mut ChainHandle,
     second: &mut ChainHandle,
     queue: &mut QueueState,
@@ -58,7 +58,7 @@ pub fn give_two_in_order<F: FileSystem>(
     requires first_free { first.old.state ≡ at.Free }
     requires second_free { second.old.state ≡ at.Free }
     requires goes { queue.old.stopped ≡ None }
-    requires none_out { queue.old.next_used ≡ queue.old.next_avail }
+    requires none_in_flight { queue.old.next_used ≡ queue.old.next_avail }
     ensures again { OnOk result ((first.new.state ≡ at.Free) × (second.new.state ≡ at.Free)) }
     ensures queue { OnOk result (queue.new ≡ gave (gave (took (took queue.old)))) }
     ensures order { IfOk result (λ notices. (s : LiveState F) (i : ℕ)
@@ -70,8 +70,8 @@ pub fn give_two_in_order<F: FileSystem>(
         → (left : QueueState) × (es : List LiveEvent) × (end : LiveState F)
         × LiveRun F.may s es end
         × AreFaultyInOrder s i given.now more.now first.old second.old queue.old left notices.0 notices.1 es
-        × AtTheirPlaces (going (live_of queue.old)) (returns_among (events_on i es))
-        × (end.outs ≡ s.outs)
+        × AtTheirPositions (going (live_of queue.old)) (returns_among (events_on i es))
+        × (end.chains ≡ s.chains)
         × (slice_get end.queues i ≡ Some (live_of queue.new))) }
 {
     law_handles::<F>();

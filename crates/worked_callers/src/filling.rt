@@ -11,11 +11,11 @@ ghost use Rattle.fs_chain.specs.declared.popping.PopOutcome.{PopOutcome};
 ghost use Rattle.fs_chain.specs.declared.state.ChainState.TheVariants as at;
 ghost use Rattle.fs_live.specs.Filling.{data_stores};
 ghost use Rattle.fs_live.specs.Handles.{live_of};
-ghost use Rattle.fs_live.specs.Live.{FillsBuffer, LiveRun, LiveState, OutChain, room_of};
+ghost use Rattle.fs_live.specs.Live.{FillsBuffer, LiveRun, LiveState, InFlightChain, room_of};
 ghost use Rattle.fs_live.specs.Runs.{reported_by};
 ghost use Rattle.worked_callers.specs.Events.{IsPoppedChain, pop_event};
 ghost use Rattle.worked_callers.specs.Notified.{IsWalkedBy};
-ghost use Rattle.worked_callers.specs.OwnReplies.{IsAt};
+ghost use Rattle.worked_callers.specs.OwnReplies.{IsOfRun};
 
 use crate::wholes::walk_chain;
 use fs_chain::{ChainError, ChainHandle, LoadOutcome, QueueState};
@@ -26,7 +26,7 @@ use vm_memory_core::VolatileSlice;
 /// Pops a chain, and returns the window where its caller stores bytes in the reply buffer, from byte
 /// `from` on. The window begins at the addresses of these bytes. Fails with `LongReply` if they don't
 /// fit one window.
-pub fn fill_window<F: FileSystem>(
+pub fn pop_for_window<F: FileSystem>(
     handle: &mut ChainHandle,
     queue: &mut QueueState,
     given: &[&[u8]],
@@ -40,8 +40,8 @@ pub fn fill_window<F: FileSystem>(
         × IsWalkedBy given.now handle.old handle.new queue.old queue.new
         (LoadOutcome.On (PopOutcome.Chain head n r))) }
     ensures fills { IfOk result (λ v. (s : LiveState F) (i : ℕ)
-        → IsAt F.may s i handle.old queue.old
-        → (c : OutChain) × (end : LiveState F)
+        → IsOfRun F.may s i handle.old queue.old
+        → (c : InFlightChain) × (end : LiveState F)
         × IsPoppedChain s i given.now handle.old queue.old None c
         × LiveRun F.may s
         (pop_event c None ∷ FillsBuffer c (data_stores (room_of c) from bytes.now) ∷ []) end
@@ -63,7 +63,7 @@ pub fn fill_window<F: FileSystem>(
 
 /// Pops a chain, and returns the guest address by which its caller reports bytes that it stores in the reply
 /// buffer from byte `from` on. Fails with `LongReply` if they don't fit one range of addresses.
-pub fn fill_range<F: FileSystem>(
+pub fn pop_for_range<F: FileSystem>(
     handle: &mut ChainHandle,
     queue: &mut QueueState,
     given: &[&[u8]],
@@ -77,8 +77,8 @@ pub fn fill_range<F: FileSystem>(
         × IsWalkedBy given.now handle.old handle.new queue.old queue.new
         (LoadOutcome.On (PopOutcome.Chain head n r))) }
     ensures fills { IfOk result (λ guest. (s : LiveState F) (i : ℕ)
-        → IsAt F.may s i handle.old queue.old
-        → (c : OutChain) × (mid : LiveState F) × (address : ℕ)
+        → IsOfRun F.may s i handle.old queue.old
+        → (c : InFlightChain) × (mid : LiveState F) × (address : ℕ)
         × IsPoppedChain s i given.now handle.old queue.old None c
         × (guest ≡ address % 2 ^ 64)
         × (let fills = FillsBuffer c (record { address = address; bytes = bytes.now } ∷ []) in

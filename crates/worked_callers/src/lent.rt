@@ -15,7 +15,7 @@ ghost use Rattle.worked_callers.specs.ChainCalls.{AreCallsOf, HasMemoryOf};
 ghost use Rattle.worked_callers.specs.Events.{IsFaultyChain, IsGivenUpChain, IsServedChain};
 
 use crate::beside::take_faulty;
-use crate::wholes::{push_reply, reply, walk_chain};
+use crate::wholes::{decode_and_answer, push_reply, walk_chain};
 use fs_chain::{ChainError, ChainHandle, QueueState};
 use fs_live::law_handles;
 use fuse_fs::FileSystem;
@@ -34,7 +34,7 @@ pub fn take_table(handle: &mut ChainHandle) -> Result<Option<Iotlb>, ChainError>
     }
 }
 
-/// Lends a handle an IOMMU's table. `ChainInFlight` while a pop is under way.
+/// Lends a handle an IOMMU's table, and drops the one that it had. `ChainInFlight` while a pop is under way.
 pub fn lend_table(handle: &mut ChainHandle, table: Option<Iotlb>) -> Result<(), ChainError>
     ensures lent { OnOk result (handle.new ≡ with_table handle.old table) }
 {
@@ -74,7 +74,7 @@ pub fn serve_lent<F: FileSystem>(
         × LiveRun F.may s es end
         × IsServedChain s i given.now handle.old queue.old request.now calls [] notice es
         × (calls_among es ≡ calls)
-        × (end.outs ≡ s.outs)
+        × (end.chains ≡ s.chains)
         × (slice_get end.queues i ≡ Some (live_of queue.new)))) }
 {
     law_handles::<F>();
@@ -83,7 +83,7 @@ pub fn serve_lent<F: FileSystem>(
         return Err(ChainError::BadArgument);
     }
     let table = take_table(handle)?;
-    reply(handle, session, request, answer)?;
+    decode_and_answer(handle, session, request, answer)?;
     lend_table(handle, table)?;
     push_reply(handle, queue)
 }
@@ -106,7 +106,7 @@ pub fn drop_lent<F: FileSystem>(
         → (es : List LiveEvent) × (end : LiveState F)
         × LiveRun F.may s es end
         × IsGivenUpChain s i given.now handle.old queue.old es
-        × (end.outs ≡ s.outs)
+        × (end.chains ≡ s.chains)
         × (slice_get end.queues i ≡ Some (live_of queue.new))) }
 {
     law_handles::<F>();
@@ -134,7 +134,7 @@ pub fn push_faulty_lent<F: FileSystem>(
         × LiveRun F.may s es end
         × IsFaultyChain s i given.now handle.old queue.old notice es
         × (calls_among es ≡ [])
-        × (end.outs ≡ s.outs)
+        × (end.chains ≡ s.chains)
         × (slice_get end.queues i ≡ Some (live_of queue.new))) }
 {
     law_handles::<F>();

@@ -3,27 +3,27 @@
 #![tactic(auto)]
 
 pub mod abandoned;
-pub mod amid;
 pub mod among;
 pub mod answers;
 pub mod beside;
 pub mod crossed;
 pub mod faults;
 pub mod filling;
-pub mod full;
 pub mod givers;
-pub mod laws;
 pub mod lent;
 pub mod listings;
 pub mod live_queues;
 pub mod lives;
+pub mod maximum;
 pub mod missed_event;
 pub mod misses;
 pub mod moved_on;
 pub mod moves;
 pub mod notices;
+pub mod offers;
 pub mod others;
 pub mod own_replies;
+pub mod refusals;
 pub mod remapped;
 pub mod seen;
 pub mod steps;

@@ -32,7 +32,7 @@ use server_phases::Session;
 
 /// Two entries of a directory.
 #[derive(Drop)]
-pub struct Pair<'a> {
+pub struct TwoEntries<'a> {
     /// The first.
     pub first: DirEntry<'a>,
     /// The second.
@@ -40,7 +40,7 @@ pub struct Pair<'a> {
 }
 
 /// Decodes a chain's whole request, which makes a call. Fails with `WrongOrder` if it makes none.
-pub fn ask_call(
+pub fn decode_call(
     handle: &mut ChainHandle,
     session: Session,
     request: &[u8],
@@ -56,7 +56,7 @@ pub fn ask_call(
 }
 
 /// Adds an entry with its node to the listing. Fails with `LongReply` if the entry isn't added.
-pub fn bring(
+pub fn add_entry(
     handle: &mut ChainHandle,
     list: &mut [u8],
     entry: &DirEntry<'_>,
@@ -80,7 +80,7 @@ pub fn bring(
 pub fn list_two(
     handle: &mut ChainHandle,
     list: &mut [u8],
-    entries: &Pair<'_>,
+    entries: &TwoEntries<'_>,
     nodes: (Entry<u64>, Entry<u64>),
 ) -> Result<usize, ChainError>
     ensures lists { IfOk result (λ n. IsListedBy handle.old true
@@ -88,27 +88,27 @@ pub fn list_two(
     ensures numbers { OnOk result ((nodes.0.inode < 2 ^ 64) × (nodes.1.inode < 2 ^ 64)) }
 {
     let (first, second) = nodes;
-    bring(handle, list, &entries.first, first)?;
-    bring(handle, list, &entries.second, second)?;
+    add_entry(handle, list, &entries.first, first)?;
+    add_entry(handle, list, &entries.second, second)?;
     let serial = handle.serial();
     handle.end(serial)
 }
 
 /// A chain that is in flight alone and lists two entries with their nodes is a step by the request's listing
 /// and its look-ups.
-pub fn serve_two<F: FileSystem>(
+pub fn serve_listing<F: FileSystem>(
     handle: &mut ChainHandle,
     queue: &mut QueueState,
     given: &[&[u8]],
     session: Session,
     request: &[u8],
     list: &mut [u8],
-    entries: &Pair<'_>,
+    entries: &TwoEntries<'_>,
     nodes: (Entry<u64>, Entry<u64>),
 ) -> Result<bool, ChainError>
     requires free { handle.old.state ≡ at.Free }
     requires goes { queue.old.stopped ≡ None }
-    requires none_out { queue.old.next_used ≡ queue.old.next_avail }
+    requires none_in_flight { queue.old.next_used ≡ queue.old.next_avail }
     requires by_flags { queue.old.event_index ≡ false }
     ensures again { OnOk result (handle.new.state ≡ at.Free) }
     ensures queue { OnOk result (queue.new ≡ gave (took queue.old)) }
@@ -137,7 +137,7 @@ pub fn serve_two<F: FileSystem>(
     if request_len != request.len() {
         return Err(ChainError::BadArgument);
     }
-    ask_call(handle, session, request)?;
+    decode_call(handle, session, request)?;
     let _len = list_two(handle, list, entries, nodes)?;
     push_reply(handle, queue)
 }

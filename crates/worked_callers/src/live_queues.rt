@@ -15,14 +15,14 @@ ghost use Rattle.fs_live.specs.Live.{LiveRun, LiveState, event_acts};
 ghost use Rattle.fs_live.specs.Overlap.{at_positions, state};
 ghost use Rattle.fs_live.specs.Serial.{FoundIn, IsAtRest, SerialRun, Single, events_in, plain, return_in};
 ghost use Rattle.fs_live.specs.Serial.{turn_of};
-ghost use Rattle.fs_live.specs.Several.{AtTheirPlaces, LiveQueue};
+ghost use Rattle.fs_live.specs.Several.{AtTheirPositions, LiveQueue};
 ghost use Rattle.fuse_fs.specs.Calls.{Destroy, Done, FileRun};
 ghost use Rattle.worked_callers.specs.InARow.{after_both, one, two, with_both};
-ghost use Rattle.worked_callers.specs.OwnReplies.{IsAt};
+ghost use Rattle.worked_callers.specs.OwnReplies.{IsOfRun};
 ghost use Rattle.worked_callers.specs.ChainCalls.{AreCallsOf};
 ghost use Rattle.worked_callers.specs.Events.{IsServedChain};
 
-use crate::wholes::{push_reply, reply, walk_chain};
+use crate::wholes::{decode_and_answer, push_reply, walk_chain};
 use fs_chain::{ChainError, ChainHandle, QueueState};
 use fs_live::{law_handles, law_queues, law_serial};
 use fuse_fs::FileSystem;
@@ -30,11 +30,11 @@ use fuse_values::FileAnswer;
 use server_phases::Session;
 
 /// Of two popped chains, if the first one is returned first, each is returned at the position of its pop.
-pub fn oldest_first()
+pub fn law_oldest_first()
     ensures { (w : LiveQueue) (first second n m : ℕ) (stores more : List Store)
         → w.next_used ≡ w.queue.position
         → w.queue.position < 2 ^ 16
-        → AtTheirPlaces w
+        → AtTheirPositions w
         (((w.queue.position, first), n, stores) ∷ ((next_position w.queue, second), m, more) ∷ []) }
 {
     law_queues();
@@ -42,9 +42,9 @@ pub fn oldest_first()
 
 /// Two chains on one queue, one after the other, are the plain machine's run of two turns for one
 /// notification.
-pub fn two_in_a_row<F: FileSystem>()
+pub fn law_two_turns<F: FileSystem>()
     ensures { (s after : LiveState F) (one two : Single) (m m' : Memory) (i : ℕ) (w : LiveQueue)
-        → s.outs ≡ []
+        → s.chains ≡ []
         → slice_get s.queues i ≡ Some w
         → IsAtRest w
         → SerialRun F.may i m s (one ∷ two ∷ []) m' after
@@ -55,7 +55,7 @@ pub fn two_in_a_row<F: FileSystem>()
 
 /// Two chains of one queue, one after the other, over a memory that has their bytes. They are the plain
 /// machine's run of these two turns for one notification.
-pub fn served_in_a_row<F: FileSystem>()
+pub fn law_served_turns<F: FileSystem>()
     ensures { (before after : F)
         → F.may before Destroy Done after
         → KickRun F.may (plain (state before (at_positions 0 0) 1 []) with_both) 0 2
@@ -76,14 +76,14 @@ pub fn serve_single<F: FileSystem>(
 ) -> Result<bool, ChainError>
     requires free { handle.old.state ≡ at.Free }
     requires goes { queue.old.stopped ≡ None }
-    requires none_out { queue.old.next_used ≡ queue.old.next_avail }
+    requires none_in_flight { queue.old.next_used ≡ queue.old.next_avail }
     requires by_flags { queue.old.event_index ≡ false }
     requires data { TellsBytes [] answer }
     ensures again { OnOk result (handle.new.state ≡ at.Free) }
     ensures queue { OnOk result (queue.new ≡ gave (took queue.old)) }
     ensures step { IfOk result (λ notice. (s : LiveState F) (i : ℕ) (files : F)
-        → IsAt F.may s i handle.old queue.old
-        → s.outs ≡ []
+        → IsOfRun F.may s i handle.old queue.old
+        → s.chains ≡ []
         → IsSessionOf s session
         → (calls : Calls)
         × AreCallsOf given.now handle.old queue.old session request.now answer calls
@@ -103,6 +103,6 @@ pub fn serve_single<F: FileSystem>(
     if request_len != request.len() {
         return Err(ChainError::BadArgument);
     }
-    reply(handle, session, request, answer)?;
+    decode_and_answer(handle, session, request, answer)?;
     push_reply(handle, queue)
 }

@@ -6,8 +6,8 @@ ghost use Rattle.fs_regions.specs.Places.{places_in};
 ghost use Rattle.fs_chain.specs.Queues.{took};
 ghost use Rattle.fs_chain.specs.declared.state.ChainState.TheVariants as at;
 ghost use Rattle.fs_live.specs.Handles.{live_of};
-ghost use Rattle.fs_live.specs.Live.{LiveRun, LiveState, OutChain};
-ghost use Rattle.fs_live.specs.Runs.{tickets_on};
+ghost use Rattle.fs_live.specs.Live.{LiveRun, LiveState, InFlightChain};
+ghost use Rattle.fs_live.specs.Runs.{in_flight_on};
 ghost use Rattle.worked_callers.specs.Events.{IsPoppedChain, pop_event};
 ghost use Rattle.worked_callers.specs.Notified.{IsWalkedBy};
 
@@ -35,20 +35,20 @@ pub fn take_two<F: FileSystem>(
         × IsWalkedBy more.now second.old second.new left queue.new
         (LoadOutcome.On (PopOutcome.Chain heads.1 others.0 others.1))
         × ((s : LiveState F) (i : ℕ)
-        → s.outs ≡ []
+        → s.chains ≡ []
         → slice_get s.queues i ≡ Some (live_of queue.old)
         → s.places ≡ places_in first.old.regions
         → s.places ≡ places_in second.old.regions
         → s.limit ≡ first.old.limit
         → s.limit ≡ second.old.limit
-        → (c : OutChain) × (c' : OutChain) × (next : LiveState F)
+        → (c : InFlightChain) × (c' : InFlightChain) × (next : LiveState F)
         × IsPoppedChain s i given.now first.old queue.old None c
         × IsPoppedChain s i more.now second.old left None c'
         × (c.head ≡ heads.0)
         × (c'.head ≡ heads.1)
         × LiveRun F.may s (pop_event c None ∷ pop_event c' None ∷ []) next
         × (slice_get next.queues i ≡ Some (live_of queue.new))
-        × IsPermutation (map (λ t. t.1) (tickets_on i next.outs)) (heads.0 ∷ heads.1 ∷ []))) }
+        × IsPermutation (map (λ t. t.1) (in_flight_on i next.chains)) (heads.0 ∷ heads.1 ∷ []))) }
 {
     law_handles::<F>();
     law_runs::<F, F>();

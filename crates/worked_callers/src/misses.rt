@@ -25,7 +25,7 @@ use fuse_fs::FileSystem;
 /// Pops by these bytes. A miss leaves the queue as it was and the handle free. It is of the addresses that
 /// the pop needs first by its loads, and a table of whole pages can map them. If the table doesn't map
 /// used_event or avail_event, the pop misses the first of these addresses.
-pub fn miss(
+pub fn pop_or_miss(
     handle: &mut ChainHandle,
     queue: &mut QueueState,
     given: &[&[u8]],
@@ -67,7 +67,7 @@ pub fn miss(
 
 /// Pops by these bytes. Returns the outcome, and whether the bytes that the pop asks for have a window. If it
 /// asks for bytes, they have one.
-pub fn find_window<F: FileSystem>(
+pub fn pop_and_find_window<F: FileSystem>(
     handle: &mut ChainHandle,
     queue: &mut QueueState,
     given: &[&[u8]],

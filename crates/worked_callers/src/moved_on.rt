@@ -14,14 +14,14 @@ ghost use Rattle.fs_live.specs.Handles.{IsReached, live_of};
 ghost use Rattle.fs_live.specs.Live.{Happens, LiveEvent, LiveRun, LiveState, MovesDevice, Remaps};
 ghost use Rattle.fs_live.specs.Live.{ResetsQueue};
 ghost use Rattle.fs_live.specs.Others.{recorded};
-ghost use Rattle.fs_live.specs.Runs.{HasNoneInFlight, untold};
+ghost use Rattle.fs_live.specs.Runs.{HasNoneInFlight, unrecorded};
 ghost use Rattle.worked_callers.specs.ChainCalls.{IsResetBy};
 ghost use Rattle.worked_callers.specs.Events.{IsRepliedChain};
-ghost use Rattle.worked_callers.specs.OwnReplies.{IsAt};
+ghost use Rattle.worked_callers.specs.OwnReplies.{IsOfRun};
 
 use crate::crossed::ChainBytes;
-use crate::moves::{only, restore_one, save_one};
-use crate::others::{begin_again, begin_by_record, reply_beside};
+use crate::moves::{only_queue, restore_one, save_one};
+use crate::others::{reply_beside, reset_by_record, reset_to_own_position};
 use crate::takers::have_u16_numbers;
 use fs_chain::{ChainError, ChainHandle, QueueState};
 use fs_live::law_runs;
@@ -33,12 +33,12 @@ use std::alloc::Global;
 /// Whether two queues agree on the parts that no record has: how many chains may be in flight, and the event
 /// index.
 pub fn agree_besides_record(one: &QueueState, two: &QueueState) -> bool
-    ensures { result ≡ true → untold (live_of one.now) ≡ untold (live_of two.now) }
+    ensures { result ≡ true → unrecorded (live_of one.now) ≡ unrecorded (live_of two.now) }
 {
     one.max_in_flight == two.max_in_flight && one.event_index == two.event_index
 }
 
-/// A chain is returned here, the device moves by its record, and a chain is returned there. The events are
+/// A chain is pushed here, the device moves by its record, and a chain is pushed there. The events are
 /// those of a device that didn't move and whose guest's memory got the mappings of the other host. Over the
 /// same mappings they are those of both chains alone. Returns whether to notify the driver of each chain.
 pub fn move_and_go_on<F: FileSystem, S: RecordSink, T: RecordSource>(
@@ -56,7 +56,7 @@ pub fn move_and_go_on<F: FileSystem, S: RecordSink, T: RecordSource>(
     requires here_free { here.old.state ≡ at.Free }
     requires there_free { there.old.state ≡ at.Free }
     requires goes { queue.old.stopped ≡ None }
-    requires none_out { queue.old.next_used ≡ queue.old.next_avail }
+    requires none_in_flight { queue.old.next_used ≡ queue.old.next_avail }
     requires some { 1 ≤ moved.old.max_in_flight }
     requires known { HasKnownBits options.0 }
     ensures again { OnOk result ((here.new.state ≡ at.Free) × (there.new.state ≡ at.Free)) }
@@ -72,7 +72,7 @@ pub fn move_and_go_on<F: FileSystem, S: RecordSink, T: RecordSource>(
         × (moved.new ≡ gave (took begun))
         × ((s : LiveState F)
         → IsReached F.may s
-        → s.outs ≡ []
+        → s.chains ≡ []
         → s.queues ≡ live_of queue.old ∷ []
         → s.options ≡ options.0
         → s.places ≡ places_in here.old.regions
@@ -97,14 +97,14 @@ pub fn move_and_go_on<F: FileSystem, S: RecordSink, T: RecordSource>(
     let told = reply_beside::<F>(here, queue, one.given, one.request, one.bytes)?;
     save_one(sink, options, queue)?;
     let (_, restored) = restore_one(alloc, source)?;
-    let Some(read) = only(&restored) else {
+    let Some(read) = only_queue(&restored) else {
         return Err(ChainError::BadArgument);
     };
     let layout = read.layout();
     if layout.size() < moved.max_in_flight {
         return Err(ChainError::BadArgument);
     }
-    begin_by_record::<F>(moved, read);
+    reset_by_record::<F>(moved, read);
     if moved.stopped.is_some() {
         return Err(ChainError::WrongOrder);
     }
@@ -115,8 +115,8 @@ pub fn move_and_go_on<F: FileSystem, S: RecordSink, T: RecordSource>(
     Ok((told, notice))
 }
 
-/// Pops the one chain in flight, returns it with bytes of the caller's own, and resets its queue to its own
-/// position, as after GET_VRING_BASE and SET_VRING_BASE. The reset is an event that changes nothing.
+/// Pops a chain while none is in flight, pushes it with the caller's own bytes, and resets its queue to its
+/// own position, as after GET_VRING_BASE and SET_VRING_BASE. The reset is an event that changes nothing.
 pub fn reply_and_reset<F: FileSystem>(
     handle: &mut ChainHandle,
     queue: &mut QueueState,
@@ -130,8 +130,8 @@ pub fn reply_and_reset<F: FileSystem>(
     ensures queue { OnOk result (let left = gave (took queue.old) in
         queue.new ≡ reset_to left left.layout left.next_avail) }
     ensures positions { IfOk result (λ notice. (s : LiveState F) (i : ℕ)
-        → IsAt F.may s i handle.old queue.old
-        → s.outs ≡ []
+        → IsOfRun F.may s i handle.old queue.old
+        → s.chains ≡ []
         → AllByRecursion HasNoneInFlight s.queues
         → (es : List LiveEvent) × (end : LiveState F)
         × LiveRun F.may s es end
@@ -146,6 +146,6 @@ pub fn reply_and_reset<F: FileSystem>(
     if queue.max_in_flight < 1 || queue.layout.size() < queue.max_in_flight {
         return Err(ChainError::BadArgument);
     }
-    begin_again::<F>(queue);
+    reset_to_own_position::<F>(queue);
     Ok(notice)
 }

@@ -18,7 +18,7 @@ ghost use Rattle.worked_callers.specs.ChainCalls.{IsResetBy};
 ghost use Rattle.worked_callers.specs.Events.{IsRepliedChain};
 
 use crate::crossed::ChainBytes;
-use crate::others::{begin_by_record, reply_beside};
+use crate::others::{reply_beside, reset_by_record};
 use fs_chain::{ChainError, ChainHandle, QueueState};
 use fs_queue::Queue;
 use fs_record::{RecordSink, RecordSource, restore_record, save_record};
@@ -49,7 +49,7 @@ pub fn save_one<S: RecordSink>(
 }
 
 /// The queue of a list of one; None for any other list.
-pub fn only(queues: &[Queue]) -> Option<&Queue>
+pub fn only_queue(queues: &[Queue]) -> Option<&Queue>
     ensures one { IfSome result (λ q. queues.now ≡ q.now ∷ []) }
     ensures others { result ≡ None → length queues.now ≡ 1 → ⊥ }
 {
@@ -85,7 +85,7 @@ pub fn restore_one<T: RecordSource>(
 /// A chain is returned here, and a record is made here and read there. The queue there is reset from it, and
 /// a chain is returned there. If the bytes that are read are the record that was made, that is a run, in
 /// which the queue goes on where it was. Returns whether to notify the driver of each chain.
-pub fn move_amid<F: FileSystem, S: RecordSink, T: RecordSource>(
+pub fn move_between_chains<F: FileSystem, S: RecordSink, T: RecordSource>(
     alloc: Global,
     here: &mut ChainHandle,
     there: &mut ChainHandle,
@@ -115,7 +115,7 @@ pub fn move_amid<F: FileSystem, S: RecordSink, T: RecordSource>(
         × (moved.new ≡ gave (took begun))
         × ((s : LiveState F)
         → IsReached F.may s
-        → s.outs ≡ []
+        → s.chains ≡ []
         → s.queues ≡ live_of queue.old ∷ []
         → s.options ≡ options.0
         → s.places ≡ places_in here.old.regions
@@ -136,7 +136,7 @@ pub fn move_amid<F: FileSystem, S: RecordSink, T: RecordSource>(
         × LiveRun F.may mid late end
         × IsRepliedChain mid 0 two.now.given.now there.old begun []
         two.now.request.now two.now.bytes.now r.1 late
-        × (end.outs ≡ [])
+        × (end.chains ≡ [])
         × (end.queues ≡ live_of moved.new ∷ [])
         × (end.options ≡ options.0)
         × (end.places ≡ places_in there.old.regions))) }
@@ -144,14 +144,14 @@ pub fn move_amid<F: FileSystem, S: RecordSink, T: RecordSource>(
     let told = reply_beside::<F>(here, queue, one.given, one.request, one.bytes)?;
     save_one(sink, options, queue)?;
     let (_, restored) = restore_one(alloc, source)?;
-    let Some(read) = only(&restored) else {
+    let Some(read) = only_queue(&restored) else {
         return Err(ChainError::BadArgument);
     };
     let layout = read.layout();
     if layout.size() < moved.max_in_flight {
         return Err(ChainError::BadArgument);
     }
-    begin_by_record::<F>(moved, read);
+    reset_by_record::<F>(moved, read);
     if moved.stopped.is_some() {
         return Err(ChainError::WrongOrder);
     }

@@ -1,5 +1,4 @@
-//! With VIRTIO_F_EVENT_IDX the driver is notified of a returned chain just if the used index passes
-//! used_event (VIRTIO 1.2, 2.7.7.2).
+//! With VIRTIO_F_EVENT_IDX used_event decides whether the driver is notified (VIRTIO 1.2, 2.7.7.2).
 
 ghost use Rattle.std.specs.Prelude.{◌≡◌, ℕ, IfOk, List, OnOk, true};
 ghost use Rattle.std.specs.Int.{w16, to_le_bytes};
@@ -15,7 +14,7 @@ use crate::seen::push_by;
 use fs_chain::{ChainError, ChainHandle, QueueState};
 use fs_live::law_queues;
 
-/// Returns a chain whose reply is known, while used_event has this value. The driver is notified just if the
+/// Pushes a chain whose reply is known, with this used_event loaded. The driver is notified exactly if the
 /// used index passes it.
 pub fn notify_by_event(
     handle: &mut ChainHandle,

@@ -3,7 +3,7 @@
 //! - freeing its handle
 //! - replying with the caller's own bytes
 //! - setting other regions
-//! - resetting a queue to its own position
+//! - resetting a queue to its own position, or by a record
 
 ghost use Rattle.std.specs.Prelude.{◌≡◌, ◌≤◌, ◌^◌, ℕ, [], ◌∷◌, IfErr, IfOk, List, None, OnErr, OnOk, Some};
 ghost use Rattle.std.specs.Prelude.{slice_get};
@@ -23,7 +23,7 @@ ghost use Rattle.fs_live.specs.Live.{ResetsQueue};
 ghost use Rattle.fs_live.specs.Live.{Remaps};
 ghost use Rattle.fs_live.specs.Live.{calls_among};
 ghost use Rattle.fs_live.specs.Others.{PushedOwn, recorded};
-ghost use Rattle.fs_live.specs.Runs.{HasNoneInFlight, tickets_on};
+ghost use Rattle.fs_live.specs.Runs.{HasNoneInFlight, in_flight_on};
 ghost use Rattle.worked_callers.specs.ChainCalls.{HasMemory, IsResetBy, stop_of};
 ghost use Rattle.worked_callers.specs.Events.{IsAbandonedChain, IsGivenUpChain, IsRepliedChain};
 ghost use Rattle.worked_callers.specs.Events.{loaded_flags};
@@ -35,8 +35,7 @@ use fs_queue::{Queue, QueueError};
 use fs_regions::GuestMap;
 use fuse_fs::FileSystem;
 
-/// Pops a chain and gives it up. The chains in flight are those of before, and the queue is as the
-/// call's contract says.
+/// Pops a chain and gives it up. The same chains are in flight as before, and the chain is available again.
 pub fn drop_beside<F: FileSystem>(
     handle: &mut ChainHandle,
     queue: &mut QueueState,
@@ -53,7 +52,7 @@ pub fn drop_beside<F: FileSystem>(
         → (es : List LiveEvent) × (end : LiveState F)
         × LiveRun F.may s es end
         × IsGivenUpChain s i given.now handle.old queue.old es
-        × (end.outs ≡ s.outs)
+        × (end.chains ≡ s.chains)
         × (slice_get end.queues i ≡ Some (live_of queue.new))) }
 {
     law_handles::<F>();
@@ -86,8 +85,8 @@ pub fn abandon_beside<F: FileSystem>(
     Ok(())
 }
 
-/// Returns a chain that its caller replied to, with the caller's bytes. The bytes that it passes as loaded
-/// are available flags 0, or used_event 0.
+/// Pushes a chain that its caller replied to, with the caller's bytes. The two bytes that it passes as loaded
+/// are 0: available flags, or used_event.
 pub fn push_own(handle: &mut ChainHandle, queue: &mut QueueState) -> Result<bool, ChainError>
     ensures back { IfOk result (λ notice. (room reply : List ℕ) (last : ℕ) → (acts : List Act)
         × (back : PushedOwn queue.old room reply handle.old.state acts last notice)
@@ -101,7 +100,7 @@ pub fn push_own(handle: &mut ChainHandle, queue: &mut QueueState) -> Result<bool
     handle.pushed(queue, [0, 0])
 }
 
-/// Pops a chain, replies with bytes of the caller's own, and returns it with them. No call is made, and the
+/// Pops a chain, replies with bytes of the caller's own, and pushes it with them. No call is made, and the
 /// other chains stay in flight.
 pub fn reply_beside<F: FileSystem>(
     handle: &mut ChainHandle,
@@ -123,7 +122,7 @@ pub fn reply_beside<F: FileSystem>(
         → (es : List LiveEvent) × (end : LiveState F)
         × LiveRun F.may s es end
         × (calls_among es ≡ [])
-        × (end.outs ≡ s.outs)
+        × (end.chains ≡ s.chains)
         × (end.queues ≡ changed_at s.queues i (λ _. live_of queue.new))
         × (end.options ≡ s.options)
         × (end.limit ≡ s.limit)
@@ -152,7 +151,7 @@ pub fn map_beside<F: FileSystem>(
     ensures ok { OnOk result (memory_error handle.old.state limit ≡ None) }
     ensures set { OnOk result (HasMemory handle.old handle.new regions limit) }
     ensures maps { OnOk result ((s : LiveState F)
-        → s.outs ≡ []
+        → s.chains ≡ []
         → (next : LiveState F)
         × Happens F.may s (Remaps (places_in regions)) next
         × (next.places ≡ places_in regions)
@@ -164,7 +163,7 @@ pub fn map_beside<F: FileSystem>(
 
 /// A record keeps whether a queue was stopped, but not the error that stopped it: `Stopped` is returned for
 /// it.
-pub fn stopped_by(read: &Queue) -> Option<QueueError>
+pub fn restored_stop(read: &Queue) -> Option<QueueError>
     ensures { result ≡ stop_of read.now.stopped }
 {
     if read.is_stopped() {
@@ -176,13 +175,13 @@ pub fn stopped_by(read: &Queue) -> Option<QueueError>
 
 /// Resets the one queue of a device from that of a record: to its position, and stopped if it was. That is
 /// the event `MovesDevice`, and the options stay.
-pub fn begin_by_record<F: FileSystem>(queue: &mut QueueState, read: &Queue)
+pub fn reset_by_record<F: FileSystem>(queue: &mut QueueState, read: &Queue)
     requires some { 1 ≤ queue.old.max_in_flight }
     requires few { queue.old.max_in_flight ≤ read.now.size }
     ensures begins { IsResetBy read.now queue.old queue.new }
     ensures moves { (s : LiveState F) (here : QueueState) (m : Memory) (bytes : List ℕ) (v v' : Version)
         (options : ℕ)
-        → s.outs ≡ []
+        → s.chains ≡ []
         → s.queues ≡ live_of here ∷ []
         → IsRecord bytes v s.options (recorded here ∷ [])
         → IsRecord bytes v' options (read.now ∷ [])
@@ -191,32 +190,32 @@ pub fn begin_by_record<F: FileSystem>(queue: &mut QueueState, read: &Queue)
         × Happens F.may s (MovesDevice m (live_of queue.new ∷ [])) next
         × (next.queues ≡ live_of queue.new ∷ [])
         × (next.places ≡ m)
-        × (next.outs ≡ [])
+        × (next.chains ≡ [])
         × (next.options ≡ s.options)
         × (next.limit ≡ s.limit) }
 {
     law_handles::<F>();
     let layout = read.layout();
     let position = read.position();
-    let stopped = stopped_by(read);
+    let stopped = restored_stop(read);
     queue.reset(layout, position);
     queue.stopped = stopped;
 }
 
 /// Resets a queue without chains in flight to its own position, as after GET_VRING_BASE and SET_VRING_BASE.
 /// The queue goes on as if it weren't reset.
-pub fn begin_again<F: FileSystem>(queue: &mut QueueState)
+pub fn reset_to_own_position<F: FileSystem>(queue: &mut QueueState)
     requires goes { queue.old.stopped ≡ None }
     ensures begins { queue.new ≡ reset_to queue.old queue.old.layout queue.old.next_avail }
     ensures goes_on { (start now : LiveState F) (es : List LiveEvent) (i : ℕ)
-        → start.outs ≡ []
+        → start.chains ≡ []
         → AllByRecursion HasNoneInFlight start.queues
         → LiveRun F.may start es now
         → slice_get now.queues i ≡ Some (live_of queue.old)
-        → tickets_on i now.outs ≡ []
+        → in_flight_on i now.chains ≡ []
         → 1 ≤ queue.old.max_in_flight
         → queue.old.max_in_flight ≤ queue.old.layout.size
-        → AllByRecursion (λ c. NonePending now.page_size i c c.phase) now.outs
+        → AllByRecursion (λ c. NonePending now.page_size i c c.phase) now.chains
         → Happens F.may now (ResetsQueue i (live_of queue.new)) now }
 {
     law_handles::<F>();

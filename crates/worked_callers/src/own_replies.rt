@@ -10,13 +10,13 @@ ghost use Rattle.fuse_values.specs.Values.{call_of};
 ghost use Rattle.fuse_values.specs.declared.call.FileCall as value;
 ghost use Rattle.fs_live.specs.Handles.{IsSessionOf};
 ghost use Rattle.fs_live.specs.Live.{LiveState};
-ghost use Rattle.fs_live.specs.Runs.{tickets_on};
+ghost use Rattle.fs_live.specs.Runs.{in_flight_on};
 ghost use Rattle.worked_callers.specs.ChainCalls.{DecodesPopped};
-ghost use Rattle.worked_callers.specs.Events.{IsRepliedChain, IsRepliedInstead};
-ghost use Rattle.worked_callers.specs.OwnReplies.{EndsAlone, IsAt, LogsOwn, ReportsOwn, ReturnsAsStep};
+ghost use Rattle.worked_callers.specs.Events.{IsRepliedChain, IsOwnReplyOnceDecoded};
+ghost use Rattle.worked_callers.specs.OwnReplies.{EndsAlone, IsOfRun, LogsOwn, ReportsOwn, ReturnsAsStep};
 ghost use Rattle.std.specs.Prelude.{◌≡◌, None};
 
-use crate::listings::{ask_call, bring};
+use crate::listings::{add_entry, decode_call};
 use crate::others::push_own;
 use crate::wholes::walk_chain;
 use fs_chain::{ChainError, ChainHandle, QueueState};
@@ -38,14 +38,14 @@ pub fn reply_logged<F: FileSystem, G: FileSystem>(
     ensures again { OnOk result (handle.new.state ≡ at.Free) }
     ensures queue { OnOk result (queue.new ≡ gave (took queue.old)) }
     ensures step { IfOk result (λ notice. (s : LiveState F) (i : ℕ)
-        → IsAt F.may s i handle.old queue.old
+        → IsOfRun F.may s i handle.old queue.old
         → ReturnsAsStep G F.may s i queue.old queue.new request.now bytes.now [] notice
         (IsRepliedChain s i given.now handle.old queue.old [] request.now bytes.now notice)) }
     ensures reports { IfOk result (λ notice. (s : LiveState F) (i : ℕ)
-        → IsAt F.may s i handle.old queue.old
+        → IsOfRun F.may s i handle.old queue.old
         → ReportsOwn F.may s i given.now handle.old queue.old queue.new request.now bytes.now notice) }
     ensures log { IfOk result (λ notice. (s : LiveState F) (i : ℕ)
-        → IsAt F.may s i handle.old queue.old
+        → IsOfRun F.may s i handle.old queue.old
         → LogsOwn F.may s i given.now handle.old queue.old queue.new request.now bytes.now notice) }
 {
     law_handles::<F>();
@@ -70,12 +70,12 @@ pub fn reply_alone<F: FileSystem>(
 ) -> Result<bool, ChainError>
     requires free { handle.old.state ≡ at.Free }
     requires goes { queue.old.stopped ≡ None }
-    requires none_out { queue.old.next_used ≡ queue.old.next_avail }
+    requires none_in_flight { queue.old.next_used ≡ queue.old.next_avail }
     ensures again { OnOk result (handle.new.state ≡ at.Free) }
     ensures queue { OnOk result (queue.new ≡ gave (took queue.old)) }
     ensures alone { IfOk result (λ notice. (s : LiveState F) (i : ℕ)
-        → IsAt F.may s i handle.old queue.old
-        → tickets_on i s.outs ≡ []
+        → IsOfRun F.may s i handle.old queue.old
+        → in_flight_on i s.chains ≡ []
         → EndsAlone F.may s i given.now handle.old queue.old queue.new request.now bytes.now notice) }
 {
     law_handles::<F>();
@@ -105,10 +105,10 @@ pub fn reply_instead<F: FileSystem, G: FileSystem>(
     ensures again { OnOk result (handle.new.state ≡ at.Free) }
     ensures queue { OnOk result (queue.new ≡ gave (took queue.old)) }
     ensures step { IfOk result (λ notice. (s : LiveState F) (i : ℕ)
-        → IsAt F.may s i handle.old queue.old
+        → IsOfRun F.may s i handle.old queue.old
         → IsSessionOf s session
         → ReturnsAsStep G F.may s i queue.old queue.new request.now bytes.now [] notice
-        (IsRepliedInstead s i given.now handle.old queue.old request.now bytes.now [] notice)) }
+        (IsOwnReplyOnceDecoded s i given.now handle.old queue.old request.now bytes.now [] notice)) }
 {
     law_handles::<F>();
     law_runs::<F, G>();
@@ -116,7 +116,7 @@ pub fn reply_instead<F: FileSystem, G: FileSystem>(
     if request_len != request.len() {
         return Err(ChainError::BadArgument);
     }
-    ask_call(handle, session, request)?;
+    decode_call(handle, session, request)?;
     let serial = handle.serial();
     handle.reply(serial, bytes.len())?;
     push_own(handle, queue)
@@ -124,7 +124,7 @@ pub fn reply_instead<F: FileSystem, G: FileSystem>(
 
 /// Begins a listing of a directory with one entry, and then replies with bytes of the caller's own. The
 /// directory's call was answered by then.
-pub fn reply_amid_listing<F: FileSystem, G: FileSystem>(
+pub fn reply_during_listing<F: FileSystem, G: FileSystem>(
     handle: &mut ChainHandle,
     queue: &mut QueueState,
     given: &[&[u8]],
@@ -140,7 +140,7 @@ pub fn reply_amid_listing<F: FileSystem, G: FileSystem>(
     ensures again { OnOk result (handle.new.state ≡ at.Free) }
     ensures queue { OnOk result (queue.new ≡ gave (took queue.old)) }
     ensures step { IfOk result (λ notice. (s : LiveState F) (i : ℕ)
-        → IsAt F.may s i handle.old queue.old
+        → IsOfRun F.may s i handle.old queue.old
         → IsSessionOf s session
         → (made : value.FileCall) × (asked : ChainHandle)
         × DecodesPopped given.now handle.old queue.old session request.now (asks.Call made) asked
@@ -149,7 +149,7 @@ pub fn reply_amid_listing<F: FileSystem, G: FileSystem>(
         → F.may s.files (call_of (drop 80 request.now) made) answer files
         → ReturnsAsStep G F.may s i queue.old queue.new request.now bytes.now
         ((call_of (drop 80 request.now) made, answer) ∷ []) notice
-        (IsRepliedInstead s i given.now handle.old queue.old request.now bytes.now
+        (IsOwnReplyOnceDecoded s i given.now handle.old queue.old request.now bytes.now
         ((call_of (drop 80 request.now) made, answer) ∷ []) notice))) }
 {
     law_handles::<F>();
@@ -158,8 +158,8 @@ pub fn reply_amid_listing<F: FileSystem, G: FileSystem>(
     if request_len != request.len() {
         return Err(ChainError::BadArgument);
     }
-    ask_call(handle, session, request)?;
-    bring(handle, list, entry, node)?;
+    decode_call(handle, session, request)?;
+    add_entry(handle, list, entry, node)?;
     let serial = handle.serial();
     handle.reply(serial, bytes.len())?;
     push_own(handle, queue)

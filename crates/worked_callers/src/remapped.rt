@@ -20,7 +20,7 @@ use fuse_fs::FileSystem;
 /// One handle pops a chain, another handle gets other regions, and the chain is returned with its caller's
 /// own bytes. That is a run, if the new regions map an address of the queue's returns exactly if the old ones
 /// do.
-pub fn map_amid<F: FileSystem>(
+pub fn remap_in_flight<F: FileSystem>(
     first: &mut ChainHandle,
     second: &mut ChainHandle,
     queue: &mut QueueState,
@@ -36,7 +36,7 @@ pub fn map_amid<F: FileSystem>(
     ensures queue { OnOk result (queue.new ≡ gave (took queue.old)) }
     ensures run { IfOk result (λ notice. (s : LiveState F) (i : ℕ)
         → IsReached F.may s
-        → s.outs ≡ []
+        → s.chains ≡ []
         → slice_get s.queues i ≡ Some (live_of queue.old)
         → s.places ≡ places_in first.old.regions
         → s.limit ≡ first.old.limit
@@ -47,7 +47,7 @@ pub fn map_amid<F: FileSystem>(
         × IsRepliedChain s i given.now first.old queue.old (Remaps (places_in regions) ∷ [])
         request.now bytes.now notice es
         × (calls_among es ≡ [])
-        × (end.outs ≡ [])
+        × (end.chains ≡ [])
         × (slice_get end.queues i ≡ Some (live_of queue.new))
         × (end.places ≡ places_in regions)) }
 {

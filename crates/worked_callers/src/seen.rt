@@ -27,7 +27,7 @@ ghost use Rattle.worked_callers.specs.ChainCalls.{ArePopLoads, AreCallsOf};
 ghost use Rattle.worked_callers.specs.Notified.{IsWalkedBy};
 ghost use Rattle.worked_callers.specs.OverMemory.{HasEachLoad, KeepsReplyApart};
 
-use crate::wholes::{reply, walk_by, walk_chain};
+use crate::wholes::{decode_and_answer, walk_by, walk_chain};
 use fs_chain::laws::law_chains;
 use fs_chain::{ChainError, ChainHandle, LoadOutcome, PopOutcome, PushStores, QueueState};
 use fs_queue::ChainFault;
@@ -142,7 +142,7 @@ pub fn serve_by<F: FileSystem>(
     if request_len != request.len() {
         return Err(ChainError::BadArgument);
     }
-    reply(handle, session, request, answer)?;
+    decode_and_answer(handle, session, request, answer)?;
     push_by(handle, queue, seen)
 }
 

@@ -10,11 +10,11 @@ ghost use Rattle.plain_machine.specs.Step.{Calls};
 ghost use Rattle.fs_live.specs.Handles.{IsSessionOf};
 ghost use Rattle.fs_live.specs.Live.{LiveState};
 ghost use Rattle.worked_callers.specs.ChainCalls.{AreCallsOf};
-ghost use Rattle.worked_callers.specs.OwnReplies.{IsAt};
-ghost use Rattle.worked_callers.specs.ServedSteps.{IsReachedEven, ServesAsStep, ServesAtPlaces};
+ghost use Rattle.worked_callers.specs.OwnReplies.{IsOfRun};
+ghost use Rattle.worked_callers.specs.ServedSteps.{IsReachedFromNone, ServesAsStep, ServesMapped};
 ghost use Rattle.worked_callers.specs.ServedSteps.{ServesMarking};
 
-use crate::wholes::{push_reply, reply, walk_chain};
+use crate::wholes::{decode_and_answer, push_reply, walk_chain};
 use fs_chain::{ChainError, ChainHandle, QueueState};
 use fs_live::{law_handles, law_runs};
 use fuse_fs::FileSystem;
@@ -37,22 +37,22 @@ pub fn serve_as_step<F: FileSystem, G: FileSystem>(
     ensures again { OnOk result (handle.new.state ≡ at.Free) }
     ensures queue { OnOk result (queue.new ≡ gave (took queue.old)) }
     ensures step { IfOk result (λ notice. (s : LiveState F) (i : ℕ) (files : F)
-        → IsAt F.may s i handle.old queue.old
+        → IsOfRun F.may s i handle.old queue.old
         → IsSessionOf s session
         → (calls : Calls)
         × AreCallsOf given.now handle.old queue.old session request.now answer calls
         × (FileRun F.may s.files calls files
         → ServesAsStep F.may G.may s i given.now handle.old queue.old queue.new request.now calls notice)) }
     ensures places { IfOk result (λ notice. (s : LiveState F) (i : ℕ) (files : F)
-        → IsAt F.may s i handle.old queue.old
-        → IsReachedEven F.may s
+        → IsOfRun F.may s i handle.old queue.old
+        → IsReachedFromNone F.may s
         → IsSessionOf s session
         → (calls : Calls)
         × AreCallsOf given.now handle.old queue.old session request.now answer calls
         × (FileRun F.may s.files calls files
-        → ServesAtPlaces F.may s i given.now handle.old queue.old queue.new request.now calls notice)) }
+        → ServesMapped F.may s i given.now handle.old queue.old queue.new request.now calls notice)) }
     ensures pages { IfOk result (λ notice. (s : LiveState F) (i : ℕ) (files : F)
-        → IsAt F.may s i handle.old queue.old
+        → IsOfRun F.may s i handle.old queue.old
         → IsSessionOf s session
         → (calls : Calls)
         × AreCallsOf given.now handle.old queue.old session request.now answer calls
@@ -65,6 +65,6 @@ pub fn serve_as_step<F: FileSystem, G: FileSystem>(
     if request_len != request.len() {
         return Err(ChainError::BadArgument);
     }
-    reply(handle, session, request, answer)?;
+    decode_and_answer(handle, session, request, answer)?;
     push_reply(handle, queue)
 }

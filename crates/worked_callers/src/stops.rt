@@ -72,7 +72,7 @@ pub fn pop_refused(
 /// one goes on with its load: it is refused with `Stopped`, and its handle is free. These are the run's two
 /// events. Returns the error of the second handle's pop, which stopped the queue, and the outcome of the
 /// first one's.
-pub fn stop_amid<F: FileSystem>(
+pub fn find_stopped_by_another<F: FileSystem>(
     first: &mut ChainHandle,
     second: &mut ChainHandle,
     queue: &mut QueueState,

@@ -32,7 +32,7 @@ pub fn have_u16_numbers(queue: &QueueState)
 }
 
 /// The store that enables notifications is the model's wish for the next chain.
-pub fn store_wish(queue: &QueueState) -> Option<NotificationStore>
+pub fn enable_store(queue: &QueueState) -> Option<NotificationStore>
     ensures { (s : ThreadedQueue) → IsModelOf queue.now s → s.holder ≡ Walker
         → IsStoredWish queue.now s result }
 {
@@ -42,7 +42,7 @@ pub fn store_wish(queue: &QueueState) -> Option<NotificationStore>
 }
 
 /// The store that disables notifications is the model's. With the event index nothing is stored.
-pub fn store_silence(queue: &QueueState) -> Option<NotificationStore>
+pub fn disable_store(queue: &QueueState) -> Option<NotificationStore>
     ensures { (s : ThreadedQueue)
         → IsModelOf queue.now s
         → s.holder ≡ Walker
@@ -69,8 +69,9 @@ pub fn walk_idle(
     }
 }
 
-/// Returns the store of a wish, after a pop by loads that its caller makes behind that store and a barrier.
-/// If no chain is available, the thread sleeps as the model's does. Fails with `WrongOrder` if one is.
+/// Pops a queue by these loads, finds no available chain, and returns the store of the wish for the next one.
+/// If its caller makes the store, then a barrier, then the loads, its thread sleeps as the model's does. Any
+/// other result of the pop is the error `WrongOrder`.
 pub fn sleep_if_idle(
     handle: &mut ChainHandle,
     queue: &mut QueueState,
@@ -101,7 +102,7 @@ pub fn sleep_if_idle(
 {
     law_takers();
     have_u16_numbers(queue);
-    let store = store_wish(queue);
+    let store = enable_store(queue);
     walk_idle(handle, queue, given)?;
     Ok(store)
 }
@@ -157,7 +158,7 @@ pub fn drop_one(
 
 /// The first call of a pop. If it is refused because as many chains are in flight as may be, the model's
 /// thread, which stored its wish, sleeps too.
-pub fn find_full(
+pub fn begin_pop_at_maximum(
     handle: &mut ChainHandle,
     queue: &mut QueueState,
 ) -> Result<LoadOutcome, ChainError>

@@ -15,10 +15,10 @@ ghost use Rattle.fs_live.specs.Handles.{IsSessionOf};
 ghost use Rattle.fs_live.specs.Live.{LiveState};
 ghost use Rattle.fs_live.specs.Serial.{FoundIn, plain, turn_of};
 ghost use Rattle.worked_callers.specs.ChainCalls.{AreCallsOf};
-ghost use Rattle.worked_callers.specs.OwnReplies.{IsAt};
-ghost use Rattle.worked_callers.specs.Turns.{ServesTurn, with_return};
+ghost use Rattle.worked_callers.specs.OwnReplies.{IsOfRun};
+ghost use Rattle.worked_callers.specs.Turns.{ServesTurn, after_return};
 
-use crate::wholes::{push_reply, reply, walk_chain};
+use crate::wholes::{decode_and_answer, push_reply, walk_chain};
 use fs_chain::{ChainError, ChainHandle, QueueState};
 use fs_live::{law_handles, law_serial};
 use fuse_fs::FileSystem;
@@ -48,7 +48,7 @@ pub fn serve_turn<F: FileSystem>(
     ensures again { OnOk result (handle.new.state ≡ at.Free) }
     ensures queue { OnOk result (queue.new ≡ gave (took queue.old)) }
     ensures turn { IfOk result (λ notice. (s : LiveState F) (i : ℕ) (files : F)
-        → IsAt F.may s i handle.old queue.old
+        → IsOfRun F.may s i handle.old queue.old
         → IsSessionOf s session
         → (calls : Calls)
         × AreCallsOf bytes.now.given.now handle.old queue.old session bytes.now.request.now answer calls
@@ -62,7 +62,7 @@ pub fn serve_turn<F: FileSystem>(
     if request_len != bytes.request.len() {
         return Err(ChainError::BadArgument);
     }
-    reply(handle, session, bytes.request, answer)?;
+    decode_and_answer(handle, session, bytes.request, answer)?;
     push_reply(handle, queue)
 }
 
@@ -80,15 +80,15 @@ pub fn serve_two_turns<F: FileSystem>(
     requires first_free { first.old.state ≡ at.Free }
     requires second_free { second.old.state ≡ at.Free }
     requires goes { queue.old.stopped ≡ None }
-    requires none_out { queue.old.next_used ≡ queue.old.next_avail }
+    requires none_in_flight { queue.old.next_used ≡ queue.old.next_avail }
     requires by_flags { queue.old.event_index ≡ false }
     requires first_data { TellsBytes [] answers.0 }
     requires second_data { TellsBytes [] answers.1 }
     ensures again { OnOk result ((first.new.state ≡ at.Free) × (second.new.state ≡ at.Free)) }
     ensures queue { OnOk result (queue.new ≡ gave (took (gave (took queue.old)))) }
     ensures kick { IfOk result (λ notices. (s : LiveState F) (i : ℕ) (files later : F)
-        → IsAt F.may s i first.old queue.old
-        → s.outs ≡ []
+        → IsOfRun F.may s i first.old queue.old
+        → s.chains ≡ []
         → s.places ≡ places_in second.old.regions
         → s.limit ≡ second.old.limit
         → IsSessionOf s sessions.0
@@ -105,9 +105,9 @@ pub fn serve_two_turns<F: FileSystem>(
         later notices.1)
         × ((m : Memory)
         → FoundIn m s t.single
-        → FoundIn (with_return m t.single) t.end u.single
+        → FoundIn (after_return m t.single) t.end u.single
         → KickRun F.may (plain s m) i 2 (turn_of t.single ∷ turn_of u.single ∷ []) None
-        (plain u.end (with_return (with_return m t.single) u.single))))))) }
+        (plain u.end (after_return (after_return m t.single) u.single))))))) }
 {
     law_serial::<F>();
     let (of_first, of_second) = sessions;

@@ -73,7 +73,7 @@ pub fn walk_by(
 /// A pop that finds no available chain is an idle step. A refused pop is a step that stops the queue,
 /// if used_event and avail_event are mapped. With the event index and one of them unmapped, the pop is
 /// refused, even if a chain is available, and the queue is stopped.
-pub fn look<F: FileSystem>(
+pub fn pop_once<F: FileSystem>(
     handle: &mut ChainHandle,
     queue: &mut QueueState,
     given: &[&[u8]],
@@ -142,7 +142,7 @@ pub fn walk_chain(
 }
 
 /// Decodes a chain's whole request, and answers its call, if there is one.
-pub fn reply(
+pub fn decode_and_answer(
     handle: &mut ChainHandle,
     session: Session,
     request: &[u8],
@@ -172,8 +172,8 @@ pub fn reply(
     }
 }
 
-/// Returns a chain whose reply is known. The bytes that it passes as loaded are available flags 0, or
-/// used_event 0.
+/// Pushes a chain whose reply is known. The two bytes that it passes as loaded are 0: available flags, or
+/// used_event.
 pub fn push_reply(handle: &mut ChainHandle, queue: &mut QueueState) -> Result<bool, ChainError>
     ensures back { IfOk result (λ notice. (room behind : List ℕ) → (acts : List Act) × (last : ℕ)
         × (back : PushedBy queue.old room behind handle.old.state acts last notice)

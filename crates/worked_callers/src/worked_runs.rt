@@ -7,27 +7,27 @@ ghost use Rattle.fs_live.specs.InitBeside as init;
 ghost use Rattle.fs_live.specs.Live.{Happens, LiveEvent, LiveRun, LiveState, MovesDevice, room_of};
 ghost use Rattle.fs_live.specs.Overlap.{at_positions, first_answered, first_exchange, first_used, state};
 ghost use Rattle.fs_live.specs.Rewritten as rewritten;
-ghost use Rattle.fs_live.specs.Runs.{EachIsTold, ReturnHasPlaces, has_places};
+ghost use Rattle.fs_live.specs.Runs.{EachIsReported, ReturnIsMapped, are_mapped};
 ghost use Rattle.fs_live.specs.Several.{LiveQueue};
-ghost use Rattle.worked_callers.specs.WorkedRuns.{ReturnsAsAStep, init_events, overlap_events};
+ghost use Rattle.worked_callers.specs.WorkedRuns.{LeadsToAStep, init_events, overlap_events};
 ghost use Rattle.worked_callers.specs.WorkedRuns.{overlap_return, rewritten_events};
 
 use fs_live::{law_examples, law_runs};
 use fuse_fs::FileSystem;
 
-/// DESTROY's chain, after which another one was popped and returned, is a step by its own loads.
-pub fn overlapped<F: FileSystem>()
+/// DESTROY's chain, after which another one was popped and pushed, is a step by its own loads.
+pub fn law_overlap_is_step<F: FileSystem>()
     ensures { (before after : F)
         → F.may before Destroy Done after
-        → ReturnsAsAStep F.may (state before (at_positions 0 0) 1 []) overlap_events
+        → LeadsToAStep F.may (state before (at_positions 0 0) 1 []) overlap_events
         (state after (at_positions 2 2) 0 []) first_answered first_exchange first_used }
 {
     law_examples::<F>();
     law_runs::<F, F>();
 }
 
-/// Its return is mapped, though another chain that was popped later was returned before.
-pub fn placed<F: FileSystem>()
+/// The addresses of a chain's push are mapped, though another chain that was popped later was pushed before.
+pub fn law_overlap_is_mapped<F: FileSystem>()
     ensures { (before after : F)
         → F.may before Destroy Done after
         → (now : LiveState F)
@@ -35,19 +35,19 @@ pub fn placed<F: FileSystem>()
         × Happens F.may now overlap_return (state after (at_positions 2 2) 0 [])
         × (w : LiveQueue)
         × (slice_get now.queues 0 ≡ Some w)
-        × ReturnHasPlaces now.places w
-        × ReturnHasPlaces blank w
-        × (has_places blank (room_of first_answered) ≡ true) }
+        × ReturnIsMapped now.places w
+        × ReturnIsMapped blank w
+        × (are_mapped blank (room_of first_answered) ≡ true) }
 {
     law_examples::<F>();
     law_runs::<F, F>();
 }
 
 /// The chain whose ring's entry was rewritten is a step by its loads.
-pub fn kept<F: FileSystem>()
+pub fn law_rewritten_is_step<F: FileSystem>()
     ensures { (before after : F)
         → F.may before rewritten.told Done after
-        → ReturnsAsAStep F.may (state before (rewritten.at_positions 0 0) 0 []) rewritten_events
+        → LeadsToAStep F.may (state before (rewritten.at_positions 0 0) 0 []) rewritten_events
         (state after (rewritten.stopped_at 1 1) 0 []) rewritten.first_answered rewritten.exchange
         rewritten.used }
 {
@@ -56,20 +56,20 @@ pub fn kept<F: FileSystem>()
 }
 
 /// LOOKUP's chain, which was decoded before INIT was answered, is a step with the options of its decoding.
-pub fn asked_before<F: FileSystem>()
+pub fn law_init_beside_is_step<F: FileSystem>()
     ensures { (before between after : F)
         → F.may before init.starts (Wants 0) between
         → F.may between init.looks (Failed 2) after
-        → ReturnsAsAStep F.may (state before (at_positions 0 0) 0 []) init_events
+        → LeadsToAStep F.may (state before (at_positions 0 0) 0 []) init_events
         (state after (at_positions 2 2) 1 []) init.first_answered init.first_exchange init.first_used }
 {
     law_examples::<F>();
     law_runs::<F, F>();
 }
 
-/// The device moves once both of its chains were returned. Any later run there is one that it could have made
+/// The device moves once both of its chains were pushed. Any later run there is one that it could have made
 /// here.
-pub fn moved<F: FileSystem>()
+pub fn law_overlap_moves<F: FileSystem>()
     ensures { (before after : F)
         → F.may before Destroy Done after
         → (later : List LiveEvent) (end : LiveState F)
@@ -84,12 +84,12 @@ pub fn moved<F: FileSystem>()
 }
 
 /// The pages that the run's events mark are those that they report.
-pub fn marked<F: FileSystem>()
+pub fn law_overlap_marks<F: FileSystem>()
     ensures { (before after : F)
         → F.may before Destroy Done after
         → (run : LiveRun F.may (state before (at_positions 0 0) 1 []) (overlap_events ++ overlap_return ∷ [])
         (state after (at_positions 2 2) 0 []))
-        × EachIsTold F.may (state before (at_positions 0 0) 1 []) (overlap_events ++ overlap_return ∷ [])
+        × EachIsReported F.may (state before (at_positions 0 0) 1 []) (overlap_events ++ overlap_return ∷ [])
         (state after (at_positions 2 2) 0 []) run }
 {
     law_examples::<F>();

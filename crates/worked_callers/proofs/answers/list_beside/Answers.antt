@@ -17,8 +17,8 @@ use Rattle.worked_callers.proofs.ServedBeside.{served_beside}
 use Rattle.worked_callers.proofs.TookQueue.{gave_took}
 use Rattle.worked_callers.proofs.answers.list_beside.Goals as goal
 
-pub ask_call-requires : goal.ask_call-requires
-ask_call-requires g c =
+pub decode_call-requires : goal.decode_call-requires
+decode_call-requires g c =
     let n = c.in_ok-request_len.request_len in
     let test = c.if-request_len-request.false in
     let same : n ≡ length c.args.request.now = grind (arith, nat_tests, test) in
@@ -35,11 +35,11 @@ returns g c =
     let handles = c.law_handles.ensures in
     let old = c.args.handle.now in
     let one = c.walk_chain.new.handle in
-    let two = c.ask_call.new.handle in
+    let two = c.decode_call.new.handle in
     let three = c.list_two.new.handle in
     let walks = c.in_ok-request_len.ensures.given in
     let request = c.args.request.now in
-    let call = c.in_ok-ask_call.ensures.asked in
+    let call = c.in_ok-decode_call.ensures.asked in
     let told = c.in_ok-_len.ensures in
     let es : List Brought = both_entries c.args.entries.now.first c.args.entries.now.second c.args.nodes in
     let bytes = take c.in_ok-_len._len c.list_two.new.list in
@@ -71,7 +71,7 @@ returns g c =
                         c.in_ok-request_len.request_len c.in_ok-request_len.field-0-2 walks request
                         (file_calls (drop 80 request) (asks.Call call.0) answer) bytes files notice so,
                     so.calls_are,
-                    so.outs,
+                    so.chains,
                     so.there ∙ ap (λ (q : QueueState). Some (live_of q)) (sym final_is),
                   ),
             ),

@@ -19,8 +19,8 @@ use Rattle.worked_callers.proofs.ServedBeside.{served_beside}
 use Rattle.worked_callers.proofs.TookQueue.{gave_took}
 use Rattle.worked_callers.proofs.answers.read_beside.Goals as goal
 
-pub ask_call-requires : goal.ask_call-requires
-ask_call-requires g c =
+pub decode_call-requires : goal.decode_call-requires
+decode_call-requires g c =
     let n = c.in_ok-request_len.request_len in
     let test = c.if-request_len-request.false in
     let same : n ≡ length c.args.request.now = grind (arith, nat_tests, test) in
@@ -37,17 +37,17 @@ returns g c =
     let handles = c.law_handles.ensures in
     let old = c.args.handle.now in
     let one = c.walk_chain.new.handle in
-    let two = c.ask_call.new.handle in
-    let three = c.give_data.new.handle in
+    let two = c.decode_call.new.handle in
+    let three = c.answer_data.new.handle in
     let walks = c.in_ok-request_len.ensures.given in
     let request = c.args.request.now in
     let bytes = c.args.bytes.now in
-    let call = c.in_ok-ask_call.ensures.asked in
-    let told = c.in_ok-give_data.ensures.given in
+    let call = c.in_ok-decode_call.ensures.asked in
+    let told = c.in_ok-answer_data.ensures.given in
     let answer : ChainAnswer = with_data bytes told.0 in
     let more : Calls = map (λ (call : FileCall). (call, Done)) (forget_calls told.0.forget) in
     let suit = answered_suits one two three c.args.session request bytes call.0 (value.Bytes (length bytes)) told.0 call.1 told.1
-    c.in_ok-give_data.ensures.taken in
+    c.in_ok-answer_data.ensures.taken in
     let are_calls = calls_by c.args.given.now old one two three c.args.queue.now c.walk_chain.new.queue c.in_ok-request_len.field-0-0
     c.in_ok-request_len.request_len c.in_ok-request_len.field-0-2 c.args.session request (asks.Call call.0) answer
     c.in_ok-request_len.ensures.given call.1 told.1 suit in
@@ -74,7 +74,7 @@ returns g c =
                         c.in_ok-request_len.request_len c.in_ok-request_len.field-0-2 walks request
                         (file_calls (drop 80 request) (asks.Call call.0) answer) bytes files notice so,
                     so.calls_are,
-                    so.outs,
+                    so.chains,
                     so.there ∙ ap (λ (q : QueueState). Some (live_of q)) (sym final_is),
                   ),
             ),

@@ -39,12 +39,12 @@ returns g c =
       run = if_ok_so c.push_reply.result _ _ _
           (λ notice back final_is s i files reached there places limit small session. (
             calls,
-            calls_of_answer c.args.given.now old one replied.1 c.reply.new.handle before after c.in_ok-request_len.field-0-0
+            calls_of_answer c.args.given.now old one replied.1 c.decode_and_answer.new.handle before after c.in_ok-request_len.field-0-0
                 c.in_ok-request_len.request_len c.in_ok-request_len.field-0-2 c.args.session request c.args.answer replied.0 replied.2
                 walks replied.3 replied.4 replied.6 replied.7,
             λ files_run.
                 let so = served_beside may handles.ends_pop handles.decodes_request handles.calls handles.pushes_chain old one one replied.1
-                c.reply.new.handle before after
+                c.decode_and_answer.new.handle before after
                 c.in_ok-request_len.field-0-0 c.in_ok-request_len.request_len c.in_ok-request_len.field-0-2 c.args.session request replied.0
                 replied.2 [] notice c.requires.goes (given_so_far walks.0 c.args.given.now, walks.1) refl
                 replied.3 replied.4 replied.5 back s i files reached there places limit small session files_run in (
@@ -54,7 +54,7 @@ returns g c =
                   served_named may s i c.args.given.now old one before after c.in_ok-request_len.field-0-0 c.in_ok-request_len.request_len
                       c.in_ok-request_len.field-0-2 walks request calls [] files notice so,
                   so.calls_are,
-                  so.outs,
+                  so.chains,
                   so.there ∙ ap (λ (q : QueueState). Some (live_of q)) (sym final_is),
                   runs.calls s so.end so.es so.run,
                   runs.stores s so.end so.es so.run,

@@ -19,8 +19,8 @@ use Rattle.worked_callers.proofs.ServedCrossed.{served_crossed}
 use Rattle.worked_callers.proofs.TakenTwo.{goes_still}
 use Rattle.worked_callers.proofs.crossed.serve_crossed.Goals as goal
 
-pub ask_call-requires : goal.ask_call-requires
-ask_call-requires g c =
+pub decode_call-requires : goal.decode_call-requires
+decode_call-requires g c =
     let n = c.in_ok-first_len.first_len in
     let test = c.if-first_len-one.false in
     let same : n ≡ length c.args.one.now.request.now = grind (arith, nat_tests, test) in
@@ -31,8 +31,8 @@ ask_call-requires g c =
           c.requires.goes c.in_ok-first_len.ensures.walked);
     }
 
-pub ask_call-requires-2 : goal.ask_call-requires-2
-ask_call-requires-2 g c =
+pub decode_call-requires-2 : goal.decode_call-requires-2
+decode_call-requires-2 g c =
     let n = c.in_ok-second_len.second_len in
     let test = c.if-second_len-two.false in
     let same : n ≡ length c.args.two.now.request.now = grind (arith, nat_tests, test) in
@@ -54,10 +54,10 @@ returns g c =
     let old' = c.args.second.now in
     let popped = c.walk_chain.new.handle in
     let popped' = c.walk_chain-2.new.handle in
-    let asked = c.ask_call.new.handle in
-    let asked' = c.ask_call-2.new.handle in
-    let replied = c.give_data-2.new.handle in
-    let replied' = c.give_data.new.handle in
+    let asked = c.decode_call.new.handle in
+    let asked' = c.decode_call-2.new.handle in
+    let replied = c.answer_data-2.new.handle in
+    let replied' = c.answer_data.new.handle in
     let before = c.args.queue.now in
     let mid = c.walk_chain.new.queue in
     let after = c.walk_chain-2.new.queue in
@@ -67,18 +67,18 @@ returns g c =
     let request' = c.args.two.now.request.now in
     let bytes = c.args.one.now.bytes.now in
     let bytes' = c.args.two.now.bytes.now in
-    let call = c.in_ok-ask_call.ensures.asked in
-    let call' = c.in_ok-ask_call-2.ensures.asked in
-    let told = c.in_ok-give_data-2.ensures.given in
-    let told' = c.in_ok-give_data.ensures.given in
+    let call = c.in_ok-decode_call.ensures.asked in
+    let call' = c.in_ok-decode_call-2.ensures.asked in
+    let told = c.in_ok-answer_data-2.ensures.given in
+    let told' = c.in_ok-answer_data.ensures.given in
     let answer : ChainAnswer = with_data bytes told.0 in
     let answer' : ChainAnswer = with_data bytes' told'.0 in
     let more : Calls = map (λ (call : FileCall). (call, Done)) (forget_calls told.0.forget) in
     let more' : Calls = map (λ (call : FileCall). (call, Done)) (forget_calls told'.0.forget) in
     let suit = answered_suits popped asked replied session request bytes call.0 (value.Bytes (length bytes)) told.0 call.1 told.1
-    c.in_ok-give_data-2.ensures.taken in
+    c.in_ok-answer_data-2.ensures.taken in
     let suit' = answered_suits popped' asked' replied' session' request' bytes' call'.0 (value.Bytes (length bytes')) told'.0 call'.1
-    told'.1 c.in_ok-give_data.ensures.taken in
+    told'.1 c.in_ok-answer_data.ensures.taken in
     let of_one = calls_by c.args.one.now.given.now old popped asked replied before mid c.in_ok-first_len.field-0-0
     c.in_ok-first_len.first_len c.in_ok-first_len.field-0-2 session request (asks.Call call.0) answer c.in_ok-first_len.ensures.given
     call.1 told.1 suit in

@@ -43,7 +43,7 @@ returns g c =
       run = if_ok_so c.push_reply.result _ _ _
           (λ notice back final_is s i files reached there places limit small session. (
             file_calls (drop 80 request) replied.0 replied.2,
-            calls_of_answer c.args.given.now old one replied.1 c.reply.new.handle before after c.in_ok-request_len.field-0-0
+            calls_of_answer c.args.given.now old one replied.1 c.decode_and_answer.new.handle before after c.in_ok-request_len.field-0-0
                 c.in_ok-request_len.request_len c.in_ok-request_len.field-0-2 c.args.session request c.args.answer replied.0 replied.2
                 c.in_ok-request_len.ensures.given
                 (subst (λ (w : ChainHandle). IsDecodedBy w c.args.session request request replied.0 replied.1) c.in_ok-table.ensures.taken
@@ -52,7 +52,7 @@ returns g c =
             λ files_run.
                 let so = served_beside may handles.ends_pop handles.decodes_request handles.calls handles.pushes_chain old one
                 c.take_table.new.handle
-                replied.1 c.reply.new.handle before after
+                replied.1 c.decode_and_answer.new.handle before after
                 c.in_ok-request_len.field-0-0 c.in_ok-request_len.request_len c.in_ok-request_len.field-0-2 c.args.session request replied.0
                 replied.2 [] notice c.requires.goes (given_so_far walks.0 c.args.given.now, walks.1)
                 (ap (λ (w : ChainHandle). w.state) c.in_ok-table.ensures.taken)
@@ -67,14 +67,15 @@ returns g c =
                   served_named may s i c.args.given.now old one before after c.in_ok-request_len.field-0-0 c.in_ok-request_len.request_len
                       c.in_ok-request_len.field-0-2 walks request (file_calls (drop 80 request) replied.0 replied.2) [] files notice so,
                   so.calls_are,
-                  so.outs,
+                  so.chains,
                   so.there ∙ ap (λ (q : QueueState). Some (live_of q)) (sym final_is),
                 ),
           ))
           c.push_reply.ensures.back c.push_reply.ensures.queue;
       memory = on_ok_more c.push_reply.result _ _
           (λ free.
-          memory_lent old one c.take_table.new.handle c.reply.new.handle c.lend_table.new.handle c.push_reply.new.handle c.in_ok-table.table
+          memory_lent old one c.take_table.new.handle c.decode_and_answer.new.handle c.lend_table.new.handle c.push_reply.new.handle
+          c.in_ok-table.table
           (chain_keeps old one before after c.in_ok-request_len.field-0-0 c.in_ok-request_len.request_len c.in_ok-request_len.field-0-2
           c.requires.goes c.in_ok-request_len.ensures.walked)
           c.in_ok-table.ensures.table c.in_ok-table.ensures.taken c.in_ok-reply.ensures.kept c.in_ok-lend_table.ensures.lent free)

@@ -7,8 +7,8 @@ pub returns : goal.returns
 returns c =
     let first = c.in_ok-bring.ensures in
     let second = c.in_ok-bring-2.ensures in
-    let gathered = c.bring-2.new.handle in
-    let list = c.bring-2.new.list in
+    let gathered = c.add_entry-2.new.handle in
+    let list = c.add_entry-2.new.list in
     record {
       lists = if_ok c.end.result _ _
           (λ n ended. record {
@@ -16,7 +16,7 @@ returns c =
             first = c.args.list.now;
             list = list;
             gathered = gathered;
-            gathers = (c.bring.new.handle, c.bring.new.list, first.brought, (gathered, list, second.brought, (refl, refl)));
+            gathers = (c.add_entry.new.handle, c.add_entry.new.list, first.brought, (gathered, list, second.brought, (refl, refl)));
             len = n;
             ends = ended;
             told = refl;

@@ -43,17 +43,17 @@ returns g c =
       step = if_ok_so c.push_reply.result _ _ _
           (λ notice back final_is s i files here none session. (
             calls,
-            calls_of_answer c.args.given.now old one replied.1 c.reply.new.handle before after c.in_ok-request_len.field-0-0
+            calls_of_answer c.args.given.now old one replied.1 c.decode_and_answer.new.handle before after c.in_ok-request_len.field-0-0
                 c.in_ok-request_len.request_len c.in_ok-request_len.field-0-2 c.args.session request c.args.answer replied.0 replied.2
                 c.in_ok-request_len.ensures.given replied.3 replied.4 replied.6 replied.7,
             λ files_run.
                 let so = served_beside may handles.ends_pop handles.decodes_request handles.calls handles.pushes_chain old one one replied.1
-                c.reply.new.handle before after
+                c.decode_and_answer.new.handle before after
                 c.in_ok-request_len.field-0-0 c.in_ok-request_len.request_len c.in_ok-request_len.field-0-2 c.args.session request replied.0
                 replied.2 [] notice c.requires.goes (given_so_far walks.0 c.args.given.now, walks.1) refl
                 replied.3 replied.4 replied.5 back s i files here.reached here.there here.places here.limit here.small session files_run in
                 let r = so.single in
-                let rest : IsAtRest (live_of before) = (c.requires.by_flags, c.requires.none_out) in (
+                let rest : IsAtRest (live_of before) = (c.requires.by_flags, c.requires.none_in_flight) in (
                   r,
                   so.end,
                   so.single_run,

@@ -5,8 +5,8 @@ use Rattle.fs_regions.specs.declared.step.CourseStep.TheVariants as step
 use Rattle.fs_chain.specs.Queues.{took}
 use Rattle.fs_chain.specs.declared.popping.PopOutcome.TheVariants as says
 use Rattle.fs_live.specs.Handles.{live_of}
-use Rattle.fs_live.specs.Live.{Happens, LiveEvent, LiveRun, OutChain, EndsPop, after_pop, new_chain}
-use Rattle.fs_live.specs.Runs.{events_on, tickets_on}
+use Rattle.fs_live.specs.Live.{Happens, LiveEvent, LiveRun, InFlightChain, EndsPop, after_pop, new_chain}
+use Rattle.fs_live.specs.Runs.{events_on, in_flight_on}
 use Rattle.fs_live.specs.Several.{InFlightId, heads_taken}
 use Rattle.worked_callers.specs.Notified.{given_so_far}
 use Rattle.worked_callers.proofs.NamedEvents.{popped_by, told_so}
@@ -56,7 +56,7 @@ returns g c =
               subst (λ (k : comes.CourseStep). Happens may s (EndsPop i one.0 ds k) s₁) one_took.0 one.4,
               (s₂, subst (λ (k : comes.CourseStep). Happens may s₁ (EndsPop i two.0 more k) s₂) took'.0 two.4, refl),
             ) in
-            let once = c.law_runs.ensures.once s s₂ es i (live_of before) there (ap (λ (l : List OutChain). tickets_on i l) none)
+            let once = c.law_runs.ensures.once s s₂ es i (live_of before) there (ap (λ (l : List InFlightChain). in_flight_on i l) none)
             (tt, (tt, tt)) run in
             let heads = two_takes i head other one.0 two.0 ds more in (
               new_chain s i (live_of before) one.0 ds head None,
@@ -74,8 +74,8 @@ returns g c =
               refl,
               run,
               two.5,
-              subst (λ (taken : List ℕ). IsPermutation (map (λ (t : InFlightId). t.1) (tickets_on i s₂.outs)) taken) heads.0
-                  (subst (λ (back : List ℕ). IsPermutation (back ++ map (λ (t : InFlightId). t.1) (tickets_on i s₂.outs))
+              subst (λ (taken : List ℕ). IsPermutation (map (λ (t : InFlightId). t.1) (in_flight_on i s₂.chains)) taken) heads.0
+                  (subst (λ (back : List ℕ). IsPermutation (back ++ map (λ (t : InFlightId). t.1) (in_flight_on i s₂.chains))
                   (heads_taken (events_on i es))) heads.1 once),
             ),
       );

@@ -8,9 +8,9 @@ use Rattle.fs_regions.specs.Places.{places_in}
 use Rattle.fs_live.specs.Handles.{live_of}
 use Rattle.fs_live.specs.Live.{HasNoneInFlight, LiveEvent, MovesDevice}
 use Rattle.fs_live.specs.Others.{recorded}
-use Rattle.fs_live.specs.Runs.{untold}
+use Rattle.fs_live.specs.Runs.{unrecorded}
 use Rattle.fs_live.specs.Several.{LiveQueue}
-use Rattle.worked_callers.proofs.MovedAmid.{reached_run}
+use Rattle.worked_callers.proofs.MovedBetweenChains.{reached_run}
 use Rattle.worked_callers.proofs.ServedBeside.{reached_by}
 use Rattle.worked_callers.proofs.ServedCrossed.{run_both}
 use Rattle.worked_callers.proofs.moved_on.move_and_go_on.Goals as goal
@@ -22,7 +22,7 @@ returns g c =
     let found = c.in_ok-restored.ensures.read in
     let last = c.in_ok-notice.ensures.run in
     let left = c.reply_beside.new.queue in
-    let begun = c.begin_by_record.new.queue in
+    let begun = c.reset_by_record.new.queue in
     let final = c.reply_beside-2.new.queue in
     let m = places_in c.args.there.now.regions in
     let q = c.in-Some.read.now in
@@ -44,7 +44,7 @@ returns g c =
         saved.2,
         found.2,
         taken_is,
-        c.begin_by_record.ensures.begins,
+        c.reset_by_record.ensures.begins,
         c.in_ok-notice.ensures.queue,
         λ s reached none queues options places limit limit' small same.
             let one = c.in_ok-told.ensures.run s 0 reached (ap (λ (l : List LiveQueue). slice_get l 0) queues) places
@@ -56,7 +56,7 @@ returns g c =
             subst (λ (o : ℕ). IsRecord saved.0 version o (recorded left ∷ [])) (sym (one.6 ∙ options)) saved.2 in
             let read : IsRecord saved.0 found.1 read_options (q ∷ []) =
             subst (λ (bytes : List ℕ). IsRecord bytes found.1 read_options (q ∷ [])) same taken_is in
-            let moved = c.begin_by_record.ensures.moves s₁ left m saved.0 version found.1 read_options (one.4 ∙ none) queues₁
+            let moved = c.reset_by_record.ensures.moves s₁ left m saved.0 version found.1 read_options (one.4 ∙ none) queues₁
             made read in
             let s₂ = moved.1 in
             let event : LiveEvent = MovesDevice m (live_of begun ∷ []) in
@@ -66,10 +66,10 @@ returns g c =
             (subst (λ (n : ℕ). n ≤ 2 ^ 31) (sym limit₂) small) in
             let even : AllByRecursion HasNoneInFlight s.queues =
             subst (λ (l : List LiveQueue). AllByRecursion HasNoneInFlight l) (sym queues)
-            ((c.requires.none_out, c.have_u16_numbers.ensures.0), tt) in
-            let agree : untold (live_of begun) ≡ untold (live_of left) = c.agree_besides_record.ensures Prim.search in
-            let parts : map untold (live_of begun ∷ []) ≡ map untold s₁.queues =
-            ap (λ (p : ℕ × Bool). p ∷ []) agree ∙ ap (λ (l : List LiveQueue). map untold l) (sym queues₁) in
+            ((c.requires.none_in_flight, c.have_u16_numbers.ensures.0), tt) in
+            let agree : unrecorded (live_of begun) ≡ unrecorded (live_of left) = c.agree_besides_record.ensures Prim.search in
+            let parts : map unrecorded (live_of begun ∷ []) ≡ map unrecorded s₁.queues =
+            ap (λ (p : ℕ × Bool). p ∷ []) agree ∙ ap (λ (l : List LiveQueue). map unrecorded l) (sym queues₁) in
             let on = c.law_runs.ensures.moves s s₁ s₂ one.0 m (live_of begun ∷ []) none even one.2 moved.2 parts in (
               one.0,
               two.0,

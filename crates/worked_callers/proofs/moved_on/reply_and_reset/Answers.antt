@@ -4,8 +4,8 @@ use Rattle.std.proofs.lemmas.Bool.Decides.{nat_tests}
 use Rattle.fs_chain.specs.Queues.{reset_to}
 use Rattle.fs_chain.specs.declared.queue.QueueState.{QueueState}
 use Rattle.fs_live.specs.Handles.{live_of}
-use Rattle.fs_live.specs.Live.{NonePending, OutChain, ResetsQueueSo}
-use Rattle.fs_live.specs.Runs.{tickets_on}
+use Rattle.fs_live.specs.Live.{NonePending, InFlightChain, ResetsQueueSo}
+use Rattle.fs_live.specs.Runs.{in_flight_on}
 use Rattle.fs_live.specs.Several.{LiveQueue}
 use Rattle.fs_live.proofs.Queues.{there_same}
 use Rattle.worked_callers.proofs.moved_on.reply_and_reset.Goals as goal
@@ -15,22 +15,23 @@ returns g c =
     let may = g.F.FileSystemBase.may in
     let before = c.args.queue.now in
     let mid = c.reply_beside.new.queue in
-    let after = c.begin_again.new.queue in
+    let after = c.reset_to_own_position.new.queue in
     record {
       again = c.in_ok-notice.ensures.again;
-      queue = c.begin_again.ensures.begins ∙ ap (λ (q : QueueState). reset_to q q.layout q.next_avail) c.in_ok-notice.ensures.queue;
+      queue = c.reset_to_own_position.ensures.begins
+          ∙ ap (λ (q : QueueState). reset_to q q.layout q.next_avail) c.in_ok-notice.ensures.queue;
       positions = λ s i here none even.
           let one = c.in_ok-notice.ensures.run s i here.reached here.there here.places here.limit here.small in
           let end = one.1 in
           let there : slice_get end.queues i ≡ Some (live_of mid) =
           ap (λ (l : List LiveQueue). slice_get l i) one.5
           ∙ there_same s.queues i i (λ _. live_of mid) (live_of before) refl here.there in
-          let out : end.outs ≡ [] = one.4 ∙ none in
+          let out : end.chains ≡ [] = one.4 ∙ none in
           let some : 1 ≤ mid.max_in_flight = grind (arith, nat_tests) in
           let few : mid.max_in_flight ≤ mid.layout.size = grind (arith, nat_tests) in
-          let waits = subst (λ (cs : List OutChain). AllByRecursion (λ c. NonePending end.page_size i c c.phase) cs) (sym out) tt in
-          let resets = c.begin_again.ensures.goes_on s end one.0 i none even one.2 there
-          (ap (λ (cs : List OutChain). tickets_on i cs) out) some few waits in
+          let waits = subst (λ (cs : List InFlightChain). AllByRecursion (λ c. NonePending end.page_size i c c.phase) cs) (sym out) tt in
+          let resets = c.reset_to_own_position.ensures.goes_on s end one.0 i none even one.2 there
+          (ap (λ (cs : List InFlightChain). in_flight_on i cs) out) some few waits in
           let so : ResetsQueueSo end i (live_of after) end = resets in (
             one.0,
             end,

@@ -33,7 +33,7 @@ returns g c =
           (ended_alone may handles.ends_pop handles.replies_own_bytes handles.pushes_own given old one c.reply.new.self before
           after head n r _ request
           bytes notice c.requires.goes c.in_ok-request_len.ensures.given taken c.in_ok-reply.ensures.ok c.in_ok-reply.ensures.kept back
-          c.law_runs.ensures.queue queues.once queues.used queues.one c.requires.none_out s i here none))
+          c.law_runs.ensures.queue queues.once queues.used queues.one c.requires.none_in_flight s i here none))
           c.push_own.ensures.back c.push_own.ensures.queue;
       again = c.push_own.ensures.again;
       queue = gave_took c.push_own.result _ _ _ c.in_ok-request_len.ensures.queue c.push_own.ensures.queue;

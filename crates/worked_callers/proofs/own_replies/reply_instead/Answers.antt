@@ -2,15 +2,15 @@ use Rattle.std.proofs.Common.{◌≡◌, [], length, subst, sym, ◌∙◌, arit
 use Rattle.std.proofs.lemmas.Bool.Decides.{nat_tests}
 use Rattle.fs_chain.specs.Queues.{gave}
 use Rattle.fs_chain.specs.declared.queue.QueueState.{QueueState}
-use Rattle.worked_callers.specs.Events.{IsRepliedInstead}
+use Rattle.worked_callers.specs.Events.{IsOwnReplyOnceDecoded}
 use Rattle.worked_callers.specs.OwnReplies.{ReturnsAsStep}
 use Rattle.worked_callers.proofs.OwnRuns.{as_step, replied_asked}
 use Rattle.worked_callers.proofs.Served.{if_ok_so, more_taken, taken_so}
 use Rattle.worked_callers.proofs.TookQueue.{gave_took}
 use Rattle.worked_callers.proofs.own_replies.reply_instead.Goals as goal
 
-pub ask_call-requires : goal.ask_call-requires
-ask_call-requires g c =
+pub decode_call-requires : goal.decode_call-requires
+decode_call-requires g c =
     let n = c.in_ok-request_len.request_len in
     let test = c.if-request_len-request.false in
     let same : n ≡ length c.args.request.now = grind (arith, nat_tests, test) in
@@ -27,14 +27,14 @@ returns g c =
     let handles = c.law_handles.ensures in
     let old = c.args.handle.now in
     let one = c.walk_chain.new.handle in
-    let two = c.ask_call.new.handle in
+    let two = c.decode_call.new.handle in
     let three = two in
     let four = c.reply.new.self in
     let before = c.args.queue.now in
     let after = c.walk_chain.new.queue in
     let final = c.push_own.new.queue in
     let given = c.args.given.now in
-    let asked = c.in_ok-ask_call.ensures.asked in
+    let asked = c.in_ok-decode_call.ensures.asked in
     let request = c.args.request.now in
     let bytes = c.args.bytes.now in
     record {
@@ -48,9 +48,9 @@ returns g c =
           c.in_ok-reply.ensures.kept back s i here session in
           subst
           (λ (q : QueueState). ReturnsAsStep g.row.G.Denot may s i before q request bytes [] notice
-          (IsRepliedInstead s i given old before request bytes [] notice)) (sym final_is)
+          (IsOwnReplyOnceDecoded s i given old before request bytes [] notice)) (sym final_is)
           (as_step may s i before (gave after) request bytes [] notice so.0
-          g.row.G.Denot (IsRepliedInstead s i given old before request bytes [] notice) so.1 c.law_runs.ensures.own here.reached))
+          g.row.G.Denot (IsOwnReplyOnceDecoded s i given old before request bytes [] notice) so.1 c.law_runs.ensures.own here.reached))
           c.push_own.ensures.back c.push_own.ensures.queue;
       again = c.push_own.ensures.again;
       queue = gave_took c.push_own.result _ _ _ c.in_ok-request_len.ensures.queue c.push_own.ensures.queue;

@@ -5,7 +5,7 @@ use Rattle.fs_chain.specs.Queues.{gave}
 use Rattle.fs_chain.specs.Whole.{file_calls}
 use Rattle.fs_chain.specs.declared.queue.QueueState.{QueueState}
 use Rattle.worked_callers.specs.Notified.{given_so_far}
-use Rattle.worked_callers.specs.ServedSteps.{ServesAsStep, ServesAtPlaces, ServesMarking}
+use Rattle.worked_callers.specs.ServedSteps.{ServesAsStep, ServesMapped, ServesMarking}
 use Rattle.worked_callers.proofs.CalledBy.{calls_of_answer}
 use Rattle.worked_callers.proofs.Served.{if_ok_so, more_taken, taken_so}
 use Rattle.worked_callers.proofs.ServedBeside.{served_beside}
@@ -40,7 +40,8 @@ returns g c =
     let replied = c.in_ok-reply.ensures.replied in
     let request = c.args.request.now in
     let calls = file_calls (drop 80 request) replied.0 replied.2 in
-    let called = calls_of_answer given old one replied.1 c.reply.new.handle before after head n r c.args.session request c.args.answer
+    let called = calls_of_answer given old one replied.1 c.decode_and_answer.new.handle before after head n r c.args.session request
+    c.args.answer
     replied.0 replied.2 walks replied.3 replied.4 replied.6 replied.7 in
     record {
       again = c.push_reply.ensures.again;
@@ -51,7 +52,8 @@ returns g c =
             called,
             λ files_run.
                 let so = served_beside may handles.ends_pop handles.decodes_request handles.calls handles.pushes_chain old one one
-                replied.1 c.reply.new.handle before after head n r c.args.session request replied.0 replied.2 [] notice c.requires.goes
+                replied.1 c.decode_and_answer.new.handle before after head n r c.args.session request replied.0 replied.2 [] notice
+                c.requires.goes
                 (given_so_far walks.0 given, walks.1) refl replied.3 replied.4 replied.5 back s i files
                 here.reached here.there here.places here.limit
                 here.small session files_run in
@@ -70,11 +72,12 @@ returns g c =
             called,
             λ files_run.
                 let so = served_beside may handles.ends_pop handles.decodes_request handles.calls handles.pushes_chain old one one
-                replied.1 c.reply.new.handle before after head n r c.args.session request replied.0 replied.2 [] notice c.requires.goes
+                replied.1 c.decode_and_answer.new.handle before after head n r c.args.session request replied.0 replied.2 [] notice
+                c.requires.goes
                 (given_so_far walks.0 given, walks.1) refl replied.3 replied.4 replied.5 back s i files
                 here.reached here.there here.places here.limit
                 here.small session files_run in
-                subst (λ (q : QueueState). ServesAtPlaces may s i given old before q request calls notice) (sym final_is)
+                subst (λ (q : QueueState). ServesMapped may s i given old before q request calls notice) (sym final_is)
                 (serves_at_places may s i given old before (gave after) request calls notice
                 (returned_served may s i given old one before after head n r walks request calls files notice so)
                 (returned_named may s i given old one before after head n r walks request calls files notice so) runs.places even),
@@ -86,7 +89,8 @@ returns g c =
             called,
             λ files_run.
                 let so = served_beside may handles.ends_pop handles.decodes_request handles.calls handles.pushes_chain old one one
-                replied.1 c.reply.new.handle before after head n r c.args.session request replied.0 replied.2 [] notice c.requires.goes
+                replied.1 c.decode_and_answer.new.handle before after head n r c.args.session request replied.0 replied.2 [] notice
+                c.requires.goes
                 (given_so_far walks.0 given, walks.1) refl replied.3 replied.4 replied.5 back s i files
                 here.reached here.there here.places here.limit
                 here.small session files_run in

@@ -1,5 +1,5 @@
 use Rattle.worked_callers.proofs.Served.{on_ok_more}
-use Rattle.worked_callers.proofs.StoppedAmid.{idle_so}
+use Rattle.worked_callers.proofs.StoppedByAnother.{idle_so}
 use Rattle.worked_callers.proofs.stops.idle_beside.Goals as goal
 
 pub returns : goal.returns

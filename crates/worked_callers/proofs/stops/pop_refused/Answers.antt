@@ -7,7 +7,7 @@ use Rattle.fs_chain.specs.declared.popping.PopOutcome as walked
 use Rattle.fs_chain.specs.declared.popping.PopOutcome.TheVariants as says
 use Rattle.worked_callers.specs.Notified.{IsWalkedBy, given_so_far}
 use Rattle.worked_callers.specs.Refusals.{FailsToEnd}
-use Rattle.worked_callers.proofs.StoppedAmid.{refused_stops, stopped_refuses}
+use Rattle.worked_callers.proofs.StoppedByAnother.{refused_stops, stopped_refuses}
 use Rattle.worked_callers.proofs.stops.pop_refused.Goals as goal
 
 pub returns-in-Refused-clause-stops : goal.returns-in-Refused-clause-stops

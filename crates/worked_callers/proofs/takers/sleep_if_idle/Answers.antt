@@ -7,7 +7,7 @@ returns c =
     let by = c.in_ok-walk_idle.ensures.walked in
     let counted = c.have_u16_numbers.ensures in
     record {
-      wish = c.store_wish-store.ensures;
+      wish = c.enable_store-store.ensures;
       sleeps = (
         by.0,
         sleeps_so c.law_takers.ensures.rearms c.law_takers.ensures.none _ c.args.handle.now c.walk_idle.new.handle q

@@ -45,11 +45,13 @@ returns g c =
       turn = if_ok_so c.push_reply.result _ _ _
           (λ notice back final_is s i files here session. (
             calls,
-            calls_of_answer given old one replied.1 c.reply.new.handle before after head n r c.args.session request c.args.answer
+            calls_of_answer given old one replied.1 c.decode_and_answer.new.handle before after head n r c.args.session request
+                c.args.answer
                 replied.0 replied.2 walks replied.3 replied.4 replied.6 replied.7,
             λ files_run.
                 let so = served_beside may handles.ends_pop handles.decodes_request handles.calls handles.pushes_chain old one one
-                replied.1 c.reply.new.handle before after head n r c.args.session request replied.0 replied.2 [] notice c.requires.goes
+                replied.1 c.decode_and_answer.new.handle before after head n r c.args.session request replied.0 replied.2 [] notice
+                c.requires.goes
                 (given_so_far walks.0 given, walks.1) refl replied.3 replied.4 replied.5 back s i files
                 here.reached here.there here.places here.limit
                 here.small session files_run in

@@ -3,9 +3,9 @@ use Rattle.fs_chain.specs.Queues.{gave, took}
 use Rattle.fs_chain.specs.declared.queue.QueueState.{QueueState}
 use Rattle.fs_live.specs.Handles.{live_of}
 use Rattle.fs_live.specs.Serial.{IsAtRest, events_in}
-use Rattle.worked_callers.specs.OwnReplies.{IsAt}
-use Rattle.worked_callers.specs.Turns.{with_return}
-use Rattle.worked_callers.proofs.MovedAmid.{reached_run}
+use Rattle.worked_callers.specs.OwnReplies.{IsOfRun}
+use Rattle.worked_callers.specs.Turns.{after_return}
+use Rattle.worked_callers.proofs.MovedBetweenChains.{reached_run}
 use Rattle.worked_callers.proofs.turns.serve_two_turns.Goals as goal
 
 pub returns : goal.returns
@@ -13,7 +13,7 @@ returns g c =
     let may = g.F.FileSystemBase.may in
     let before = c.args.queue.now in
     let left = c.serve_turn.new.queue in
-    let rest : IsAtRest (live_of before) = (c.requires.by_flags, c.requires.none_out) in
+    let rest : IsAtRest (live_of before) = (c.requires.by_flags, c.requires.none_in_flight) in
     record {
       again = (c.in_ok-early.ensures.again, c.in_ok-late.ensures.again);
       queue = c.in_ok-late.ensures.queue ∙ ap (λ (q : QueueState). gave (took q)) c.in_ok-early.ensures.queue;
@@ -24,7 +24,7 @@ returns g c =
             one.1,
             λ files_run.
                 let t = one.2 files_run in
-                let there : IsAt may t.end i c.args.second.now left = record {
+                let there : IsOfRun may t.end i c.args.second.now left = record {
                   reached = reached_run may s t.end (events_in t.single) here.reached t.run;
                   there = t.there;
                   places = t.places_are ∙ places;
@@ -41,7 +41,7 @@ returns g c =
                               u,
                               λ m found found'.
                                   c.law_serial.ensures.kick s u.end (t.single ∷ u.single ∷ []) m
-                                  (with_return (with_return m t.single) u.single) i (live_of before) none here.there rest (
+                                  (after_return (after_return m t.single) u.single) i (live_of before) none here.there rest (
                                     t.end,
                                     t.queue_is,
                                     t.of_chain,

@@ -1,0 +1,84 @@
+use Rattle.std.proofs.Common.{◌≡◌, ◌≤◌, ◌^◌, ℕ, List, [], ◌∷◌, ◌++◌, slice_get, refl, subst, sym, ap, ◌∙◌}
+use Rattle.vm_memory_core.specs.Host.{changed_at}
+use Rattle.fs_queue.specs.Queue.{Queue}
+use Rattle.fs_record.specs.Record.{IsRecord, Second}
+use Rattle.fs_regions.specs.Places.{places_in}
+use Rattle.fs_live.specs.Handles.{live_of}
+use Rattle.fs_live.specs.Live.{LiveEvent, MovesDevice}
+use Rattle.fs_live.specs.Others.{recorded}
+use Rattle.fs_live.specs.Several.{LiveQueue}
+use Rattle.worked_callers.proofs.MovedBetweenChains.{reached_run}
+use Rattle.worked_callers.proofs.ServedBeside.{reached_by}
+use Rattle.worked_callers.proofs.ServedCrossed.{run_both}
+use Rattle.worked_callers.proofs.moves.move_between_chains.Goals as goal
+
+pub returns : goal.returns
+returns g c =
+    let may = g.F.FileSystemBase.may in
+    let saved = c.in_ok-save_one.ensures.sent in
+    let found = c.in_ok-restored.ensures.read in
+    let last = c.in_ok-notice.ensures.run in
+    let left = c.reply_beside.new.queue in
+    let begun = c.reset_by_record.new.queue in
+    let final = c.reply_beside-2.new.queue in
+    let m = places_in c.args.there.now.regions in
+    let q = c.in-Some.read.now in
+    let read_options = c.in_ok-restored.field-0-0.0 in
+    let version = Second 4096 0x101000 in
+    let taken_is : IsRecord found.0 found.1 read_options (q ∷ []) =
+    subst (λ (qs : List Queue). IsRecord found.0 found.1 read_options qs) (sym c.deref.ensures.value ∙ c.in-Some.ensures.one) found.3 in
+    record {
+      again = (c.in_ok-told.ensures.again, c.in_ok-notice.ensures.again);
+      queue = c.in_ok-told.ensures.queue;
+      run = (
+        saved.0,
+        found.0,
+        found.1,
+        read_options,
+        q,
+        begun,
+        saved.1,
+        saved.2,
+        found.2,
+        taken_is,
+        c.reset_by_record.ensures.begins,
+        c.in_ok-notice.ensures.queue,
+        λ s reached none queues options places limit limit' small same.
+            let one = c.in_ok-told.ensures.run s 0 reached (ap (λ (l : List LiveQueue). slice_get l 0) queues) places
+            limit small in
+            let s₁ = one.1 in
+            let queues₁ : s₁.queues ≡ live_of left ∷ [] =
+            one.5 ∙ ap (λ (l : List LiveQueue). changed_at l 0 (λ _. live_of left)) queues in
+            let made : IsRecord saved.0 version s₁.options (recorded left ∷ []) =
+            subst (λ (o : ℕ). IsRecord saved.0 version o (recorded left ∷ [])) (sym (one.6 ∙ options)) saved.2 in
+            let read : IsRecord saved.0 found.1 read_options (q ∷ []) =
+            subst (λ (bytes : List ℕ). IsRecord bytes found.1 read_options (q ∷ [])) same taken_is in
+            let moved = c.reset_by_record.ensures.moves s₁ left m saved.0 version found.1 read_options (one.4 ∙ none) queues₁
+            made read in
+            let s₂ = moved.1 in
+            let event : LiveEvent = MovesDevice m (live_of begun ∷ []) in
+            let limit₂ = moved.7 ∙ one.7 in
+            let two = last s₂ 0 (reached_by may s₁ s₂ event (reached_run may s s₁ one.0 reached one.2) moved.2)
+            (ap (λ (l : List LiveQueue). slice_get l 0) moved.3) moved.4 (limit₂ ∙ limit')
+            (subst (λ (n : ℕ). n ≤ 2 ^ 31) (sym limit₂) small) in (
+              one.0 ++ event ∷ two.0,
+              two.1,
+              run_both may s s₁ two.1 one.0 (event ∷ two.0) one.2 (s₂, moved.2, two.2),
+              one.0,
+              two.0,
+              s₁,
+              s₂,
+              refl,
+              one.2,
+              one.9,
+              queues₁,
+              moved.2,
+              two.2,
+              two.9,
+              two.4 ∙ moved.5,
+              two.5 ∙ ap (λ (l : List LiveQueue). changed_at l 0 (λ _. live_of final)) moved.3,
+              two.6 ∙ moved.6 ∙ one.6 ∙ options,
+              two.8 ∙ moved.4,
+            ),
+      );
+    }

@@ -1,0 +1,71 @@
+use Rattle.std.proofs.Common.{◌≡◌, [], ◌∷◌, length, subst, sym, ◌∙◌, arith}
+use Rattle.std.specs.Prelude.{drop}
+use Rattle.std.proofs.lemmas.Bool.Decides.{nat_tests}
+use Rattle.fuse_values.specs.Values.{call_of}
+use Rattle.fs_chain.specs.Queues.{gave}
+use Rattle.fs_chain.specs.declared.decoding.Decoded.TheVariants as asks
+use Rattle.fs_chain.specs.declared.queue.QueueState.{QueueState}
+use Rattle.plain_machine.specs.Step.{Calls}
+use Rattle.worked_callers.specs.Events.{IsOwnReplyOnceDecoded}
+use Rattle.worked_callers.specs.OwnReplies.{ReturnsAsStep}
+use Rattle.worked_callers.proofs.CalledBy.{decodes_by}
+use Rattle.worked_callers.proofs.OwnRuns.{as_step, entry_keeps, replied_answered}
+use Rattle.worked_callers.proofs.Served.{if_ok_so, more_taken, taken_so}
+use Rattle.worked_callers.proofs.TookQueue.{gave_took}
+use Rattle.worked_callers.proofs.own_replies.reply_during_listing.Goals as goal
+
+pub decode_call-requires : goal.decode_call-requires
+decode_call-requires g c =
+    let n = c.in_ok-request_len.request_len in
+    let test = c.if-request_len-request.false in
+    let same : n ≡ length c.args.request.now = grind (arith, nat_tests, test) in
+    record {
+      taken = more_taken c.walk_chain.new.handle.state _ _ (λ out is. is ∙ same)
+          (taken_so c.args.handle.now c.walk_chain.new.handle c.args.queue.now c.walk_chain.new.queue c.in_ok-request_len.field-0-0 n
+          c.in_ok-request_len.field-0-2
+          c.requires.goes c.in_ok-request_len.ensures.walked);
+    }
+
+pub returns : goal.returns
+returns g c =
+    let may = g.F.FileSystemBase.may in
+    let handles = c.law_handles.ensures in
+    let old = c.args.handle.now in
+    let one = c.walk_chain.new.handle in
+    let two = c.decode_call.new.handle in
+    let three = c.add_entry.new.handle in
+    let four = c.reply.new.self in
+    let before = c.args.queue.now in
+    let after = c.walk_chain.new.queue in
+    let final = c.push_own.new.queue in
+    let given = c.args.given.now in
+    let asked = c.in_ok-decode_call.ensures.asked in
+    let request = c.args.request.now in
+    let bytes = c.args.bytes.now in
+    record {
+      step = if_ok_so c.push_own.result _ _ _
+          (λ notice back final_is s i here session. (
+            asked.0,
+            two,
+            decodes_by c.args.given.now old one two before after c.in_ok-request_len.field-0-0 c.in_ok-request_len.request_len
+                c.in_ok-request_len.field-0-2 c.args.session request (asks.Call asked.0) c.in_ok-request_len.ensures.given asked.1,
+            λ answer files fits so.
+                let calls : Calls = (call_of (drop 80 request) asked.0, answer) ∷ [] in
+                let whole = replied_answered may handles.ends_pop handles.decodes_request handles.held handles.replies_instead
+                handles.pushes_own given old one
+                two three four
+                before after c.in_ok-request_len.field-0-0 c.in_ok-request_len.request_len c.in_ok-request_len.field-0-2 _ c.args.session
+                request bytes asked.0 notice c.requires.goes c.in_ok-request_len.ensures.given asked.1
+                (λ out is. entry_keeps two three _ _ _ out c.in_ok-bring.ensures.brought is)
+                c.in_ok-reply.ensures.ok c.in_ok-reply.ensures.kept back s i here session answer files fits so in
+                subst
+                (λ (q : QueueState). ReturnsAsStep g.row.G.Denot may s i before q request bytes calls notice
+                (IsOwnReplyOnceDecoded s i given old before request bytes calls notice)) (sym final_is)
+                (as_step may s i before (gave after) request bytes calls notice whole.0
+                g.row.G.Denot (IsOwnReplyOnceDecoded s i given old before request bytes calls notice) whole.1 c.law_runs.ensures.own
+                here.reached),
+          ))
+          c.push_own.ensures.back c.push_own.ensures.queue;
+      again = c.push_own.ensures.again;
+      queue = gave_took c.push_own.result _ _ _ c.in_ok-request_len.ensures.queue c.push_own.ensures.queue;
+    }

@@ -1,0 +1,55 @@
+use Rattle.std.proofs.Common.{◌≡◌, ℕ, Err, arith, length, refl, rules, subst}
+use Rattle.std.proofs.lemmas.Bool.Decides.{nat_tests}
+use Rattle.worked_callers.specs.Notified.{WalksPast, given_so_far}
+use Rattle.worked_callers.specs.Refusals.{IsFailedPastRefusals}
+use Rattle.worked_callers.proofs.GivenBytes.{amid_more, fails_past_refusals, if_err, takes_amid}
+use Rattle.worked_callers.proofs.refusals.pop_past_refusals.Goals as goal
+
+pub loop-bytes-preserved : goal.loop-bytes-preserved
+loop-bytes-preserved c =
+    amid_more c.args.given.now c.loop-bytes.bytes-index _ c.args.wrong.now c.args.handle.now c.loop-bytes.handle c.call_refused.new.handle
+    c.pop-in-loop-bytes.new.self c.args.queue.now c.loop-bytes.queue c.call_refused.new.queue c.pop-in-loop-bytes.new.queue
+    c.loop-bytes.told c.in_ok-told-2.told c.loop-bytes-test.true c.loop-bytes.invariant (c.if-not-wants_bytes.ensures.yes refl)
+    c.in_ok-refuse.ensures.refused c.in_ok-refuse.ensures.same c.in_ok-refuse.ensures.queue c.in_ok-told-2.ensures.goes (search rules)
+
+pub returns-then-not-wants_bytes-clause-all : goal.returns-then-not-wants_bytes-clause-all
+returns-then-not-wants_bytes-clause-all c wants = absurd (c.if-not-wants_bytes.ensures.no refl wants)
+
+pub returns-clause-all : goal.returns-clause-all
+returns-clause-all c wants =
+    let end : c.loop-bytes.bytes-index ≡ length c.args.given.now =
+    grind (arith, nat_tests, c.loop-bytes-test.false, c.loop-bytes.auto.bytes-index-end) in
+    subst (λ (k : ℕ). WalksPast c.args.wrong.now (given_so_far k c.args.given.now) c.args.handle.now c.loop-bytes.handle c.args.queue.now
+    c.loop-bytes.queue c.loop-bytes.told) end c.loop-bytes.invariant
+
+pub returns-in_err-told-clause-error : goal.returns-in_err-told-clause-error
+returns-in_err-told-clause-error c =
+    let failed : c.from_residual.result ≡ Err c.in_err-told.field-0.0 = search rules in
+    if_err _ _ (IsFailedPastRefusals c.args.wrong.now c.args.given.now c.args.handle.now c.pop.new.self c.args.queue.now c.pop.new.queue)
+    failed
+    (0, (c.in_err-told.ensures.error, c.in_err-told.ensures.same.0, c.in_err-told.ensures.same.1))
+
+pub returns-in_err-refuse-clause-error : goal.returns-in_err-refuse-clause-error
+returns-in_err-refuse-clause-error c =
+    let e = c.in_err-refuse.field-0.0 in
+    let failed : c.from_residual-in_err-refuse.result ≡ Err e = search rules in
+    let takes = c.in_err-refuse.ensures.taken in
+    if_err _ _ (IsFailedPastRefusals c.args.wrong.now c.args.given.now c.args.handle.now c.call_refused.new.handle c.args.queue.now
+    c.call_refused.new.queue)
+    failed
+    (takes_amid c.args.given.now c.loop-bytes.bytes-index _ c.args.wrong.now c.args.handle.now c.loop-bytes.handle c.call_refused.new.handle
+    c.args.queue.now c.loop-bytes.queue c.call_refused.new.queue c.loop-bytes.told e c.loop-bytes-test.true
+    c.loop-bytes.invariant (c.if-not-wants_bytes.ensures.yes refl) (takes.0, takes.1.0, takes.1.1) refl)
+
+pub returns-in_err-told-2-clause-error : goal.returns-in_err-told-2-clause-error
+returns-in_err-told-2-clause-error c =
+    let e = c.in_err-told-2.field-0.0 in
+    let failed : c.from_residual-in_err-told-2.result ≡ Err e = search rules in
+    if_err _ _ (IsFailedPastRefusals c.args.wrong.now c.args.given.now c.args.handle.now c.pop-in-loop-bytes.new.self c.args.queue.now
+    c.pop-in-loop-bytes.new.queue) failed
+    (fails_past_refusals c.args.given.now c.loop-bytes.bytes-index _ c.args.wrong.now c.args.handle.now c.loop-bytes.handle
+    c.call_refused.new.handle
+    c.pop-in-loop-bytes.new.self c.args.queue.now c.loop-bytes.queue c.call_refused.new.queue c.pop-in-loop-bytes.new.queue
+    c.loop-bytes.told e c.loop-bytes-test.true c.loop-bytes.invariant (c.if-not-wants_bytes.ensures.yes refl)
+    c.in_ok-refuse.ensures.refused c.in_ok-refuse.ensures.same c.in_ok-refuse.ensures.queue c.in_err-told-2.ensures.error
+    c.in_err-told-2.ensures.same.0 c.in_err-told-2.ensures.same.1 (search rules))
