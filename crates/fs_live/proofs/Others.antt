@@ -37,7 +37,7 @@ use Rattle.fs_live.specs.Handles.{live_of}
 use Rattle.fs_live.specs.Others.{DecodedIsUnanswered, HandleAbandons, HandleGivesUpChain, HandleMovesDevice, HandleRemaps}
 use Rattle.fs_live.specs.Others.{HandleRepliesInstead}
 use Rattle.fs_live.specs.Others.{HandleRepliesOwnBytes}
-use Rattle.fs_live.specs.Others.{HandlePushesOwn, IfUnreplied, HoldsOwnReply, recorded}
+use Rattle.fs_live.specs.Others.{HandlePushesOwn, FromUnreplied, HoldsOwnReply, recorded}
 use Rattle.fs_live.proofs.Alone.{Walked, walked_there}
 use Rattle.fs_live.proofs.Pushed.{seen_of}
 use Rattle.fs_live.proofs.Queues.{none_some, there_same}
@@ -128,16 +128,16 @@ handle_replies {F} may s c before behind w serial options request reply reached 
         counts = few.1;
         state = refl;
       },
-      subst (λ (st : state.ChainState). IfUnreplied st
+      subst (λ (st : state.ChainState). FromUnreplied st
           (λ out. HoldsOwnReply (record c { phase = Own request reply }) reply (at.HasReply out (own_reply (length reply)))))
           (sym held.state)
           (record { out = o; head = refl; taken = held.taken; fits = few.0; counts = few.1; state = refl }),
     )
 
 -- of a chain that a handle has: the reply has room
-held_so : (out : InFlight) (st : state.ChainState) (mine serial len : ℕ) (P : InFlight → Type 0) → IfUnreplied st (λ o. o ≡ out)
+held_so : (out : InFlight) (st : state.ChainState) (mine serial len : ℕ) (P : InFlight → Type 0) → FromUnreplied st (λ o. o ≡ out)
     → own_error st mine serial len ≡ None → (Fits out.room_len len → P out)
-    → Fits out.room_len len × IfUnreplied st P
+    → Fits out.room_len len × FromUnreplied st P
 held_so out (at.Taken kept) mine serial len P is none more =
     let few : Fits out.room_len len = subst (λ (o : InFlight). Fits o.room_len len) is (chain_fits mine serial kept.room_len len none) in
     (few, subst P (sym is) (more few))
@@ -150,7 +150,7 @@ held_so out (at.Lists kept l) mine serial len P is none more =
 held_so out st mine serial len P is none more = absurd is
 
 keeps_out : (s : Setting) (m : Meaning) (behind : List ℕ) (made : made_call.FileCall) (out : InFlight) (st : state.ChainState) →
-    KeepsCall s m behind made out st → IfUnreplied st (λ o. o ≡ out)
+    KeepsCall s m behind made out st → FromUnreplied st (λ o. o ≡ out)
 keeps_out s m behind made out (at.Waits kept w) keeps = keeps.0
 keeps_out s m behind made out (at.Lists kept l) keeps = keeps.0
 keeps_out s m behind made out st keeps = absurd keeps

@@ -141,12 +141,12 @@ module _ (i : ℕ) where
 
   stays : {F : Type 0} (s mid : LiveState F) (w w₁ : LiveQueue) → slice_get mid.queues i ≡ Some w₁ → going w₁ ≡ going w
       → in_flight_on i mid.chains ≡ in_flight_on i s.chains → Carries s mid w []
-  stays s mid w w₁ there same outs_are = (
+  stays s mid w w₁ there same chains_are = (
     w₁,
     there,
     λ es v chains run.
         subst (λ (k : LiveQueue). RunsOver k (in_flight_on i s.chains) es v chains) same
-        (subst (λ (l : List InFlightId). RunsOver (going w₁) l es v chains) outs_are run),
+        (subst (λ (l : List InFlightId). RunsOver (going w₁) l es v chains) chains_are run),
   )
 
   refused_going : (w : LiveQueue) (b : Bool) → going (record w { queue = if b then with_stop w.queue else w.queue }) ≡ going w
@@ -181,14 +181,14 @@ module _ (i : ℕ) where
       let same : j ≡ i = eqb-true j i is in
       let one : v ≡ w = same_some v w (sym at ∙ ap (λ (n : ℕ). slice_get s.queues n) same ∙ there) in
       let mid : LiveState F = record s { queues = changed_at s.queues j (λ _. took v); chains = s.chains ++ c ∷ [] } in
-      let outs_are : in_flight_on i (s.chains ++ c ∷ []) ≡ in_flight_on i s.chains ++ (v.queue.position, c.head) ∷ [] =
+      let chains_are : in_flight_on i (s.chains ++ c ∷ []) ≡ in_flight_on i s.chains ++ (v.queue.position, c.head) ∷ [] =
       tickets-append s.chains (c ∷ [])
       ∙ ap (λ (l : List InFlightId). in_flight_on i s.chains ++ l)
       (one_ticket c [] true (ap (λ (n : ℕ). n == i) of_queue ∙ is) ∙ ap (λ k. (k.position, c.head) ∷ []) taken) in
       subst (λ (k : LiveQueue). Carries s mid k (several.PopsOne c.head ∷ [])) one (
         took v,
         there_same s.queues j i (λ _. took v) w same there,
-        λ es u chains run. (may, subst (λ (l : List InFlightId). RunsOver (going (took v)) l es u chains) outs_are run),
+        λ es u chains run. (may, subst (λ (l : List InFlightId). RunsOver (going (took v)) l es u chains) chains_are run),
       )
   takes {F} s j w v false c is there at of_queue taken may =
       let mid : LiveState F = record s { queues = changed_at s.queues j (λ _. took v); chains = s.chains ++ c ∷ [] } in

@@ -1,4 +1,4 @@
--- Pops between whose calls other handles changed the queue, or some calls of which were refused.
+-- Pops in which other handles changed the queue between two calls, or some calls were refused.
 use Rattle.std.specs.Prelude.{◌≡◌, ◌≤◌, ◌+◌, ℕ, List, [], ◌∷◌, Some, None, slice_get}
 use Rattle.fs_queue.specs.declared.fault.QueueError.{QueueError}
 use Rattle.fs_queue.specs.declared.fault.QueueError.TheVariants.{Stopped}

@@ -29,8 +29,7 @@ data_stores room from bytes = map byte_store (zip (drop from room) bytes)
 abbrev pub HandleFillsBuffer : {F : Type 0} → May F → Type 0
 HandleFillsBuffer {F} may =
     (s : LiveState F) (c : InFlightChain) (before behind : List InFlightChain) (w : ChainHandle) (from : ℕ)
-    (v : Window)
-    (bytes : List ℕ) →
+    (v : Window) (bytes : List ℕ) →
     s.chains ≡ before ++ c ∷ behind →
     HasRoom c.phase →
     c.descriptors ≡ w.descriptors.items →
@@ -45,8 +44,7 @@ HandleFillsBuffer {F} may =
 abbrev pub HandleFillsRange : {F : Type 0} → May F → Type 0
 HandleFillsRange {F} may =
     (s : LiveState F) (c : InFlightChain) (before behind : List InFlightChain) (w : ChainHandle)
-    (from guest len : ℕ)
-    (bytes : List ℕ) →
+    (from guest len : ℕ) (bytes : List ℕ) →
     s.chains ≡ before ++ c ∷ behind →
     HasRoom c.phase →
     c.descriptors ≡ w.descriptors.items →

@@ -193,8 +193,7 @@ pub record HoldsDecoded (page_size options : ℕ) (request : List ℕ) (c : InFl
 abbrev pub HandleDecodesRequest : {F : Type 0} → May F → Type 0
 HandleDecodesRequest {F} may =
     (s : LiveState F) (c : InFlightChain) (before behind : List InFlightChain) (w w' : ChainHandle)
-    (session : Session)
-    (request front : List ℕ) (made : Decoded) →
+    (session : Session) (request front : List ℕ) (made : Decoded) →
     IsReached may s →
     s.limit ≤ 2 ^ 31 →
     s.chains ≡ before ++ c ∷ behind →
@@ -212,9 +211,8 @@ HandleDecodesRequest {F} may =
 abbrev pub HandleReceivesAnswer : {F : Type 0} → May F → Type 0
 HandleReceivesAnswer {F} may =
     (s : LiveState F) (c : InFlightChain) (before behind : List InFlightChain) (w w' : ChainHandle)
-    (request : List ℕ)
-    (options : ℕ) (made : made_call.FileCall) (a : made_answer.FileAnswer) (bytes : List ℕ)
-    (told : Replied) (files : F) →
+    (request : List ℕ) (options : ℕ) (made : made_call.FileCall) (a : made_answer.FileAnswer)
+    (bytes : List ℕ) (told : Replied) (files : F) →
     s.chains ≡ before ++ c ∷ behind →
     c.phase ≡ Asked request options [] →
     HoldsDecoded s.page_size options request c (asks.Call made) w →
@@ -236,9 +234,8 @@ HandleReceivesAnswer {F} may =
 abbrev pub HandleCalls : {F : Type 0} → May F → Type 0
 HandleCalls {F} may =
     (s : LiveState F) (c : InFlightChain) (before behind : List InFlightChain) (w w' : ChainHandle)
-    (request : List ℕ)
-    (options : ℕ) (made : Decoded) (given : ChainAnswer) (earlier later : Calls) (call : FileCall)
-    (answer : FileAnswer) (files : F) →
+    (request : List ℕ) (options : ℕ) (made : Decoded) (given : ChainAnswer) (earlier later : Calls)
+    (call : FileCall) (answer : FileAnswer) (files : F) →
     s.chains ≡ before ++ c ∷ behind →
     c.phase ≡ Asked request options earlier →
     HoldsDecoded s.page_size options request c made w →
@@ -283,8 +280,7 @@ OptionsStay =
 -- the stores and loads for a chain are the event of its return, at its queue's next used position. `seen_at`
 -- of the stores is the address of the two bytes that are seen
 abbrev pub IsReturn : {F : Type 0} → May F → LiveState F → (before behind : List InFlightChain) →
-    InFlightChain →
-    QueueState → List Act → (last : ℕ) → (notice : Bool) → PushStores → Type 0
+    InFlightChain → QueueState → List Act → (last : ℕ) → (notice : Bool) → PushStores → Type 0
 IsReturn {F} may s before behind c kept acts last notice stores =
     (x : Exchange) × (used : List Store) × (seen : List ℕ)
     × (acts ≡ event_acts (PushesChain c x notice last used seen))
@@ -297,9 +293,8 @@ IsReturn {F} may s before behind c kept acts last notice stores =
 abbrev pub HandlePushesChain : {F : Type 0} → May F → Type 0
 HandlePushesChain {F} may =
     (s : LiveState F) (c : InFlightChain) (before behind : List InFlightChain) (w w' : ChainHandle)
-    (kept : QueueState)
-    (request : List ℕ) (options : ℕ) (made : Decoded) (given : ChainAnswer) (acts : List Act) (last : ℕ)
-    (notice : Bool) →
+    (kept : QueueState) (request : List ℕ) (options : ℕ) (made : Decoded) (given : ChainAnswer)
+    (acts : List Act) (last : ℕ) (notice : Bool) →
     s.chains ≡ before ++ c ∷ behind →
     slice_get s.queues c.queue ≡ Some (live_of kept) →
     c.taken ≡ queue_of (course_of (record kept { next_avail = c.taken.position }) 0) →
@@ -314,8 +309,7 @@ HandlePushesChain {F} may =
 abbrev pub HandleFaulty : {F : Type 0} → May F → Type 0
 HandleFaulty {F} may =
     (s : LiveState F) (c : InFlightChain) (before behind : List InFlightChain) (w : ChainHandle)
-    (kept : QueueState)
-    (why : ChainFault) (acts : List Act) (last : ℕ) (notice : Bool) →
+    (kept : QueueState) (why : ChainFault) (acts : List Act) (last : ℕ) (notice : Bool) →
     s.chains ≡ before ++ c ∷ behind →
     slice_get s.queues c.queue ≡ Some (live_of kept) →
     c.taken ≡ queue_of (course_of (record kept { next_avail = c.taken.position }) 0) →

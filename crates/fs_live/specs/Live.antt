@@ -74,7 +74,7 @@ asked_chain c request options calls = record c { phase = Asked request options c
 abbrev pub room_of : InFlightChain → List ℕ
 room_of c = room_of_phase c.phase c.descriptors
 
--- the calls of a chain that were answered so far, while the server is to reply; of any other phase none
+-- the calls of a decoded chain that were answered so far. A chain in another phase has none
 abbrev pub calls_in : Phase → Calls
 calls_in (Asked request options calls) = calls
 calls_in _ = []
@@ -355,8 +355,7 @@ IsStoredIn room store = AllByRecursion (λ a. Contains room a) (addresses store.
 
 -- stores in a chain's reply buffer change nothing of the state
 pub record FillsBufferSo {F : Type 0} (s : LiveState F) (c : InFlightChain) (stores : List Store)
-    (after : LiveState F) :
-    Type 0 where
+    (after : LiveState F) : Type 0 where
   pub before : List InFlightChain
   pub behind : List InFlightChain
   pub out : s.chains ≡ before ++ c ∷ behind
@@ -390,8 +389,7 @@ abandoned_chain c = record c { phase = Abandoned (fault_of_phase c.phase) }
 
 -- the state after a handle is freed
 abbrev pub after_abandoning : {F : Type 0} → LiveState F → (before behind : List InFlightChain) →
-    InFlightChain
-    → LiveState F
+    InFlightChain → LiveState F
 after_abandoning s before behind c = record s { chains = before ++ abandoned_chain c ∷ behind }
 
 -- a chain's handle is freed, in any phase, also again: the chain is never pushed. If the file system did its

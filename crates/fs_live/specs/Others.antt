@@ -73,20 +73,19 @@ pub record HoldsOwnReply (c : InFlightChain) (reply : List ℕ) (st : state.Chai
   pub counts : length reply < 2 ^ 32
   pub state : st ≡ at.HasReply out (own_reply (length reply))
 
--- P, if a chain is in flight without a reply
-abbrev pub IfUnreplied : state.ChainState → (InFlight → Type 0) → Type 0
-IfUnreplied (at.Taken out) P = P out
-IfUnreplied (at.Waits out waiting) P = P out
-IfUnreplied (at.Lists out listing) P = P out
-IfUnreplied _ P = ⊥
+-- P, and a chain is in flight without a reply
+abbrev pub FromUnreplied : state.ChainState → (InFlight → Type 0) → Type 0
+FromUnreplied (at.Taken out) P = P out
+FromUnreplied (at.Waits out waiting) P = P out
+FromUnreplied (at.Lists out listing) P = P out
+FromUnreplied _ P = ⊥
 
 -- a reply of the caller's own to a chain that wasn't decoded is the event `RepliesOwnBytes`. The request may
 -- be any, as its caller loaded it
 abbrev pub HandleRepliesOwnBytes : {F : Type 0} → May F → Type 0
 HandleRepliesOwnBytes {F} may =
     (s : LiveState F) (c : InFlightChain) (before behind : List InFlightChain) (w : ChainHandle)
-    (serial options : ℕ)
-    (request reply : List ℕ) →
+    (serial options : ℕ) (request reply : List ℕ) →
     IsReached may s →
     s.limit ≤ 2 ^ 31 →
     s.chains ≡ before ++ c ∷ behind →
@@ -96,20 +95,20 @@ HandleRepliesOwnBytes {F} may =
     own_error w.state w.serial serial (length reply) ≡ None →
     Happens may s (RepliesOwnBytes c request reply options)
     (after_own s before behind c request reply options)
-    × IfUnreplied w.state
+    × FromUnreplied w.state
     (λ out. HoldsOwnReply (record c { phase = Own request reply }) reply
     (at.HasReply out (own_reply (length reply))))
 
--- a handle has this decoded chain: its pending call, or the listing that gathers entries, is the
--- chain's
+-- a handle has this chain without a reply: the request isn't decoded, its call is pending, or its listing
+-- gathers entries
 pub record HoldsUnanswered (c : InFlightChain) (w : ChainHandle) : Type 0 where
   pub out : InFlight
   pub head : out.head ≡ c.head
   pub taken : c.taken ≡ queue_of out.course
   pub room : length (room_of c) ≡ out.room_len
-  pub is : IfUnreplied w.state (λ o. o ≡ out)
+  pub is : FromUnreplied w.state (λ o. o ≡ out)
 
--- a handle has its decoded chain, if the decoding returned a call
+-- a handle that decoded its chain has it without a reply, if the decoding returned a call
 abbrev pub DecodedIsUnanswered : Type 0
 DecodedIsUnanswered =
     (page_size options : ℕ) (request : List ℕ) (c : InFlightChain) (made : made_call.FileCall)
@@ -129,7 +128,7 @@ HandleRepliesInstead {F} may =
     own_error w.state w.serial serial (length reply) ≡ None →
     Happens may s (RepliesOwnBytes c request reply options)
     (after_own s before behind c request reply options)
-    × IfUnreplied w.state
+    × FromUnreplied w.state
     (λ out. HoldsOwnReply (record c { phase = Own request reply }) reply
     (at.HasReply out (own_reply (length reply))))
 

@@ -118,8 +118,7 @@ pub record IsAStep {G : Type 0} (other : May G) (m : State G) (files : G) (w : L
 abbrev pub ReturnedIsStepBy : {F G : Type 0} → May F → May G → Type 0
 ReturnedIsStepBy {F} {G} may other =
     (s now after : LiveState F) (es : List LiveEvent) (c : InFlightChain) (x : Exchange) (notice : Bool)
-    (last : ℕ)
-    (used : List Store) (seen : List ℕ) (m : State G) (files : G) →
+    (last : ℕ) (used : List Store) (seen : List ℕ) (m : State G) (files : G) →
     s.chains ≡ [] →
     LiveRun may s es now →
     Happens may now (PushesChain c x notice last used seen) after →
@@ -154,8 +153,7 @@ pub record IsAReturn {G : Type 0} (m : State G) (limit : ℕ) (w : LiveQueue) (c
 abbrev pub OwnIsReturned : {F : Type 0} → (G : Type 0) → May F → Type 0
 OwnIsReturned {F} G may =
     (s now after : LiveState F) (es : List LiveEvent) (c : InFlightChain) (x : Exchange) (notice : Bool)
-    (last : ℕ)
-    (used : List Store) (seen : List ℕ) (request reply : List ℕ) (m : State G) →
+    (last : ℕ) (used : List Store) (seen : List ℕ) (request reply : List ℕ) (m : State G) →
     s.chains ≡ [] →
     LiveRun may s es now →
     Happens may now (PushesChain c x notice last used seen) after →
@@ -193,13 +191,14 @@ IsInFlightThen s (PushesChain c x notice last used seen) = Contains s.chains c
 IsInFlightThen s (FillsBuffer c stores) = Contains s.chains c
 IsInFlightThen s _ = Unit {0}
 
--- the event stores nothing elsewhere
+-- the event writes only addresses that it may write (`may_store`), for a chain that is in flight
 abbrev pub StoresThere : {F : Type 0} → LiveState F → LiveEvent → Type 0
 StoresThere s e =
-    IsInFlightThen s e × AllByRecursion (λ (w : ℕ
-    × ℕ). Contains (may_store s e) w.0) (flat_map writes_of (stores_among (event_acts e)))
+    IsInFlightThen s e
+    × AllByRecursion (λ (w : ℕ × ℕ). Contains (may_store s e) w.0)
+    (flat_map writes_of (stores_among (event_acts e)))
 
--- no event of a run stores anything elsewhere
+-- each event of a run writes only addresses that it may write
 abbrev pub EachStoresThere : {F : Type 0} → (may : May F) → (s : LiveState F) → (es : List LiveEvent) →
     (after : LiveState F) → LiveRun may s es after → Type 0
 EachStoresThere may s [] after run = Unit {0}
@@ -237,8 +236,7 @@ pub record ReturnIsMapped (m : Memory) (w : LiveQueue) : Type 0 where
 abbrev pub ReturnsAreMapped : {F : Type 0} → May F → Type 0
 ReturnsAreMapped {F} may =
     (s now after : LiveState F) (es : List LiveEvent) (c : InFlightChain) (x : Exchange) (notice : Bool)
-    (last : ℕ)
-    (used : List Store) (seen : List ℕ) →
+    (last : ℕ) (used : List Store) (seen : List ℕ) →
     s.chains ≡ [] →
     AllByRecursion HasNoneInFlight s.queues →
     LiveRun may s es now →
@@ -332,7 +330,8 @@ reported_by s _ = []
 -- over each memory, an event's stores mark the pages of the addresses that it reports, of blocks or of I/O
 -- pages, and no others. So do those of the plain machine's step, which stores the same
 abbrev pub MarksAsReported : {F : Type 0} → LiveState F → LiveEvent → Type 0
-MarksAsReported s e = (m : Memory) →
+MarksAsReported s e =
+    (m : Memory) →
     Marks m (reported_by s e) (after_stores m (stores_among (event_acts e))).host
 
 -- and if the reported addresses are marked, a log by the guest's pages has just those that the stores write
@@ -346,7 +345,8 @@ LogsAsReported s e =
 abbrev pub EachIsReported : {F : Type 0} → (may : May F) → (s : LiveState F) → (es : List LiveEvent) →
     (after : LiveState F) → LiveRun may s es after → Type 0
 EachIsReported may s [] after run = Unit {0}
-EachIsReported may s (e ∷ es) after run = (MarksAsReported s e × LogsAsReported s e)
+EachIsReported may s (e ∷ es) after run =
+    (MarksAsReported s e × LogsAsReported s e)
     × EachIsReported may run.0 es after run.2
 
 abbrev pub PagesAreReported : {F : Type 0} → May F → Type 0

@@ -137,7 +137,8 @@ IsOldestFirst w chains (PopsOne head ∷ es) =
 IsOldestFirst w chains (DropsLast t ∷ es) =
     (before : List InFlightId) × (chains ≡ before ++ t ∷ []) × IsOldestFirst (gave_up w) before es
 IsOldestFirst w [] (PushesOne t len stores ∷ es) = ⊥
-IsOldestFirst w (first ∷ chains) (PushesOne t len stores ∷ es) = (t ≡ first)
+IsOldestFirst w (first ∷ chains) (PushesOne t len stores ∷ es) =
+    (t ≡ first)
     × IsOldestFirst (gave w) chains es
 
 -- each return is at the position of its chain's pop
@@ -176,7 +177,7 @@ passes event old new = nat_lt ((new + (2 ^ 16 - 1 - event)) % 2 ^ 16) ((new + (2
 abbrev pub wants : LiveQueue → (seen : List ℕ) → Bool
 wants w seen = if w.event_index then from_le_bytes w16 seen == w.next_used else tells seen
 
--- with used_event the notification is enabled just if the used index passes it
+-- with used_event the notification is enabled exactly if the used index passes it
 abbrev pub ByEvent : Type 0
 ByEvent =
     (w : LiveQueue) (seen : List ℕ) →

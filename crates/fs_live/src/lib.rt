@@ -28,8 +28,8 @@ use fuse_fs::FileSystem;
 
 /// The theorems on the pops and returns of one queue. Each popped chain ends once, and the used ring is
 /// filled in order. If chains are popped one at a time, or returned oldest first, each is returned at the
-/// position of its pop. With the event index, `used_event` enables the notification of a return just if the
-/// used index passes it.
+/// position of its pop. With the event index, `used_event` enables the notification of a return exactly if
+/// the used index passes it.
 pub fn law_queues()
     ensures once { OncePerChain }
     ensures used { UsedInOrder }
@@ -80,21 +80,20 @@ pub fn law_examples<F: FileSystem>()
 {}
 
 /// The theorems that calls of handles are events of a run, by their contracts, while any other chains
-/// are in flight.
-/// - A pop that finds its queue as its previous call left it is an event, also if it is refused. It
-///   leaves the queue as the contract says, and makes few loads.
-/// - So is a pop between whose calls other handles changed the queue, or some calls of which were
-///   refused. It makes as few loads, and each load that it asks for is mapped. If it finds its queue
-///   stopped meanwhile, it is refused.
-/// - So are a decoding and each answer: of the call, of a listing's look-ups, of a FORGET.
-/// - So are the return of a chain, also of a faulty one, and a store before a sleep, if its address is
-///   mapped.
-/// - So is the reset of a queue, once no call of its chains is pending.
-/// - So are giving up a chain, freeing its handle, a reply of the caller's own bytes, and the return
-///   with them.
-/// - So is the storing of data in the windows, or the ranges, of a reply buffer.
-/// - While no chain is in flight, so are other regions, and a record that is made here and read
-///   elsewhere.
+/// are in flight. These are events:
+/// - a pop that finds its queue as its previous call left it, also if it is refused. It leaves the queue
+///   as the contract says, and makes at most size + 4 loads
+/// - a pop in which other handles changed the queue between two calls, or some calls were refused. It
+///   makes no more loads, and each that it asks for is mapped. If its queue is stopped meanwhile, it is
+///   refused
+/// - a decoding, and each answer: of the call, of a listing's look-ups, of a FORGET
+/// - the return of a chain, also of a faulty one
+/// - a store before a sleep, if its address is mapped
+/// - the reset of a queue, once no call of its chains is pending
+/// - giving up a chain, freeing its handle, a reply of the caller's own bytes, and the return with them
+/// - storing data in the windows, or the ranges, of a reply buffer
+/// - other regions, which map the addresses of the returns of chains in flight exactly if the old do
+/// - while no chain is in flight, a record that is made here and read elsewhere
 pub fn law_handles<F: FileSystem>()
     ensures ends_pop { HandleEndsPop F.may }
     ensures ends_pop_among { HandleEndsPopAmong F.may }

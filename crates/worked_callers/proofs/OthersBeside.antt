@@ -39,7 +39,7 @@ use Rattle.fs_live.specs.Live.{PushesChain, EndsPop, after_abandoning, after_giv
 use Rattle.fs_live.specs.Live.{new_chain}
 use Rattle.fs_live.specs.Live.{room_of}
 use Rattle.fs_live.specs.Others.{AreResetBy, PushedOwn, HandleAbandons, HandleGivesUpChain, HandleMovesDevice, HandlePushesOwn}
-use Rattle.fs_live.specs.Others.{HandleRepliesOwnBytes, IfUnreplied}
+use Rattle.fs_live.specs.Others.{HandleRepliesOwnBytes, FromUnreplied}
 use Rattle.fs_live.specs.Others.{HoldsOwnReply, recorded}
 use Rattle.fs_live.specs.Several.{took}
 use Rattle.fs_live.proofs.Queues.{same_some, there_same}
@@ -145,7 +145,7 @@ own_goes_back (at.Pushing out) q len s flags room reply last can two back = absu
 
 -- the reply is kept
 pub own_kept : (st : state.ChainState) (one two : ChainHandle) (d : InFlightChain) (reply : List ℕ) →
-    IfUnreplied st (λ out. HoldsOwnReply d reply (at.HasReply out (own_reply (length reply)))) →
+    FromUnreplied st (λ out. HoldsOwnReply d reply (at.HasReply out (own_reply (length reply)))) →
     IfUnanswered st (λ out. two ≡ record one { state = at.HasReply out (own_reply (length reply)) }) → HoldsOwnReply d reply two.state
 own_kept (at.Taken out) one two d reply own is = subst (λ (w : ChainHandle). HoldsOwnReply d reply w.state) (sym is) own
 own_kept (at.Waits out w) one two d reply own is = subst (λ (w : ChainHandle). HoldsOwnReply d reply w.state) (sym is) own

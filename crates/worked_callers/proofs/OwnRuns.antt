@@ -49,7 +49,7 @@ use Rattle.fs_live.specs.Live.{ReceivesAnswer}
 use Rattle.fs_live.specs.Live.{PushesChain, RepliesOwnBytes}
 use Rattle.fs_live.specs.Live.{EndsPop, after_answer, after_decoding, after_push, after_own, after_pop, asked_chain, calls_among, new_chain}
 use Rattle.fs_live.specs.Live.{room_of}
-use Rattle.fs_live.specs.Others.{DecodedIsUnanswered, PushedOwn, HandlePushesOwn, HandleRepliesInstead, HandleRepliesOwnBytes, IfUnreplied}
+use Rattle.fs_live.specs.Others.{DecodedIsUnanswered, PushedOwn, HandlePushesOwn, HandleRepliesInstead, HandleRepliesOwnBytes, FromUnreplied}
 use Rattle.fs_live.specs.Others.{HoldsUnanswered}
 use Rattle.fs_live.specs.Others.{HoldsOwnReply}
 use Rattle.fs_live.specs.Runs.{IsAskedIn, IsBefore, OwnIsReturned, ReturnsReport, RunsOnQueue, events_on, going, in_flight_on, reported_by}
@@ -144,7 +144,7 @@ module _ {F : Type 0} (may : May F) (returns_law : HandlePushesOwn may) (before 
         used = returned.1;
         end = s₃;
         returns = returned.2;
-        outs_are = append-nil s.chains;
+        chains_are = append-nil s.chains;
         queues_are = ap (λ (l : List LiveQueue). changed_at l i (λ _. live_of (gave after))) queues
             ∙ changed_twice s.queues i (took q) (live_of (gave after));
       }
@@ -311,9 +311,9 @@ no_entry : (why : ChainError) → ◌≡◌ {A = Result Added ChainError} (Ok ad
 no_entry why is = cc
 
 added_keeps : (st st' : state.ChainState) (list list' : List ℕ) (e : Brought) (outcome : Listing → Result (Unit {0}) NotAdded)
-    (out : InFlight) → AddsTo st st' list list' e outcome (Ok added.In) → IfUnreplied st (λ o. o ≡ out) → IfUnreplied st' (λ o. o ≡ out)
+    (out : InFlight) → AddsTo st st' list list' e outcome (Ok added.In) → FromUnreplied st (λ o. o ≡ out) → FromUnreplied st' (λ o. o ≡ out)
 added_keeps (at.Lists kept l) st' list list' e outcome out adds is =
-    subst (λ (st : state.ChainState). IfUnreplied st (λ o. o ≡ out)) (sym adds.1.1) is
+    subst (λ (st : state.ChainState). FromUnreplied st (λ o. o ≡ out)) (sym adds.1.1) is
 added_keeps (at.Waits kept w) st' list list' e outcome out adds is = absurd (no_entry error.OtherKind adds.0)
 added_keeps (at.Taken kept) st' list list' e outcome out adds is = absurd (no_entry error.WrongOrder adds.0)
 added_keeps at.Free st' list list' e outcome out adds is = absurd is
@@ -322,7 +322,7 @@ added_keeps (at.HasReply o reply) st' list list' e outcome out adds is = absurd 
 added_keeps (at.Pushing o) st' list list' e outcome out adds is = absurd is
 
 pub entry_keeps : (w w' : ChainHandle) (list list' : List ℕ) (e : Brought) (out : InFlight) → BringsEntry w list e (Ok added.In) w' list' →
-    IfUnreplied w.state (λ o. o ≡ out) → IfUnreplied w'.state (λ o. o ≡ out)
+    FromUnreplied w.state (λ o. o ≡ out) → FromUnreplied w'.state (λ o. o ≡ out)
 entry_keeps w w' list list' e out brings is = elim brings.0 [
   | inl adds ↦ added_keeps w.state w'.state list list' e (λ l. added_plain l (length list) (length e.0.name)) out adds is
   | inr adds ↦ added_keeps w.state w'.state list list' e (λ l. added_found l (length list) (length e.0.name)) out adds is
@@ -334,7 +334,7 @@ module _ {F : Type 0} (may : May F) (walks_law : HandleEndsPop may) (asks_law : 
     (made : made_call.FileCall) (notice : Bool) (goes : before.stopped ≡ None)
     (walks : IsWalkedBy given old one before after (wents.On (says.Chain head n r)))
     (asked : IsDecodedBy one session request request (asks.Call made) two)
-    (keeps : (out : InFlight) → IfUnreplied two.state (λ o. o ≡ out) → IfUnreplied three.state (λ o. o ≡ out))
+    (keeps : (out : InFlight) → FromUnreplied two.state (λ o. o ≡ out) → FromUnreplied three.state (λ o. o ≡ out))
     (clear : own_error three.state three.serial serial (length reply) ≡ None)
     (kept : IfUnanswered three.state (λ out. four ≡ record three { state = at.HasReply out (own_reply (length reply)) }))
     (back : (room bytes : List ℕ) (last : ℕ) → (acts : List Act) × (back : PushedOwn after room bytes four.state acts last notice)

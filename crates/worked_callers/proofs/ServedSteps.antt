@@ -136,7 +136,7 @@ module _ {F : Type 0} (may : May F) (s : LiveState F) (i : ℕ) (given : List (B
         used = so.used;
         end = so.end;
         returns = split.2;
-        outs_are = so.chains;
+        chains_are = so.chains;
         there = so.there;
       }
 

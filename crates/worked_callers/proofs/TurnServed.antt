@@ -99,7 +99,7 @@ turn_served {F} may s i given old one before after head n r walks request calls 
       named = subst (λ (es : List LiveEvent). IsServedChain s i given old before request calls [] notice es) (sym so.single_is)
           (served_named may s i given old one before after head n r walks request calls [] files notice so);
       files_are = so.files_are;
-      outs_are = so.chains;
+      chains_are = so.chains;
       places_are = run_stays may s so.end es keeps so.single_run;
       limit_is = (run_keeps may s so.end es so.single_run).0;
       there = so.there;

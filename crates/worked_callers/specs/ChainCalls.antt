@@ -29,7 +29,7 @@ use Rattle.fs_chain.specs.declared.popping.PopOutcome.TheVariants as says
 use Rattle.fs_chain.specs.declared.queue.QueueState.{QueueState}
 use Rattle.worked_callers.specs.Notified.{IsWalkedBy, given_so_far}
 
--- a pop that is given the first of these bytes ends with a chain, whose request is decoded with this result
+-- a pop by a prefix of these loads ends with a chain, whose request is decoded with this result
 pub record DecodesPopped (bytes : List (Bor (List ℕ))) (old : ChainHandle) (before : QueueState)
     (session : Session) (request : List ℕ) (made : Decoded) (asked : ChainHandle) : Type 0 where
   pub popped : ChainHandle
@@ -72,7 +72,7 @@ AreCallsOf bytes old before session request answer calls =
     × HasThisAnswer answer given
     × AreCallsBy bytes old before session request given calls
 
--- these loads are those of a pop by the first of these bytes, which has this result
+-- `loaded` has the loads of a pop by a prefix of the given ones, which has this result
 abbrev pub ArePopLoads :
     List (Bor (List ℕ)) → (old : ChainHandle) → (before : QueueState) → went.LoadOutcome → Loaded → Type 0
 ArePopLoads given old before told loaded =

@@ -30,7 +30,7 @@ use Rattle.worked_callers.specs.ChainCalls.{ArePopLoads}
 abbrev pub pop_event : InFlightChain → Option ChainFault → LiveEvent
 pop_event c fault = EndsPop c.queue c.loaded c.descriptors (step.Chain c.head fault)
 
--- in state s a pop of queue i returns this chain, by the first of these bytes, with this fault or none
+-- in state s a pop of queue i returns this chain, by a prefix of these loads, with this fault or none
 abbrev pub IsPoppedChain : {F : Type 0} → LiveState F → (i : ℕ) → (given : List (Bor (List ℕ))) →
     (old : ChainHandle) → (before : QueueState) → Option ChainFault → InFlightChain → Type 0
 IsPoppedChain s i given old before fault c =
@@ -168,7 +168,7 @@ IsOwnReplyOnceDecoded s i given old before request reply calls notice es =
 
 -- ---- a pop that leads to no chain
 
--- the one event of a pop of queue i that its loads refuse with this error, by the first of these bytes
+-- the one event of a pop of queue i that its loads, a prefix of these, refuse with this error
 abbrev pub IsPopRefusedByLoads : (i : ℕ) → (given : List (Bor (List ℕ))) → (old : ChainHandle) →
     (before : QueueState) → QueueError → List LiveEvent → Type 0
 IsPopRefusedByLoads i given old before e es =
@@ -176,7 +176,7 @@ IsPopRefusedByLoads i given old before e es =
     × ArePopLoads given old before (wents.On (says.Refused e)) loaded
     × (es ≡ EndsPop i loaded ds (step.Refused e) ∷ [])
 
--- the one event of a pop of queue i by the first of these bytes, which finds no chain
+-- the one event of a pop of queue i by a prefix of these loads, which finds no chain
 abbrev pub FindsNoChain :
     (i : ℕ) → (given : List (Bor (List ℕ))) → (old : ChainHandle) → (before : QueueState) → List LiveEvent →
     Type 0

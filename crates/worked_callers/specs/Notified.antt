@@ -1,4 +1,5 @@
--- Calls of a handle as acts of the model's threads (crate notify), and the index that a pop was given.
+-- Calls of a handle as acts of the model's threads (crate notify), the index that a pop was given, and pops
+-- past refused calls.
 use Rattle.std.specs.Prelude.{◌≡◌, ℕ, List, [], ◌∷◌, Option, Some, None, map, reverse, take}
 use Rattle.std.specs.Borrow.{Bor}
 use Rattle.std.specs.Int.{w16, to_le_bytes}
@@ -31,7 +32,7 @@ IsStoredWish q s (Some store) =
 abbrev pub given_so_far : ℕ → List (Bor (List ℕ)) → List (List ℕ)
 given_so_far n bytes = reverse (take n (map (λ b. b.now) bytes))
 
--- a pop that was given the first of these bytes has this result
+-- a pop by a prefix of these loads has this result
 abbrev pub IsWalkedBy : List (Bor (List ℕ)) → (old new : ChainHandle) → (before after : QueueState) →
     went.LoadOutcome → Type 0
 IsWalkedBy bytes old new before after told =
@@ -69,13 +70,13 @@ WalksPast wrong given old new before after told =
     (walks : WalksPastRefusals given old new before after told)
     × RefusesBetween wrong given old new before after told walks
 
--- such a pop that was given the first of these bytes has this result
+-- such a pop by a prefix of these loads has this result
 abbrev pub IsWalkedPastRefusals : (wrong : List ℕ) → List (Bor (List ℕ)) → (old new : ChainHandle) →
     (before after : QueueState) → went.LoadOutcome → Type 0
 IsWalkedPastRefusals wrong bytes old new before after told =
     (n : ℕ) × WalksPast wrong (given_so_far n bytes) old new before after told
 
--- such a pop has a result whose loaded index satisfies P
+-- such a pop has this result, and P holds for the index that it loaded
 abbrev pub PopsAmid : (wrong : List ℕ) → (given : List (List ℕ)) → (old new : ChainHandle) →
     (before after : QueueState) → PopOutcome → (ℕ → Type 0) → Type 0
 PopsAmid wrong given old new before after told P =

@@ -13,7 +13,7 @@ use Rattle.fs_chain.specs.declared.loads.LoadOutcome as went
 use Rattle.fs_chain.specs.declared.queue.QueueState.{QueueState}
 use Rattle.worked_callers.specs.Notified.{given_so_far}
 
--- the memory has each load of any pop by the first of these bytes, and the request's bytes
+-- the memory has each load of any pop by a prefix of these loads, and the request's bytes
 abbrev pub HasEachLoad :
     Memory → (old : ChainHandle) → (before : QueueState) → List (Bor (List ℕ)) → (request : List ℕ) → Type 0
 HasEachLoad m old before given request =
@@ -22,8 +22,8 @@ HasEachLoad m old before given request =
     → LoadsOf (given_so_far n given) old new before after told walks loaded
     → HasLoaded m (queue_of (course_of before old.limit)) loaded request
 
--- after any pop by the first of these bytes, the first bytes of its reply buffer lie apart from the others,
--- however many they are
+-- after any pop by a prefix of these loads, the start of its reply buffer, of any length, lies apart from the
+-- rest
 abbrev pub KeepsReplyApart :
     Memory → (old : ChainHandle) → (before : QueueState) → List (Bor (List ℕ)) → Type 0
 KeepsReplyApart m old before given =

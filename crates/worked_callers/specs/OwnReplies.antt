@@ -50,11 +50,11 @@ pub record ReturnsOwn {F : Type 0} (may : May F) (s : LiveState F) (i : ℕ) (be
   pub used : List Store
   pub end : LiveState F
   pub returns : Happens may now (PushesChain chain exchange notice 0 used loaded_flags) end
-  pub outs_are : end.chains ≡ s.chains
+  pub chains_are : end.chains ≡ s.chains
   pub queues_are : end.queues ≡ changed_at s.queues i (λ _. live_of after)
 
--- the events of such a chain, its return too, are those that `named` says. Each plain machine over these
--- mappings, with the queue as it was before the pop, returns the chain with these bytes
+-- `named` holds for the events of such a chain up to its return. Each plain machine over these mappings, with
+-- the queue as it was before the pop, returns the chain with these bytes
 abbrev pub ReturnsAsStep : {F : Type 0} → (G : Type 0) → (may : May F) → (s : LiveState F) → (i : ℕ) →
     (before after : QueueState) → (request reply : List ℕ) → Calls → (notice : Bool) →
     (named : List LiveEvent → Type 0) → Type 0
@@ -87,7 +87,7 @@ ReportsOwn {F} may s i given old before after request reply notice =
 abbrev pub written : List (ℕ × ℕ) → List ℕ
 written ws = map (λ w. w.0) ws
 
--- such a chain is popped from queue i by the first of the given bytes. Its caller replies to the request with
+-- such a chain is popped from queue i by a prefix of the given loads. Its caller replies to the request with
 -- bytes of its own, and it is returned. The guest writes before, between and after these three events. The
 -- pages that are marked in the end are those marked before, those of the guest's writes, and those that the
 -- return reports

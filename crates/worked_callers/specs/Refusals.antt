@@ -22,12 +22,12 @@ FailsBy (bs ∷ given) old new before after e =
     × RefusesWalk w after bs e
     × IsSame w new
 
--- so is a call of a pop by the first of these bytes
+-- a call of a pop by a prefix of these loads is refused with this error, and changes nothing
 abbrev pub IsFailedBy : List (Bor (List ℕ)) → (old new : ChainHandle) → (before after : QueueState) →
     ChainError → Type 0
 IsFailedBy bytes old new before after e = (n : ℕ) × FailsBy (given_so_far n bytes) old new before after e
 
--- such a pop doesn't come to an outcome: a call is refused, or all these bytes end with a part of a load
+-- a pop by these loads has no outcome: a call is refused, or the last of the bytes is only a part of a load
 abbrev pub FailsToEnd : List (Bor (List ℕ)) → (old new : ChainHandle) → (before after : QueueState) →
     ChainError → Type 0
 FailsToEnd bytes old new before after e =
@@ -55,7 +55,9 @@ RefusesBoth wrong bytes w new q after e =
 -- refused. It fails with this error: its last call is refused, or the call with other bytes before it isn't
 abbrev pub FailsPastRefusals : (wrong : List ℕ) → (given : List (List ℕ)) → (old new : ChainHandle) →
     (before after : QueueState) → ChainError → Type 0
-FailsPastRefusals wrong [] old new before after e = RefusesWalk old before [] e × IsSame old new
+FailsPastRefusals wrong [] old new before after e =
+    RefusesWalk old before [] e
+    × IsSame old new
     × (after ≡ before)
 FailsPastRefusals wrong (bs ∷ given) old new before after e =
     (w : ChainHandle) × (q : QueueState) × (earlier : went.LoadOutcome)
@@ -63,7 +65,7 @@ FailsPastRefusals wrong (bs ∷ given) old new before after e =
     × WantsBytes earlier
     × (RefusesBoth wrong bs w new q after e ⊎ TakesOthers wrong w new q after e)
 
--- so does such a pop by the first of these bytes
+-- such a pop by a prefix of these loads fails with this error
 abbrev pub IsFailedPastRefusals : (wrong : List ℕ) → List (Bor (List ℕ)) → (old new : ChainHandle) →
     (before after : QueueState) → ChainError → Type 0
 IsFailedPastRefusals wrong bytes old new before after e =

@@ -37,10 +37,10 @@ pub record ReturnsServed {F : Type 0} (may : May F) (s : LiveState F) (i : ℕ) 
   pub used : List Store
   pub end : LiveState F
   pub returns : Happens may now (PushesChain chain exchange notice last used loaded_flags) end
-  pub outs_are : end.chains ≡ s.chains
+  pub chains_are : end.chains ≡ s.chains
   pub there : slice_get end.queues i ≡ Some (live_of after)
 
--- a chain of queue i is popped by the first of the given bytes, served and returned. Each plain machine over
+-- a chain of queue i is popped by a prefix of the given loads, served and returned. Each plain machine over
 -- these mappings, with the options of the decoding and the queue as it was before the pop, has that step. Its
 -- file system may be any of which the calls are a run
 abbrev pub ServesAsStep : {F G : Type 0} → (may : May F) → (other : May G) → (s : LiveState F) → (i : ℕ) →

@@ -13,7 +13,7 @@ use Rattle.fs_live.specs.Live.{LiveRun, LiveState, event_acts}
 use Rattle.fs_live.specs.Serial.{IsOfChain, Single, events_in, return_in}
 use Rattle.worked_callers.specs.Events.{IsServedChain}
 
--- a chain of queue i is popped by the first of the given bytes, decoded from this request, answered without
+-- a chain of queue i is popped by a prefix of the given loads, decoded from this request, answered without
 -- data and returned, and nothing else happens between. The other chains stay in flight, and the mappings
 -- stay. These are the files afterwards
 pub record ServesTurn {F : Type 0} (may : May F) (s : LiveState F) (i : ℕ) (given : List (Bor (List ℕ)))
@@ -26,11 +26,11 @@ pub record ServesTurn {F : Type 0} (may : May F) (s : LiveState F) (i : ℕ) (gi
   pub run : LiveRun may s (events_in single) end
   pub named : IsServedChain s i given old before request calls [] notice (events_in single)
   pub files_are : end.files ≡ files
-  pub outs_are : end.chains ≡ s.chains
+  pub chains_are : end.chains ≡ s.chains
   pub places_are : end.places ≡ s.places
   pub limit_is : end.limit ≡ s.limit
   pub there : slice_get end.queues i ≡ Some (live_of after)
 
 -- the memory after the stores of such a chain's return
-abbrev pub after_return : Memory → Single → Memory
-after_return m single = after_stores m (stores_among (event_acts (return_in single)))
+abbrev pub after_its_push : Memory → Single → Memory
+after_its_push m single = after_stores m (stores_among (event_acts (return_in single)))

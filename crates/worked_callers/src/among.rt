@@ -1,4 +1,4 @@
-//! Pops in a run between whose calls other handles changed the queue, or a call of which was refused.
+//! Pops in a run: other handles changed the queue between their calls, or one of their calls was refused.
 
 ghost use Rattle.std.specs.Prelude.{◌≡◌, ◌≤◌, ◌+◌, ℕ, [], ◌∷◌, Bool, IfErr, IfOk, List, None, Ok};
 ghost use Rattle.std.specs.Prelude.{OnErr, OnOk, Some, slice_get};
@@ -65,9 +65,9 @@ pub fn look_after_refusal<F: FileSystem>(
     }
 }
 
-/// A pop between whose calls another handle returns its chain, which is of the same queue. The pop makes few
-/// loads. If it finds no chain available, it is an event, and leaves the queue as that return did. Returns
-/// whether to notify the driver of the returned chain, and the result of the pop's last call.
+/// Pops a queue. Between the pop's calls another handle pushes its chain, which is of the same queue. The pop
+/// makes at most size + 4 loads. If it finds no chain available, it is an event, and leaves the queue as that
+/// push did. Returns whether to notify the driver of the pushed chain, and the result of the pop's last call.
 pub fn look_among_returns<F: FileSystem>(
     handle: &mut ChainHandle,
     other: &mut ChainHandle,

@@ -151,7 +151,7 @@ pub fn walk_to_end(
     }
 }
 
-/// A pop by these bytes, whatever they are, makes at most size + 4 loads.
+/// Pops a queue by these bytes. The pop makes at most size + 4 loads, for any bytes.
 pub fn walk_in_few_loads<F: FileSystem>(
     handle: &mut ChainHandle,
     queue: &mut QueueState,

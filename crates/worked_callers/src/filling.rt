@@ -61,8 +61,8 @@ pub fn pop_for_window<F: FileSystem>(
     Ok(window)
 }
 
-/// Pops a chain, and returns the guest address by which its caller reports bytes that it stores in the reply
-/// buffer from byte `from` on. Fails with `LongReply` if they don't fit one range of addresses.
+/// Pops a chain, and returns the guest address of byte `from` of its reply buffer: the caller reports bytes
+/// that it stores there by this address. Fails with `LongReply` if they don't fit one range of addresses.
 pub fn pop_for_range<F: FileSystem>(
     handle: &mut ChainHandle,
     queue: &mut QueueState,

@@ -14,8 +14,8 @@ use crate::takers::{enable_store, have_u16_numbers};
 use fs_chain::{ChainError, ChainHandle, NotificationStore, QueueState};
 use fs_notify::law_takers;
 
-/// Returns the store of a wish, and a pop is refused because as many chains are in flight as may be. The
-/// thread sleeps as the model's does. Fails with `WrongOrder` if the pop isn't refused so.
+/// Returns the store of a wish, and begins a pop, which is refused because as many chains are in flight as
+/// may be. The thread sleeps as the model's does. Fails with `WrongOrder` if the pop isn't refused so.
 pub fn sleep_at_maximum(
     handle: &mut ChainHandle,
     queue: &mut QueueState,

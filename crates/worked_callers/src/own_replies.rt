@@ -1,5 +1,5 @@
 //! Replies of the caller's own bytes: to a request that wasn't decoded, instead of the answer to a pending
-//! call, and amid a listing. Each is returned as the plain machine's step returns a reply.
+//! call, and during a listing. Each is returned as the plain machine's step returns a reply.
 
 ghost use Rattle.std.specs.Prelude.{ℕ, [], ◌∷◌, drop, IfOk, IsTrue, OnOk};
 ghost use Rattle.fs_chain.specs.Queues.{gave, took};

@@ -1,4 +1,4 @@
-//! Pops some calls of which are refused, as acts of the model in which no notification is lost (crate
+//! Pops with refused calls between their own, as acts of the model in which no notification is lost (crate
 //! `notify`).
 
 ghost use Rattle.std.specs.Prelude.{◌≡◌, ◌<◌, ◌^◌, ℕ, false, IfErr, IfOk, IsTrue, None, OnOk};

@@ -20,23 +20,22 @@ ghost use Rattle.fs_chain.specs.Events.{seen_at, tells_of};
 ghost use Rattle.fs_chain.specs.Queues.{gave, took};
 ghost use Rattle.fs_chain.specs.Serials.{freed};
 ghost use Rattle.fs_chain.specs.Walks.{course_of};
-ghost use Rattle.fs_chain.specs.Whole.{PushedBy, IsMachineBefore, IsSession, IsToldByMemory, IsWalked};
+ghost use Rattle.fs_chain.specs.Whole.{PushedBy, IsMachineBefore, IsSession, IsToldByMemory};
 ghost use Rattle.fs_chain.specs.Whole.{LackPlaces, after_chain, step_loads};
 ghost use Rattle.fs_chain.specs.declared.state.ChainState.TheVariants as at;
 ghost use Rattle.worked_callers.specs.ChainCalls.{ArePopLoads, AreCallsOf};
-ghost use Rattle.worked_callers.specs.Notified.{IsWalkedBy};
 ghost use Rattle.worked_callers.specs.OverMemory.{HasEachLoad, KeepsReplyApart};
 
-use crate::wholes::{decode_and_answer, walk_by, walk_chain};
+use crate::beside::take_faulty;
+use crate::wholes::{decode_and_answer, walk_chain};
 use fs_chain::laws::law_chains;
 use fs_chain::{ChainError, ChainHandle, LoadOutcome, PopOutcome, PushStores, QueueState};
-use fs_queue::ChainFault;
 use fuse_fs::FileSystem;
 use fuse_values::FileAnswer;
 use server_phases::Session;
 
-/// Returns a chain whose reply is known, while these two bytes are seen: whether the driver is notified, and
-/// the stores of the push.
+/// Pushes a chain whose reply is known, with these two bytes loaded. Returns whether the driver is notified,
+/// and the stores of the push.
 pub fn push_by(
     handle: &mut ChainHandle,
     queue: &mut QueueState,
@@ -146,25 +145,6 @@ pub fn serve_by<F: FileSystem>(
     push_by(handle, queue, seen)
 }
 
-/// Pops a faulty chain: its head, and its fault. Fails with `WrongOrder` if the pop ends otherwise.
-pub fn walk_faulty(
-    handle: &mut ChainHandle,
-    queue: &mut QueueState,
-    given: &[&[u8]],
-) -> Result<(u16, ChainFault), ChainError>
-    requires free { handle.old.state ≡ at.Free }
-    ensures queue { OnOk result (queue.new ≡ took queue.old) }
-    ensures walked { IfOk result (λ c. IsWalked handle.old handle.new queue.old queue.new
-        (LoadOutcome.On (PopOutcome.Faulty c.0 c.1))) }
-    ensures given { IfOk result (λ c. IsWalkedBy given.now handle.old handle.new queue.old queue.new
-        (LoadOutcome.On (PopOutcome.Faulty c.0 c.1))) }
-{
-    match walk_by(handle, queue, given)? {
-        LoadOutcome::On(PopOutcome::Faulty { head, fault }) => Ok((head, fault)),
-        _ => Err(ChainError::WrongOrder),
-    }
-}
-
 /// Pops and pushes a faulty chain. It is pushed without a reply at any position, and is a step if it is in
 /// flight alone. Returns whether the driver is notified, and the stores of the push.
 pub fn serve_faulty<F: FileSystem>(
@@ -200,6 +180,6 @@ pub fn serve_faulty<F: FileSystem>(
         (after_chain m i (queue_of (course_of queue.old handle.old.limit)) m.options m.files)) }
 {
     law_chains::<F>();
-    let (_, _) = walk_faulty(handle, queue, given)?;
+    let (_, _) = take_faulty(handle, queue, given)?;
     push_by(handle, queue, seen)
 }

@@ -16,7 +16,7 @@ ghost use Rattle.fs_live.specs.Live.{LiveState};
 ghost use Rattle.fs_live.specs.Serial.{FoundIn, plain, turn_of};
 ghost use Rattle.worked_callers.specs.ChainCalls.{AreCallsOf};
 ghost use Rattle.worked_callers.specs.OwnReplies.{IsOfRun};
-ghost use Rattle.worked_callers.specs.Turns.{ServesTurn, after_return};
+ghost use Rattle.worked_callers.specs.Turns.{ServesTurn, after_its_push};
 
 use crate::wholes::{decode_and_answer, push_reply, walk_chain};
 use fs_chain::{ChainError, ChainHandle, QueueState};
@@ -105,9 +105,9 @@ pub fn serve_two_turns<F: FileSystem>(
         later notices.1)
         × ((m : Memory)
         → FoundIn m s t.single
-        → FoundIn (after_return m t.single) t.end u.single
+        → FoundIn (after_its_push m t.single) t.end u.single
         → KickRun F.may (plain s m) i 2 (turn_of t.single ∷ turn_of u.single ∷ []) None
-        (plain u.end (after_return (after_return m t.single) u.single))))))) }
+        (plain u.end (after_its_push (after_its_push m t.single) u.single))))))) }
 {
     law_serial::<F>();
     let (of_first, of_second) = sessions;

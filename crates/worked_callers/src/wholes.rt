@@ -31,7 +31,7 @@ use fuse_fs::FileSystem;
 use fuse_values::FileAnswer;
 use server_phases::Session;
 
-/// Whether a call of `pop` asks for bytes.
+/// Whether a call of `pop` with this result asks for bytes.
 pub fn wants_bytes(told: &LoadOutcome) -> bool
     ensures yes { result ≡ true → WantsBytes told.now }
     ensures no { result ≡ false → WantsBytes told.now → ⊥ }

@@ -17,8 +17,8 @@ use Rattle.worked_callers.proofs.ServedBeside.{served_beside}
 use Rattle.worked_callers.proofs.TookQueue.{gave_took}
 use Rattle.worked_callers.proofs.lent.serve_lent.Goals as goal
 
-pub reply-requires-clause-taken : goal.reply-requires-clause-taken
-reply-requires-clause-taken g c =
+pub decode_and_answer-requires-clause-taken : goal.decode_and_answer-requires-clause-taken
+decode_and_answer-requires-clause-taken g c =
     let n = c.in_ok-request_len.request_len in
     let test = c.if-request_len-request.false in
     let same : n ≡ length c.args.request.now = grind (arith, nat_tests, test) in
@@ -37,7 +37,7 @@ returns g c =
     let before = c.args.queue.now in
     let after = c.walk_chain.new.queue in
     let walks = c.in_ok-request_len.ensures.given in
-    let replied = c.in_ok-reply.ensures.replied in
+    let replied = c.in_ok-decode_and_answer.ensures.replied in
     let request = c.args.request.now in
     record {
       run = if_ok_so c.push_reply.result _ _ _
@@ -78,7 +78,7 @@ returns g c =
           c.in_ok-table.table
           (chain_keeps old one before after c.in_ok-request_len.field-0-0 c.in_ok-request_len.request_len c.in_ok-request_len.field-0-2
           c.requires.goes c.in_ok-request_len.ensures.walked)
-          c.in_ok-table.ensures.table c.in_ok-table.ensures.taken c.in_ok-reply.ensures.kept c.in_ok-lend_table.ensures.lent free)
+          c.in_ok-table.ensures.table c.in_ok-table.ensures.taken c.in_ok-decode_and_answer.ensures.kept c.in_ok-lend_table.ensures.lent free)
           c.push_reply.ensures.freed;
       again = c.push_reply.ensures.again;
       queue = gave_took c.push_reply.result _ _ _ c.in_ok-request_len.ensures.queue c.push_reply.ensures.queue;

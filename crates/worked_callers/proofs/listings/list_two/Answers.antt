@@ -5,8 +5,8 @@ use Rattle.worked_callers.proofs.listings.list_two.Goals as goal
 
 pub returns : goal.returns
 returns c =
-    let first = c.in_ok-bring.ensures in
-    let second = c.in_ok-bring-2.ensures in
+    let first = c.in_ok-add_entry.ensures in
+    let second = c.in_ok-add_entry-2.ensures in
     let gathered = c.add_entry-2.new.handle in
     let list = c.add_entry-2.new.list in
     record {

@@ -17,8 +17,8 @@ use Rattle.worked_callers.proofs.ServedBeside.{served_beside}
 use Rattle.worked_callers.proofs.TookQueue.{gave_took}
 use Rattle.worked_callers.proofs.live_queues.serve_single.Goals as goal
 
-pub reply-requires-clause-taken : goal.reply-requires-clause-taken
-reply-requires-clause-taken g c =
+pub decode_and_answer-requires-clause-taken : goal.decode_and_answer-requires-clause-taken
+decode_and_answer-requires-clause-taken g c =
     let n = c.in_ok-request_len.request_len in
     let test = c.if-request_len-request.false in
     let same : n ≡ length c.args.request.now = grind (arith, nat_tests, test) in
@@ -36,7 +36,7 @@ returns g c =
     let before = c.args.queue.now in
     let after = c.walk_chain.new.queue in
     let walks = c.in_ok-request_len.ensures.given in
-    let replied = c.in_ok-reply.ensures.replied in
+    let replied = c.in_ok-decode_and_answer.ensures.replied in
     let request = c.args.request.now in
     let calls = file_calls (drop 80 request) replied.0 replied.2 in
     record {

@@ -56,7 +56,7 @@ returns g c =
                 two three four
                 before after c.in_ok-request_len.field-0-0 c.in_ok-request_len.request_len c.in_ok-request_len.field-0-2 _ c.args.session
                 request bytes asked.0 notice c.requires.goes c.in_ok-request_len.ensures.given asked.1
-                (λ out is. entry_keeps two three _ _ _ out c.in_ok-bring.ensures.brought is)
+                (λ out is. entry_keeps two three _ _ _ out c.in_ok-add_entry.ensures.brought is)
                 c.in_ok-reply.ensures.ok c.in_ok-reply.ensures.kept back s i here session answer files fits so in
                 subst
                 (λ (q : QueueState). ReturnsAsStep g.row.G.Denot may s i before q request bytes calls notice

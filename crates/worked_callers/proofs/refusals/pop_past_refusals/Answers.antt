@@ -10,7 +10,7 @@ loop-bytes-preserved c =
     amid_more c.args.given.now c.loop-bytes.bytes-index _ c.args.wrong.now c.args.handle.now c.loop-bytes.handle c.call_refused.new.handle
     c.pop-in-loop-bytes.new.self c.args.queue.now c.loop-bytes.queue c.call_refused.new.queue c.pop-in-loop-bytes.new.queue
     c.loop-bytes.told c.in_ok-told-2.told c.loop-bytes-test.true c.loop-bytes.invariant (c.if-not-wants_bytes.ensures.yes refl)
-    c.in_ok-refuse.ensures.refused c.in_ok-refuse.ensures.same c.in_ok-refuse.ensures.queue c.in_ok-told-2.ensures.goes (search rules)
+    c.in_ok-call_refused.ensures.refused c.in_ok-call_refused.ensures.same c.in_ok-call_refused.ensures.queue c.in_ok-told-2.ensures.goes (search rules)
 
 pub returns-then-not-wants_bytes-clause-all : goal.returns-then-not-wants_bytes-clause-all
 returns-then-not-wants_bytes-clause-all c wants = absurd (c.if-not-wants_bytes.ensures.no refl wants)
@@ -29,11 +29,11 @@ returns-in_err-told-clause-error c =
     failed
     (0, (c.in_err-told.ensures.error, c.in_err-told.ensures.same.0, c.in_err-told.ensures.same.1))
 
-pub returns-in_err-refuse-clause-error : goal.returns-in_err-refuse-clause-error
-returns-in_err-refuse-clause-error c =
-    let e = c.in_err-refuse.field-0.0 in
-    let failed : c.from_residual-in_err-refuse.result ≡ Err e = search rules in
-    let takes = c.in_err-refuse.ensures.taken in
+pub returns-in_err-call_refused-clause-error : goal.returns-in_err-call_refused-clause-error
+returns-in_err-call_refused-clause-error c =
+    let e = c.in_err-call_refused.field-0.0 in
+    let failed : c.from_residual-in_err-call_refused.result ≡ Err e = search rules in
+    let takes = c.in_err-call_refused.ensures.taken in
     if_err _ _ (IsFailedPastRefusals c.args.wrong.now c.args.given.now c.args.handle.now c.call_refused.new.handle c.args.queue.now
     c.call_refused.new.queue)
     failed
@@ -51,5 +51,5 @@ returns-in_err-told-2-clause-error c =
     c.call_refused.new.handle
     c.pop-in-loop-bytes.new.self c.args.queue.now c.loop-bytes.queue c.call_refused.new.queue c.pop-in-loop-bytes.new.queue
     c.loop-bytes.told e c.loop-bytes-test.true c.loop-bytes.invariant (c.if-not-wants_bytes.ensures.yes refl)
-    c.in_ok-refuse.ensures.refused c.in_ok-refuse.ensures.same c.in_ok-refuse.ensures.queue c.in_err-told-2.ensures.error
+    c.in_ok-call_refused.ensures.refused c.in_ok-call_refused.ensures.same c.in_ok-call_refused.ensures.queue c.in_err-told-2.ensures.error
     c.in_err-told-2.ensures.same.0 c.in_err-told-2.ensures.same.1 (search rules))

@@ -22,8 +22,8 @@ use Rattle.worked_callers.proofs.Served.{front_stored, if_ok, if_ok_so, more_tak
 use Rattle.worked_callers.proofs.TookQueue.{gave_took}
 use Rattle.worked_callers.proofs.seen.serve_by.Goals as goal
 
-pub reply-requires-clause-taken : goal.reply-requires-clause-taken
-reply-requires-clause-taken g c =
+pub decode_and_answer-requires-clause-taken : goal.decode_and_answer-requires-clause-taken
+decode_and_answer-requires-clause-taken g c =
     let n = c.in_ok-request_len.request_len in
     let test = c.if-request_len-request.false in
     let same : n ≡ length c.args.request.now = grind (arith, nat_tests, test) in
@@ -44,7 +44,7 @@ returns g c =
     let seen = c.args.seen in
     let walked = c.in_ok-request_len.ensures.given in
     let given = given_so_far walked.0 c.args.given.now in
-    let replied = c.in_ok-reply.ensures.replied in
+    let replied = c.in_ok-decode_and_answer.ensures.replied in
     let head = c.in_ok-request_len.field-0-0 in
     let lens : ℕ × ℕ = (c.in_ok-request_len.request_len, c.in_ok-request_len.field-0-2) in
     let popped = says.Chain head lens.0 lens.1 in

@@ -17,16 +17,16 @@ use Rattle.worked_callers.proofs.seen.serve_faulty.Goals as goal
 pub returns : goal.returns
 returns g c =
     let old = c.args.handle.now in
-    let popped_handle = c.walk_faulty.new.handle in
+    let popped_handle = c.take_faulty.new.handle in
     let before = c.args.queue.now in
-    let back_queue = c.walk_faulty.new.queue in
-    let walked = c.in_ok-walk_faulty.ensures.given in
+    let back_queue = c.take_faulty.new.queue in
+    let walked = c.in_ok-take_faulty.ensures.given in
     let given = given_so_far walked.0 c.args.given.now in
-    let head = c.in_ok-walk_faulty.field-0-0 in
-    let fault = c.in_ok-walk_faulty.field-0-1 in
+    let head = c.in_ok-take_faulty.field-0-0 in
+    let fault = c.in_ok-take_faulty.field-0-1 in
     let q = queue_of (course_of before old.limit) in
     let keeps = queue_keeps old popped_handle before back_queue (says.Faulty head fault) c.requires.goes tt
-    c.in_ok-walk_faulty.ensures.walked in
+    c.in_ok-take_faulty.ensures.walked in
     let there = at_position before.layout before.next_used in
     record {
       told = if_ok c.push_by.result _ _
@@ -83,5 +83,5 @@ returns g c =
           ))
           c.push_by.ensures.back;
       again = c.push_by.ensures.again;
-      queue = gave_took c.push_by.result _ _ _ c.in_ok-walk_faulty.ensures.queue c.push_by.ensures.queue;
+      queue = gave_took c.push_by.result _ _ _ c.in_ok-take_faulty.ensures.queue c.push_by.ensures.queue;
     }

@@ -13,8 +13,8 @@ use Rattle.worked_callers.proofs.ServedSteps.{returned_named, returned_served, s
 use Rattle.worked_callers.proofs.TookQueue.{gave_took}
 use Rattle.worked_callers.proofs.steps.serve_as_step.Goals as goal
 
-pub reply-requires-clause-taken : goal.reply-requires-clause-taken
-reply-requires-clause-taken g c =
+pub decode_and_answer-requires-clause-taken : goal.decode_and_answer-requires-clause-taken
+decode_and_answer-requires-clause-taken g c =
     let n = c.in_ok-request_len.request_len in
     let test = c.if-request_len-request.false in
     let same : n ≡ length c.args.request.now = grind (arith, nat_tests, test) in
@@ -37,7 +37,7 @@ returns g c =
     let n = c.in_ok-request_len.request_len in
     let r = c.in_ok-request_len.field-0-2 in
     let walks = c.in_ok-request_len.ensures.given in
-    let replied = c.in_ok-reply.ensures.replied in
+    let replied = c.in_ok-decode_and_answer.ensures.replied in
     let request = c.args.request.now in
     let calls = file_calls (drop 80 request) replied.0 replied.2 in
     let called = calls_of_answer given old one replied.1 c.decode_and_answer.new.handle before after head n r c.args.session request

@@ -13,8 +13,8 @@ use Rattle.worked_callers.proofs.TookQueue.{gave_took}
 use Rattle.worked_callers.proofs.TurnServed.{turn_served}
 use Rattle.worked_callers.proofs.turns.serve_turn.Goals as goal
 
-pub reply-requires-clause-taken : goal.reply-requires-clause-taken
-reply-requires-clause-taken g c =
+pub decode_and_answer-requires-clause-taken : goal.decode_and_answer-requires-clause-taken
+decode_and_answer-requires-clause-taken g c =
     let n = c.in_ok-request_len.request_len in
     let test = c.if-request_len-bytes.false in
     let same : n ≡ length c.args.bytes.now.request.now = grind (arith, nat_tests, test) in
@@ -36,7 +36,7 @@ returns g c =
     let n = c.in_ok-request_len.request_len in
     let r = c.in_ok-request_len.field-0-2 in
     let walks = c.in_ok-request_len.ensures.given in
-    let replied = c.in_ok-reply.ensures.replied in
+    let replied = c.in_ok-decode_and_answer.ensures.replied in
     let request = c.args.bytes.now.request.now in
     let calls = file_calls (drop 80 request) replied.0 replied.2 in
     record {

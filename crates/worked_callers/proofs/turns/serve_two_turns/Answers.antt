@@ -4,7 +4,7 @@ use Rattle.fs_chain.specs.declared.queue.QueueState.{QueueState}
 use Rattle.fs_live.specs.Handles.{live_of}
 use Rattle.fs_live.specs.Serial.{IsAtRest, events_in}
 use Rattle.worked_callers.specs.OwnReplies.{IsOfRun}
-use Rattle.worked_callers.specs.Turns.{after_return}
+use Rattle.worked_callers.specs.Turns.{after_its_push}
 use Rattle.worked_callers.proofs.MovedBetweenChains.{reached_run}
 use Rattle.worked_callers.proofs.turns.serve_two_turns.Goals as goal
 
@@ -41,7 +41,7 @@ returns g c =
                               u,
                               λ m found found'.
                                   c.law_serial.ensures.kick s u.end (t.single ∷ u.single ∷ []) m
-                                  (after_return (after_return m t.single) u.single) i (live_of before) none here.there rest (
+                                  (after_its_push (after_its_push m t.single) u.single) i (live_of before) none here.there rest (
                                     t.end,
                                     t.queue_is,
                                     t.of_chain,
