@@ -49,8 +49,8 @@ class Fuzzer:
         self.differences = 0
 
     def run(self):
-        """Plays scripts until the time is up, all fixed ones in any case. Each batch has a seed's,
-        so that one can be played again."""
+        """Plays scripts until the time is up, all fixed ones in any case, or until ten differ. Each
+        batch has a seed's, so that one can be played again."""
         store = stored()
         fixed = [(f"stored script {index}", script) for index, script in enumerate(store)]
         fixed.append(("a script of 1 MiB", long_script(0)))
@@ -59,7 +59,7 @@ class Fuzzer:
             fixed.append(("a script that wraps an index", wraps()))
             fixed.append(("a script of kicks that cost much", heavy()))
         size = Built.batch
-        while fixed or time.monotonic() < self.end and self.differences < MOST_DIFFERENCES:
+        while self.differences < MOST_DIFFERENCES and (fixed or time.monotonic() < self.end):
             played, fixed = fixed[:size - 1], fixed[size - 1:]
             seeds = range(self.seed, self.seed + size - len(played))
             self.compare([(f"seed {seed}", made(seed, store)) for seed in seeds] + played)
