@@ -49,7 +49,8 @@ use Rattle.fs_live.specs.Live.{ReceivesAnswer}
 use Rattle.fs_live.specs.Live.{PushesChain, RepliesOwnBytes}
 use Rattle.fs_live.specs.Live.{EndsPop, after_answer, after_decoding, after_push, after_own, after_pop, asked_chain, calls_among, new_chain}
 use Rattle.fs_live.specs.Live.{room_of}
-use Rattle.fs_live.specs.Others.{DecodedIsUnanswered, PushedOwn, HandlePushesOwn, HandleRepliesInstead, HandleRepliesOwnBytes, FromUnreplied}
+use Rattle.fs_live.specs.Others.{DecodedIsUnanswered, PushedOwn, HandlePushesOwn, HandleRepliesInstead, HandleRepliesOwnBytes}
+use Rattle.fs_live.specs.Others.{FromUnreplied}
 use Rattle.fs_live.specs.Others.{HoldsUnanswered}
 use Rattle.fs_live.specs.Others.{HoldsOwnReply}
 use Rattle.fs_live.specs.Runs.{IsAskedIn, IsBefore, OwnIsReturned, ReturnsReport, RunsOnQueue, events_on, going, in_flight_on, reported_by}

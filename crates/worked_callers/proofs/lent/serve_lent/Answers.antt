@@ -78,7 +78,8 @@ returns g c =
           c.in_ok-table.table
           (chain_keeps old one before after c.in_ok-request_len.field-0-0 c.in_ok-request_len.request_len c.in_ok-request_len.field-0-2
           c.requires.goes c.in_ok-request_len.ensures.walked)
-          c.in_ok-table.ensures.table c.in_ok-table.ensures.taken c.in_ok-decode_and_answer.ensures.kept c.in_ok-lend_table.ensures.lent free)
+          c.in_ok-table.ensures.table c.in_ok-table.ensures.taken c.in_ok-decode_and_answer.ensures.kept c.in_ok-lend_table.ensures.lent
+          free)
           c.push_reply.ensures.freed;
       again = c.push_reply.ensures.again;
       queue = gave_took c.push_reply.result _ _ _ c.in_ok-request_len.ensures.queue c.push_reply.ensures.queue;

@@ -10,7 +10,8 @@ loop-bytes-preserved c =
     amid_more c.args.given.now c.loop-bytes.bytes-index _ c.args.wrong.now c.args.handle.now c.loop-bytes.handle c.call_refused.new.handle
     c.pop-in-loop-bytes.new.self c.args.queue.now c.loop-bytes.queue c.call_refused.new.queue c.pop-in-loop-bytes.new.queue
     c.loop-bytes.told c.in_ok-told-2.told c.loop-bytes-test.true c.loop-bytes.invariant (c.if-not-wants_bytes.ensures.yes refl)
-    c.in_ok-call_refused.ensures.refused c.in_ok-call_refused.ensures.same c.in_ok-call_refused.ensures.queue c.in_ok-told-2.ensures.goes (search rules)
+    c.in_ok-call_refused.ensures.refused c.in_ok-call_refused.ensures.same c.in_ok-call_refused.ensures.queue c.in_ok-told-2.ensures.goes
+    (search rules)
 
 pub returns-then-not-wants_bytes-clause-all : goal.returns-then-not-wants_bytes-clause-all
 returns-then-not-wants_bytes-clause-all c wants = absurd (c.if-not-wants_bytes.ensures.no refl wants)
