@@ -30,6 +30,7 @@ use Rattle.fs_chain.specs.Pushes.{IfHasReply, PushesBy}
 use Rattle.fs_chain.specs.Walks.{RefusalHasEvents, course_of, queue_after, state_after, told_of}
 use Rattle.fs_chain.specs.Whole.{FromReplied, FromTaken, PushedBy, IsByFlags, IsToldBySeen, IsWalked, push_acts}
 use Rattle.fs_chain.proofs.WholeWalks.{walk_comes}
+use Rattle.worked_callers.specs.ChainCalls.{AreActsOf}
 
 abbrev IsAChain : walked.PopOutcome → Type 0
 IsAChain (says.Chain head n r) = Unit {0}
@@ -137,6 +138,19 @@ pub front_stored : (kept : QueueState) (st : state.ChainState) (s : PushStores) 
     → FromReplied kept st (λ reply s₁. (last ≡ front_len reply) × P reply s₁) s → last ≡ s.front_len
 front_stored kept (at.HasReply out reply) s last P back = back.1.0 ∙ sym back.0.0
 front_stored kept st s last P back = absurd back
+
+-- the acts of a push are those by the stores that are returned for it
+pub acts_stored : (kept : QueueState) (st : state.ChainState) (s : PushStores) (last : ℕ) (room behind flags : List ℕ) (acts : List Act)
+    → FromReplied kept st (λ reply s₁. (last ≡ front_len reply) × (acts ≡ push_acts room reply behind s₁ flags)) s
+    → (t : PushStores) (seen : List ℕ) → s ≡ t → flags ≡ seen → AreActsOf t seen acts
+acts_stored kept (at.HasReply out reply) s last room behind flags acts back t seen same loads = (
+  room,
+  reply,
+  behind,
+  back.1.1 ∙ ap (λ (k : PushStores). push_acts room reply behind k flags) same
+      ∙ ap (λ (f : List ℕ). push_acts room reply behind t f) loads,
+)
+acts_stored kept st s last room behind flags acts back t seen same loads = absurd back
 
 -- a handle that pushed its chain is freed
 freed_of : (old : ChainHandle) (out : InFlight) (reply : ChainReply) → old.state ≡ at.HasReply out reply

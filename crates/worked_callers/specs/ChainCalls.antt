@@ -10,6 +10,7 @@ use Rattle.fuse_values.specs.declared.answer.FileAnswer.TheVariants as value
 use Rattle.server_phases.specs.declared.session.Session.{Session}
 use Rattle.server_phases.specs.Gathering.{Brought}
 use Rattle.plain_machine.specs.Step.{Calls, EachSuits}
+use Rattle.plain_machine.specs.StepBy.{Act}
 use Rattle.fs_queue.specs.Queue.{Queue}
 use Rattle.fs_queue.specs.declared.fault.QueueError.{QueueError}
 use Rattle.fs_queue.specs.declared.fault.QueueError.TheVariants.{Stopped}
@@ -18,7 +19,7 @@ use Rattle.fs_regions.specs.Places.{Mapped}
 use Rattle.fs_regions.specs.Walks.{Loaded}
 use Rattle.fs_chain.specs.Queues.{reset_to}
 use Rattle.fs_chain.specs.Whole.{ByEntries, ChainAnswer, IsRepliedBy, IsDecodedBy, LoadsOf, NoAnswer}
-use Rattle.fs_chain.specs.Whole.{OneAnswer}
+use Rattle.fs_chain.specs.Whole.{OneAnswer, push_acts}
 use Rattle.fs_chain.specs.Whole.{BeginsPopBy, WalksBy, WantsBytes, file_calls}
 use Rattle.fs_chain.specs.declared.answering.Replied.{Replied}
 use Rattle.fs_chain.specs.declared.chain_handle.ChainHandle.{ChainHandle}
@@ -26,7 +27,9 @@ use Rattle.fs_chain.specs.declared.decoding.Decoded.{Decoded}
 use Rattle.fs_chain.specs.declared.loads.LoadOutcome as went
 use Rattle.fs_chain.specs.declared.loads.LoadOutcome.TheVariants as wents
 use Rattle.fs_chain.specs.declared.popping.PopOutcome.TheVariants as says
+use Rattle.fs_chain.specs.declared.pushing.PushStores.{PushStores}
 use Rattle.fs_chain.specs.declared.queue.QueueState.{QueueState}
+use Rattle.fs_chain.specs.declared.state.ChainReply.{ChainReply}
 use Rattle.worked_callers.specs.Notified.{IsWalkedBy, given_so_far}
 
 -- a pop by a prefix of these loads ends with a chain, whose request is decoded with this result
@@ -98,6 +101,12 @@ HasMemory old new regions limit =
 -- a handle has the regions, with their table, and the limit that this one has
 abbrev pub HasMemoryOf : (other handle : ChainHandle) → Type 0
 HasMemoryOf other handle = (handle.regions ≡ other.regions) × (handle.limit ≡ other.limit)
+
+-- these acts are a push by these stores, whose caller loads these two bytes last
+abbrev pub AreActsOf : (stores : PushStores) → (seen : List ℕ) → List Act → Type 0
+AreActsOf stores seen acts =
+    (room : List ℕ) × (reply : ChainReply) × (behind : List ℕ)
+    × (acts ≡ push_acts room reply behind stores seen)
 
 -- the error with which a queue is stopped, if it is: a record doesn't have another
 abbrev pub stop_of : (stopped : Bool) → Option QueueError

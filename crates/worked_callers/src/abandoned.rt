@@ -7,6 +7,7 @@ ghost use Rattle.fs_regions.specs.Places.{places_in};
 ghost use Rattle.fuse_fs.specs.Calls as file;
 ghost use Rattle.fuse_values.specs.Values.{call_of};
 ghost use Rattle.fuse_values.specs.declared.call.FileCall as value;
+ghost use Rattle.fs_chain.specs.Answers.{IsNotTaken};
 ghost use Rattle.fs_chain.specs.Pushes.{IsFreed};
 ghost use Rattle.fs_chain.specs.Queues.{took};
 ghost use Rattle.fs_chain.specs.declared.decoding.Decoded.TheVariants as asks;
@@ -40,9 +41,10 @@ pub fn abandon_decoded<F: FileSystem>(
     ensures late { IfOk result (λ error. error ≡ ChainError.WrongOrder) }
     ensures queue { OnOk result (queue.new ≡ took queue.old) }
     ensures again { OnOk result (handle.new.state ≡ at.Free) }
-    ensures run { OnOk result ((made : value.FileCall) × (asked : ChainHandle)
+    ensures run { IfOk result (λ error. (made : value.FileCall) × (asked : ChainHandle)
         × DecodesPopped given.now handle.old queue.old session request.now (asks.Call made) asked
         × IsFreed asked handle.new
+        × IsNotTaken handle.new asked.serial late error
         × ((s : LiveState F) (i : ℕ)
         → IsReached F.may s
         → slice_get s.queues i ≡ Some (live_of queue.old)

@@ -15,7 +15,7 @@ ghost use Rattle.fs_chain.specs.Answers.{CanBeGiven, IfWaits, IsNotTaken};
 ghost use Rattle.fs_chain.specs.Events.{event_miss, notification_store, store_of};
 ghost use Rattle.fs_chain.specs.Queues.{gave, reset_to, took};
 ghost use Rattle.fs_chain.specs.Walks.{HasEvents, IsAllBut};
-ghost use Rattle.fs_chain.specs.Whole.{IsAnsweredBy, IsWalked, WalksBy};
+ghost use Rattle.fs_chain.specs.Whole.{IsAnsweredBy, IsWalked, WalksBy, WantsBytes};
 ghost use Rattle.fs_chain.specs.declared.answering.Replied.{Replied};
 ghost use Rattle.fs_chain.specs.declared.decoding.Decoded.TheVariants as asks;
 ghost use Rattle.fs_chain.specs.declared.state.ChainState.TheVariants as at;
@@ -142,6 +142,9 @@ pub fn walk_to_end(
         (λ told. IsWalked handle.old handle.new queue.old queue.new (LoadOutcome.On told)) }
     ensures given { IfOk result (λ told.
         IsWalkedBy given.now handle.old handle.new queue.old queue.new (LoadOutcome.On told)) }
+    ensures all { IfOk result (λ told. WantsBytes (LoadOutcome.On told)
+        → WalksBy (given_so_far (length given.now) given.now) handle.old handle.new queue.old queue.new
+        (LoadOutcome.On told)) }
     ensures error { IfErr result
         (FailsToEnd given.now handle.old handle.new queue.old queue.new) }
 {

@@ -7,12 +7,17 @@ ghost use Rattle.fuse_fs.specs.Calls.{FileRun};
 ghost use Rattle.server_phases.specs.Answering.{TellsBytes};
 ghost use Rattle.fs_chain.specs.Queues.{gave, took, gave_up};
 ghost use Rattle.fs_chain.specs.Tables.{with_table};
+ghost use Rattle.fs_chain.specs.Whole.{IsDecodedBy};
+ghost use Rattle.fs_chain.specs.declared.decoding.Decoded.{Decoded};
+ghost use Rattle.fs_chain.specs.declared.loads.LoadOutcome.TheVariants as wents;
+ghost use Rattle.fs_chain.specs.declared.popping.PopOutcome.TheVariants as says;
 ghost use Rattle.fs_chain.specs.declared.state.ChainState.TheVariants as at;
 ghost use Rattle.plain_machine.specs.Step.{Calls};
 ghost use Rattle.fs_live.specs.Handles.{IsReached, IsSessionOf, live_of};
 ghost use Rattle.fs_live.specs.Live.{LiveEvent, LiveRun, LiveState, calls_among};
 ghost use Rattle.worked_callers.specs.ChainCalls.{AreCallsOf, HasMemoryOf};
 ghost use Rattle.worked_callers.specs.Events.{IsFaultyChain, IsGivenUpChain, IsServedChain};
+ghost use Rattle.worked_callers.specs.Notified.{IsWalkedBy};
 
 use crate::beside::take_faulty;
 use crate::wholes::{decode_and_answer, push_reply, walk_chain};
@@ -60,6 +65,12 @@ pub fn serve_lent<F: FileSystem>(
     ensures again { OnOk result (handle.new.state ≡ at.Free) }
     ensures queue { OnOk result (queue.new ≡ gave (took queue.old)) }
     ensures memory { OnOk result (HasMemoryOf handle.old handle.new) }
+    ensures without_table { OnOk result ((popped : ChainHandle) × (after : QueueState) × (head : ℕ)
+        × (lens : ℕ × ℕ)
+        × IsWalkedBy given.now handle.old popped queue.old after
+        (wents.On (says.Chain head lens.0 lens.1))
+        × (made : Decoded) × (asked : ChainHandle)
+        × IsDecodedBy (with_table popped None) session request.now request.now made asked) }
     ensures run { IfOk result (λ notice. (s : LiveState F) (i : ℕ) (files : F)
         → IsReached F.may s
         → slice_get s.queues i ≡ Some (live_of queue.old)

@@ -23,7 +23,7 @@ ghost use Rattle.fs_chain.specs.Walks.{course_of};
 ghost use Rattle.fs_chain.specs.Whole.{PushedBy, IsMachineBefore, IsSession, IsToldByMemory};
 ghost use Rattle.fs_chain.specs.Whole.{LackPlaces, after_chain, step_loads};
 ghost use Rattle.fs_chain.specs.declared.state.ChainState.TheVariants as at;
-ghost use Rattle.worked_callers.specs.ChainCalls.{ArePopLoads, AreCallsOf};
+ghost use Rattle.worked_callers.specs.ChainCalls.{AreActsOf, ArePopLoads, AreCallsOf};
 ghost use Rattle.worked_callers.specs.OverMemory.{HasEachLoad, KeepsReplyApart};
 
 use crate::beside::take_faulty;
@@ -90,6 +90,7 @@ pub fn serve_by<F: FileSystem>(
         (LoadOutcome.On (PopOutcome.Chain head lens.0 lens.1)) loaded
         × (room : List ℕ) × (x : Exchange) × (e : Effects)
         × (e.last ≡ told.1.front_len)
+        × AreActsOf told.1 seen e.acts
         × OffersBy (places_in handle.old.regions) handle.old.limit
         (queue_of (course_of queue.old handle.old.limit)) loaded request.now
         (Offers head (IsRequest request.now room))
@@ -109,6 +110,7 @@ pub fn serve_by<F: FileSystem>(
         × LackPlaces handle.old queue.old loaded lost
         × (x : Exchange) × (e : Effects)
         × (e.last ≡ told.1.front_len)
+        × AreActsOf told.1 seen e.acts
         × (x.head ≡ head)
         × (x.request ≡ request.now)
         × StepBy F.may m i (step_loads loaded lost request.now) calls (Exchanged x (tells seen)) e
@@ -162,6 +164,7 @@ pub fn serve_faulty<F: FileSystem>(
     ensures answered { IfOk result (λ told. (i : ℕ) (m : State F)
         → (head : ℕ) × (fault : ChainFault) × (loaded : Loaded) × (x : Exchange) × (e : Effects)
         × (e.last ≡ told.1.front_len)
+        × AreActsOf told.1 seen e.acts
         × ArePopLoads given.now handle.old queue.old (LoadOutcome.On (PopOutcome.Faulty head fault)) loaded
         × OffersBy (places_in handle.old.regions) handle.old.limit
         (queue_of (course_of queue.old handle.old.limit)) loaded [] (Offers head (CannotFetch fault))
@@ -175,6 +178,7 @@ pub fn serve_faulty<F: FileSystem>(
         × LackPlaces handle.old queue.old loaded lost
         × (x : Exchange) × (e : Effects)
         × (e.last ≡ told.1.front_len)
+        × AreActsOf told.1 seen e.acts
         × (x.head ≡ head)
         × StepBy F.may m i (step_loads loaded lost []) [] (Exchanged x (tells seen)) e
         (after_chain m i (queue_of (course_of queue.old handle.old.limit)) m.options m.files)) }

@@ -1,5 +1,6 @@
-use Rattle.std.proofs.Common.{◌≡◌, ap, length, subst, sym, ◌∙◌, arith}
+use Rattle.std.proofs.Common.{◌≡◌, ℕ, ap, length, subst, sym, ◌∙◌, arith}
 use Rattle.std.proofs.lemmas.Bool.Decides.{nat_tests}
+use Rattle.fs_chain.specs.Answers.{IsNotTaken}
 use Rattle.fs_chain.specs.Pushes.{IsFreed}
 use Rattle.fs_chain.specs.declared.chain_handle.ChainHandle.{ChainHandle}
 use Rattle.fs_chain.specs.declared.decoding.Decoded.TheVariants as asks
@@ -37,6 +38,9 @@ returns-in-Err g c =
         c.decode_call.new.handle,
         decoded,
         subst (λ (w : ChainHandle). IsFreed c.decode_call.new.handle w) (sym c.in-Err.ensures.same) c.abandon.ensures,
+        subst (λ (w : ChainHandle). IsNotTaken w c.decode_call.new.handle.serial c.args.late c.in-Err.error) (sym c.in-Err.ensures.same)
+            (subst (λ (n : ℕ). IsNotTaken c.abandon.new.self n c.args.late c.in-Err.error) c.serial-serial.ensures
+            c.in-Err.ensures.refused),
         λ s i reached there places limit small session. lost_asked may handles.ends_pop handles.decodes_request handles.abandons
             c.args.given.now c.args.handle.now c.walk_chain.new.handle c.decode_call.new.handle c.args.queue.now c.walk_chain.new.queue
             c.in_ok-request_len.field-0-0 c.in_ok-request_len.request_len c.in_ok-request_len.field-0-2 c.args.session

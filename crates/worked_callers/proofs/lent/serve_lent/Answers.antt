@@ -81,6 +81,19 @@ returns g c =
           c.in_ok-table.ensures.table c.in_ok-table.ensures.taken c.in_ok-decode_and_answer.ensures.kept c.in_ok-lend_table.ensures.lent
           free)
           c.push_reply.ensures.freed;
+      without_table = on_ok_more c.push_reply.result _ _
+          (λ free. (
+            one,
+            after,
+            c.in_ok-request_len.field-0-0,
+            (c.in_ok-request_len.request_len, c.in_ok-request_len.field-0-2),
+            walks,
+            replied.0,
+            replied.1,
+            subst (λ (w : ChainHandle). IsDecodedBy w c.args.session request request replied.0 replied.1) c.in_ok-table.ensures.taken
+                replied.3,
+          ))
+          c.push_reply.ensures.freed;
       again = c.push_reply.ensures.again;
       queue = gave_took c.push_reply.result _ _ _ c.in_ok-request_len.ensures.queue c.push_reply.ensures.queue;
     }

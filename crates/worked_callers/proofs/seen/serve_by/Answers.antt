@@ -18,7 +18,7 @@ use Rattle.fs_chain.specs.declared.pushing.PushStores.{PushStores}
 use Rattle.fs_chain.specs.declared.queue.QueueState.{QueueState}
 use Rattle.worked_callers.specs.Notified.{given_so_far}
 use Rattle.worked_callers.proofs.CalledBy.{calls_of_answer}
-use Rattle.worked_callers.proofs.Served.{front_stored, if_ok, if_ok_so, more_taken, queue_keeps, taken_so, told_before}
+use Rattle.worked_callers.proofs.Served.{acts_stored, front_stored, if_ok, if_ok_so, more_taken, queue_keeps, taken_so, told_before}
 use Rattle.worked_callers.proofs.TookQueue.{gave_took}
 use Rattle.worked_callers.proofs.seen.serve_by.Goals as goal
 
@@ -100,6 +100,8 @@ returns g c =
                   front_stored back_queue new.state goes.2.stores goes.1
                       (λ reply s. goes.0 ≡ push_acts room reply (data_behind replied.2) s goes.2.flags) goes.2.returns
                       ∙ ap (λ (s : PushStores). s.front_len) goes.4,
+                  acts_stored back_queue new.state goes.2.stores goes.1 room (data_behind replied.2) goes.2.flags goes.0
+                      goes.2.returns told.1 seen goes.4 goes.3,
                   law.2,
                   subst (λ (s : Session). AnswersBy may m i there head request room calls law.3 (tells seen) e
                       (after_chain m i there s.options.0 files)) (sym session_is)
@@ -131,6 +133,8 @@ returns g c =
                   front_stored back_queue new.state goes.2.stores goes.1
                       (λ reply s. goes.0 ≡ push_acts room reply (data_behind replied.2) s goes.2.flags) goes.2.returns
                       ∙ ap (λ (s : PushStores). s.front_len) goes.4,
+                  acts_stored back_queue new.state goes.2.stores goes.1 room (data_behind replied.2) goes.2.flags goes.0
+                      goes.2.returns told.1 seen goes.4 goes.3,
                   law.5,
                   law.6,
                   subst (λ (s : Session). StepBy may m i (step_loads law.0 law.2 request) calls (Exchanged law.4 (tells seen)) e

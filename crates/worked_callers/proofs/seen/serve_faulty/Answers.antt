@@ -10,7 +10,7 @@ use Rattle.fs_chain.specs.Whole.{FaultyChainBy, after_chain, push_acts, step_loa
 use Rattle.fs_chain.specs.declared.popping.PopOutcome.TheVariants as says
 use Rattle.fs_chain.specs.declared.pushing.PushStores.{PushStores}
 use Rattle.worked_callers.specs.Notified.{given_so_far}
-use Rattle.worked_callers.proofs.Served.{front_stored, if_ok, queue_keeps, told_before}
+use Rattle.worked_callers.proofs.Served.{acts_stored, front_stored, if_ok, queue_keeps, told_before}
 use Rattle.worked_callers.proofs.TookQueue.{gave_took}
 use Rattle.worked_callers.proofs.seen.serve_faulty.Goals as goal
 
@@ -52,6 +52,8 @@ returns g c =
             e,
             front_stored back_queue popped_handle.state goes.2.stores goes.1 (λ reply s. goes.0 ≡ push_acts [] reply [] s goes.2.flags)
                 goes.2.returns ∙ ap (λ (s : PushStores). s.front_len) goes.4,
+            acts_stored back_queue popped_handle.state goes.2.stores goes.1 [] [] goes.2.flags goes.0 goes.2.returns told.1 c.args.seen
+                goes.4 goes.3,
             (walked.0, popped_handle, back_queue, walked.1, law.1),
             law.2,
             subst (λ (bs : List ℕ). ReturnsFaultyBy m i there head fault [] law.3 (tells bs) e (after_chain m i there m.options m.files))
@@ -76,6 +78,8 @@ returns g c =
             record { acts = goes.0; last = goes.1 },
             front_stored back_queue popped_handle.state goes.2.stores goes.1 (λ reply s. goes.0 ≡ push_acts [] reply [] s goes.2.flags)
                 goes.2.returns ∙ ap (λ (s : PushStores). s.front_len) goes.4,
+            acts_stored back_queue popped_handle.state goes.2.stores goes.1 [] [] goes.2.flags goes.0 goes.2.returns told.1 c.args.seen
+                goes.4 goes.3,
             law.5,
             subst (λ (bs : List ℕ). StepBy g.F.FileSystemBase.may m i (step_loads law.0 law.2 []) [] (Exchanged law.4 (tells bs))
                 (record { acts = goes.0; last = goes.1 })
