@@ -224,7 +224,7 @@ impl Memory {
             data.push(range.start + before..range.start + before + behind);
             done += range.len();
         }
-        let meets = |a: &Range<usize>, b: &Range<usize>| a.start < b.end && b.start < a.end;
+        let meets = |a: &Range<usize>, b: &Range<usize>| a.start.max(b.start) < a.end.min(b.end);
         header.iter().any(|a| data.iter().any(|b| meets(a, b)))
     }
 
