@@ -53,7 +53,7 @@
  *     - load the 2 bytes at `seen_at`.
  *  5. Use windows only until pk_pushed, pk_drop or pk_abandon. Store only into reply windows.
  *  6. A chain keeps the regions that it was popped with. While it is in flight, leave that memory
- *     mapped, and let new regions map the queue's rings as the old ones did.
+ *     mapped, and map the queue's rings in new regions too.
  *  7. During a migration, log each page that you stored into, after the store and before pk_pushed.
  *     Also log data in the reply buffer that isn't part of the reply. Behind an IOMMU, log the
  *     pages of your regions by the host addresses of windows and stores.
@@ -77,7 +77,7 @@
  *     barrier, and one more pop. That pop must load the available index again (taker_waits, late).
  *     Sleep if it returns PK_IDLE, or if `max_in_flight` are in flight.
  *   - A thread that calls pk_pop or pk_set_notification while another thread of the queue sleeps
- *     does the same before it releases the lock (rearms_again), after any result. Without EVENT_IDX
+ *     also takes these steps before it releases the lock (rearms_again). Without EVENT_IDX
  *     it may omit the store, if the queue's last such store was the same. If its handle holds a
  *     chain, it can't pop: then it loads the available index again and compares it with
  *     `next_avail`. If a chain is available, it pops it or wakes a thread, since the driver doesn't
@@ -161,9 +161,9 @@ enum pk_status {
                            look-up (READDIRPLUS), and reply with the list */
     PK_LIST_FAILS = 37, /* the entry fits in that size, but not in the reply buffer: undo its
                            look-up, and reply with pk_reply_err(EIO) */
-    PK_ENTRIES = 38,    /* the listing failed, but the guest already holds nodes of its entries, so
-                           the reply has them. After pk_push copy the list's first `len - front_len`
-                           bytes into the reply buffer from PK_HEADER on */
+    PK_ENTRIES = 38,    /* the listing failed behind entries whose look-ups are counted: the reply
+                           has these. After pk_push copy the list's first `len - front_len` bytes
+                           into the reply buffer from PK_HEADER on */
     PK_MISS = 39,       /* I/O addresses aren't mapped in the table: map them, and pop again */
     /* 64 and more: the call did nothing (but PK_NOT_MAPPED). */
     PK_BAD_ARGUMENT = 66, /* a number that the function doesn't allow, or a wrong length */
@@ -310,7 +310,7 @@ enum pk_state {
     PK_STATE_POPPING = 2, /* pk_pop, with the bytes of its load */
     PK_STATE_POPPED = 3,  /* pk_decode, or pk_reply_bytes */
     PK_STATE_DECODED = 4, /* pk_reply_*: its call is unanswered */
-    PK_STATE_LISTING = 5, /* pk_add_direntry (or _plus), or pk_reply_*: the same of a listing */
+    PK_STATE_LISTING = 5, /* pk_add_direntry (or _plus), or pk_reply_*: a listing is unanswered */
     PK_STATE_REPLIED = 6, /* pk_push: its reply is known, or it gets none */
     PK_STATE_PUSHING = 7, /* pk_pushed */
 };
@@ -325,7 +325,7 @@ uint32_t pk_chain_set_memory(struct pk_chain *chain, const struct pk_device *dev
     PK_CHECK PK_READS(3, 4);
 
 /* Frees the handle's memory, and zeroes it. Push its chain before: else the queue counts it as in
- * flight until a reset. If freed between pk_push and pk_pushed, it blocks pushes until then. */
+ * flight until a reset. If freed between pk_push and pk_pushed, pushes fail until that reset. */
 void pk_chain_free(struct pk_chain *chain) PK_NONNULL;
 
 /* Sets the ticket of the chain's next pop. Each pop takes the next number, modulo 2^32; the first
@@ -351,8 +351,8 @@ struct pk_pop {
  * load the bytes and call again with them, at most 2 * size + 6 times. PK_DONE: it is in flight.
  * PK_IDLE, PK_MISS and errors 1 to 8: the handle is free. PK_MISS leaves the queue as it was. Other
  * errors leave the pop under way; pk_drop ends it.
- * You can omit two loads. The first load is the available index: you may pass an earlier value of
- * it, loaded over the same memory since the queue's reset, if it isn't `next_avail`. An entry of a
+ * Two loads can be saved. For the first, the available index, you may pass an earlier value,
+ * loaded over the same memory since the queue's reset, if it isn't `next_avail`. An entry of a
  * table that crosses two regions or mappings has two loads: pass the whole entry for the first.
  * Errors: PK_WRONG_ORDER (no memory was set); PK_BAD_ARGUMENT (the queue's fields are invalid, such
  * as zeros); PK_WRONG_ORDER (the chain is in flight); PK_BAD_ARGUMENT (`loaded_len` isn't the
