@@ -1,5 +1,5 @@
--- used_event is missed if the table maps nothing.
-use Rattle.std.proofs.Common.{arith, ◌≡◌, ℕ, ◌+◌, ◌≤◌, Bool, List, [], ◌∷◌, Some, refl}
+-- used_event is missed if the table maps nothing. Without regions it is unmapped.
+use Rattle.std.proofs.Common.{arith, ◌≡◌, ℕ, ◌+◌, ◌≤◌, Bool, List, [], ◌∷◌, None, Some, refl}
 use Rattle.std.specs.Prelude.{◌&&◌, ◌^◌, false, true, nat_le, nat_lt}
 use Rattle.std.proofs.lemmas.Bool.Decides.{nat_tests}
 use Rattle.vm_iotlb.specs.AddressRuns.{missing, run_of, runs}
@@ -9,9 +9,11 @@ use Rattle.vm_memory.specs.Layout.{Region}
 use Rattle.vm_memory.specs.Memory.{addresses, reach}
 use Rattle.fs_queue.specs.declared.fault.QueueError.TheVariants.{AvailFlagsUnreachable}
 use Rattle.fs_regions.specs.Misses.{Area, first_miss, last_page}
-use Rattle.fs_regions.specs.Places.{Mapped, places_in}
+use Rattle.fs_regions.specs.Places.{Mapped, places_in, untranslated}
 use Rattle.fs_chain.specs.Events.{avail_event_at, event_fault, event_miss, used_event_at}
 use Rattle.fs_chain.specs.declared.queue.QueueState.{QueueState}
+use Rattle.fs_live.specs.Handles.{live_of}
+use Rattle.fs_live.specs.Live.{pop_refusal}
 
 -- regions behind a table without mappings
 abbrev pub behind_none : List Region → Mapped
@@ -39,3 +41,18 @@ missed_event layout q event low =
       rw event (rw (none_reached layout at) refl),
       rw event (first_missed layout at (record { from = avail_event_at q.layout; len = 2; access = Write } ∷ []) test),
     )
+
+-- ---- without regions
+
+none_mapped : (a : ℕ) → reach (places_in (untranslated [])) Read a 2 ≡ false
+unfolding addresses
+none_mapped a = never (nat_lt (a + 2) (2 ^ 64))
+
+pub unmapped_event : (q : QueueState) → q.event_index ≡ true
+    → (event_fault (places_in (untranslated [])) q ≡ Some AvailFlagsUnreachable)
+    × (event_miss (places_in (untranslated [])) q ≡ None)
+unmapped_event q event = (rw event (rw (none_mapped (used_event_at q.layout)) refl), rw event refl)
+
+pub refused_unmapped : (q : QueueState) → q.stopped ≡ None → q.event_index ≡ true
+    → pop_refusal (places_in (untranslated [])) (live_of q) ≡ Some AvailFlagsUnreachable
+refused_unmapped q goes event = rw goes (rw event (rw (none_mapped (used_event_at q.layout)) refl))

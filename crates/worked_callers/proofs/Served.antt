@@ -178,6 +178,10 @@ pub if_ok_so : {A E : Type 0} (r : Result A E) (P Q : A → Type 0) (S : Type 0)
 if_ok_so (Ok a) P Q S more p s = more a p s
 if_ok_so (Err e) P Q S more p s = tt
 
+pub on_ok_by : {A E : Type 0} (r : Result A E) (P : A → Type 0) (Q : Type 0) → ((a : A) → P a → Q) → IfOk r P → OnOk r Q
+on_ok_by (Ok a) P Q more p = more a p
+on_ok_by (Err e) P Q more p = tt
+
 pub on_ok : {A E : Type 0} (r : Result A E) (P : Type 0) → P → OnOk r P
 on_ok (Ok a) P p = p
 on_ok (Err e) P p = tt

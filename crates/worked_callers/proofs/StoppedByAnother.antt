@@ -1,5 +1,6 @@
 -- Pops that lead to no chain, and a pop that finds its queue stopped meanwhile.
 use Rattle.std.proofs.Common.{◌≡◌, ℕ, List, [], ◌∷◌, ◌++◌, Option, Some, None, slice_get, refl, subst, sym, ap, ◌∙◌, arith}
+use Rattle.std.specs.Prelude.{is_some}
 use Rattle.std.specs.Borrow.{Bor}
 use Rattle.vm_iotlb.specs.declared.iova.IovaRange.{IovaRange}
 use Rattle.vm_iotlb.specs.declared.permissions.Permissions.{Permissions}
@@ -30,8 +31,9 @@ use Rattle.fs_chain.specs.declared.state.ChainState.TheVariants as at
 use Rattle.fs_chain.specs.declared.state.PopId.{PopId}
 use Rattle.fs_chain.proofs.WholeWalks.{walk_comes}
 use Rattle.fs_live.specs.Among.{HandleFindsStopped}
-use Rattle.fs_live.specs.Handles.{HandleEndsPop, live_of}
-use Rattle.fs_live.specs.Live.{EndsPop, Happens, LiveEvent, LiveRun, LiveState, RefusesPop, after_pop}
+use Rattle.fs_live.specs.Handles.{HandleEndsPop, HandleRefusesPop, live_of}
+use Rattle.fs_live.specs.Live.{EndsPop, Happens, LiveEvent, LiveRun, LiveState, RefusesPop, after_pop, pop_refusal}
+use Rattle.fs_live.proofs.Queues.{none_some}
 use Rattle.worked_callers.specs.Events.{FindsNoChain, IsPopRefusedByLoads}
 use Rattle.worked_callers.specs.Notified.{IsWalkedBy, given_so_far}
 use Rattle.worked_callers.proofs.NamedEvents.{idle_is, refusal_is}
@@ -152,14 +154,19 @@ stopped_asks_none [] why old new before after (wents.On told) stopped walks want
 stopped_asks_none (bs ∷ given) why old new before after told stopped walks wants =
     stopped_asks_none given why old walks.0 before walks.1 walks.2 stopped walks.3 walks.4
 
+stopped_ends : (given : List (List ℕ)) (why : QueueError) (old new : ChainHandle) (before after : QueueState) (told : walked.PopOutcome)
+    → before.stopped ≡ Some why → WalksBy given old new before after (wents.On told)
+    → (told ≡ says.Refused stop.Stopped) × (after ≡ before)
+stopped_ends [] why old new before after told stopped walks = first_stopped why old new before after stopped told walks
+stopped_ends (bs ∷ given) why old new before after told stopped walks =
+    absurd (stopped_asks_none given why old walks.0 before walks.1 walks.2 stopped walks.3 walks.4)
+
 pub stopped_refuses : (given : List (List ℕ)) (why : QueueError) (old new : ChainHandle) (before after : QueueState) (e : QueueError)
     → before.stopped ≡ Some why → WalksBy given old new before after (wents.On (says.Refused e))
     → (e ≡ stop.Stopped) × (after ≡ before)
-stopped_refuses [] why old new before after e stopped walks =
-    let so = first_stopped why old new before after stopped (says.Refused e) walks in
+stopped_refuses given why old new before after e stopped walks =
+    let so = stopped_ends given why old new before after (says.Refused e) stopped walks in
     (ap refusal_in so.0, so.1)
-stopped_refuses (bs ∷ given) why old new before after e stopped walks =
-    absurd (stopped_asks_none given why old walks.0 before walks.1 walks.2 stopped walks.3 walks.4)
 
 -- a pop that goes on with a queue that was stopped meanwhile is refused, and leaves the queue
 found_at : (st : state.ChainState) (bytes : List ℕ) (w new : ChainHandle) (q after : QueueState) (told : walked.PopOutcome)
@@ -209,6 +216,27 @@ stopped_by_another {F} may ends finds given bytes first one new second two befor
       ),
       (refused, walk.4, (found.3, found.4, refl)),
       found.5,
+    )
+
+-- a pop of a queue that was stopped before
+pub stopped_before : {F : Type 0} (may : May F) → HandleRefusesPop may → (given : List (Bor (List ℕ))) (old new : ChainHandle)
+    (before after : QueueState) (told : walked.PopOutcome) → IsWalkedBy given old new before after (wents.On told)
+    → (why : QueueError) → before.stopped ≡ Some why
+    → (told ≡ says.Refused stop.Stopped) × (after ≡ before)
+    × ((s : LiveState F) (i : ℕ) → slice_get s.queues i ≡ Some (live_of before) → s.places ≡ places_in old.regions
+    → (next : LiveState F) × Happens may s (RefusesPop i stop.Stopped) next × (slice_get next.queues i ≡ Some (live_of after)))
+stopped_before {F} may refuses given old new before after told walks why stopped =
+    let ends = stopped_ends (given_so_far walks.0 given) why old new before after told stopped walks.1 in (
+      ends.0,
+      ends.1,
+      λ s i there places.
+          let refused : pop_refusal s.places (live_of before) ≡ Some stop.Stopped =
+          ap (λ (x : Option QueueError). pop_refusal s.places (record (live_of before) {
+            queue = record ((live_of before).queue) { stopped = is_some x };
+          })) stopped in
+          let event = refuses s i (given_so_far walks.0 given) old new before after told stop.Stopped there places refused
+          (λ goes. absurd (none_some why (sym goes ∙ stopped))) walks.1 in
+          (event.2, event.3, event.4),
     )
 
 -- a pop that finds no chain changes nothing

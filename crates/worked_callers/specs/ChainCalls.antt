@@ -87,7 +87,7 @@ ArePopLoads given old before told loaded =
 abbrev pub BeginsAndWants : (old new : ChainHandle) → QueueState → Type 0
 BeginsAndWants old new q = (told : went.LoadOutcome) × BeginsPopBy old new q q told × WantsBytes told
 
--- a handle has this memory and this limit, and is otherwise as before
+-- a handle has this memory and this limit, and is otherwise as before, but for an earlier pop's descriptors
 abbrev pub HasMemory : (old new : ChainHandle) → Mapped → (limit : ℕ) → Type 0
 HasMemory old new regions limit =
     (new.regions ≡ regions)

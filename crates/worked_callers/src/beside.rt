@@ -174,17 +174,17 @@ pub fn walk_in_few_loads<F: FileSystem>(
 }
 
 /// Pops a queue by these bytes. If the pop is refused, by its loads or before any, that is an event, and the
-/// run's queue is this one afterwards.
+/// run's queue is this one afterwards. A queue that was stopped before is refused with `Stopped`.
 pub fn pop_or_be_refused<F: FileSystem>(
     handle: &mut ChainHandle,
     queue: &mut QueueState,
     given: &[&[u8]],
 ) -> Result<PopOutcome, ChainError>
     requires free { handle.old.state ≡ at.Free }
-    requires goes { queue.old.stopped ≡ None }
     ensures given { IfOk result (λ told.
         IsWalkedBy given.now handle.old handle.new queue.old queue.new (LoadOutcome.On told)) }
     ensures loaded { (e : QueueError)
+        → queue.old.stopped ≡ None
         → result ≡ Ok (PopOutcome.Refused e)
         → (s : LiveState F) (i : ℕ)
         → slice_get s.queues i ≡ Some (live_of queue.old)
@@ -199,11 +199,21 @@ pub fn pop_or_be_refused<F: FileSystem>(
         → slice_get s.queues i ≡ Some (live_of queue.old)
         → s.places ≡ places_in handle.old.regions
         → pop_refusal s.places (live_of queue.old) ≡ Some e
-        → event_miss (places_in handle.old.regions) queue.old ≡ None
+        → (queue.old.stopped ≡ None → event_miss (places_in handle.old.regions) queue.old ≡ None)
         → (told ≡ PopOutcome.Refused e)
         × (next : LiveState F)
         × Happens F.may s (RefusesPop i e) next
         × (slice_get next.queues i ≡ Some (live_of queue.new))) }
+    ensures stopped { IfOk result (λ told. (why : QueueError)
+        → queue.old.stopped ≡ Some why
+        → (told ≡ PopOutcome.Refused QueueError.Stopped)
+        × (queue.new ≡ queue.old)
+        × ((s : LiveState F) (i : ℕ)
+        → slice_get s.queues i ≡ Some (live_of queue.old)
+        → s.places ≡ places_in handle.old.regions
+        → (next : LiveState F)
+        × Happens F.may s (RefusesPop i QueueError.Stopped) next
+        × (slice_get next.queues i ≡ Some (live_of queue.new)))) }
 {
     law_handles::<F>();
     walk_to_end(handle, queue, given)

@@ -2,10 +2,13 @@
 //! it, and the handle decodes, answers or gives its chain up without one. The events are the same.
 
 ghost use Rattle.std.specs.Prelude.{◌≡◌, ◌≤◌, ◌^◌, ℕ, [], IfOk, List, None, OnOk, Some, slice_get};
+ghost use Rattle.fs_queue.specs.declared.fault.ChainFault.{ChainFault};
 ghost use Rattle.fs_regions.specs.Places.{places_in};
 ghost use Rattle.fuse_fs.specs.Calls.{FileRun};
 ghost use Rattle.server_phases.specs.Answering.{TellsBytes};
+ghost use Rattle.fs_chain.specs.Orders.{give_up_error};
 ghost use Rattle.fs_chain.specs.Queues.{gave, took, gave_up};
+ghost use Rattle.fs_chain.specs.Serials.{freed};
 ghost use Rattle.fs_chain.specs.Tables.{with_table};
 ghost use Rattle.fs_chain.specs.Whole.{IsDecodedBy};
 ghost use Rattle.fs_chain.specs.declared.decoding.Decoded.{Decoded};
@@ -99,7 +102,8 @@ pub fn serve_lent<F: FileSystem>(
     push_reply(handle, queue)
 }
 
-/// Pops a chain with the table, and gives it up without it. The handle has no table then.
+/// Pops a chain with the table, and gives it up without it. The handle has no table then, and is otherwise
+/// as a pop and giving up leave it.
 pub fn drop_lent<F: FileSystem>(
     handle: &mut ChainHandle,
     queue: &mut QueueState,
@@ -110,6 +114,12 @@ pub fn drop_lent<F: FileSystem>(
     ensures again { OnOk result (handle.new.state ≡ at.Free) }
     ensures queue { OnOk result (queue.new ≡ gave_up (took queue.old)) }
     ensures memory { OnOk result (HasMemoryOf (with_table handle.old None) handle.new) }
+    ensures without_table { OnOk result ((popped : ChainHandle) × (after : QueueState) × (head : ℕ)
+        × (lens : ℕ × ℕ)
+        × IsWalkedBy given.now handle.old popped queue.old after
+        (wents.On (says.Chain head lens.0 lens.1))
+        × (give_up_error (with_table popped None).state after ≡ None)
+        × (handle.new ≡ freed (with_table popped None))) }
     ensures run { OnOk result ((s : LiveState F) (i : ℕ)
         → slice_get s.queues i ≡ Some (live_of queue.old)
         → s.places ≡ places_in handle.old.regions
@@ -126,7 +136,8 @@ pub fn drop_lent<F: FileSystem>(
     handle.give_up(queue)
 }
 
-/// Pops a faulty chain with the table, and pushes it without it. The handle has no table then.
+/// Pops a faulty chain with the table, and pushes it without it. The handle has no table then, and is
+/// otherwise as a pop and a push leave it.
 pub fn push_faulty_lent<F: FileSystem>(
     handle: &mut ChainHandle,
     queue: &mut QueueState,
@@ -137,6 +148,10 @@ pub fn push_faulty_lent<F: FileSystem>(
     ensures again { OnOk result (handle.new.state ≡ at.Free) }
     ensures queue { OnOk result (queue.new ≡ gave (took queue.old)) }
     ensures memory { OnOk result (HasMemoryOf (with_table handle.old None) handle.new) }
+    ensures without_table { OnOk result ((popped : ChainHandle) × (after : QueueState) × (head : ℕ)
+        × (why : ChainFault)
+        × IsWalkedBy given.now handle.old popped queue.old after (wents.On (says.Faulty head why))
+        × (handle.new ≡ freed (with_table popped None))) }
     ensures run { IfOk result (λ notice. (s : LiveState F) (i : ℕ)
         → slice_get s.queues i ≡ Some (live_of queue.old)
         → s.places ≡ places_in handle.old.regions

@@ -1,15 +1,23 @@
-//! A queue with the event index whose used_event no table maps: a pop misses it.
+//! A queue with the event index whose used_event isn't mapped. A pop misses it, if a table could map it; else
+//! the pop is refused.
 
-ghost use Rattle.std.specs.Prelude.{◌≡◌, ◌≤◌, ◌+◌, [], IfOk, None, Some, true};
+ghost use Rattle.std.specs.Prelude.{◌≡◌, ◌≤◌, ◌+◌, ℕ, [], IfOk, None, OnOk, Some, slice_get, true};
 ghost use Rattle.vm_iotlb.specs.AddressRuns.{run_of};
 ghost use Rattle.vm_iotlb.specs.declared.permissions.Permissions.{Permissions};
 ghost use Rattle.fs_regions.specs.Misses.{last_page};
+ghost use Rattle.fs_regions.specs.Places.{places_in, untranslated};
 ghost use Rattle.fs_chain.specs.Events.{used_event_at};
 ghost use Rattle.fs_chain.specs.declared.state.ChainState.TheVariants as at;
+ghost use Rattle.fs_live.specs.Handles.{live_of};
+ghost use Rattle.fs_live.specs.Live.{Happens, LiveState, RefusesPop};
 
-use fs_chain::laws::law_misses;
+use crate::wholes::walk_by;
+use fs_chain::laws::{law_chains, law_misses};
 use fs_chain::{ChainError, ChainHandle, LoadOutcome, PopOutcome, QueueState};
+use fs_live::law_handles;
+use fs_queue::QueueError;
 use fs_regions::{GuestMap, GuestRegions};
+use fuse_fs::FileSystem;
 use std::alloc::Global;
 use vm_memory_core::Iotlb;
 
@@ -42,4 +50,38 @@ pub fn miss_used_event(
     law_misses();
     handle.set_memory(GuestMap::behind(regions, Iotlb::new(alloc)), 0x101000)?;
     handle.pop(queue, &[])
+}
+
+/// Pops a queue with the event index, with a handle that gets neither regions nor a table. The pop is refused
+/// before any load, since used_event isn't mapped. That is an event, and the queue is stopped.
+pub fn pop_without_regions<F: FileSystem>(
+    alloc: Global,
+    handle: &mut ChainHandle,
+    queue: &mut QueueState,
+) -> Result<LoadOutcome, ChainError>
+    requires free { handle.old.state ≡ at.Free }
+    requires goes { queue.old.stopped ≡ None }
+    requires event_index { queue.old.event_index ≡ true }
+    ensures refused { IfOk result (λ told.
+        (told ≡ LoadOutcome.On (PopOutcome.Refused QueueError.AvailFlagsUnreachable))
+        × (queue.new ≡ record queue.old { stopped = Some QueueError.AvailFlagsUnreachable })
+        × (handle.new.state ≡ at.Free)
+        × (handle.new.descriptors.items ≡ [])
+        × (handle.new.part.items ≡ [])
+        × (handle.new.regions ≡ untranslated [])
+        × (handle.new.limit ≡ 0x101000)
+        × (handle.new.session ≡ handle.old.session)
+        × (handle.new.serial ≡ handle.old.serial)
+        × (handle.new.list_len ≡ handle.old.list_len)) }
+    ensures event { OnOk result ((s : LiveState F) (i : ℕ)
+        → slice_get s.queues i ≡ Some (live_of queue.old)
+        → s.places ≡ places_in (untranslated [])
+        → (next : LiveState F)
+        × Happens F.may s (RefusesPop i QueueError.AvailFlagsUnreachable) next
+        × (slice_get next.queues i ≡ Some (live_of queue.new))) }
+{
+    law_chains::<F>();
+    law_handles::<F>();
+    handle.set_memory(GuestMap::none(alloc), 0x101000)?;
+    walk_by(handle, queue, &[])
 }

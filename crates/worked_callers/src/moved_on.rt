@@ -62,12 +62,12 @@ pub fn move_and_go_on<F: FileSystem, S: RecordSink, T: RecordSource>(
     ensures again { OnOk result ((here.new.state ≡ at.Free) × (there.new.state ≡ at.Free)) }
     ensures queue { OnOk result (queue.new ≡ gave (took queue.old)) }
     ensures moves { IfOk result (λ r.
-        (sent : List ℕ) × (taken : List ℕ) × (v : Version) × (left : ℕ) × (read : ring.Queue)
+        (sent : List ℕ) × (taken : List ℕ) × (v : Version) × (read_options : ℕ) × (read : ring.Queue)
         × (begun : QueueState)
         × Appends (S.sent sink.old) (S.sent sink.new) sent
         × IsRecord sent (Second 4096 0x101000) options.0 (recorded queue.new ∷ [])
         × Consumes (T.left source.old) (T.left source.new) taken
-        × IsRecord taken v left (read ∷ [])
+        × IsRecord taken v read_options (read ∷ [])
         × IsResetBy read moved.old begun
         × (moved.new ≡ gave (took begun))
         × ((s : LiveState F)
@@ -86,11 +86,15 @@ pub fn move_and_go_on<F: FileSystem, S: RecordSink, T: RecordSource>(
         one.now.request.now one.now.bytes.now r.0 early
         × IsRepliedChain mid 0 two.now.given.now there.old begun []
         two.now.request.now two.now.bytes.now r.1 late
-        × LiveRun F.may s
-        (early ++ MovesDevice (places_in there.old.regions) (live_of begun ∷ []) ∷ late) end
+        × (let moving = MovesDevice (places_in there.old.regions) (live_of begun ∷ []) in
+        LiveRun F.may s (early ++ moving ∷ []) mid
+        × LiveRun F.may mid late end
+        × LiveRun F.may s (early ++ moving ∷ late) end)
         × LiveRun F.may s (early ++ Remaps (places_in there.old.regions) ∷ late) end
         × (places_in there.old.regions ≡ places_in here.old.regions → LiveRun F.may s (early ++ late) end)
-        × (end.queues ≡ live_of moved.new ∷ []))) }
+        × (end.queues ≡ live_of moved.new ∷ [])
+        × (mid.options ≡ options.0)
+        × (end.options ≡ options.0))) }
 {
     law_runs::<F, F>();
     have_u16_numbers(queue);

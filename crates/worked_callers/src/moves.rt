@@ -105,12 +105,12 @@ pub fn move_between_chains<F: FileSystem, S: RecordSink, T: RecordSource>(
     ensures again { OnOk result ((here.new.state ≡ at.Free) × (there.new.state ≡ at.Free)) }
     ensures queue { OnOk result (queue.new ≡ gave (took queue.old)) }
     ensures run { IfOk result (λ r.
-        (sent : List ℕ) × (taken : List ℕ) × (v : Version) × (left : ℕ) × (read : ring.Queue)
+        (sent : List ℕ) × (taken : List ℕ) × (v : Version) × (read_options : ℕ) × (read : ring.Queue)
         × (begun : QueueState)
         × Appends (S.sent sink.old) (S.sent sink.new) sent
         × IsRecord sent (Second 4096 0x101000) options.0 (recorded queue.new ∷ [])
         × Consumes (T.left source.old) (T.left source.new) taken
-        × IsRecord taken v left (read ∷ [])
+        × IsRecord taken v read_options (read ∷ [])
         × IsResetBy read moved.old begun
         × (moved.new ≡ gave (took begun))
         × ((s : LiveState F)

@@ -1,4 +1,5 @@
-use Rattle.std.proofs.Common.{ap}
+use Rattle.std.proofs.Common.{ap, ◌∙◌}
+use Rattle.fs_chain.specs.Serials.{freed}
 use Rattle.fs_chain.specs.declared.chain_handle.ChainHandle.{ChainHandle}
 use Rattle.worked_callers.proofs.KeptMemory.{faulty_keeps, memory_bare}
 use Rattle.worked_callers.proofs.Served.{if_ok_so, on_ok_more}
@@ -23,6 +24,16 @@ returns g c =
           (faulty_keeps c.args.handle.now c.take_faulty.new.handle c.args.queue.now c.take_faulty.new.queue c.in_ok-_fault.field-0-0
           c.in_ok-_fault._fault c.requires.goes c.in_ok-_fault.ensures.walked)
           c.in_ok-_table.ensures.taken free)
+          c.push_reply.ensures.freed;
+      without_table = on_ok_more c.push_reply.result _ _
+          (λ free. (
+            c.take_faulty.new.handle,
+            c.take_faulty.new.queue,
+            c.in_ok-_fault.field-0-0,
+            c.in_ok-_fault._fault,
+            c.in_ok-_fault.ensures.given,
+            free ∙ ap freed c.in_ok-_table.ensures.taken,
+          ))
           c.push_reply.ensures.freed;
       again = c.push_reply.ensures.again;
       queue = gave_took c.push_reply.result _ _ _ c.in_ok-_fault.ensures.queue c.push_reply.ensures.queue;

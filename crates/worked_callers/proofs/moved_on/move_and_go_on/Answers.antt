@@ -1,4 +1,4 @@
-use Rattle.std.proofs.Common.{◌≡◌, ◌≤◌, ◌^◌, ℕ, List, [], ◌∷◌, map, slice_get, subst, sym, ap, ◌∙◌}
+use Rattle.std.proofs.Common.{◌≡◌, ◌≤◌, ◌^◌, ℕ, List, [], ◌∷◌, map, slice_get, refl, subst, sym, ap, ◌∙◌}
 use Rattle.std.specs.Prelude.{Bool}
 use Rattle.std.specs.List.{AllByRecursion}
 use Rattle.vm_memory_core.specs.Host.{changed_at}
@@ -77,10 +77,16 @@ returns g c =
               two.1,
               one.9,
               two.9,
-              run_both may s s₁ two.1 one.0 (event ∷ two.0) one.2 (s₂, moved.2, two.2),
+              (
+                run_both may s s₁ s₂ one.0 (event ∷ []) one.2 (s₂, moved.2, refl),
+                two.2,
+                run_both may s s₁ two.1 one.0 (event ∷ two.0) one.2 (s₂, moved.2, two.2),
+              ),
               on.2 two.0 two.1 two.2,
               λ alike. on.3 (alike ∙ sym places ∙ sym one.8) two.0 two.1 two.2,
               two.5 ∙ ap (λ (l : List LiveQueue). changed_at l 0 (λ _. live_of final)) moved.3,
+              moved.6 ∙ one.6 ∙ options,
+              two.6 ∙ moved.6 ∙ one.6 ∙ options,
             ),
       );
     }
