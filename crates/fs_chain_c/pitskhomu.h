@@ -52,8 +52,8 @@
  *     - issue a full barrier (atomic_thread_fence(memory_order_seq_cst));
  *     - load the 2 bytes at `seen_at`.
  *  5. Use windows only until pk_pushed, pk_drop or pk_abandon. Store only into reply windows.
- *  6. A chain keeps the regions that it was popped with. While it is in flight, leave that memory
- *     mapped, and map the queue's rings in new regions too.
+ *  6. A chain keeps the regions that it was popped with. During its pop and while it is in flight,
+ *     leave that memory mapped, and map the queue's rings in new regions too.
  *  7. During a migration, log each page that you stored into, after the store and before pk_pushed.
  *     Also log data in the reply buffer that isn't part of the reply. Behind an IOMMU, log the
  *     pages of your regions by the host addresses of windows and stores.
@@ -70,9 +70,9 @@
  *   - from pk_push to pk_pushed;
  *   - from pk_set_notification to the end of the pop that follows.
  *
- * NOTIFICATIONS. None is lost, of the driver or the device, under these rules and VIRTIO's for the
- * driver (2.7.13, 2.7.14). In brackets is a rule's name in the model of crate notify: without the
- * rule, a run of the model loses a notification.
+ * NOTIFICATIONS. Between resets (rule 8) none is lost, of driver or device, under these rules and
+ * VIRTIO's for the driver (2.7.13, 2.7.14). In brackets is a rule's name in the model of crate
+ * notify: without the rule, a run of the model loses a notification.
  *   - Before a thread sleeps, after its last pop: pk_set_notification(1), the store, a full
  *     barrier, and one more pop. That pop must load the available index again (taker_waits, late).
  *     Sleep if it returns PK_IDLE, or if `max_in_flight` are in flight.
@@ -103,7 +103,7 @@
  * the memory of its arguments. It meets its contract in crates/fs_chain_c: it has the effect of the
  * call of the handle in crates/fs_chain. The handle's loads, calls, replies (but your own bytes)
  * and stores follow from the bytes passed, by VIRTIO 1.2 and the FUSE grammar. This holds for one
- * chain (law_chains), and for many in flight (law_runs, law_handles). See PROVED.md.
+ * chain (law_chains), and for many in flight (law_runs, law_handles: in Rattle). See PROVED.md.
  * TESTED, not proved: that pk_chain_free frees all; calls on a chain that moves between threads;
  * the inline functions. Also which error is returned if PK_OUT_OF_MEMORY and a later one apply.
  */

@@ -2,6 +2,7 @@
 use Rattle.std.proofs.Common.{◌≡◌, ◌+◌, ◌<◌, ℕ, Bool, List, [], ◌∷◌, ◌++◌, length-append, Option, Some, None, refl, subst, sym, ap, ◌∙◌}
 use Rattle.std.proofs.Common.{arith}
 use Rattle.std.specs.Prelude.{true, false, is_some, length, not, ◌&&◌, ◌==◌, if◌then◌else◌}
+use Rattle.std.proofs.lemmas.Bool.{true≢false}
 use Rattle.std.proofs.lemmas.Bool.{and_parts, eqb-true}
 use Rattle.vm_iotlb.specs.declared.permissions.Permissions.TheVariants.{Read, Write}
 use Rattle.vm_memory.specs.Memory.{Memory, reach}
@@ -429,6 +430,7 @@ handle_finds_stopped {F} may s i bs w new now after told why there walking stopp
         there = there;
         room = walking_room w.state now (length (whole w bs)) walking call.3;
         why = declined;
+        no_miss = λ goes. absurd (true≢false (sym (ap (λ (x : Option QueueError). is_some x) stopped) ∙ goes));
         state = refl;
       },
       there_same s.queues i i (λ _. v) (live_of now) refl there ∙ ap (λ (q : QueueState). Some (live_of q)) (sym ended.2),

@@ -30,11 +30,13 @@ use Rattle.fs_chain.specs.declared.chain_handle.ChainHandle.{ChainHandle}
 use Rattle.fs_chain.proofs.WholeOffers.{fits_limit}
 use Rattle.plain_machine.specs.Step.{Calls, answers_alone}
 use Rattle.fs_live.specs.Live.{Phase, fault_of_phase, room_of_phase, room_of}
-use Rattle.fs_live.specs.Handles.{HandleCalls, HandleDecodesRequest, HandleReceivesAnswer, IsDecodedWhole, calls_decoded}
+use Rattle.fs_live.specs.Handles.{HandleCalls, HandleDecodesRequest, HandleGathers, HandleMakesCall, HandleReceivesAnswer}
+use Rattle.fs_live.specs.Handles.{IsDecodedWhole, calls_decoded}
 use Rattle.fs_live.proofs.Alone.{Walked, walked_there}
-use Rattle.fs_live.proofs.EachCall.{each_waits}
+use Rattle.fs_live.proofs.EachCall.{each_waits, each_waits_first}
 use Rattle.fs_live.proofs.Left.{options_left_by}
 use Rattle.fs_live.proofs.Listed.{AreServed, list_all_served, one_served}
+use Rattle.fs_live.proofs.ListedSoFar.{AreServedFirst, list_served_first}
 
 -- ---- asking
 
@@ -222,3 +224,54 @@ handle_calls {F} may s c before behind w w' request options made given earlier l
       },
       λ none. sym left ∙ ap leaves (calls_are ∙ ap (λ (calls : Calls). earlier ++ (call, answer) ∷ calls) none),
     )
+
+pub handle_gathers : {F : Type 0} (may : May F) → HandleGathers may
+handle_gathers {F} may s c before behind w gathered request options made with_nodes es others next list list' earlier later call answer
+    files is_out asked kept kind gathers calls_are fits so =
+    let n = length (room_of c) in
+    let setup = setting s.page_size options n in
+    let m = meaning options request n in
+    let tells : TellsMeaning setup m (drop 80 request) kept.out (asks.Call made) w.state =
+    subst (λ (k : ℕ). TellsMeaning (setting s.page_size options k) (meaning options request k) (drop 80 request) kept.out (asks.Call made)
+    w.state) (sym kept.room) kept.tells in
+    let first = list_served_first setup m (drop 80 request) made with_nodes es others next kept.out w gathered list list' tells kind gathers
+    in
+    let split : AreServedFirst setup m (earlier ++ (call, answer) ∷ later) =
+    subst (λ (calls : Calls). AreServedFirst setup m calls) calls_are first in
+    record {
+      before = before;
+      behind = behind;
+      out = is_out;
+      request = request;
+      options = options;
+      calls = earlier;
+      asked = asked;
+      pending = each_waits_first setup m earlier later call answer split.0 split.1;
+      is_one = fits;
+      files = files;
+      may_so = so;
+      state = refl;
+    }
+
+pub handle_makes_call : {F : Type 0} (may : May F) → HandleMakesCall may
+handle_makes_call {F} may s c before behind w request options made answer files is_out asked kept fits so =
+    let n = length (room_of c) in
+    let setup = setting s.page_size options n in
+    let m = meaning options request n in
+    let tells : TellsMeaning setup m (drop 80 request) kept.out (asks.Call made) w.state =
+    subst (λ (k : ℕ). TellsMeaning (setting s.page_size options k) (meaning options request k) (drop 80 request) kept.out (asks.Call made)
+    w.state) (sym kept.room) kept.tells in
+    record {
+      before = before;
+      behind = behind;
+      out = is_out;
+      request = request;
+      options = options;
+      calls = [];
+      asked = asked;
+      pending = sym (by_call setup m (drop 80 request) made kept.out w.state tells);
+      is_one = fits;
+      files = files;
+      may_so = so;
+      state = refl;
+    }

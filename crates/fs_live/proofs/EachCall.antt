@@ -1,5 +1,6 @@
 -- Each call of a chain is the one that waits behind those before it.
-use Rattle.std.proofs.Common.{◌≡◌, ℕ, zero, suc, Bool, List, [], ◌∷◌, ◌++◌, length, take, Option, Some, None, refl, sym, ap, ◌∙◌}
+use Rattle.std.proofs.Common.{◌≡◌, ℕ, zero, suc, Bool, List, [], ◌∷◌, ◌++◌, length, take, Option, Some, None, append-nil, append_assoc}
+use Rattle.std.proofs.Common.{refl, sym, ap, ◌∙◌}
 use Rattle.std.specs.Prelude.{◌-◌, true, false, not, nat_lt, if◌then◌else◌}
 use Rattle.std.proofs.lemmas.List.{map-append}
 use Rattle.fuse_fs.specs.declared.answers.Context.{Context}
@@ -181,11 +182,11 @@ take_front : (earlier : Calls) (call : FileCall) (calls : List FileCall) →
 take_front [] call calls = refl
 take_front (step ∷ earlier) call calls = ap (λ (cs : List FileCall). step.0 ∷ cs) (take_front earlier call calls)
 
--- so each call of those that are served waits behind the ones before it
-pub each_waits : (s : Setting) (m : Meaning) (earlier later : Calls) (call : FileCall) (answer : FileAnswer)
-    → (served s m (answers_alone (earlier ++ (call, answer) ∷ later))).calls ≡ calls_alone (earlier ++ (call, answer) ∷ later)
+-- so each call of those that are served waits behind the ones before it, even if more are served
+pub each_waits_first : (s : Setting) (m : Meaning) (earlier later : Calls) (call : FileCall) (answer : FileAnswer) (more : List FileCall)
+    → (served s m (answers_alone (earlier ++ (call, answer) ∷ later))).calls ≡ calls_alone (earlier ++ (call, answer) ∷ later) ++ more
     → (served s m (answers_alone earlier)).calls ≡ calls_alone earlier ++ call ∷ []
-each_waits s m earlier later call answer all =
+each_waits_first s m earlier later call answer more all =
     let n = suc (length (answers_alone earlier)) in
     let answers_are : answers_alone (earlier ++ (call, answer) ∷ later) ≡ answers_alone earlier ++ answer ∷ answers_alone later =
     map-append (λ (step : FileCall × FileAnswer). step.1) earlier ((call, answer) ∷ later) in
@@ -193,5 +194,12 @@ each_waits s m earlier later call answer all =
     map-append (λ (step : FileCall × FileAnswer). step.0) earlier ((call, answer) ∷ later) in
     served_leads s m (answers_alone earlier) (answer ∷ answers_alone later)
     ∙ ap (λ (l : List FileAnswer). take n (served s m l).calls) (sym answers_are)
-    ∙ ap (λ (cs : List FileCall). take n cs) (all ∙ calls_are)
-    ∙ take_front earlier call (calls_alone later)
+    ∙ ap (λ (cs : List FileCall). take n cs)
+    (all ∙ ap (λ (cs : List FileCall). cs ++ more) calls_are ∙ append_assoc (calls_alone earlier) (call ∷ calls_alone later) more)
+    ∙ take_front earlier call (calls_alone later ++ more)
+
+pub each_waits : (s : Setting) (m : Meaning) (earlier later : Calls) (call : FileCall) (answer : FileAnswer)
+    → (served s m (answers_alone (earlier ++ (call, answer) ∷ later))).calls ≡ calls_alone (earlier ++ (call, answer) ∷ later)
+    → (served s m (answers_alone earlier)).calls ≡ calls_alone earlier ++ call ∷ []
+each_waits s m earlier later call answer all =
+    each_waits_first s m earlier later call answer [] (all ∙ sym (append-nil (calls_alone (earlier ++ (call, answer) ∷ later))))

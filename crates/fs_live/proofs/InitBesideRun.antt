@@ -88,7 +88,7 @@ first_walks f = record {
   room = refl;
   goes = refl;
   mapped = first_mapped;
-  ends = (first_fetches, refl);
+  ends = (first_fetches, refl, tt);
 }
 
 first_asks : {F : Type 0} (f : F) →
@@ -104,7 +104,7 @@ second_walks f = record {
   room = refl;
   goes = refl;
   mapped = second_mapped;
-  ends = (second_fetches, refl);
+  ends = (second_fetches, refl, tt);
 }
 
 second_asks : {F : Type 0} (f : F) → DecodesRequestSo (state f (at_positions 2 0) 0 (first_asked ∷ second ∷ [])) second init (starts ∷ [])

@@ -10,6 +10,7 @@ pub mod GuestRun
 pub mod InitBesideRun
 pub mod Left
 pub mod Listed
+pub mod ListedSoFar
 pub mod Loads
 pub mod MappedLoads
 pub mod Moved

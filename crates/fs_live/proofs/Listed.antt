@@ -132,11 +132,11 @@ list_command l room (Starts unique capable readahead) is = absurd is
 list_command l room (Lists unique a) is = (unique, a, refl, is)
 
 -- the listing goes on, whatever it has gathered
-still_for : (l now : Listing) (room unique : ℕ) (a : asked.ListRequest) → StaysBut l now → IsListingFor l room (Lists unique a) →
+pub still_for : (l now : Listing) (room unique : ℕ) (a : asked.ListRequest) → StaysBut l now → IsListingFor l room (Lists unique a) →
     IsListingFor now room (Lists unique a)
 still_for l now room unique a stays is = (stays.0 ∙ is.0, stays.1 ∙ is.1, stays.2 ∙ is.2, stays.3 ∙ is.3, is.4)
 
-none_yet : (l : Listing) (list : List ℕ) → l.len ≡ 0 → Holds l list []
+pub none_yet : (l : Listing) (list : List ℕ) → l.len ≡ 0 → Holds l list []
 none_yet l list empty = record { long = empty; stands = ap (λ (n : ℕ). take n list) empty }
 
 pub list_all_served : (s : Setting) (m : Meaning) (behind bytes : List ℕ) (made : made_call.FileCall) (b : Bool) (es : List Brought)

@@ -1,6 +1,7 @@
 -- What the pops of handles give a run.
 use Rattle.std.proofs.Common.{◌≡◌, ℕ, Bool, List, [], ◌∷◌, length, Option, Some, None, slice_get, refl, subst, sym, ap, ◌∙◌, arith}
 use Rattle.std.specs.Prelude.{◌==◌, false, if◌then◌else◌, is_some, IsTrue, not, true, unwrap_or}
+use Rattle.std.proofs.lemmas.Bool.{true≢false}
 use Rattle.vm_iotlb.specs.declared.iova.IovaRange.{IovaRange}
 use Rattle.vm_iotlb.specs.declared.permissions.Permissions.{Permissions}
 use Rattle.vm_iotlb.specs.declared.permissions.Permissions.TheVariants.{Read, Write}
@@ -35,7 +36,7 @@ use Rattle.fs_chain.proofs.WholeWalks.{event_fault_refuses, event_miss_is_no_ste
 use Rattle.fs_chain.specs.Queues.{pop_id_of}
 use Rattle.fs_live.specs.Several.{LiveQueue, may_take}
 use Rattle.fs_live.specs.Several as several
-use Rattle.fs_live.specs.Live.{LiveState, EndsPopIn, after_pop, pop_refusal, with_live}
+use Rattle.fs_live.specs.Live.{LiveState, EndsPopIn, after_pop, event_miss_of, pop_refusal, with_live}
 use Rattle.fs_live.specs.Handles.{HandleRefusesPop, IsPopDone, HoldsResult, live_of}
 use Rattle.fs_live.proofs.Queues.{none_some, same_some, there_same}
 use Rattle.fs_live.proofs.Refusals.{refusal_stops}
@@ -66,14 +67,14 @@ event_of s i before after loaded ds (step.Refused e) there left done goes comes 
     let w = record (live_of before) { queue = after_refusal (live_of before).queue e } in
     let stops = refusal_stops s.places s.limit (course_of before 0) loaded e
     (subst (λ (q : Queue). OffersBy s.places s.limit q loaded [] (Refuses e)) goes comes.0) in
-    ((comes.0, refl), there_same s.queues i i (λ _. w) (live_of before) refl there ∙ stopped_by before after e stops left)
+    ((comes.0, refl, comes.1), there_same s.queues i i (λ _. w) (live_of before) refl there ∙ stopped_by before after e stops left)
 event_of s i before after loaded ds (step.Chain head None) there left done goes comes = (
-  (comes.0, refl),
+  (comes.0, refl, comes.1),
   there_same s.queues i i (λ _. several.took (live_of before)) (live_of before) refl there
       ∙ ap (λ (q : QueueState). Some (live_of q)) (sym left),
 )
 event_of s i before after loaded ds (step.Chain head (Some fault)) there left done goes comes = (
-  (comes.0, refl),
+  (comes.0, refl, comes.1),
   there_same s.queues i i (λ _. several.took (live_of before)) (live_of before) refl there
       ∙ ap (λ (q : QueueState). Some (live_of q)) (sym left),
 )
@@ -216,6 +217,10 @@ refused_walk (bs ∷ given) old new before after told e why none walks =
     let earlier = refused_walk given old walks.0 before walks.1 walks.2 e why none walks.3 in
     absurd (wants_none walks.2 e before walks.1 earlier.1 walks.4)
 
+goes_so : (stopped : Option QueueError) → is_some stopped ≡ false → stopped ≡ None
+goes_so None is = refl
+goes_so (Some why) is = absurd (true≢false is)
+
 pub handle_refuses_pop : {F : Type 0} (may : May F) → HandleRefusesPop may
 handle_refuses_pop {F} may s i given old new before after told e there places why none walks =
     let there_why : pop_refusal (places_in old.regions) (live_of before) ≡ Some e =
@@ -225,6 +230,13 @@ handle_refuses_pop {F} may s i given old new before after told e there places wh
       so.1.0.0,
       so.0,
       with_live s i w,
-      record { w = live_of before; there = there; room = so.1.1; why = why; state = refl },
+      record {
+        w = live_of before;
+        there = there;
+        room = so.1.1;
+        why = why;
+        no_miss = λ goes. ap (λ (m : Memory). event_miss_of m (live_of before)) places ∙ none (goes_so before.stopped goes);
+        state = refl;
+      },
       there_same s.queues i i (λ _. w) (live_of before) refl there ∙ so.1.0.1,
     )

@@ -62,7 +62,7 @@ first_walks f = record {
   room = refl;
   goes = refl;
   mapped = first_mapped;
-  ends = (first_fetches, refl);
+  ends = (first_fetches, refl, tt);
 }
 
 second_walks : {F : Type 0} (f : F) → EndsPopSo (state f (at_positions 1 0) 0 (first ∷ [])) 0 second_loads [] (step.Refused HeadOutOfTable)
@@ -73,7 +73,7 @@ second_walks f = record {
   room = refl;
   goes = refl;
   mapped = second_mapped;
-  ends = (second_offers, refl);
+  ends = (second_offers, refl, (λ none. refl, λ none asks. refl));
 }
 
 first_asks : {F : Type 0} (f : F) →

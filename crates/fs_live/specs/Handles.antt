@@ -11,7 +11,7 @@ use Rattle.fs_regions.specs.declared.step.CourseStep as comes
 use Rattle.fs_regions.specs.declared.step.CourseStep.TheVariants as step
 use Rattle.fs_regions.specs.Places.{places_in}
 use Rattle.fs_regions.specs.Walks.{Loaded, queue_of}
-use Rattle.fuse_fs.specs.Calls.{FileCall, FileAnswer, Destroy, Wants, suits}
+use Rattle.fuse_fs.specs.Calls.{FileCall, FileAnswer, Destroy, Entries, Listed, Wants, suits}
 use Rattle.fuse_values.specs.Answers.{answer_of}
 use Rattle.fuse_values.specs.Values.{call_of}
 use Rattle.fuse_values.specs.declared.answer.FileAnswer as made_answer
@@ -19,6 +19,7 @@ use Rattle.fuse_values.specs.declared.call.FileCall as made_call
 use Rattle.virtiofsd_fuse.specs.Grammar.{Meaning, One, Starts, meaning}
 use Rattle.virtiofsd_fuse.specs.Grammar as grammar
 use Rattle.virtiofsd_fuse.specs.Serving.{May, served, setting}
+use Rattle.server_phases.specs.Gathering.{Brought, entries_of}
 use Rattle.server_phases.specs.declared.session.Session.{Session}
 use Rattle.fs_chain.specs.Answers.{CanBeGiven, IfWaits}
 use Rattle.fs_chain.specs.Decoding.{TellsMeaning}
@@ -27,6 +28,7 @@ use Rattle.fs_chain.specs.Queues.{reset_to, gave}
 use Rattle.fs_chain.specs.Walks.{RefusalHasEvents, course_of, faulty_out, no_reply, out_of, told_of}
 use Rattle.fs_chain.specs.Whole.{ChainAnswer, PushedBy, IsRepliedBy, IsAnsweredBy, IsDecodedBy, LoadsOf}
 use Rattle.fs_chain.specs.Whole.{WalksBy, data_behind, file_calls}
+use Rattle.fs_chain.specs.WholeListings.{FromLists, Gathers, all_looked_up, looked_up}
 use Rattle.fs_chain.specs.declared.answering.Replied.{Replied}
 use Rattle.fs_chain.specs.declared.decoding.Decoded.{Decoded}
 use Rattle.fs_chain.specs.declared.decoding.Decoded.TheVariants as asks
@@ -247,6 +249,54 @@ HandleCalls {F} may =
     Happens may s (ReceivesAnswer c call answer) (after_answer s before behind c request options calls files)
     × (later ≡ [] →
     w'.session.options.0 ≡ (serving s.page_size options options request (room_of c) calls).options)
+
+-- the file system may make the first call of a decoded chain before anything else happens to the chain: its
+-- handle is given the answer, is freed, or gets its caller's own bytes next
+abbrev pub HandleMakesCall : {F : Type 0} → May F → Type 0
+HandleMakesCall {F} may =
+    (s : LiveState F) (c : InFlightChain) (before behind : List InFlightChain) (w : ChainHandle)
+    (request : List ℕ) (options : ℕ) (made : made_call.FileCall) (answer : FileAnswer) (files : F) →
+    s.chains ≡ before ++ c ∷ behind →
+    c.phase ≡ Asked request options [] →
+    HoldsDecoded s.page_size options request c (asks.Call made) w →
+    let call = call_of (drop 80 request) made in
+    IsTrue (suits call answer) →
+    may s.files call answer files →
+    Happens may s (ReceivesAnswer c call answer)
+    (after_answer s before behind c request options ((call, answer) ∷ []) files)
+
+-- the look-up of the first of these entries, with its answer, if it was made
+abbrev pub next_looked_up : FileCall → (with_nodes : Bool) → List Listed → Option FileAnswer → Calls
+next_looked_up call with_nodes (d ∷ others) (Some answer) = looked_up call with_nodes d answer
+next_looked_up call with_nodes others next = []
+
+-- the calls of a listing that hasn't ended. The directory was read, and has other entries behind those that
+-- were added; the first of the others may be looked up already
+abbrev pub calls_so_far :
+    FileCall → (with_nodes : Bool) → List Brought → (others : List Listed) → Option FileAnswer → Calls
+calls_so_far call with_nodes es others next =
+    (call, Entries (entries_of es ++ others))
+    ∷ (all_looked_up call with_nodes es ++ next_looked_up call with_nodes others next)
+
+-- each of these calls is an event too. So it is one if the caller then replies with bytes of its own, or
+-- frees the handle
+abbrev pub HandleGathers : {F : Type 0} → May F → Type 0
+HandleGathers {F} may =
+    (s : LiveState F) (c : InFlightChain) (before behind : List InFlightChain) (w gathered : ChainHandle)
+    (request : List ℕ) (options : ℕ) (made : made_call.FileCall) (with_nodes : Bool) (es : List Brought)
+    (others : List Listed) (next : Option FileAnswer) (list list' : List ℕ) (earlier later : Calls)
+    (call : FileCall) (answer : FileAnswer) (files : F) →
+    s.chains ≡ before ++ c ∷ behind →
+    c.phase ≡ Asked request options earlier →
+    HoldsDecoded s.page_size options request c (asks.Call made) w →
+    FromLists w.state (λ l. l.with_nodes ≡ with_nodes) →
+    Gathers es w list gathered list' →
+    calls_so_far (call_of (drop 80 request) made) with_nodes es others next
+    ≡ earlier ++ (call, answer) ∷ later →
+    IsTrue (suits call answer) →
+    may s.files call answer files →
+    Happens may s (ReceivesAnswer c call answer)
+    (after_answer s before behind c request options (earlier ++ (call, answer) ∷ []) files)
 
 -- DESTROY ends the negotiated options
 abbrev pub is_destroy : FileCall → Bool

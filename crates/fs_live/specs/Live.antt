@@ -1,8 +1,10 @@
 -- A run of chains in flight on several queues, event by event, while the guest writes (VIRTIO 1.2, 2.7).
-use Rattle.std.specs.Prelude.{◌≡◌, ◌≤◌, ◌<◌, ◌+◌, ◌%◌, ◌^◌, ℕ, Bool, true, not, map, ◌==◌, IsTrue, List, []}
-use Rattle.std.specs.Prelude.{◌∷◌, ◌++◌, length, filter, Option, Some, None, is_some, slice_get}
+use Rattle.std.specs.Prelude.{◌≡◌, ◌≤◌, ◌<◌, ◌+◌, ◌%◌, ◌^◌, ℕ, Bool, false, true, not, map, ◌==◌, IsTrue}
+use Rattle.std.specs.Prelude.{List, [], ◌∷◌, ◌++◌, length, filter, Option, Some, None, is_some, slice_get}
 use Rattle.std.specs.Prelude.{if◌then◌else◌}
 use Rattle.std.specs.List.{AllByRecursion, Contains}
+use Rattle.vm_iotlb.specs.declared.iova.IovaRange.{IovaRange}
+use Rattle.vm_iotlb.specs.declared.permissions.Permissions.{Permissions}
 use Rattle.vm_iotlb.specs.declared.permissions.Permissions.TheVariants.{Read, Write}
 use Rattle.vm_memory_core.specs.Host.{changed_at}
 use Rattle.vm_memory.specs.Memory.{Memory, addresses, reach}
@@ -18,7 +20,8 @@ use Rattle.fs_queue.specs.Taking.{after_refusal}
 use Rattle.fs_queue.specs.Returning.{Store, stores_after_reply}
 use Rattle.fs_regions.specs.declared.step.CourseStep as comes
 use Rattle.fs_regions.specs.declared.step.CourseStep.TheVariants as step
-use Rattle.fs_regions.specs.Walks.{Loaded, FetchesBy, OffersBy}
+use Rattle.fs_regions.specs.Misses.{first_miss}
+use Rattle.fs_regions.specs.Walks.{FaultIsNoMiss, FetchesBy, Loaded, OffersBy, RefusalIsNoMiss}
 use Rattle.fuse_fs.specs.Calls.{FileCall, FileAnswer, suits}
 use Rattle.virtiofsd_fuse.specs.Grammar.{meaning}
 use Rattle.virtiofsd_fuse.specs.Serving.{May, ServedMessage, served, setting}
@@ -95,9 +98,10 @@ pub record LiveState (F : Type 0) : Type 0 where
 
 -- an event of the device
 pub data LiveEvent : Type 0 where
-  -- a pop of queue i ended with this result after these loads. A chain that it found has these descriptors
+  -- a pop of queue i ended with this result after these loads. A chain without a fault has these descriptors
   EndsPop : (i : ℕ) → Loaded → List Descriptor → comes.CourseStep → LiveEvent
-  -- a pop of queue i was refused with this error, before any load, or because the queue was stopped meanwhile
+  -- a pop of queue i was refused with this error, since the queue is stopped, or a field of its event index
+  -- isn't mapped
   RefusesPop : (i : ℕ) → QueueError → LiveEvent
   -- the request of a chain in flight was decoded: its first call, or none
   DecodesRequest : InFlightChain → (request : List ℕ) → (told : List FileCall) → LiveEvent
@@ -163,7 +167,8 @@ new_chain s i w loaded ds head fault =
 abbrev pub with_popped : {F : Type 0} → LiveState F → ℕ → LiveQueue → InFlightChain → LiveState F
 with_popped s i w c = record s { queues = changed_at s.queues i (λ _. took w); chains = s.chains ++ c ∷ [] }
 
--- how a pop of a queue ends. A pop that misses addresses is no event: it changes nothing
+-- how a pop of a queue ends. A pop that misses addresses is no event: it changes nothing. No refusal and no
+-- fault results from addresses that the table misses (`first_miss`)
 abbrev pub EndsPopIn : {F : Type 0} → LiveState F → ℕ → LiveQueue → Loaded → List Descriptor →
     comes.CourseStep → LiveState F → Type 0
 EndsPopIn s i w loaded ds (step.Load walk) after = ⊥
@@ -172,9 +177,11 @@ EndsPopIn s i w loaded ds step.Idle after = OffersBy s.places s.limit w.queue lo
 EndsPopIn s i w loaded ds (step.Refused e) after =
     OffersBy s.places s.limit w.queue loaded [] (Refuses e)
     × (after ≡ with_live s i (record w { queue = after_refusal w.queue e }))
+    × RefusalIsNoMiss s.places s.limit w.queue loaded e
 EndsPopIn s i w loaded ds (step.Chain head fault) after =
     FetchesBy s.places s.limit w.queue loaded ds head fault
     × (after ≡ with_popped s i w (new_chain s i w loaded ds head fault))
+    × FaultIsNoMiss s.places s.limit w.queue loaded fault
 
 -- the state after a pop with this result
 abbrev pub after_pop :
@@ -183,8 +190,8 @@ after_pop s i w loaded ds (step.Refused e) = with_live s i (record w { queue = a
 after_pop s i w loaded ds (step.Chain head fault) = with_popped s i w (new_chain s i w loaded ds head fault)
 after_pop s i w loaded ds _ = s
 
--- why a pop is refused before a load, or before its next one: the queue is stopped, or it has the event
--- index, and used_event or avail_event isn't mapped
+-- the refusals that no walk of the ring finds: the queue is stopped, or it has the event index, and
+-- used_event or avail_event isn't mapped. A stopped queue also refuses a pop's next load
 abbrev pub pop_refusal : Memory → LiveQueue → Option QueueError
 pop_refusal m w =
     if w.queue.stopped then Some Stopped
@@ -192,6 +199,13 @@ pop_refusal m w =
     else if not (reach m Read (used_event_at w.queue) 2) then Some AvailFlagsUnreachable
     else if not (reach m Write (avail_event_at w.queue) 2) then Some UsedUnreachable
     else None
+
+-- the first range of used_event and avail_event that the table doesn't map, with the access that is needed
+abbrev pub event_miss_of : Memory → LiveQueue → Option (IovaRange × Permissions)
+event_miss_of m w =
+    if w.event_index
+    then first_miss m (record { from = used_event_at w.queue; len = 2; access = Read }
+    ∷ record { from = avail_event_at w.queue; len = 2; access = Write } ∷ []) else None
 
 -- the 16 bytes of a table's entry were loaded, and are mapped
 abbrev pub IsMappedEntry : Memory → Load → Type 0
@@ -215,13 +229,15 @@ pub record EndsPopSo {F : Type 0} (s : LiveState F) (i : ℕ) (loaded : Loaded) 
   pub mapped : LoadsAreMapped s.places w.queue loaded
   pub ends : EndsPopIn s i w loaded ds came after
 
--- a pop of a queue is refused with this error, if one more of its chains may be in flight
+-- a pop of a queue is refused with this error, if one more of its chains may be in flight. If the table
+-- misses used_event or avail_event, only a stopped queue refuses it
 pub record RefusesPopSo {F : Type 0} (s : LiveState F) (i : ℕ) (e : QueueError) (after : LiveState F) :
     Type 0 where
   pub w : LiveQueue
   pub there : slice_get s.queues i ≡ Some w
   pub room : IsTrue (may_take w)
   pub why : pop_refusal s.places w ≡ Some e
+  pub no_miss : w.queue.stopped ≡ false → event_miss_of s.places w ≡ None
   pub state : after ≡ with_live s i (record w { queue = after_refusal w.queue e })
 
 -- the state after a chain in flight was decoded

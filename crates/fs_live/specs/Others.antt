@@ -159,8 +159,9 @@ HandlePushesOwn {F} may =
 
 -- ---- other regions
 
--- setting other regions of a handle is the event `Remaps`, and its next pops are events with them. For
--- the queues of chains in flight, the new regions must map an address of returns exactly if the old ones do
+-- setting other regions of a handle is the event `Remaps`, and its next pops are events with them, if its
+-- limit is the run's. For the queues of chains in flight, the new regions must map an address of returns
+-- exactly if the old ones do
 abbrev pub HandleRemaps : {F : Type 0} → May F → Type 0
 HandleRemaps {F} may =
     (s : LiveState F) (w : ChainHandle) →

@@ -10,7 +10,7 @@ ghost use Rattle.fs_live.specs.Handles.{HandleCalls, HandleRefusesPop, HandleDec
 ghost use Rattle.fs_live.specs.Handles.{HandleReceivesAnswer, HandleResetsQueue};
 ghost use Rattle.fs_live.specs.Handles.{HandleFaulty, HandleLoads, HandlePushesChain};
 ghost use Rattle.fs_live.specs.Handles.{HandleStoresNotification, HandleEndsPop};
-ghost use Rattle.fs_live.specs.Handles.{OptionsStay};
+ghost use Rattle.fs_live.specs.Handles.{HandleGathers, HandleMakesCall, OptionsStay};
 ghost use Rattle.fs_live.specs.InitBeside.{InitBeside};
 ghost use Rattle.fs_live.specs.Others.{DecodedIsUnanswered, HandleAbandons, HandleGivesUpChain};
 ghost use Rattle.fs_live.specs.Others.{HandleMovesDevice};
@@ -38,7 +38,7 @@ pub fn law_queues()
     ensures event { ByEvent }
 {}
 
-/// The theorems on a run of several chains. The guest may write meanwhile, any chain may be given up or
+/// The theorems on a run of several chains. The guest may write meanwhile, chains may be given up or
 /// abandoned, and the memory may get other mappings.
 /// - The calls are a run of the file system.
 /// - Each returned chain is by itself the plain machine's step by its loads. A chain with its caller's own
@@ -86,7 +86,8 @@ pub fn law_examples<F: FileSystem>()
 /// - a pop in which other handles changed the queue between two calls, or some calls were refused. It
 ///   makes no more loads, and each that it asks for is mapped. If its queue is stopped meanwhile, it is
 ///   refused
-/// - a decoding, and each answer: of the call, of a listing's look-ups, of a FORGET
+/// - a decoding, and each answer: of the call, of a listing's look-ups, of a FORGET. If the chain is never
+///   answered: of the call, and of a listing's look-ups
 /// - the return of a chain, also of a faulty one
 /// - a store before a sleep, if its address is mapped
 /// - the reset of a queue, once no call of its chains is pending
@@ -105,6 +106,8 @@ pub fn law_handles<F: FileSystem>()
     ensures decodes_request { HandleDecodesRequest F.may }
     ensures receives_answer { HandleReceivesAnswer F.may }
     ensures calls { HandleCalls F.may }
+    ensures makes_call { HandleMakesCall F.may }
+    ensures gathers { HandleGathers F.may }
     ensures pushes_chain { HandlePushesChain F.may }
     ensures faulty { HandleFaulty F.may }
     ensures stores_notification { HandleStoresNotification F.may }

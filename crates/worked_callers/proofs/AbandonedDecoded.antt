@@ -24,7 +24,8 @@ use Rattle.fs_chain.specs.declared.loads.LoadOutcome.TheVariants as wents
 use Rattle.fs_chain.specs.declared.queue.QueueState.{QueueState}
 use Rattle.fs_chain.specs.declared.popping.PopOutcome.TheVariants as says
 use Rattle.fs_chain.specs.declared.chain_handle.ChainHandle.{ChainHandle}
-use Rattle.fs_live.specs.Handles.{HandleDecodesRequest, HandleEndsPop, HoldsResult, HoldsPopped, IsReached, IsSessionOf, live_of}
+use Rattle.fs_live.specs.Handles.{HandleDecodesRequest, HandleEndsPop, HandleMakesCall, HoldsResult, HoldsPopped, IsReached}
+use Rattle.fs_live.specs.Handles.{IsSessionOf, live_of}
 use Rattle.fs_live.specs.Live.{Abandons, DecodesRequest, Happens, LiveEvent, LiveRun, LiveState, InFlightChain, ReceivesAnswer, EndsPop}
 use Rattle.fs_live.specs.Live.{after_answer}
 use Rattle.fs_live.specs.Live.{after_decoding}
@@ -51,7 +52,7 @@ late_refused w serial answer e free refused =
     ]
 
 module _ {F : Type 0} (may : May F) (walks_law : HandleEndsPop may) (asks_law : HandleDecodesRequest may)
-    (abandons_law : HandleAbandons may) (given : List (Bor (List ℕ)))
+    (makes_law : HandleMakesCall may) (abandons_law : HandleAbandons may) (given : List (Bor (List ℕ)))
     (old one two : ChainHandle) (before after : QueueState) (head n r : ℕ)
     (session : Session) (request : List ℕ) (made : made_call.FileCall) (goes : before.stopped ≡ None)
     (walks : IsWalkedBy given old one before after (wents.On (says.Chain head n r)))
@@ -106,20 +107,8 @@ module _ {F : Type 0} (may : May F) (walks_law : HandleEndsPop may) (asks_law : 
             let s₃ : LiveState F = after_answer s₂ s.chains [] d request s.options ((call, answer) ∷ []) files in
             let e : InFlightChain = asked_chain c request s.options ((call, answer) ∷ []) in
             let last : LiveState F = after_abandoning s₃ s.chains [] e in
-            let answered : Happens may s₂ (ReceivesAnswer d call answer) s₃ = record {
-              before = s.chains;
-              behind = [];
-              out = refl;
-              request = request;
-              options = s.options;
-              calls = [];
-              asked = refl;
-              pending = sym asking.0.tells;
-              is_one = fits;
-              files = files;
-              may_so = so;
-              state = refl;
-            } in (
+            let answered : Happens may s₂ (ReceivesAnswer d call answer) s₃ =
+            makes_law s₂ d s.chains [] two request s.options made answer files refl refl asking.1 fits so in (
               walked ∷ told ∷ ReceivesAnswer d call answer ∷ Abandons e ∷ [],
               last,
               (s₁, first, (s₂, asking.0, (s₃, answered, (last, (abandons_law s₃ e s.chains [] refl).0, refl)))),

@@ -5,7 +5,7 @@ use Rattle.std.proofs.lemmas.Bool.Decides.{nat_tests}
 use Rattle.vm_iotlb.specs.AddressRuns.{missing, run_of, runs}
 use Rattle.vm_iotlb.specs.Ranges.{table_kept}
 use Rattle.vm_iotlb.specs.declared.permissions.Permissions.TheVariants.{Read, Write}
-use Rattle.vm_memory.specs.Layout.{Region}
+use Rattle.vm_memory.specs.Layout.{Region, place}
 use Rattle.vm_memory.specs.Memory.{addresses, reach}
 use Rattle.fs_queue.specs.declared.fault.QueueError.TheVariants.{AvailFlagsUnreachable}
 use Rattle.fs_regions.specs.Misses.{Area, first_miss, last_page}
@@ -45,7 +45,7 @@ missed_event layout q event low =
 -- ---- without regions
 
 none_mapped : (a : ℕ) → reach (places_in (untranslated [])) Read a 2 ≡ false
-unfolding addresses
+unfolding addresses place
 none_mapped a = never (nat_lt (a + 2) (2 ^ 64))
 
 pub unmapped_event : (q : QueueState) → q.event_index ≡ true

@@ -1,9 +1,8 @@
 -- Chains that their callers reply to with bytes of their own, as runs.
 use Rattle.std.proofs.Common.{◌≡◌, inl, inr, ℕ, Bool, List, [], ◌∷◌, ◌++◌, append-nil, length, Some, None, Result, Ok, Err, slice_get, refl}
-use Rattle.std.proofs.Common.{subst}
-use Rattle.std.proofs.Common.{sym, ap, ◌∙◌}
+use Rattle.std.proofs.Common.{append_assoc, subst, sym, ap, ◌∙◌}
 use Rattle.std.specs.Borrow.{Bor}
-use Rattle.std.specs.Prelude.{IsTrue, drop, true, ◌==◌}
+use Rattle.std.specs.Prelude.{Option, drop, true, ◌==◌}
 use Rattle.std.proofs.lemmas.Bool.{eq-eqb}
 use Rattle.vm_memory_core.specs.Host.{changed_at}
 use Rattle.vm_memory.specs.Memory.{location}
@@ -13,7 +12,7 @@ use Rattle.fs_queue.specs.Returning.{Store}
 use Rattle.fs_regions.specs.Walks.{Loaded, queue_of}
 use Rattle.fs_regions.specs.declared.step.CourseStep as comes
 use Rattle.fs_regions.specs.declared.step.CourseStep.TheVariants as step
-use Rattle.fuse_fs.specs.Calls.{FileAnswer, FileCall, suits}
+use Rattle.fuse_fs.specs.Calls.{FileAnswer, FileCall, FileRun, Listed}
 use Rattle.fuse_values.specs.Values.{call_of}
 use Rattle.fuse_values.specs.declared.call.FileCall as made_call
 use Rattle.virtiofsd_fuse.specs.Serving.{May}
@@ -26,7 +25,7 @@ use Rattle.fs_chain.specs.OwnReplies.{IfUnanswered, own_error, own_reply}
 use Rattle.fs_chain.specs.Queues.{gave}
 use Rattle.fs_chain.specs.Walks.{course_of, told_of}
 use Rattle.fs_chain.specs.Whole.{FromTaken, IsDecodedBy, IsWalked, LoadsOf}
-use Rattle.fs_chain.specs.WholeListings.{BringsEntry}
+use Rattle.fs_chain.specs.WholeListings.{BringsEntry, FromLists, Gathers}
 use Rattle.fs_chain.specs.declared.decoding.Decoded.TheVariants as asks
 use Rattle.fs_chain.specs.declared.error.ChainError.{ChainError}
 use Rattle.fs_chain.specs.declared.error.ChainError.TheVariants as error
@@ -43,11 +42,11 @@ use Rattle.plain_machine.specs.MarkedPages.{returned_addresses}
 use Rattle.plain_machine.specs.Step.{Calls, Exchange}
 use Rattle.plain_machine.specs.StepBy.{Act}
 use Rattle.fs_live.specs.Guest.{DeviceEvent, PagesOfRun, Writes}
-use Rattle.fs_live.specs.Handles.{HandleDecodesRequest, HandleEndsPop, HoldsResult, HoldsPopped, IsReached, IsSessionOf, live_of}
+use Rattle.fs_live.specs.Handles.{HandleDecodesRequest, HandleGathers, HandleEndsPop, HoldsResult, HoldsPopped, IsReached, IsSessionOf}
+use Rattle.fs_live.specs.Handles.{calls_so_far, live_of}
 use Rattle.fs_live.specs.Live.{DecodesRequest, PushedWith, Happens, LiveEvent, LiveRun, LiveState, InFlightChain, Own, Phase}
-use Rattle.fs_live.specs.Live.{ReceivesAnswer}
 use Rattle.fs_live.specs.Live.{PushesChain, RepliesOwnBytes}
-use Rattle.fs_live.specs.Live.{EndsPop, after_answer, after_decoding, after_push, after_own, after_pop, asked_chain, calls_among, new_chain}
+use Rattle.fs_live.specs.Live.{EndsPop, after_decoding, after_push, after_own, after_pop, asked_chain, calls_among, new_chain}
 use Rattle.fs_live.specs.Live.{room_of}
 use Rattle.fs_live.specs.Others.{DecodedIsUnanswered, PushedOwn, HandlePushesOwn, HandleRepliesInstead, HandleRepliesOwnBytes}
 use Rattle.fs_live.specs.Others.{FromUnreplied}
@@ -65,7 +64,7 @@ use Rattle.worked_callers.specs.OwnReplies.{EndsAlone, IsOfRun, LogsOwn, Returns
 use Rattle.worked_callers.proofs.LoadedFlags.{pushed_own}
 use Rattle.worked_callers.proofs.NamedEvents.{popped_by, told_so}
 use Rattle.worked_callers.proofs.OthersBeside.{changed_twice, own_kept}
-use Rattle.worked_callers.proofs.ServedBeside.{calls_of_both, chain_is, reached_by, run_more, taken_of}
+use Rattle.worked_callers.proofs.ServedBeside.{EachIsAnswered, calls_of_both, each_answered, chain_is, reached_by, run_more, taken_of}
 
 -- ---- the pop
 
@@ -382,12 +381,14 @@ module _ {F : Type 0} (may : May F) (walks_law : HandleEndsPop may) (asks_law : 
         ),
       )
 
-  pub replied_answered : (s : LiveState F) (i : ℕ) → IsOfRun may s i old before → IsSessionOf s session → (answer : FileAnswer) (files : F)
-      → IsTrue (suits call answer) → may s.files call answer files
-      → (whole : ReturnsOwn may s i before (gave after) request reply ((call, answer) ∷ []) notice)
-      × IsOwnReplyOnceDecoded s i given old before request reply ((call, answer) ∷ []) notice
+  pub replied_listed : HandleGathers may → (with_nodes : Bool) (es : List Brought) (others : List Listed) (next : Option FileAnswer)
+      (list list' : List ℕ) → FromLists two.state (λ l. l.with_nodes ≡ with_nodes) → Gathers es two list three list'
+      → (s : LiveState F) (i : ℕ) → IsOfRun may s i old before → IsSessionOf s session
+      → (files : F) → FileRun may s.files (calls_so_far call with_nodes es others next) files
+      → (whole : ReturnsOwn may s i before (gave after) request reply (calls_so_far call with_nodes es others next) notice)
+      × IsOwnReplyOnceDecoded s i given old before request reply (calls_so_far call with_nodes es others next) notice
       (whole.earlier ++ PushesChain whole.chain whole.exchange notice 0 whole.used loaded_flags ∷ [])
-  replied_answered s i here in_session answer files fits so =
+  replied_listed gathers_law with_nodes es others next list list' kind gathers s i here in_session files run =
       let q = live_of before in
       let ds = one.descriptors.items in
       let pop = popped may walks_law old one before after head n r goes (given_so_far walks.0 given, walks.1) s i here in
@@ -400,23 +401,14 @@ module _ {F : Type 0} (may : May F) (walks_law : HandleEndsPop may) (asks_law : 
       let s₂ : LiveState F = after_decoding s₁ s.chains [] c request in
       let d : InFlightChain = asked_chain c request s.options [] in
       let held = held_law s.page_size s.options request d made two asking.1 in
-      let calls : Calls = (call, answer) ∷ [] in
-      let s₃ : LiveState F = after_answer s₂ s.chains [] d request s.options calls files in
+      let calls : Calls = calls_so_far call with_nodes es others next in
+      let each : EachIsAnswered may two request s.options (asks.Call made) calls =
+      λ t d before behind earlier later call answer files out asked kept calls_are fits so.
+      gathers_law t d before behind two three request s.options made with_nodes es others next list list' earlier later call answer
+      files out asked kept kind gathers calls_are fits so in
+      let ans = each_answered may two request s.options (asks.Call made) calls each s₂ c s.chains [] [] calls files refl asking.1 refl run
+      in
       let e : InFlightChain = asked_chain c request s.options calls in
-      let answered : Happens may s₂ (ReceivesAnswer d call answer) s₃ = record {
-        before = s.chains;
-        behind = [];
-        out = refl;
-        request = request;
-        options = s.options;
-        calls = [];
-        asked = refl;
-        pending = sym asking.0.tells;
-        is_one = fits;
-        files = files;
-        may_so = so;
-        state = refl;
-      } in
       let held' : HoldsUnanswered e three = record {
         out = held.out;
         head = held.head;
@@ -424,12 +416,14 @@ module _ {F : Type 0} (may : May F) (walks_law : HandleEndsPop may) (asks_law : 
         room = held.room;
         is = keeps held.out held.is;
       } in
-      let replied = instead_law s₃ e s.chains [] three serial s.options s.options request reply calls refl refl held' clear in
+      let replied = instead_law ans.end e s.chains [] three serial s.options s.options request reply calls ans.chains refl held' clear in
       let own = own_kept three.state three four (record e { phase = Own request reply }) reply replied.1 kept in
-      let whole = replied_from may returns_law before after request reply notice goes s s₃ e four.state
-      (walked ∷ told ∷ ReceivesAnswer d call answer ∷ []) calls s.options
-      (s₁, pop.happens, (s₂, asking.0, (s₃, answered, refl))) refl refl here.there pop.there refl refl refl refl refl replied.0 own
-      back in (
+      let whole = replied_from may returns_law before after request reply notice goes s ans.end e four.state
+      (walked ∷ told ∷ ans.es) calls s.options (s₁, pop.happens, (s₂, asking.0, ans.run)) ans.calls ans.chains here.there
+      (ap (λ (l : List LiveQueue). slice_get l i) ans.queues_are ∙ pop.there) ans.queues_are refl refl ans.limit ans.page_size
+      replied.0 own back in
+      let replies : LiveEvent = RepliesOwnBytes e request reply s.options in
+      let returned : LiveEvent = PushesChain whole.chain whole.exchange notice 0 whole.used loaded_flags in (
         whole,
         (
           c,
@@ -437,6 +431,8 @@ module _ {F : Type 0} (may : May F) (walks_law : HandleEndsPop may) (asks_law : 
           whole.exchange,
           whole.used,
           popped_by s i given old one before after head n r ds pop.loaded walks pop.loads pop.told_is,
-          refl,
+          ap (λ (l : List LiveEvent). walked ∷ told ∷ l)
+              (append_assoc ans.es (replies ∷ []) (returned ∷ [])
+              ∙ ap (λ (l : List LiveEvent). l ++ replies ∷ returned ∷ []) ans.es_are),
         ),
       )

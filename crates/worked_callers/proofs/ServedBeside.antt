@@ -2,7 +2,7 @@
 use Rattle.std.proofs.Common.{◌≡◌, ℕ, ◌≤◌, ◌^◌, Bool, List, [], ◌∷◌, ◌++◌, append-nil, append_assoc, Some, None, slice_get, refl}
 use Rattle.std.proofs.Common.{subst, sym, ap, ◌∙◌}
 use Rattle.std.specs.Borrow.{Bor}
-use Rattle.std.specs.Prelude.{drop, false, true, IfSome, is_some, Option, option_map}
+use Rattle.std.specs.Prelude.{drop, false, true, IfSome, IsTrue, is_some, Option, option_map}
 use Rattle.std.specs.List.{AllByRecursion}
 use Rattle.fs_queue.specs.Chain.{Descriptor}
 use Rattle.fs_queue.specs.declared.fault.ChainFault.{ChainFault}
@@ -13,7 +13,7 @@ use Rattle.fs_regions.specs.Places.{places_in}
 use Rattle.fs_regions.specs.Walks.{Loaded, queue_of}
 use Rattle.fs_regions.specs.declared.step.CourseStep as comes
 use Rattle.fs_regions.specs.declared.step.CourseStep.TheVariants as step
-use Rattle.fuse_fs.specs.Calls.{FileCall, FileRun}
+use Rattle.fuse_fs.specs.Calls.{FileAnswer, FileCall, FileRun, suits}
 use Rattle.virtiofsd_fuse.specs.Serving.{May}
 use Rattle.server_phases.specs.declared.session.Session.{Session}
 use Rattle.fs_chain.specs.Events.{notification_store, store_of}
@@ -35,6 +35,7 @@ use Rattle.fs_live.specs.Handles.{HandleEndsPop}
 use Rattle.fs_live.specs.Handles.{HoldsFaulty, HoldsResult}
 use Rattle.fs_live.specs.Handles.{HoldsDecoded, HoldsPopped, IsReached, IsSessionOf, IsDecodedWhole, calls_decoded, live_of}
 use Rattle.fs_live.specs.Live.{
+  Asked,
   ReceivesAnswer,
   DecodesRequest,
   Abandons,
@@ -155,42 +156,51 @@ pub record AllAnswered {F : Type 0} (may : May F) (s : LiveState F) (before behi
   pub chains : end.chains ≡ before ++ c ∷ behind
   pub queues_are : end.queues ≡ s.queues
   pub page_size : end.page_size ≡ s.page_size
+  pub limit : end.limit ≡ s.limit
   pub calls : calls_among es ≡ later
   pub anew : (i : ℕ) → AllByRecursion (NoReset i) es
   pub of_chain : AllByRecursion IsOfChain es
   pub files_are : end.files ≡ files
   pub es_are : es ≡ answer_events popped request options earlier later
 
-module _ {F : Type 0} (may : May F) (law : HandleCalls may) (w w' : ChainHandle) (request : List ℕ) (options : ℕ) (made : Decoded)
-    (given : ChainAnswer) (has : IsRepliedBy made w given w') where
-  abbrev pub all : Calls
-  all = file_calls (drop 80 request) made given
+-- each of these calls is an event, once those before it were answered
+abbrev pub EachIsAnswered : {F : Type 0} → May F → (w : ChainHandle) → (request : List ℕ) → (options : ℕ) → Decoded → Calls → Type 0
+EachIsAnswered {F} may w request options made all =
+    (s : LiveState F) (c : InFlightChain) (before behind : List InFlightChain) (earlier later : Calls) (call : FileCall)
+    (answer : FileAnswer) (files : F)
+    → s.chains ≡ before ++ c ∷ behind → c.phase ≡ Asked request options earlier → HoldsDecoded s.page_size options request c made w
+    → all ≡ earlier ++ (call, answer) ∷ later → IsTrue (suits call answer) → may s.files call answer files
+    → Happens may s (ReceivesAnswer c call answer)
+    (after_answer s before behind c request options (earlier ++ (call, answer) ∷ []) files)
 
-  pub answered_all : (s : LiveState F) (c : InFlightChain) (before behind : List InFlightChain) (earlier later : Calls) (files : F)
+module _ {F : Type 0} (may : May F) (w : ChainHandle) (request : List ℕ) (options : ℕ) (made : Decoded) (all : Calls)
+    (each : EachIsAnswered may w request options made all) where
+  pub each_answered : (s : LiveState F) (c : InFlightChain) (before behind : List InFlightChain) (earlier later : Calls) (files : F)
       → s.chains ≡ before ++ asked_chain c request options earlier ∷ behind
       → HoldsDecoded s.page_size options request (asked_chain c request options earlier) made w → all ≡ earlier ++ later
       → FileRun may s.files later files
       → AllAnswered may s before behind (asked_chain c request options all) c request options earlier later files
-  answered_all s c before behind earlier [] files out kept calls_are run = record {
+  each_answered s c before behind earlier [] files out kept calls_are run = record {
     es = [];
     end = s;
     run = refl;
     chains = out ∙ ap (λ (calls : Calls). before ++ asked_chain c request options calls ∷ behind) (sym (calls_are ∙ append-nil earlier));
     queues_are = refl;
     page_size = refl;
+    limit = refl;
     calls = refl;
     anew = λ i. tt;
     of_chain = tt;
     files_are = sym run;
     es_are = refl;
   }
-  answered_all s c before behind earlier ((call, answer) ∷ later) files out kept calls_are run =
+  each_answered s c before behind earlier ((call, answer) ∷ later) files out kept calls_are run =
       let d = asked_chain c request options earlier in
       let more : Calls = earlier ++ (call, answer) ∷ [] in
       let next : LiveState F = after_answer s before behind d request options more run.0 in
       let happens : Happens may s (ReceivesAnswer d call answer) next =
-      (law s d before behind w w' request options made given earlier later call answer run.0 out refl kept has calls_are run.1 run.2).0 in
-      let rest = answered_all next c before behind more later files refl (kept_on s.page_size options request c earlier more made w kept)
+      each s d before behind earlier later call answer run.0 out refl kept calls_are run.1 run.2 in
+      let rest = each_answered next c before behind more later files refl (kept_on s.page_size options request c earlier more made w kept)
       (calls_are ∙ sym (append_assoc earlier ((call, answer) ∷ []) later)) run.3 in
       record {
         es = ReceivesAnswer d call answer ∷ rest.es;
@@ -199,12 +209,26 @@ module _ {F : Type 0} (may : May F) (law : HandleCalls may) (w w' : ChainHandle)
         chains = rest.chains;
         queues_are = rest.queues_are;
         page_size = rest.page_size;
+        limit = rest.limit;
         calls = ap (λ (calls : Calls). (call, answer) ∷ calls) rest.calls;
         anew = λ i. (tt, rest.anew i);
         of_chain = (tt, rest.of_chain);
         files_are = rest.files_are;
         es_are = ap (λ (es : List LiveEvent). ReceivesAnswer d call answer ∷ es) rest.es_are;
       }
+
+-- the calls of an answer
+module _ {F : Type 0} (may : May F) (law : HandleCalls may) (w w' : ChainHandle) (request : List ℕ) (options : ℕ) (made : Decoded)
+    (given : ChainAnswer) (has : IsRepliedBy made w given w') where
+  pub answered_all : (s : LiveState F) (c : InFlightChain) (before behind : List InFlightChain) (earlier later : Calls) (files : F)
+      → s.chains ≡ before ++ asked_chain c request options earlier ∷ behind
+      → HoldsDecoded s.page_size options request (asked_chain c request options earlier) made w
+      → file_calls (drop 80 request) made given ≡ earlier ++ later → FileRun may s.files later files
+      → AllAnswered may s before behind (asked_chain c request options (file_calls (drop 80 request) made given)) c request options earlier
+      later files
+  answered_all = each_answered may w request options made (file_calls (drop 80 request) made given)
+      (λ s c before behind earlier later call answer files out asked kept calls_are fits so.
+      (law s c before behind w w' request options made given earlier later call answer files out asked kept has calls_are fits so).0)
 
 -- ---- another table
 

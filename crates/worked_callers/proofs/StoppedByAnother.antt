@@ -1,6 +1,6 @@
 -- Pops that lead to no chain, and a pop that finds its queue stopped meanwhile.
 use Rattle.std.proofs.Common.{◌≡◌, ℕ, List, [], ◌∷◌, ◌++◌, Option, Some, None, slice_get, refl, subst, sym, ap, ◌∙◌, arith}
-use Rattle.std.specs.Prelude.{is_some}
+use Rattle.std.specs.Prelude.{IfSome, is_some, option_map, true}
 use Rattle.std.specs.Borrow.{Bor}
 use Rattle.vm_iotlb.specs.declared.iova.IovaRange.{IovaRange}
 use Rattle.vm_iotlb.specs.declared.permissions.Permissions.{Permissions}
@@ -14,13 +14,14 @@ use Rattle.fs_regions.specs.declared.step.CourseStep as comes
 use Rattle.fs_regions.specs.declared.step.CourseStep.TheVariants as step
 use Rattle.fs_regions.specs.declared.walk.QueueWalk.{QueueWalk}
 use Rattle.virtiofsd_fuse.specs.Serving.{May}
-use Rattle.fs_chain.specs.Events.{event_fault, event_miss}
+use Rattle.fs_chain.specs.Events.{event_fault, event_miss, notification_store, store_of}
 use Rattle.fs_chain.specs.Loads.{GoesSo, whole}
 use Rattle.fs_chain.specs.Orders.{IsWalking, load_len}
 use Rattle.fs_chain.specs.Walks.{BeginsUnless, BeginsWhere, GoesOnUnless, HasEvents, LacksEvents, WalksFrom, queue_after}
 use Rattle.fs_chain.specs.Walks.{told_of}
 use Rattle.fs_chain.specs.Whole.{BeginsPopBy, WalksBy, WantsBytes}
 use Rattle.fs_chain.specs.declared.chain_handle.ChainHandle.{ChainHandle}
+use Rattle.fs_chain.specs.declared.event_index.NotificationStore.{NotificationStore}
 use Rattle.fs_chain.specs.declared.loads.LoadOutcome as went
 use Rattle.fs_chain.specs.declared.loads.LoadOutcome.TheVariants as wents
 use Rattle.fs_chain.specs.declared.popping.PopOutcome as walked
@@ -31,8 +32,9 @@ use Rattle.fs_chain.specs.declared.state.ChainState.TheVariants as at
 use Rattle.fs_chain.specs.declared.state.PopId.{PopId}
 use Rattle.fs_chain.proofs.WholeWalks.{walk_comes}
 use Rattle.fs_live.specs.Among.{HandleFindsStopped}
-use Rattle.fs_live.specs.Handles.{HandleEndsPop, HandleRefusesPop, live_of}
-use Rattle.fs_live.specs.Live.{EndsPop, Happens, LiveEvent, LiveRun, LiveState, RefusesPop, after_pop, pop_refusal}
+use Rattle.fs_live.specs.Handles.{HandleEndsPop, HandleRefusesPop, HandleStoresNotification, live_of}
+use Rattle.fs_live.specs.Live.{EndsPop, Happens, LiveEvent, LiveRun, LiveState, RefusesPop, StoresNotification, after_pop, pop_refusal}
+use Rattle.fs_live.proofs.Declined.{goes_there}
 use Rattle.fs_live.proofs.Queues.{none_some}
 use Rattle.worked_callers.specs.Events.{FindsNoChain, IsPopRefusedByLoads}
 use Rattle.worked_callers.specs.Notified.{IsWalkedBy, given_so_far}
@@ -256,3 +258,18 @@ idle_so {F} may ends given old new before after goes walks s i there places limi
       (s, happens, refl),
       subst (λ (k : comes.CourseStep). slice_get (after_pop s i q walk.0 ds k).queues i ≡ Some (live_of after)) is walk.5,
     )
+
+-- ---- a store once a pop has begun
+
+-- its address is mapped, since the pop wasn't refused
+pub enables_once_begun : {F : Type 0} (may : May F) → HandleStoresNotification may → (w : ChainHandle) (q : QueueState)
+    (told : Option NotificationStore) → option_map store_of told ≡ notification_store q true → q.stopped ≡ None → HasEvents w q
+    → q.event_index ≡ true
+    → IfSome told (λ store. (s : LiveState F) (i : ℕ) → slice_get s.queues i ≡ Some (live_of q) → s.places ≡ places_in w.regions
+    → Happens may s (StoresNotification i (store_of store)) s)
+enables_once_begun may law w q None is goes has event = tt
+enables_once_begun may law w q (Some store) is goes has event = λ s i there places.
+    let clear : pop_refusal s.places (live_of q) ≡ None =
+    subst (λ (m : Memory). pop_refusal m (live_of q) ≡ None) (sym places) (goes_there (places_in w.regions) q goes has) in
+    let so = law s i q true (Some store) there is in
+    so.0 (so.1 event clear)

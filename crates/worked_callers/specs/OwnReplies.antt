@@ -9,9 +9,9 @@ use Rattle.fs_regions.specs.Places.{places_in}
 use Rattle.virtiofsd_fuse.specs.Serving.{May}
 use Rattle.fs_chain.specs.declared.chain_handle.ChainHandle.{ChainHandle}
 use Rattle.fs_chain.specs.declared.queue.QueueState.{QueueState}
-use Rattle.plain_machine.specs.MarkedPages.{Marks, returned_addresses}
+use Rattle.plain_machine.specs.MarkedPages.{returned_addresses}
 use Rattle.plain_machine.specs.Step.{Calls, Exchange, State}
-use Rattle.fs_live.specs.Guest.{DeviceEvent, Writes, after_moments}
+use Rattle.fs_live.specs.Guest.{DeviceEvent, MarksOfBoth, Writes, after_moments}
 use Rattle.fs_live.specs.Handles.{IsReached, live_of}
 use Rattle.fs_live.specs.Live.{Happens, LiveEvent, LiveRun, LiveState, InFlightChain, Own, PushesChain}
 use Rattle.fs_live.specs.Live.{RepliesOwnBytes, calls_among}
@@ -83,7 +83,7 @@ ReportsOwn {F} may s i given old before after request reply notice =
     × (reported_by r.now (PushesChain r.chain r.exchange notice 0 r.used loaded_flags)
     ≡ returned_addresses (returning w) r.chain.head (room_of r.chain) reply)
 
--- the addresses that the guest writes
+-- the physical addresses that the guest writes
 abbrev pub written : List (ℕ × ℕ) → List ℕ
 written ws = map (λ w. w.0) ws
 
@@ -104,8 +104,8 @@ LogsOwn {F} may s i given old before after request reply notice =
     (r.earlier ≡ popped ∷ replied ∷ [])
     × (r.chain ≡ record c { phase = Own request reply })
     × ((first second third last : List (ℕ × ℕ)) (m : Memory) →
-    Marks m (written first
-    ++ (written second ++ (written third ++ (reported_by r.now returned ++ (written last ++ [])))))
+    MarksOfBoth m (written first ++ (written second ++ (written third ++ (written last ++ []))))
+    (reported_by r.now returned ++ [])
     (after_moments m
     (
     Writes first ∷ DeviceEvent popped

@@ -26,8 +26,8 @@ use fuse_values::FileAnswer;
 use server_phases::Session;
 
 /// Decodes a chain's request and frees its handle, while the call is pending and has no answer. The late
-/// answer is then refused with `WrongOrder`, which is returned: no call is pending any more. In the run the
-/// chain is abandoned: once after the file system's answer, and once without it.
+/// answer is then refused with `WrongOrder`, which is returned: no call is pending any more. There are two
+/// runs: in one the chain is abandoned after the file system's answer, in the other without it.
 pub fn abandon_decoded<F: FileSystem>(
     handle: &mut ChainHandle,
     queue: &mut QueueState,

@@ -14,6 +14,7 @@ ghost use Rattle.server_phases.specs.Answering.{TellsBytes};
 ghost use Rattle.fs_chain.specs.Answers.{CanBeGiven, IfWaits, IsNotTaken};
 ghost use Rattle.fs_chain.specs.Events.{event_miss, notification_store, store_of};
 ghost use Rattle.fs_chain.specs.Queues.{gave, reset_to, took};
+ghost use Rattle.fs_chain.specs.Serials.{freed};
 ghost use Rattle.fs_chain.specs.Walks.{HasEvents, IsAllBut};
 ghost use Rattle.fs_chain.specs.Whole.{IsAnsweredBy, IsWalked, WalksBy, WantsBytes};
 ghost use Rattle.fs_chain.specs.declared.answering.Replied.{Replied};
@@ -154,7 +155,8 @@ pub fn walk_to_end(
     }
 }
 
-/// Pops a queue by these bytes. The pop makes at most size + 4 loads, for any bytes.
+/// Pops a queue by these bytes. The pop makes at most size + 4 loads, for any bytes. If it asks for more in
+/// the end, it was given all of these bytes.
 pub fn walk_in_few_loads<F: FileSystem>(
     handle: &mut ChainHandle,
     queue: &mut QueueState,
@@ -162,6 +164,10 @@ pub fn walk_in_few_loads<F: FileSystem>(
 ) -> Result<PopOutcome, ChainError>
     requires free { handle.old.state ≡ at.Free }
     requires goes { queue.old.stopped ≡ None }
+    ensures all { IfOk result (λ told. WantsBytes (LoadOutcome.On told)
+        → WalksBy (given_so_far (length given.now) given.now) handle.old handle.new queue.old queue.new
+        (LoadOutcome.On told)) }
+    ensures error { IfErr result (FailsToEnd given.now handle.old handle.new queue.old queue.new) }
     ensures few { IfOk result (λ told. (n : ℕ)
         × (walks : WalksBy (given_so_far n given.now) handle.old handle.new queue.old queue.new
         (LoadOutcome.On told))
@@ -173,8 +179,10 @@ pub fn walk_in_few_loads<F: FileSystem>(
     walk_to_end(handle, queue, given)
 }
 
-/// Pops a queue by these bytes. If the pop is refused, by its loads or before any, that is an event, and the
-/// run's queue is this one afterwards. A queue that was stopped before is refused with `Stopped`.
+/// Pops a queue by these bytes. A refusal is an event: one by the loads, if used_event and avail_event
+/// are mapped; one before any load, if the table misses neither. The run's queue is this one afterwards.
+/// A queue that was stopped before is refused with `Stopped`. If the pop asks for more in the end, it was
+/// given all of these bytes.
 pub fn pop_or_be_refused<F: FileSystem>(
     handle: &mut ChainHandle,
     queue: &mut QueueState,
@@ -183,6 +191,10 @@ pub fn pop_or_be_refused<F: FileSystem>(
     requires free { handle.old.state ≡ at.Free }
     ensures given { IfOk result (λ told.
         IsWalkedBy given.now handle.old handle.new queue.old queue.new (LoadOutcome.On told)) }
+    ensures all { IfOk result (λ told. WantsBytes (LoadOutcome.On told)
+        → WalksBy (given_so_far (length given.now) given.now) handle.old handle.new queue.old queue.new
+        (LoadOutcome.On told)) }
+    ensures error { IfErr result (FailsToEnd given.now handle.old handle.new queue.old queue.new) }
     ensures loaded { (e : QueueError)
         → queue.old.stopped ≡ None
         → result ≡ Ok (PopOutcome.Refused e)
@@ -248,6 +260,11 @@ pub fn push_faulty_beside<F: FileSystem>(
     requires goes { queue.old.stopped ≡ None }
     ensures again { OnOk result (handle.new.state ≡ at.Free) }
     ensures queue { OnOk result (queue.new ≡ gave (took queue.old)) }
+    ensures popped { OnOk result ((popped : ChainHandle) × (after : QueueState) × (head : ℕ)
+        × (why : ChainFault)
+        × IsWalkedBy given.now handle.old popped queue.old after
+        (LoadOutcome.On (PopOutcome.Faulty head why))
+        × (handle.new ≡ freed popped)) }
     ensures run { IfOk result (λ notice. (s : LiveState F) (i : ℕ)
         → slice_get s.queues i ≡ Some (live_of queue.old)
         → s.places ≡ places_in handle.old.regions

@@ -4,6 +4,9 @@ ghost use Rattle.std.specs.Prelude.{◌≡◌, ◌≤◌, ◌+◌, ◌||◌, ℕ
 ghost use Rattle.std.specs.Int.{w16, to_le_bytes};
 ghost use Rattle.fs_queue.specs.Returning.{Store};
 ghost use Rattle.fs_queue.specs.ReturningView.{stores_of};
+ghost use Rattle.fs_chain.specs.Pushes.{IfHasReply, PushesBy};
+ghost use Rattle.fs_chain.specs.Queues.{gave};
+ghost use Rattle.fs_chain.specs.Serials.{freed};
 ghost use Rattle.fs_chain.specs.declared.state.ChainState.TheVariants as at;
 ghost use Rattle.notify.specs.Kicks as kicks;
 ghost use Rattle.notify.specs.Kicks.{NotifyState, Runs, ahead};
@@ -15,14 +18,19 @@ use crate::takers::have_u16_numbers;
 use fs_chain::{ChainError, ChainHandle, PushStores, QueueState};
 use fs_notify::{law_givers, law_takers};
 
-/// Pushes a chain whose reply is known, with the number that the caller loads behind its barrier: used_event,
-/// or the available flags. Returns whether to notify the driver, and the stores.
+/// Pushes a chain whose reply is known, with a number for what a caller loads behind its barrier: used_event,
+/// or the available flags. The reply's front is dropped. Returns whether to notify the driver, and the
+/// stores.
 pub fn push_one(
     handle: &mut ChainHandle,
     queue: &mut QueueState,
     seen: u16,
 ) -> Result<(bool, PushStores), ChainError>
     ensures again { OnOk result (handle.new.state ≡ at.Free) }
+    ensures freed { OnOk result (handle.new ≡ freed handle.old) }
+    ensures queue { OnOk result (queue.new ≡ gave queue.old) }
+    ensures stores { IfOk result (λ told. IfHasReply handle.old.state
+        (λ out reply. PushesBy queue.old out reply told.1)) }
     ensures returns { OnOk result ((s : ThreadedQueue)
         → IsModelOf queue.old s
         → s.holder ≡ Walker

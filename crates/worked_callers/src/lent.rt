@@ -1,7 +1,8 @@
 //! An IOMMU's table that is lent to a handle for the pop and for the push alone. Between them the caller has
 //! it, and the handle decodes, answers or gives its chain up without one. The events are the same.
 
-ghost use Rattle.std.specs.Prelude.{◌≡◌, ◌≤◌, ◌^◌, ℕ, [], IfOk, List, None, OnOk, Some, slice_get};
+ghost use Rattle.std.specs.Prelude.{◌≡◌, ◌≤◌, ◌^◌, ℕ, [], IfErr, IfOk, List, None, OnOk, Some, slice_get};
+ghost use Rattle.std.specs.Prelude.{true};
 ghost use Rattle.fs_queue.specs.declared.fault.ChainFault.{ChainFault};
 ghost use Rattle.fs_regions.specs.Places.{places_in};
 ghost use Rattle.fuse_fs.specs.Calls.{FileRun};
@@ -9,7 +10,7 @@ ghost use Rattle.server_phases.specs.Answering.{TellsBytes};
 ghost use Rattle.fs_chain.specs.Orders.{give_up_error};
 ghost use Rattle.fs_chain.specs.Queues.{gave, took, gave_up};
 ghost use Rattle.fs_chain.specs.Serials.{freed};
-ghost use Rattle.fs_chain.specs.Tables.{with_table};
+ghost use Rattle.fs_chain.specs.Tables.{is_walking, with_table};
 ghost use Rattle.fs_chain.specs.Whole.{IsDecodedBy};
 ghost use Rattle.fs_chain.specs.declared.decoding.Decoded.{Decoded};
 ghost use Rattle.fs_chain.specs.declared.loads.LoadOutcome.TheVariants as wents;
@@ -35,6 +36,9 @@ use vm_memory_core::Iotlb;
 pub fn take_table(handle: &mut ChainHandle) -> Result<Option<Iotlb>, ChainError>
     ensures table { IfOk result (λ table. table ≡ handle.old.regions.table) }
     ensures taken { OnOk result (handle.new ≡ with_table handle.old None) }
+    ensures busy { IfErr result (λ e. (e ≡ ChainError.ChainInFlight)
+        × (is_walking handle.old.state ≡ true)
+        × (handle.new ≡ handle.old)) }
 {
     match handle.exchange_table(None) {
         Ok(table) => Ok(table),
@@ -42,9 +46,13 @@ pub fn take_table(handle: &mut ChainHandle) -> Result<Option<Iotlb>, ChainError>
     }
 }
 
-/// Lends a handle an IOMMU's table, and drops the one that it had. `ChainInFlight` while a pop is under way.
+/// Lends a handle an IOMMU's table, and drops the one that it had. `ChainInFlight` while a pop is under way:
+/// the given one is dropped then.
 pub fn lend_table(handle: &mut ChainHandle, table: Option<Iotlb>) -> Result<(), ChainError>
     ensures lent { OnOk result (handle.new ≡ with_table handle.old table) }
+    ensures busy { IfErr result (λ e. (e ≡ ChainError.ChainInFlight)
+        × (is_walking handle.old.state ≡ true)
+        × (handle.new ≡ handle.old)) }
 {
     match handle.exchange_table(table) {
         Ok(_) => Ok(()),
@@ -102,8 +110,8 @@ pub fn serve_lent<F: FileSystem>(
     push_reply(handle, queue)
 }
 
-/// Pops a chain with the table, and gives it up without it. The handle has no table then, and is otherwise
-/// as a pop and giving up leave it.
+/// Pops a chain with the table, and gives the chain up without the table. The handle has no table then, and
+/// is otherwise as a pop and giving up leave it.
 pub fn drop_lent<F: FileSystem>(
     handle: &mut ChainHandle,
     queue: &mut QueueState,
@@ -136,8 +144,8 @@ pub fn drop_lent<F: FileSystem>(
     handle.give_up(queue)
 }
 
-/// Pops a faulty chain with the table, and pushes it without it. The handle has no table then, and is
-/// otherwise as a pop and a push leave it.
+/// Pops a faulty chain with the table, and pushes the chain without the table. The handle has no table then,
+/// and is otherwise as a pop and a push leave it.
 pub fn push_faulty_lent<F: FileSystem>(
     handle: &mut ChainHandle,
     queue: &mut QueueState,

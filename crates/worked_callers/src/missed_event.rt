@@ -1,5 +1,5 @@
-//! A queue with the event index whose used_event isn't mapped. A pop misses it, if a table could map it; else
-//! the pop is refused.
+//! A queue with the event index whose used_event isn't mapped. A pop behind a table misses it; without a
+//! table the pop is refused.
 
 ghost use Rattle.std.specs.Prelude.{◌≡◌, ◌≤◌, ◌+◌, ℕ, [], IfOk, None, OnOk, Some, slice_get, true};
 ghost use Rattle.vm_iotlb.specs.AddressRuns.{run_of};

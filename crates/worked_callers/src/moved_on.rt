@@ -10,7 +10,7 @@ ghost use Rattle.fs_record.specs.Record.{HasKnownBits, IsRecord, Second, Version
 ghost use Rattle.fs_regions.specs.Places.{places_in};
 ghost use Rattle.fs_chain.specs.Queues.{gave, reset_to, took};
 ghost use Rattle.fs_chain.specs.declared.state.ChainState.TheVariants as at;
-ghost use Rattle.fs_live.specs.Handles.{IsReached, live_of};
+ghost use Rattle.fs_live.specs.Handles.{live_of};
 ghost use Rattle.fs_live.specs.Live.{Happens, LiveEvent, LiveRun, LiveState, MovesDevice, Remaps};
 ghost use Rattle.fs_live.specs.Live.{ResetsQueue};
 ghost use Rattle.fs_live.specs.Others.{recorded};
@@ -38,9 +38,10 @@ pub fn agree_besides_record(one: &QueueState, two: &QueueState) -> bool
     one.max_in_flight == two.max_in_flight && one.event_index == two.event_index
 }
 
-/// A chain is pushed here, the device moves by its record, and a chain is pushed there. The events are
-/// those of a device that didn't move and whose guest's memory got the mappings of the other host. Over the
-/// same mappings they are those of both chains alone. Returns whether to notify the driver of each chain.
+/// A chain is pushed here, the device moves by its record, and a chain is pushed there. If the bytes that
+/// are read are the record that was made, the events are those of a device that didn't move and whose
+/// guest's memory got the mappings of the other host. Over the same mappings they are those of both
+/// chains alone. Returns whether to notify the driver of each chain.
 pub fn move_and_go_on<F: FileSystem, S: RecordSink, T: RecordSource>(
     alloc: Global,
     here: &mut ChainHandle,
@@ -57,7 +58,6 @@ pub fn move_and_go_on<F: FileSystem, S: RecordSink, T: RecordSource>(
     requires there_free { there.old.state ≡ at.Free }
     requires goes { queue.old.stopped ≡ None }
     requires none_in_flight { queue.old.next_used ≡ queue.old.next_avail }
-    requires some { 1 ≤ moved.old.max_in_flight }
     requires known { HasKnownBits options.0 }
     ensures again { OnOk result ((here.new.state ≡ at.Free) × (there.new.state ≡ at.Free)) }
     ensures queue { OnOk result (queue.new ≡ gave (took queue.old)) }
@@ -71,7 +71,6 @@ pub fn move_and_go_on<F: FileSystem, S: RecordSink, T: RecordSource>(
         × IsResetBy read moved.old begun
         × (moved.new ≡ gave (took begun))
         × ((s : LiveState F)
-        → IsReached F.may s
         → s.chains ≡ []
         → s.queues ≡ live_of queue.old ∷ []
         → s.options ≡ options.0
@@ -105,7 +104,7 @@ pub fn move_and_go_on<F: FileSystem, S: RecordSink, T: RecordSource>(
         return Err(ChainError::BadArgument);
     };
     let layout = read.layout();
-    if layout.size() < moved.max_in_flight {
+    if moved.max_in_flight < 1 || layout.size() < moved.max_in_flight {
         return Err(ChainError::BadArgument);
     }
     reset_by_record::<F>(moved, read);

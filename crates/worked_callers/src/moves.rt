@@ -11,7 +11,7 @@ ghost use Rattle.fs_record.specs.declared.error.RestoreError.{RestoreError};
 ghost use Rattle.fs_regions.specs.Places.{places_in};
 ghost use Rattle.fs_chain.specs.Queues.{gave, took};
 ghost use Rattle.fs_chain.specs.declared.state.ChainState.TheVariants as at;
-ghost use Rattle.fs_live.specs.Handles.{IsReached, live_of};
+ghost use Rattle.fs_live.specs.Handles.{live_of};
 ghost use Rattle.fs_live.specs.Live.{Happens, LiveEvent, LiveRun, LiveState, MovesDevice};
 ghost use Rattle.fs_live.specs.Others.{recorded};
 ghost use Rattle.worked_callers.specs.ChainCalls.{IsResetBy};
@@ -100,7 +100,6 @@ pub fn move_between_chains<F: FileSystem, S: RecordSink, T: RecordSource>(
     requires here_free { here.old.state ≡ at.Free }
     requires there_free { there.old.state ≡ at.Free }
     requires goes { queue.old.stopped ≡ None }
-    requires some { 1 ≤ moved.old.max_in_flight }
     requires known { HasKnownBits options.0 }
     ensures again { OnOk result ((here.new.state ≡ at.Free) × (there.new.state ≡ at.Free)) }
     ensures queue { OnOk result (queue.new ≡ gave (took queue.old)) }
@@ -114,7 +113,6 @@ pub fn move_between_chains<F: FileSystem, S: RecordSink, T: RecordSource>(
         × IsResetBy read moved.old begun
         × (moved.new ≡ gave (took begun))
         × ((s : LiveState F)
-        → IsReached F.may s
         → s.chains ≡ []
         → s.queues ≡ live_of queue.old ∷ []
         → s.options ≡ options.0
@@ -148,7 +146,7 @@ pub fn move_between_chains<F: FileSystem, S: RecordSink, T: RecordSource>(
         return Err(ChainError::BadArgument);
     };
     let layout = read.layout();
-    if layout.size() < moved.max_in_flight {
+    if moved.max_in_flight < 1 || layout.size() < moved.max_in_flight {
         return Err(ChainError::BadArgument);
     }
     reset_by_record::<F>(moved, read);

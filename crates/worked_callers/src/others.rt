@@ -15,6 +15,8 @@ ghost use Rattle.fs_regions.specs.Places.{places_in};
 ghost use Rattle.fs_chain.specs.Orders.{memory_error};
 ghost use Rattle.fs_chain.specs.Queues.{gave, reset_to, took, gave_up};
 ghost use Rattle.fs_chain.specs.Serials.{freed};
+ghost use Rattle.fs_chain.specs.declared.loads.LoadOutcome.TheVariants as wents;
+ghost use Rattle.fs_chain.specs.declared.popping.PopOutcome.TheVariants as says;
 ghost use Rattle.fs_chain.specs.declared.state.ChainState.TheVariants as at;
 ghost use Rattle.plain_machine.specs.StepBy.{Act};
 ghost use Rattle.fs_live.specs.Handles.{IsReached, live_of};
@@ -27,6 +29,7 @@ ghost use Rattle.fs_live.specs.Runs.{HasNoneInFlight, in_flight_on};
 ghost use Rattle.worked_callers.specs.ChainCalls.{HasMemory, IsResetBy, stop_of};
 ghost use Rattle.worked_callers.specs.Events.{IsAbandonedChain, IsGivenUpChain, IsRepliedChain};
 ghost use Rattle.worked_callers.specs.Events.{loaded_flags};
+ghost use Rattle.worked_callers.specs.Notified.{IsWalkedBy};
 
 use crate::wholes::walk_chain;
 use fs_chain::{ChainError, ChainHandle, QueueState};
@@ -45,6 +48,11 @@ pub fn drop_beside<F: FileSystem>(
     requires goes { queue.old.stopped ≡ None }
     ensures again { OnOk result (handle.new.state ≡ at.Free) }
     ensures queue { OnOk result (queue.new ≡ gave_up (took queue.old)) }
+    ensures popped { OnOk result ((popped : ChainHandle) × (after : QueueState) × (head : ℕ)
+        × (lens : ℕ × ℕ)
+        × IsWalkedBy given.now handle.old popped queue.old after
+        (wents.On (says.Chain head lens.0 lens.1))
+        × (handle.new ≡ freed popped)) }
     ensures run { OnOk result ((s : LiveState F) (i : ℕ)
         → slice_get s.queues i ≡ Some (live_of queue.old)
         → s.places ≡ places_in handle.old.regions
@@ -140,7 +148,8 @@ pub fn reply_beside<F: FileSystem>(
 }
 
 /// Sets other regions and another limit. While no chain is in flight, that is the event `Remaps` of just
-/// these regions. It fails if the handle isn't free, or if the limit is out of range.
+/// these regions; a run's limit never changes. It fails if the handle isn't free, or if the limit is out of
+/// range.
 pub fn map_beside<F: FileSystem>(
     handle: &mut ChainHandle,
     regions: GuestMap,

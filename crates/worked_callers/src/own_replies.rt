@@ -1,14 +1,17 @@
 //! Replies of the caller's own bytes: to a request that wasn't decoded, instead of the answer to a pending
 //! call, and during a listing. Each is returned as the plain machine's step returns a reply.
 
-ghost use Rattle.std.specs.Prelude.{ℕ, [], ◌∷◌, drop, IfOk, IsTrue, OnOk};
+ghost use Rattle.std.specs.Prelude.{ℕ, List, [], ◌∷◌, drop, IfOk, Ok, OnOk, true};
 ghost use Rattle.fs_chain.specs.Queues.{gave, took};
+ghost use Rattle.fs_chain.specs.WholeListings.{BringsEntry};
 ghost use Rattle.fs_chain.specs.declared.decoding.Decoded.TheVariants as asks;
 ghost use Rattle.fs_chain.specs.declared.state.ChainState.TheVariants as at;
+ghost use Rattle.fuse_fs.specs.Answers.{listed};
 ghost use Rattle.fuse_fs.specs.Calls as file;
+ghost use Rattle.fuse_fs.specs.Calls.{FileRun};
 ghost use Rattle.fuse_values.specs.Values.{call_of};
 ghost use Rattle.fuse_values.specs.declared.call.FileCall as value;
-ghost use Rattle.fs_live.specs.Handles.{IsSessionOf};
+ghost use Rattle.fs_live.specs.Handles.{IsSessionOf, calls_so_far};
 ghost use Rattle.fs_live.specs.Live.{LiveState};
 ghost use Rattle.fs_live.specs.Runs.{in_flight_on};
 ghost use Rattle.worked_callers.specs.ChainCalls.{DecodesPopped};
@@ -19,7 +22,7 @@ ghost use Rattle.std.specs.Prelude.{◌≡◌, None};
 use crate::listings::{add_entry, decode_call};
 use crate::others::push_own;
 use crate::wholes::walk_chain;
-use fs_chain::{ChainError, ChainHandle, QueueState};
+use fs_chain::{Added, ChainError, ChainHandle, QueueState};
 use fs_live::{law_handles, law_queues, law_runs};
 use fuse_fs::{DirEntry, Entry, FileSystem};
 use server_phases::Session;
@@ -107,7 +110,9 @@ pub fn reply_instead<F: FileSystem, G: FileSystem>(
     ensures step { IfOk result (λ notice. (s : LiveState F) (i : ℕ)
         → IsOfRun F.may s i handle.old queue.old
         → IsSessionOf s session
-        → ReturnsAsStep G F.may s i queue.old queue.new request.now bytes.now [] notice
+        → (made : value.FileCall) × (asked : ChainHandle)
+        × DecodesPopped given.now handle.old queue.old session request.now (asks.Call made) asked
+        × ReturnsAsStep G F.may s i queue.old queue.new request.now bytes.now [] notice
         (IsOwnReplyOnceDecoded s i given.now handle.old queue.old request.now bytes.now [] notice)) }
 {
     law_handles::<F>();
@@ -122,8 +127,9 @@ pub fn reply_instead<F: FileSystem, G: FileSystem>(
     push_own(handle, queue)
 }
 
-/// Begins a listing of a directory with one entry, and then replies with bytes of the caller's own. The
-/// directory's call was answered by then.
+/// Begins a listing of a directory with one entry, and then replies with bytes of the caller's own. The calls
+/// up to then are in the run: the reading of the directory, which may have any entries behind this one, and
+/// the look-up of this one, unless it is . or ..
 pub fn reply_during_listing<F: FileSystem, G: FileSystem>(
     handle: &mut ChainHandle,
     queue: &mut QueueState,
@@ -142,15 +148,15 @@ pub fn reply_during_listing<F: FileSystem, G: FileSystem>(
     ensures step { IfOk result (λ notice. (s : LiveState F) (i : ℕ)
         → IsOfRun F.may s i handle.old queue.old
         → IsSessionOf s session
-        → (made : value.FileCall) × (asked : ChainHandle)
+        → (made : value.FileCall) × (asked : ChainHandle) × (listing : ChainHandle)
         × DecodesPopped given.now handle.old queue.old session request.now (asks.Call made) asked
-        × ((answer : file.FileAnswer) (files : F)
-        → IsTrue (file.suits (call_of (drop 80 request.now) made) answer)
-        → F.may s.files (call_of (drop 80 request.now) made) answer files
-        → ReturnsAsStep G F.may s i queue.old queue.new request.now bytes.now
-        ((call_of (drop 80 request.now) made, answer) ∷ []) notice
-        (IsOwnReplyOnceDecoded s i given.now handle.old queue.old request.now bytes.now
-        ((call_of (drop 80 request.now) made, answer) ∷ []) notice))) }
+        × BringsEntry asked list.old (listed entry.now, node) (Ok Added.In) listing list.new
+        × ((others : List file.Listed) (files : F)
+        → (let calls = calls_so_far (call_of (drop 80 request.now) made) true
+        ((listed entry.now, node) ∷ []) others None in
+        FileRun F.may s.files calls files
+        → ReturnsAsStep G F.may s i queue.old queue.new request.now bytes.now calls notice
+        (IsOwnReplyOnceDecoded s i given.now handle.old queue.old request.now bytes.now calls notice)))) }
 {
     law_handles::<F>();
     law_runs::<F, G>();

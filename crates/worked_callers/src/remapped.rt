@@ -5,7 +5,7 @@ ghost use Rattle.std.specs.Prelude.{◌≡◌, ◌≤◌, ◌^◌, ℕ, [], ◌�
 ghost use Rattle.fs_regions.specs.Places.{places_in};
 ghost use Rattle.fs_chain.specs.Queues.{gave, took};
 ghost use Rattle.fs_chain.specs.declared.state.ChainState.TheVariants as at;
-ghost use Rattle.fs_live.specs.Handles.{IsReached, live_of};
+ghost use Rattle.fs_live.specs.Handles.{live_of};
 ghost use Rattle.fs_live.specs.Live.{KeepsReturns, LiveEvent, LiveRun, LiveState, Remaps, calls_among};
 ghost use Rattle.worked_callers.specs.ChainCalls.{HasMemory};
 ghost use Rattle.worked_callers.specs.Events.{IsRepliedChain};
@@ -18,8 +18,8 @@ use fs_regions::GuestMap;
 use fuse_fs::FileSystem;
 
 /// One handle pops a chain, another handle gets other regions, and the chain is returned with its caller's
-/// own bytes. That is a run, if the new regions map an address of the queue's returns exactly if the old ones
-/// do.
+/// own bytes. That is a run while no other chain is in flight, if the new regions map an address of the
+/// queue's returns exactly if the old ones do.
 pub fn remap_in_flight<F: FileSystem>(
     first: &mut ChainHandle,
     second: &mut ChainHandle,
@@ -35,7 +35,6 @@ pub fn remap_in_flight<F: FileSystem>(
     ensures again { OnOk result (first.new.state ≡ at.Free) }
     ensures queue { OnOk result (queue.new ≡ gave (took queue.old)) }
     ensures run { IfOk result (λ notice. (s : LiveState F) (i : ℕ)
-        → IsReached F.may s
         → s.chains ≡ []
         → slice_get s.queues i ≡ Some (live_of queue.old)
         → s.places ≡ places_in first.old.regions

@@ -1,17 +1,19 @@
 //! Pops that lead to no chain, as events of a run: one that finds its queue stopped by another handle's pop,
-//! and one that finds no available chain.
+//! and one that finds no available chain. Also a store that enables notifications, between a pop's first call
+//! and its next.
 
 ghost use Rattle.std.specs.Prelude.{◌≡◌, ◌⊎◌, ℕ, [], ◌∷◌, ◌++◌, IfErr, IfOk, List, None, OnOk, Some};
-ghost use Rattle.std.specs.Prelude.{slice_get};
+ghost use Rattle.std.specs.Prelude.{IfSome, option_map, slice_get, true};
 ghost use Rattle.fs_queue.specs.declared.fault.QueueError.{QueueError};
 ghost use Rattle.fs_regions.specs.Places.{places_in};
+ghost use Rattle.fs_chain.specs.Events.{notification_store, store_of};
 ghost use Rattle.fs_chain.specs.Loads.{GoesSo};
 ghost use Rattle.fs_chain.specs.Orders.{IsWalking};
 ghost use Rattle.fs_chain.specs.Walks.{HasEvents};
 ghost use Rattle.fs_chain.specs.declared.popping.PopOutcome.{PopOutcome};
 ghost use Rattle.fs_chain.specs.declared.state.ChainState.TheVariants as at;
 ghost use Rattle.fs_live.specs.Handles.{live_of};
-ghost use Rattle.fs_live.specs.Live.{LiveEvent, LiveRun, LiveState, RefusesPop};
+ghost use Rattle.fs_live.specs.Live.{Happens, LiveEvent, LiveRun, LiveState, RefusesPop, StoresNotification};
 ghost use Rattle.worked_callers.specs.ChainCalls.{BeginsAndWants};
 ghost use Rattle.worked_callers.specs.Events.{FindsNoChain, IsPopRefusedByLoads};
 ghost use Rattle.worked_callers.specs.Notified.{IsWalkedBy};
@@ -20,7 +22,7 @@ ghost use Rattle.worked_callers.specs.Refusals.{FailsToEnd};
 use crate::beside::walk_to_end;
 use crate::takers::walk_idle;
 use crate::wholes::wants_bytes;
-use fs_chain::{ChainError, ChainHandle, LoadOutcome, PopOutcome, QueueState};
+use fs_chain::{ChainError, ChainHandle, LoadOutcome, NotificationStore, PopOutcome, QueueState};
 use fs_live::law_handles;
 use fs_queue::QueueError;
 use fuse_fs::FileSystem;
@@ -39,6 +41,29 @@ pub fn begin_pop(handle: &mut ChainHandle, queue: &mut QueueState) -> Result<(),
         return Err(ChainError::WrongOrder);
     }
     Ok(())
+}
+
+/// Begins a pop of a queue with the event index, and returns the store that enables notifications. Its
+/// address, avail_event, is mapped, since the pop neither was refused nor missed it. So the store is an
+/// event.
+pub fn begin_pop_and_enable<F: FileSystem>(
+    handle: &mut ChainHandle,
+    queue: &mut QueueState,
+) -> Result<Option<NotificationStore>, ChainError>
+    requires free { handle.old.state ≡ at.Free }
+    requires goes { queue.old.stopped ≡ None }
+    requires event_index { queue.old.event_index ≡ true }
+    ensures calls { OnOk result (BeginsAndWants handle.old handle.new queue.old) }
+    ensures queue { OnOk result (queue.new ≡ queue.old) }
+    ensures store { IfOk result (λ r. option_map store_of r ≡ notification_store queue.old true) }
+    ensures stores { IfOk result (λ r. IfSome r (λ store. (s : LiveState F) (i : ℕ)
+        → slice_get s.queues i ≡ Some (live_of queue.old)
+        → s.places ≡ places_in handle.old.regions
+        → Happens F.may s (StoresNotification i (store_of store)) s)) }
+{
+    law_handles::<F>();
+    begin_pop(handle, queue)?;
+    Ok(queue.notification_store(true))
 }
 
 /// Pops a queue by these bytes and is refused. Returns the error, which stops the queue. For a queue that

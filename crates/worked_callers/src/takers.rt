@@ -5,6 +5,8 @@ ghost use Rattle.std.specs.Prelude.{◌≡◌, ◌<◌, ◌^◌, ℕ, false, IfO
 ghost use Rattle.std.specs.Prelude.{Err, IfErr, OnErr};
 ghost use Rattle.fs_chain.specs.Events.{store_of};
 ghost use Rattle.fs_chain.specs.Loads.{GoesSo, IsSame, RefusesWalk};
+ghost use Rattle.fs_chain.specs.Queues.{gave_up, took};
+ghost use Rattle.fs_chain.specs.Serials.{freed};
 ghost use Rattle.fs_chain.specs.declared.error.ChainError.{ChainError};
 ghost use Rattle.fs_chain.specs.declared.popping.PopOutcome.{PopOutcome};
 ghost use Rattle.fs_chain.specs.declared.chain_handle.ChainHandle.{ChainHandle};
@@ -139,6 +141,12 @@ pub fn drop_one(
 ) -> Result<(), ChainError>
     requires free { handle.old.state ≡ at.Free }
     requires goes { queue.old.stopped ≡ None }
+    ensures popped { OnOk result ((popped : ChainHandle) × (after : QueueState) × (head : ℕ)
+        × (lens : ℕ × ℕ)
+        × IsWalkedBy given.now handle.old popped queue.old after
+        (LoadOutcome.On (PopOutcome.Chain head lens.0 lens.1))
+        × (handle.new ≡ freed popped)) }
+    ensures queue { OnOk result (queue.new ≡ gave_up (took queue.old)) }
     ensures drops { OnOk result ((n : ℕ) × (taken : ChainHandle) × (mid : QueueState) × (head : ℕ)
         × (request : ℕ) × (room : ℕ)
         × ((s : ThreadedQueue)

@@ -1,7 +1,7 @@
 use Rattle.fs_live.proofs.Among.{handle_finds_stopped, handle_walks_among}
 use Rattle.fs_live.proofs.AmongLoads.{handle_loads_among}
 use Rattle.fs_live.proofs.Filling.{handle_fills, handle_fills_range}
-use Rattle.fs_live.proofs.Answered.{handle_answers, handle_asks, handle_calls}
+use Rattle.fs_live.proofs.Answered.{handle_answers, handle_asks, handle_calls, handle_gathers, handle_makes_call}
 use Rattle.fs_live.proofs.NoneAmid.{handle_loads, handle_walks}
 use Rattle.fs_live.proofs.Options.{options_stay}
 use Rattle.fs_live.proofs.Others.{asked_is_held, handle_abandons, handle_drops, handle_maps, handle_moves, handle_replies}
@@ -32,6 +32,12 @@ returns-clause-receives_answer g c = handle_answers _
 
 pub returns-clause-calls : goal.returns-clause-calls
 returns-clause-calls g c = handle_calls g.F.FileSystemBase.may
+
+pub returns-clause-makes_call : goal.returns-clause-makes_call
+returns-clause-makes_call g c = handle_makes_call g.F.FileSystemBase.may
+
+pub returns-clause-gathers : goal.returns-clause-gathers
+returns-clause-gathers g c = handle_gathers g.F.FileSystemBase.may
 
 pub returns-clause-pushes_chain : goal.returns-clause-pushes_chain
 returns-clause-pushes_chain g c = handle_returns g.F.FileSystemBase.may

@@ -41,7 +41,8 @@ returns-in-Err g c =
         subst (λ (w : ChainHandle). IsNotTaken w c.decode_call.new.handle.serial c.args.late c.in-Err.error) (sym c.in-Err.ensures.same)
             (subst (λ (n : ℕ). IsNotTaken c.abandon.new.self n c.args.late c.in-Err.error) c.serial-serial.ensures
             c.in-Err.ensures.refused),
-        λ s i reached there places limit small session. lost_asked may handles.ends_pop handles.decodes_request handles.abandons
+        λ s i reached there places limit small session. lost_asked may handles.ends_pop handles.decodes_request handles.makes_call
+            handles.abandons
             c.args.given.now c.args.handle.now c.walk_chain.new.handle c.decode_call.new.handle c.args.queue.now c.walk_chain.new.queue
             c.in_ok-request_len.field-0-0 c.in_ok-request_len.request_len c.in_ok-request_len.field-0-2 c.args.session
             c.args.request.now asked.0 c.requires.goes c.in_ok-request_len.ensures.given asked.1 s i reached there places limit small

@@ -10,6 +10,8 @@ returns g c =
     let before = c.args.queue.now in
     let after = c.walk_to_end.new.queue in
     record {
+      all = c.walk_to_end.ensures.all;
+      error = c.walk_to_end.ensures.error;
       few = if_ok c.walk_to_end.result _ _ (λ told walks. (
         walks.0,
         walks.1,

@@ -1,4 +1,4 @@
-use Rattle.std.proofs.Common.{◌≡◌, ◌<◌, ◌^◌, ◌||◌, ℕ, Bool, None, true, List, subst, sym, ap, ◌∙◌}
+use Rattle.std.proofs.Common.{◌≡◌, ◌<◌, ◌^◌, ◌||◌, ℕ, Bool, None, true, List, refl, subst, sym, ap, ◌∙◌}
 use Rattle.std.specs.Int.{w16, from_le_bytes, to_le_bytes}
 use Rattle.std.proofs.lemmas.Nat.{from_le_bytes-to_le_bytes_2}
 use Rattle.fs_chain.specs.Events.{tells_of}
@@ -9,6 +9,7 @@ use Rattle.fs_chain.specs.declared.queue.QueueState.{QueueState}
 use Rattle.notify.specs.Threads.{ReturnsChains, after_act}
 use Rattle.fs_notify.specs.Takers.{IsModelOf, ways_of}
 use Rattle.worked_callers.proofs.ModelActs.{published_so}
+use Rattle.worked_callers.proofs.Served.{freed_back}
 use Rattle.worked_callers.proofs.givers.push_one.Goals as goal
 
 pub returns-in-Ok : goal.returns-in-Ok
@@ -29,6 +30,10 @@ returns-in-Ok c =
     ∙ ap (λ (bs : List ℕ). tells_of pushing bs) c.to_le_bytes-bytes.ensures in
     record {
       again = ap (λ (w : ChainHandle). w.state) c.in-Ok.ensures.free;
+      freed = freed_back c.args.handle.now.state q _ c.args.handle.now c.push.new.self c.pushed.new.self refl
+          c.in_ok-stores.ensures.ok c.in_ok-stores.ensures.pushing c.in-Ok.ensures.free;
+      queue = last_is;
+      stores = c.in_ok-stores.ensures.stores;
       returns = λ s of walker.
           let law = c.law_takers.ensures.returns pushing st s counted ok of walker in
           (law.0, subst (λ (k : QueueState). IsModelOf k (after_act (ways_of q) s (ReturnsChains 1))) (sym last_is) law.1);

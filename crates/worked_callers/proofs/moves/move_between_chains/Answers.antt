@@ -3,7 +3,7 @@ use Rattle.vm_memory_core.specs.Host.{changed_at}
 use Rattle.fs_queue.specs.Queue.{Queue}
 use Rattle.fs_record.specs.Record.{IsRecord, Second}
 use Rattle.fs_regions.specs.Places.{places_in}
-use Rattle.fs_live.specs.Handles.{live_of}
+use Rattle.fs_live.specs.Handles.{IsReached, live_of}
 use Rattle.fs_live.specs.Live.{LiveEvent, MovesDevice}
 use Rattle.fs_live.specs.Others.{recorded}
 use Rattle.fs_live.specs.Several.{LiveQueue}
@@ -43,7 +43,8 @@ returns g c =
         taken_is,
         c.reset_by_record.ensures.begins,
         c.in_ok-notice.ensures.queue,
-        λ s reached none queues options places limit limit' small same.
+        λ s none queues options places limit limit' small same.
+            let reached : IsReached may s = (s, [], none, refl) in
             let one = c.in_ok-told.ensures.run s 0 reached (ap (λ (l : List LiveQueue). slice_get l 0) queues) places
             limit small in
             let s₁ = one.1 in

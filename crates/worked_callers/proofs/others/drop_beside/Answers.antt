@@ -16,6 +16,16 @@ returns g c =
           c.walk_chain.new.handle c.args.queue.now c.walk_chain.new.queue c.give_up.new.queue
           c.in_ok-_len.field-0-0 c.in_ok-_len._len c.in_ok-_len.field-0-2 c.requires.goes c.in_ok-_len.ensures.given refl clear left)
           c.give_up.ensures.ok c.give_up.ensures.queue;
+      popped = on_ok_more c.give_up.result _ _
+          (λ free. (
+            c.walk_chain.new.handle,
+            c.walk_chain.new.queue,
+            c.in_ok-_len.field-0-0,
+            (c.in_ok-_len._len, c.in_ok-_len.field-0-2),
+            c.in_ok-_len.ensures.given,
+            free,
+          ))
+          c.give_up.ensures.free;
       again = on_ok_more c.give_up.result _ _ (λ is. ap (λ (w : ChainHandle). w.state) is) c.give_up.ensures.free;
       queue = gave_up_taken c.give_up.result c.walk_chain.new.handle.state _ _ _ _
           (taken_so c.args.handle.now c.walk_chain.new.handle c.args.queue.now c.walk_chain.new.queue c.in_ok-_len.field-0-0

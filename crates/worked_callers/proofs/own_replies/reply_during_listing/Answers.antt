@@ -1,15 +1,18 @@
-use Rattle.std.proofs.Common.{◌≡◌, [], ◌∷◌, length, subst, sym, ◌∙◌, arith}
-use Rattle.std.specs.Prelude.{drop}
+use Rattle.std.proofs.Common.{◌≡◌, List, [], ◌∷◌, None, length, refl, subst, sym, ◌∙◌, arith}
+use Rattle.std.specs.Prelude.{drop, true}
 use Rattle.std.proofs.lemmas.Bool.Decides.{nat_tests}
+use Rattle.fuse_fs.specs.Answers.{listed}
 use Rattle.fuse_values.specs.Values.{call_of}
+use Rattle.server_phases.specs.Gathering.{Brought}
 use Rattle.fs_chain.specs.Queues.{gave}
 use Rattle.fs_chain.specs.declared.decoding.Decoded.TheVariants as asks
 use Rattle.fs_chain.specs.declared.queue.QueueState.{QueueState}
 use Rattle.plain_machine.specs.Step.{Calls}
+use Rattle.fs_live.specs.Handles.{calls_so_far}
 use Rattle.worked_callers.specs.Events.{IsOwnReplyOnceDecoded}
 use Rattle.worked_callers.specs.OwnReplies.{ReturnsAsStep}
 use Rattle.worked_callers.proofs.CalledBy.{decodes_by}
-use Rattle.worked_callers.proofs.OwnRuns.{as_step, entry_keeps, replied_answered}
+use Rattle.worked_callers.proofs.OwnRuns.{as_step, entry_keeps, replied_listed}
 use Rattle.worked_callers.proofs.Served.{if_ok_so, more_taken, taken_so}
 use Rattle.worked_callers.proofs.TookQueue.{gave_took}
 use Rattle.worked_callers.proofs.own_replies.reply_during_listing.Goals as goal
@@ -42,22 +45,29 @@ returns g c =
     let asked = c.in_ok-decode_call.ensures.asked in
     let request = c.args.request.now in
     let bytes = c.args.bytes.now in
+    let es : List Brought = (listed c.args.entry.now, c.args.node) ∷ [] in
+    let brought = c.in_ok-add_entry.ensures.brought in
+    let kind = c.in_ok-add_entry.ensures.kind in
+    let added = c.add_entry.new.list in
     record {
       step = if_ok_so c.push_own.result _ _ _
           (λ notice back final_is s i here session. (
             asked.0,
             two,
+            three,
             decodes_by c.args.given.now old one two before after c.in_ok-request_len.field-0-0 c.in_ok-request_len.request_len
                 c.in_ok-request_len.field-0-2 c.args.session request (asks.Call asked.0) c.in_ok-request_len.ensures.given asked.1,
-            λ answer files fits so.
-                let calls : Calls = (call_of (drop 80 request) asked.0, answer) ∷ [] in
-                let whole = replied_answered may handles.ends_pop handles.decodes_request handles.held handles.replies_instead
+            brought,
+            λ others files run.
+                let calls : Calls = calls_so_far (call_of (drop 80 request) asked.0) true es others None in
+                let whole = replied_listed may handles.ends_pop handles.decodes_request handles.held handles.replies_instead
                 handles.pushes_own given old one
                 two three four
                 before after c.in_ok-request_len.field-0-0 c.in_ok-request_len.request_len c.in_ok-request_len.field-0-2 _ c.args.session
                 request bytes asked.0 notice c.requires.goes c.in_ok-request_len.ensures.given asked.1
-                (λ out is. entry_keeps two three _ _ _ out c.in_ok-add_entry.ensures.brought is)
-                c.in_ok-reply.ensures.ok c.in_ok-reply.ensures.kept back s i here session answer files fits so in
+                (λ out is. entry_keeps two three _ _ _ out brought is)
+                c.in_ok-reply.ensures.ok c.in_ok-reply.ensures.kept back handles.gathers true es others None c.args.list.now added kind
+                (three, added, brought, (refl, refl)) s i here session files run in
                 subst
                 (λ (q : QueueState). ReturnsAsStep g.row.G.Denot may s i before q request bytes calls notice
                 (IsOwnReplyOnceDecoded s i given old before request bytes calls notice)) (sym final_is)

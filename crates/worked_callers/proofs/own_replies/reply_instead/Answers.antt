@@ -1,9 +1,11 @@
 use Rattle.std.proofs.Common.{◌≡◌, [], length, subst, sym, ◌∙◌, arith}
 use Rattle.std.proofs.lemmas.Bool.Decides.{nat_tests}
 use Rattle.fs_chain.specs.Queues.{gave}
+use Rattle.fs_chain.specs.declared.decoding.Decoded.TheVariants as asks
 use Rattle.fs_chain.specs.declared.queue.QueueState.{QueueState}
 use Rattle.worked_callers.specs.Events.{IsOwnReplyOnceDecoded}
 use Rattle.worked_callers.specs.OwnReplies.{ReturnsAsStep}
+use Rattle.worked_callers.proofs.CalledBy.{decodes_by}
 use Rattle.worked_callers.proofs.OwnRuns.{as_step, replied_asked}
 use Rattle.worked_callers.proofs.Served.{if_ok_so, more_taken, taken_so}
 use Rattle.worked_callers.proofs.TookQueue.{gave_took}
@@ -45,12 +47,18 @@ returns g c =
           four before after
           c.in_ok-request_len.field-0-0 c.in_ok-request_len.request_len c.in_ok-request_len.field-0-2 _ c.args.session request bytes
           asked.0 notice c.requires.goes c.in_ok-request_len.ensures.given asked.1 (λ out is. is) c.in_ok-reply.ensures.ok
-          c.in_ok-reply.ensures.kept back s i here session in
-          subst
-          (λ (q : QueueState). ReturnsAsStep g.row.G.Denot may s i before q request bytes [] notice
-          (IsOwnReplyOnceDecoded s i given old before request bytes [] notice)) (sym final_is)
-          (as_step may s i before (gave after) request bytes [] notice so.0
-          g.row.G.Denot (IsOwnReplyOnceDecoded s i given old before request bytes [] notice) so.1 c.law_runs.ensures.own here.reached))
+          c.in_ok-reply.ensures.kept back s i here session in (
+            asked.0,
+            two,
+            decodes_by given old one two before after c.in_ok-request_len.field-0-0 c.in_ok-request_len.request_len
+                c.in_ok-request_len.field-0-2 c.args.session request (asks.Call asked.0) c.in_ok-request_len.ensures.given asked.1,
+            subst
+                (λ (q : QueueState). ReturnsAsStep g.row.G.Denot may s i before q request bytes [] notice
+                (IsOwnReplyOnceDecoded s i given old before request bytes [] notice)) (sym final_is)
+                (as_step may s i before (gave after) request bytes [] notice so.0
+                g.row.G.Denot (IsOwnReplyOnceDecoded s i given old before request bytes [] notice) so.1 c.law_runs.ensures.own
+                here.reached),
+          ))
           c.push_own.ensures.back c.push_own.ensures.queue;
       again = c.push_own.ensures.again;
       queue = gave_took c.push_own.result _ _ _ c.in_ok-request_len.ensures.queue c.push_own.ensures.queue;

@@ -1,4 +1,4 @@
-use Rattle.std.proofs.Common.{◌≡◌, length, ap, ◌∙◌, arith}
+use Rattle.std.proofs.Common.{◌≡◌, [], length, refl, ap, ◌∙◌, arith}
 use Rattle.std.proofs.lemmas.Bool.Decides.{nat_tests}
 use Rattle.fs_regions.specs.Places.{Mapped, places_in}
 use Rattle.worked_callers.proofs.RemappedInFlight.{remapped_in_flight}
@@ -25,13 +25,13 @@ returns-clause-run g c =
     let same : n ≡ length c.args.request.now = grind (arith, nat_tests, test) in
     let taken = more_taken one.state _ _ (λ out is. is ∙ same) (taken_so old one before after head n r c.requires.goes walked) in
     if_ok_so c.push_own.result _ _ _
-    (λ notice back final_is.
+    (λ notice back final_is s i none.
     remapped_in_flight may (places_in c.args.regions) handles.ends_pop
     handles.remaps handles.replies_own_bytes handles.pushes_own c.args.given.now old one
     c.reply.new.self
     c.set_memory.new.self before after c.push_own.new.queue head n r _ c.args.request.now c.args.bytes.now
     notice c.requires.goes c.in_ok-request_len.ensures.given taken c.in_ok-reply.ensures.ok c.in_ok-reply.ensures.kept back final_is
-    (ap (λ (r : Mapped). places_in r) c.in_ok-set_memory.ensures.set.0))
+    (ap (λ (r : Mapped). places_in r) c.in_ok-set_memory.ensures.set.0) s i (s, [], none, refl) none)
     c.push_own.ensures.back c.push_own.ensures.queue
 
 pub returns-clause-again : goal.returns-clause-again

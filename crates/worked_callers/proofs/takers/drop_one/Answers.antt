@@ -1,6 +1,8 @@
+use Rattle.std.proofs.Common.{◌≡◌}
 use Rattle.worked_callers.proofs.ModelActs.{drops_so}
 use Rattle.worked_callers.proofs.OthersBeside.{on_ok_two}
-use Rattle.worked_callers.proofs.Served.{taken_so}
+use Rattle.worked_callers.proofs.Served.{on_ok_more, taken_so}
+use Rattle.worked_callers.proofs.TookQueue.{gave_up_taken}
 use Rattle.worked_callers.proofs.takers.drop_one.Goals as goal
 
 pub returns : goal.returns
@@ -17,6 +19,9 @@ returns c =
     let by = c.in_ok-_len.ensures.given in
     let counted = c.have_u16_numbers.ensures in
     record {
+      popped = on_ok_more c.give_up.result _ _ (λ free. (one, mid, head, (n, r), by, free)) c.give_up.ensures.free;
+      queue = gave_up_taken c.give_up.result one.state (λ out. out.request_len ≡ n) _ _ _
+          (taken_so old one q mid head n r goes walked) c.in_ok-_len.ensures.queue c.give_up.ensures.queue;
       drops = on_ok_two c.give_up.result _ _ _
           (λ clear left. (
             by.0,
