@@ -1,6 +1,6 @@
 //! The results of a handle's calls are steps of the device in the model of notifications (crate `notify`).
-//! So no notification of this library's queues is lost. Each theorem is the contract of a function that does
-//! nothing.
+//! So no notification of this library's queues is lost between resets and moves. Each theorem is the contract
+//! of a function that does nothing.
 //!
 //! The model's steps are those of the device's threads (`ThreadStep`), and of a giver of used chains
 //! (`NotifyStep`):
