@@ -268,7 +268,7 @@ uint8_t pk_is_name(const uint8_t *name, size_t name_len) PK_CHECK;
 struct pk_device { /* the state that all queues share */
     uint32_t page_size; /* bytes: a power of two, 4096 to 65536 */
     uint32_t limit;     /* bytes of a request or a reply buffer, PK_REQUEST_MAX to 2^31 */
-    uint64_t options;   /* FUSE_ bits that INIT agreed on: 0 at first, set by pk_reply_init */
+    uint64_t options;   /* FUSE_ bits agreed on by INIT (pk_reply_init); 0 at first and at reset */
 };
 #define PK_DEVICE {4096u, 0x101000u, 0u}
 
@@ -563,8 +563,8 @@ uint32_t pk_add_direntry(struct pk_chain *chain, uint32_t ticket, uint8_t *list,
                          uint32_t type) PK_CHECK PK_READS(5, 6);
 
 /* READDIRPLUS: the same with an entry, whose node the guest then holds once more. "." and ".." have
- * node 0. Type and ino are the attributes'. After any status but PK_DONE undo the look-up.
- * Errors: as pk_add_direntry; PK_BAD_ARGUMENT also for nanoseconds of 10^9 or more. */
+ * node 0. Type and ino are the attributes'. After any status but PK_DONE undo the look-up, of
+ * node 0 too. Errors: as pk_add_direntry; PK_BAD_ARGUMENT also for nanoseconds of 10^9 or more. */
 uint32_t pk_add_direntry_plus(struct pk_chain *chain, uint32_t ticket, uint8_t *list,
                               size_t list_len, const uint8_t *name, size_t name_len,
                               const struct pk_entry *entry, uint64_t next_offset)

@@ -27,6 +27,7 @@ use Rattle.fs_live.specs.Live.{RefusesPop}
 use Rattle.fs_live.specs.Live.{DecodesRequest, ReceivesAnswer}
 use Rattle.fs_live.specs.Live.{PushesChain}
 use Rattle.fs_live.specs.Live.{StoresNotification, ResetsQueue, FillsBuffer, GivesUpChain, Abandons, RepliesOwnBytes, Remaps, MovesDevice}
+use Rattle.fs_live.specs.Live.{SetsOptions}
 use Rattle.fs_live.specs.Live.{Happens}
 use Rattle.fs_live.specs.Live.{IsMappedEntry, IsUnreplied, LoadsAreMapped}
 use Rattle.fs_live.specs.Live.{LiveRun, EndsPopIn}
@@ -167,6 +168,7 @@ keeps {F} may s after (RepliesOwnBytes c request reply options) h all =
     subst (λ (k : LiveState F). AllWalked k) (sym h.state)
     (all_both (Walked s.limit) h.before (record c { phase = Own request reply } ∷ h.behind) parts.0
     (own_walked s.limit c c.phase request reply refl h.unreplied h.fits parts.1, parts.2))
+keeps {F} may s after (SetsOptions options) h all = subst (λ (k : LiveState F). AllWalked k) (sym h.state) all
 keeps {F} may s after (Remaps m) h all = subst (λ (k : LiveState F). AllWalked k) (sym h.state) all
 keeps {F} may s after (MovesDevice m queues) h all =
     subst (λ (k : LiveState F). AllWalked k) (sym h.state) all

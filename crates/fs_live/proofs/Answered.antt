@@ -3,7 +3,7 @@ use Rattle.std.proofs.Common.{◌≡◌, ℕ, List, [], ◌∷◌, ◌++◌, len
 use Rattle.std.specs.Prelude.{drop, IsTrue}
 use Rattle.fs_queue.specs.Returning.{tells}
 use Rattle.fs_regions.specs.Walks.{FetchesBy}
-use Rattle.fuse_fs.specs.Calls.{FileCall, suits}
+use Rattle.fuse_fs.specs.Calls.{FileAnswer, FileCall, suits}
 use Rattle.fuse_values.specs.Answers.{answer_of}
 use Rattle.fuse_values.specs.Values.{call_of}
 use Rattle.fuse_values.specs.declared.answer.FileAnswer as made_answer
@@ -29,14 +29,15 @@ use Rattle.fs_chain.specs.declared.state.ChainState.TheVariants as at
 use Rattle.fs_chain.specs.declared.chain_handle.ChainHandle.{ChainHandle}
 use Rattle.fs_chain.proofs.WholeOffers.{fits_limit}
 use Rattle.plain_machine.specs.Step.{Calls, answers_alone}
-use Rattle.fs_live.specs.Live.{Phase, fault_of_phase, room_of_phase, room_of}
-use Rattle.fs_live.specs.Handles.{HandleCalls, HandleDecodesRequest, HandleGathers, HandleMakesCall, HandleReceivesAnswer}
-use Rattle.fs_live.specs.Handles.{IsDecodedWhole, calls_decoded}
+use Rattle.fs_live.specs.Live.{Asked, Happens, InFlightChain, LiveState, Phase, ReceivesAnswer, after_answer, fault_of_phase}
+use Rattle.fs_live.specs.Live.{room_of_phase, room_of}
+use Rattle.fs_live.specs.Handles.{HandleCalls, HandleDecodesRequest, HandleGathers, HandleLeavesOut, HandleMakesCall}
+use Rattle.fs_live.specs.Handles.{HandleReceivesAnswer, HoldsDecoded, IsDecodedWhole, calls_decoded, calls_left_out, calls_so_far}
 use Rattle.fs_live.proofs.Alone.{Walked, walked_there}
 use Rattle.fs_live.proofs.EachCall.{each_waits, each_waits_first}
 use Rattle.fs_live.proofs.Left.{options_left_by}
 use Rattle.fs_live.proofs.Listed.{AreServed, list_all_served, one_served}
-use Rattle.fs_live.proofs.ListedSoFar.{AreServedFirst, list_served_first}
+use Rattle.fs_live.proofs.ListedSoFar.{AreServedFirst, left_out_served_first, list_served_first}
 
 -- ---- asking
 
@@ -225,19 +226,27 @@ handle_calls {F} may s c before behind w w' request options made given earlier l
       λ none. sym left ∙ ap leaves (calls_are ∙ ap (λ (calls : Calls). earlier ++ (call, answer) ∷ calls) none),
     )
 
-pub handle_gathers : {F : Type 0} (may : May F) → HandleGathers may
-handle_gathers {F} may s c before behind w gathered request options made with_nodes es others next list list' earlier later call answer
-    files is_out asked kept kind gathers calls_are fits so =
+-- a call that is served, with these calls before it, is answered
+next_received : {F : Type 0} (may : May F) (s : LiveState F) (c : InFlightChain) (before behind : List InFlightChain) (request : List ℕ)
+    (options : ℕ) (made : made_call.FileCall) (w : ChainHandle) (calls earlier later : Calls) (call : FileCall) (answer : FileAnswer)
+    (files : F) → s.chains ≡ before ++ c ∷ behind → c.phase ≡ Asked request options earlier
+    → HoldsDecoded s.page_size options request c (asks.Call made) w
+    → ((out : InFlight) → KeepsCall (setting s.page_size options (length (room_of c))) (meaning options request (length (room_of c)))
+    (drop 80 request) made out w.state
+    → AreServedFirst (setting s.page_size options (length (room_of c))) (meaning options request (length (room_of c))) calls)
+    → calls ≡ earlier ++ (call, answer) ∷ later → IsTrue (suits call answer) → may s.files call answer files
+    → Happens may s (ReceivesAnswer c call answer)
+    (after_answer s before behind c request options (earlier ++ (call, answer) ∷ []) files)
+next_received {F} may s c before behind request options made w calls earlier later call answer files is_out asked kept served_first
+    calls_are fits so =
     let n = length (room_of c) in
     let setup = setting s.page_size options n in
     let m = meaning options request n in
     let tells : TellsMeaning setup m (drop 80 request) kept.out (asks.Call made) w.state =
     subst (λ (k : ℕ). TellsMeaning (setting s.page_size options k) (meaning options request k) (drop 80 request) kept.out (asks.Call made)
     w.state) (sym kept.room) kept.tells in
-    let first = list_served_first setup m (drop 80 request) made with_nodes es others next kept.out w gathered list list' tells kind gathers
-    in
     let split : AreServedFirst setup m (earlier ++ (call, answer) ∷ later) =
-    subst (λ (calls : Calls). AreServedFirst setup m calls) calls_are first in
+    subst (λ (calls : Calls). AreServedFirst setup m calls) calls_are (served_first kept.out tells) in
     record {
       before = before;
       behind = behind;
@@ -252,6 +261,24 @@ handle_gathers {F} may s c before behind w gathered request options made with_no
       may_so = so;
       state = refl;
     }
+
+pub handle_gathers : {F : Type 0} (may : May F) → HandleGathers may
+handle_gathers {F} may s c before behind w gathered request options made with_nodes es others next list list' earlier later call answer
+    files is_out asked kept kind gathers calls_are fits so =
+    let n = length (room_of c) in
+    next_received may s c before behind request options made w (calls_so_far (call_of (drop 80 request) made) with_nodes es others next)
+    earlier later call answer files is_out asked kept
+    (λ out tells. list_served_first (setting s.page_size options n) (meaning options request n) (drop 80 request) made with_nodes es others
+    next out w gathered list list' tells kind gathers) calls_are fits so
+
+pub handle_leaves_out : {F : Type 0} (may : May F) → HandleLeavesOut may
+handle_leaves_out {F} may s c before behind w gathered after request options made with_nodes es e others why list list' list'' earlier
+    later call answer files is_out asked kept kind gathers brings isnt calls_are fits so =
+    let n = length (room_of c) in
+    next_received may s c before behind request options made w (calls_left_out (call_of (drop 80 request) made) with_nodes es e others)
+    earlier later call answer files is_out asked kept
+    (λ out tells. left_out_served_first (setting s.page_size options n) (meaning options request n) (drop 80 request) made with_nodes es e
+    others why out w gathered after list list' list'' tells kind gathers brings isnt) calls_are fits so
 
 pub handle_makes_call : {F : Type 0} (may : May F) → HandleMakesCall may
 handle_makes_call {F} may s c before behind w request options made answer files is_out asked kept fits so =

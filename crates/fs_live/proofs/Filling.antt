@@ -5,6 +5,7 @@ use Rattle.std.specs.Prelude.{option_and_then, option_map}
 use Rattle.std.specs.List.{AllByRecursion, Contains}
 use Rattle.std.proofs.lemmas.List.{take-take, take_at}
 use Rattle.std.proofs.lemmas.List.Elements.{Contains-append_left, Contains-append_right}
+use Rattle.vm_iotlb.specs.declared.permissions.Permissions.{Permissions}
 use Rattle.vm_iotlb.specs.declared.permissions.Permissions.TheVariants.{Write}
 use Rattle.vm_memory_core.specs.Host.{Place}
 use Rattle.vm_memory_core.specs.Window.{places_of}
@@ -80,7 +81,7 @@ addresses_front a n len few =
 -- ---- the events
 
 pub handle_fills : {F : Type 0} (may : May F) → HandleFillsBuffer may
-handle_fills {F} may s c before behind w from v bytes out has same window few =
+handle_fills {F} may s c before behind w from v bytes out has same mapped window few =
     let n = length bytes in
     let room = room_of c in
     let where_is = location (places_in w.regions) Write in
@@ -95,7 +96,10 @@ handle_fills {F} may s c before behind w from v bytes out has same window few =
         within = each_stored (drop from room) bytes room (λ a is. back_in from room a is);
         state = refl;
       },
-      ap (λ (l : List ℕ). located where_is (take n (drop from l))) (sym room_of_handle) ∙ ap (located where_is) (sym part) ∙ front,
+      ap (λ (f : Permissions → ℕ → Option Place). located (f Write) (take n (drop from room))) (sym mapped)
+          ∙ ap (λ (l : List ℕ). located where_is (take n (drop from l))) (sym room_of_handle)
+          ∙ ap (located where_is) (sym part)
+          ∙ front,
     )
 
 pub handle_fills_range : {F : Type 0} (may : May F) → HandleFillsRange may

@@ -10,18 +10,12 @@ use Rattle.virtiofsd_fuse.specs.Serving.{May}
 use Rattle.plain_machine.specs.MarkedPages.{Marks, block_mark, io_mark, marked_by, marks_block, marks_io}
 use Rattle.plain_machine.specs.StepBy.{after_stores, stores_among}
 use Rattle.plain_machine.proofs.PageLemmas.{ways, ways_stay, writes_mark}
-use Rattle.fs_live.specs.Guest.{DeviceEvent, MarksOfBoth, PagesOfRun, StaysThere, Writes, after_moments, after_writes, over_places}
+use Rattle.fs_live.specs.Guest.{DeviceEvent, MarksOfBoth, PagesOfRun, Writes, after_event, after_moments, after_writes}
 use Rattle.fs_live.specs.Guest.{reported_through, written_by_guest}
-use Rattle.fs_live.specs.Live.{LiveEvent, MovesDevice, Remaps}
 use Rattle.fs_live.specs.Live.{event_acts}
 use Rattle.fs_live.specs.Runs.{reported_by}
+use Rattle.fs_live.proofs.GuestMappings.{event_keeps, event_over, same_mappings}
 use Rattle.fs_live.proofs.Pages.{event_told}
-
--- an event that leaves the places
-stays_laid : (e : LiveEvent) (m : Memory) → StaysThere e → over_places e m ≡ m
-stays_laid (Remaps p) m stays = absurd stays
-stays_laid (MovesDevice p queues) m stays = absurd stays
-stays_laid e m stays = refl
 
 -- ---- marks
 
@@ -120,19 +114,20 @@ ways_kept m ws = ap (λ (k : Memory). record m { host = k.host }) (ways_stay (ph
 -- ---- the run
 
 pub pages_of_run : {F : Type 0} (may : May F) → PagesOfRun may
-pages_of_run may s after [] m run stay = none_by_both m
-pages_of_run may s after (Writes ws ∷ ms) m run stay =
+pages_of_run may s after [] m run has stay = none_by_both m
+pages_of_run may s after (Writes ws ∷ ms) m run has stay =
     let n = after_writes m ws in
     guest_before m n (map (λ (w : ℕ × ℕ). w.0) ws) (written_by_guest ms) (reported_through may s ms after run) (after_moments n ms).host
     (ways_kept m ws) (writes_mark (physical m) ws)
-    (pages_of_run may s after ms n run stay)
-pages_of_run may s after (DeviceEvent e ∷ ms) m run stay =
+    (pages_of_run may s after ms n run (same_mappings s m n (ways_kept m ws) has) stay)
+pages_of_run may s after (DeviceEvent e ∷ ms) m run has stay =
     let ws = flat_map writes_of (stores_among (event_acts e)) in
     let n : Memory = after_stores m (stores_among (event_acts e)) in
-    let laid : over_places e n ≡ n = stays_laid e n stay.0 in
+    let laid : after_event m e ≡ n = event_over may s run.0 e m run.1 stay.0 has in
     let guest = written_by_guest ms in
     let device = reported_through may run.0 ms after run.2 in
     let first : Marks m (reported_by s e) n.host = event_told may s run.0 e run.1 m in
-    let later : MarksOfBoth n guest device (after_moments n ms).host = pages_of_run may run.0 after ms n run.2 stay.1 in
+    let later : MarksOfBoth n guest device (after_moments n ms).host =
+    pages_of_run may run.0 after ms n run.2 (event_keeps may s run.0 e m run.1 stay.0 has) stay.1 in
     subst (λ (k : Memory). MarksOfBoth m guest (reported_by s e ++ device) (after_moments k ms).host) (sym laid)
     (device_before m n (reported_by s e) guest device (after_moments n ms).host (ways_stay m ws) first later)

@@ -6,6 +6,7 @@ pub mod Calls
 pub mod Declined
 pub mod EachCall
 pub mod Filling
+pub mod GuestMappings
 pub mod GuestRun
 pub mod InitBesideRun
 pub mod Left

@@ -18,6 +18,7 @@ use Rattle.fs_live.specs.Live.{Phase, PoppedFaulty, Own, Abandoned, InFlightChai
 use Rattle.fs_live.specs.Live.{DecodesRequest}
 use Rattle.fs_live.specs.Live.{ReceivesAnswer}
 use Rattle.fs_live.specs.Live.{PushesChain, StoresNotification, ResetsQueue, FillsBuffer, GivesUpChain, Abandons, RepliesOwnBytes, Remaps}
+use Rattle.fs_live.specs.Live.{SetsOptions}
 use Rattle.fs_live.specs.Live.{MovesDevice, Happens}
 use Rattle.fs_live.specs.Live.{LiveRun}
 use Rattle.fs_live.specs.Live.{IfKeepsReturns, KeepsQueue, KeepsReturns, EndsPopIn, after_answer, after_decoding, after_reset}
@@ -294,6 +295,7 @@ module _ (i : ℕ) where
       (stays s (after_own s h.before h.behind c request reply options) refl refl
       (goes_on i h.before h.behind c (record c { phase = Own request reply }) (c.queue == i) refl refl refl
       ∙ sym (ap (λ (l : List InFlightChain). in_flight_on i l) h.out)) kept)
+  keeps {F} may s mid (SetsOptions options) h kept = subst (λ (k : LiveState F). Kept k) (sym h.state) kept
   keeps {F} may s mid (Remaps m') h kept =
       subst (λ (k : LiveState F). Kept k) (sym h.state) (λ w there. mapped_all s m' w s.chains there h.keeps (kept w there))
   keeps {F} may s mid (MovesDevice m' queues) h kept =
@@ -455,6 +457,7 @@ ties {F} may s mid (Abandons c) h all =
 ties {F} may s mid (RepliesOwnBytes c request reply options) h all =
     subst (λ (k : LiveState F). AllTied k) (sym h.state)
     (one_changed s.places s.queues h.before h.behind c (record c { phase = Own request reply }) s.chains h.out (λ tied. tied) all)
+ties {F} may s mid (SetsOptions options) h all = subst (λ (k : LiveState F). AllTied k) (sym h.state) all
 ties {F} may s mid (Remaps m') h all = subst (λ (k : LiveState F). AllTied k) (sym h.state) (mapped_tied s m' s.chains h.keeps all)
 ties {F} may s mid (MovesDevice m' queues) h all =
     subst (λ (k : LiveState F). AllTied k) (sym h.state) (subst (AllByRecursion (Tied m' queues)) (sym h.none_in_flight) tt)

@@ -17,7 +17,7 @@ use Rattle.fs_live.specs.Several.{LiveQueue, InFlightId, QueueEvent, RunsOver, m
 use Rattle.fs_live.specs.Several as several
 use Rattle.fs_live.proofs.SeveralRuns.{once, used_in_order}
 use Rattle.fs_live.specs.Live.{InFlightChain, LiveState, LiveEvent, EndsPop, RefusesPop, DecodesRequest, ReceivesAnswer, PushesChain}
-use Rattle.fs_live.specs.Live.{StoresNotification, ResetsQueue}
+use Rattle.fs_live.specs.Live.{StoresNotification, ResetsQueue, SetsOptions}
 use Rattle.fs_live.specs.Live.{FillsBuffer, GivesUpChain}
 use Rattle.fs_live.specs.Live.{Abandons, RepliesOwnBytes, Remaps, MovesDevice, Happens, LiveRun, EndsPopIn}
 use Rattle.fs_live.specs.Live.{Own, abandoned_chain, after_abandoning, after_answer, after_decoding, after_reset, after_giving_up}
@@ -316,6 +316,8 @@ module _ (i : ℕ) where
       (stays s (after_own s h.before h.behind c request reply options) w w there refl
       (goes_on h.before h.behind c (record c { phase = Own request reply }) (c.queue == i) refl refl refl
       ∙ sym (ap (λ (l : List InFlightChain). in_flight_on i l) h.out)))
+  carries {F} may s mid w (SetsOptions options) there anew h =
+      subst (λ (k : LiveState F). Carries s k w []) (sym h.state) (stays s (record s { options = options }) w w there refl refl)
   carries {F} may s mid w (Remaps m) there anew h =
       subst (λ (k : LiveState F). Carries s k w []) (sym h.state) (stays s (record s { places = m }) w w there refl refl)
   carries may s mid w (MovesDevice m queues) there anew h = absurd anew

@@ -24,8 +24,9 @@ HasRoom _ = Unit {0}
 abbrev pub data_stores : (room : List ℕ) → (from : ℕ) → (bytes : List ℕ) → List Store
 data_stores room from bytes = map byte_store (zip (drop from room) bytes)
 
--- bytes that a caller stores at the start of a window of the reply buffer are the event `FillsBuffer`. The
--- window has the places of their addresses
+-- bytes that a caller stores at the start of a window of the reply buffer are the event `FillsBuffer`, if the
+-- handle has the mappings of the chain's pop. Then the window has the places of their addresses by these
+-- mappings
 abbrev pub HandleFillsBuffer : {F : Type 0} → May F → Type 0
 HandleFillsBuffer {F} may =
     (s : LiveState F) (c : InFlightChain) (before behind : List InFlightChain) (w : ChainHandle) (from : ℕ)
@@ -33,10 +34,11 @@ HandleFillsBuffer {F} may =
     s.chains ≡ before ++ c ∷ behind →
     HasRoom c.phase →
     c.descriptors ≡ w.descriptors.items →
+    location (places_in w.regions) ≡ location c.places →
     IsWindowFrom w.regions true w.descriptors.items from v →
     length bytes ≤ v.len →
     Happens may s (FillsBuffer c (data_stores (room_of c) from bytes)) s
-    × (located (location (places_in w.regions) Write) (take (length bytes) (drop from (room_of c)))
+    × (located (location c.places Write) (take (length bytes) (drop from (room_of c)))
     ≡ Some (take (length bytes) (places_of v)))
 
 -- bytes that a caller stores from the first address of a range of the reply buffer on are this event too. It

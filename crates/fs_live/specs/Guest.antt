@@ -5,8 +5,10 @@ use Rattle.vm_memory.specs.Memory.{Memory, physical, stored_all}
 use Rattle.vm_memory_core.specs.Host.{Host}
 use Rattle.virtiofsd_fuse.specs.Serving.{May}
 use Rattle.plain_machine.specs.MarkedPages.{block_mark, io_mark, marked_by, marks_block, marks_io}
-use Rattle.plain_machine.specs.StepBy.{after_stores, stores_among}
-use Rattle.fs_live.specs.Live.{LiveEvent, LiveRun, LiveState, MovesDevice, Remaps, event_acts}
+use Rattle.plain_machine.specs.StepBy.{after_stores, reply_stores}
+use Rattle.fs_queue.specs.Returning.{Store}
+use Rattle.fs_live.specs.Live.{FillsBuffer, LiveEvent, LiveRun, LiveState, MovesDevice, PushesChain, Remaps}
+use Rattle.fs_live.specs.Live.{StoresNotification, room_of}
 use Rattle.fs_live.specs.Runs.{reported_by}
 
 -- the guest writes these bytes, each at its physical address; or the device's next event happens. The guest's
@@ -21,15 +23,29 @@ events_of [] = []
 events_of (Writes ws ∷ ms) = events_of ms
 events_of (DeviceEvent e ∷ ms) = e ∷ events_of ms
 
--- the memory after an event's stores: other mappings are over the same bytes and marks
-abbrev pub over_places : LiveEvent → Memory → Memory
-over_places (Remaps m) stored = record m { host = record (stored.host) { tables = m.host.tables } }
-over_places (MovesDevice m queues) stored =
-    record m { host = record (stored.host) { tables = m.host.tables } }
-over_places _ stored = stored
+-- the mappings of a memory alone, without its bytes and marks
+abbrev pub mappings_of : Memory → Memory
+mappings_of m = record m { host = record (m.host) { blocks = []; io_marks = [] } }
 
+-- the bytes and marks of a memory, over the mappings of `places`
+abbrev pub over_mappings : (places m : Memory) → Memory
+over_mappings places m = record places { host = record (m.host) { tables = places.host.tables } }
+
+-- the memory after some stores over the mappings of `places`
+abbrev pub after_stores_over : (places m : Memory) → List Store → Memory
+after_stores_over places m stores =
+    over_mappings m (after_stores (over_mappings places m) stores)
+
+-- the memory after an event. What is stored in the reply buffer of a chain is stored over the mappings of its
+-- pop, and all else over those of this moment
 abbrev pub after_event : Memory → LiveEvent → Memory
-after_event m e = over_places e (after_stores m (stores_among (event_acts e)))
+after_event m (PushesChain c x notice last used seen) =
+    after_stores (after_stores_over c.places m (reply_stores (room_of c) x.reply last)) used
+after_event m (FillsBuffer c stores) = after_stores_over c.places m stores
+after_event m (StoresNotification i store) = after_stores m (store ∷ [])
+after_event m (Remaps places) = over_mappings places m
+after_event m (MovesDevice places queues) = over_mappings places m
+after_event m _ = m
 
 -- the memory after the guest's writes: no table translates their addresses
 abbrev pub after_writes : Memory → List (ℕ × ℕ) → Memory
@@ -72,10 +88,18 @@ pub record MarksOfBoth (m : Memory) (guest device : List ℕ) (after : Host) : T
   pub io_sets : (set page : ℕ) →
       io_mark after set page ≡ marked_by (marks_io m set page) device (io_mark m.host set page)
 
--- the guest may write between any two events of a run. The pages that are marked in the end are those marked
--- before, those of the guest's writes, and those that the events reported. No others are marked
+-- a memory has the mappings of this state, and those of the pops of its chains in flight
+abbrev pub HasMappings : {F : Type 0} → LiveState F → Memory → Type 0
+HasMappings s m =
+    (mappings_of s.places ≡ mappings_of m)
+    × AllByRecursion (λ c. mappings_of c.places ≡ mappings_of m) s.chains
+
+-- the guest may write between any two events of a run, over whose mappings all of its chains are popped. The
+-- pages that are marked in the end are those marked before, those of the guest's writes, and those that the
+-- events reported. No others are marked
 abbrev pub PagesOfRun : {F : Type 0} → May F → Type 0
 PagesOfRun {F} may =
     (s after : LiveState F) (ms : List Moment) (m : Memory) (run : LiveRun may s (events_of ms) after) →
+    HasMappings s m →
     AllByRecursion StaysThere (events_of ms) →
     MarksOfBoth m (written_by_guest ms) (reported_through may s ms after run) (after_moments m ms).host

@@ -1,6 +1,6 @@
 -- Calls of handles, each with its chain, as events of a run, while any other chains are in flight.
 use Rattle.std.specs.Prelude.{◌≡◌, ◌≤◌, ◌<◌, ◌+◌, ◌^◌, ℕ, suc, Bool, true, false, IsTrue, List, [], ◌∷◌, ◌++◌}
-use Rattle.std.specs.Prelude.{length, drop, is_some, Option, Some, None, slice_get, option_map}
+use Rattle.std.specs.Prelude.{length, drop, is_some, Option, Some, None, Ok, slice_get, option_map}
 use Rattle.std.specs.List.{AllByRecursion}
 use Rattle.fs_queue.specs.declared.fault.ChainFault.{ChainFault}
 use Rattle.fs_queue.specs.declared.fault.QueueError.{QueueError}
@@ -11,7 +11,7 @@ use Rattle.fs_regions.specs.declared.step.CourseStep as comes
 use Rattle.fs_regions.specs.declared.step.CourseStep.TheVariants as step
 use Rattle.fs_regions.specs.Places.{places_in}
 use Rattle.fs_regions.specs.Walks.{Loaded, queue_of}
-use Rattle.fuse_fs.specs.Calls.{FileCall, FileAnswer, Destroy, Entries, Listed, Wants, suits}
+use Rattle.fuse_fs.specs.Calls.{FileCall, FileAnswer, Destroy, Entries, HasEntry, Listed, Wants, suits}
 use Rattle.fuse_values.specs.Answers.{answer_of}
 use Rattle.fuse_values.specs.Values.{call_of}
 use Rattle.fuse_values.specs.declared.answer.FileAnswer as made_answer
@@ -28,11 +28,13 @@ use Rattle.fs_chain.specs.Queues.{reset_to, gave}
 use Rattle.fs_chain.specs.Walks.{RefusalHasEvents, course_of, faulty_out, no_reply, out_of, told_of}
 use Rattle.fs_chain.specs.Whole.{ChainAnswer, PushedBy, IsRepliedBy, IsAnsweredBy, IsDecodedBy, LoadsOf}
 use Rattle.fs_chain.specs.Whole.{WalksBy, data_behind, file_calls}
-use Rattle.fs_chain.specs.WholeListings.{FromLists, Gathers, all_looked_up, looked_up}
+use Rattle.fs_chain.specs.WholeListings.{BringsEntry, FromLists, Gathers, all_looked_up, looked_up, node_back}
 use Rattle.fs_chain.specs.declared.answering.Replied.{Replied}
 use Rattle.fs_chain.specs.declared.decoding.Decoded.{Decoded}
 use Rattle.fs_chain.specs.declared.decoding.Decoded.TheVariants as asks
 use Rattle.fs_chain.specs.declared.event_index.NotificationStore.{NotificationStore}
+use Rattle.fs_chain.specs.declared.listing.Added.{Added}
+use Rattle.fs_chain.specs.declared.listing.Added.TheVariants as added
 use Rattle.fs_chain.specs.declared.loads.LoadOutcome as went
 use Rattle.fs_chain.specs.declared.loads.LoadOutcome.TheVariants as wents
 use Rattle.fs_chain.specs.declared.queue.QueueState.{QueueState}
@@ -47,7 +49,7 @@ use Rattle.plain_machine.specs.Step.{Calls, EachSuits, Exchange}
 use Rattle.plain_machine.specs.StepBy.{Act}
 use Rattle.fs_live.specs.Several.{LiveQueue, seen_at}
 use Rattle.fs_live.specs.Live.{Asked, RefusesPop, DecodesRequest, Fetched, LiveEvent, LiveRun, ReceivesAnswer}
-use Rattle.fs_live.specs.Live.{ResetsQueue}
+use Rattle.fs_live.specs.Live.{ResetsQueue, SetsOptions}
 use Rattle.fs_live.specs.Live.{PoppedFaulty}
 use Rattle.fs_live.specs.Live.{LiveState, InFlightChain, PushesChain, StoresNotification, EndsPop}
 use Rattle.fs_live.specs.Live.{Happens, StoreIsMapped, NonePending, after_answer, after_decoding, event_acts}
@@ -298,6 +300,35 @@ HandleGathers {F} may =
     Happens may s (ReceivesAnswer c call answer)
     (after_answer s before behind c request options (earlier ++ (call, answer) ∷ []) files)
 
+-- the calls of a listing up to an entry that isn't added: those so far, with its look-up, and the FORGET of
+-- its node
+abbrev pub calls_left_out :
+    FileCall → (with_nodes : Bool) → List Brought → Brought → (others : List Listed) → Calls
+calls_left_out call with_nodes es e others =
+    calls_so_far call with_nodes es (e.0 ∷ others) (Some (HasEntry e.1)) ++ node_back call with_nodes e
+
+-- each of these calls is an event too, if the entry isn't added. So it is one if the caller then replies with
+-- bytes of its own, or frees the handle. `why`: what the handle returned for the entry
+abbrev pub HandleLeavesOut : {F : Type 0} → May F → Type 0
+HandleLeavesOut {F} may =
+    (s : LiveState F) (c : InFlightChain) (before behind : List InFlightChain)
+    (w gathered after : ChainHandle) (request : List ℕ) (options : ℕ) (made : made_call.FileCall)
+    (with_nodes : Bool) (es : List Brought) (e : Brought) (others : List Listed) (why : Added)
+    (list list' list'' : List ℕ) (earlier later : Calls) (call : FileCall) (answer : FileAnswer) (files : F) →
+    s.chains ≡ before ++ c ∷ behind →
+    c.phase ≡ Asked request options earlier →
+    HoldsDecoded s.page_size options request c (asks.Call made) w →
+    FromLists w.state (λ l. l.with_nodes ≡ with_nodes) →
+    Gathers es w list gathered list' →
+    BringsEntry gathered list' e (Ok why) after list'' →
+    (why ≡ added.In → ⊥) →
+    calls_left_out (call_of (drop 80 request) made) with_nodes es e others
+    ≡ earlier ++ (call, answer) ∷ later →
+    IsTrue (suits call answer) →
+    may s.files call answer files →
+    Happens may s (ReceivesAnswer c call answer)
+    (after_answer s before behind c request options (earlier ++ (call, answer) ∷ []) files)
+
 -- DESTROY ends the negotiated options
 abbrev pub is_destroy : FileCall → Bool
 is_destroy Destroy = true
@@ -388,6 +419,11 @@ HandleStoresNotification {F} may =
     slice_get s.queues i ≡ Some (live_of kept) →
     option_map store_of store ≡ notification_store kept wanted →
     IsNotificationStore may s i kept wanted store
+
+-- the caller may set the session's options at any moment
+abbrev pub HandleSetsOptions : {F : Type 0} → May F → Type 0
+HandleSetsOptions {F} may =
+    (s : LiveState F) (options : ℕ) → Happens may s (SetsOptions options) (record s { options = options })
 
 -- the reset of a queue is the event `ResetsQueue`, once no call of its chains is pending. From then on three
 -- things may differ: how many chains may be in flight, from one to as many as the queue has descriptors; the

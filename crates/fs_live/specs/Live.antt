@@ -126,6 +126,8 @@ pub data LiveEvent : Type 0 where
   -- the caller replies to a request with bytes of its own, instead of decoding it or of answering its pending
   -- call; it may set the options of the session then
   RepliesOwnBytes : InFlightChain → (request reply : List ℕ) → (options : ℕ) → LiveEvent
+  -- the caller sets the options of the session, say to none when the device is reset
+  SetsOptions : (options : ℕ) → LiveEvent
   -- addresses have other mappings from now on: those of other regions, or others in the same regions
   Remaps : Memory → LiveEvent
   -- the device moves: a record of it is made here, and its queues are reset by it there, over these mappings
@@ -440,6 +442,10 @@ pub record RepliesOwnBytesSo {F : Type 0} (s : LiveState F) (c : InFlightChain) 
   pub counts : length reply < 2 ^ 32
   pub state : after ≡ after_own s before behind c request reply options
 
+-- the caller sets the options of the session, whatever chains are in flight
+pub record SetsOptionsSo {F : Type 0} (s : LiveState F) (options : ℕ) (after : LiveState F) : Type 0 where
+  pub state : after ≡ record s { options = options }
+
 -- ---- other mappings, and another host
 
 -- at each position, a push has the same error in both memories, or none in both. Both map used_event, or
@@ -490,6 +496,7 @@ Happens may s (GivesUpChain c) after = GivesUpChainSo s c after
 Happens may s (Abandons c) after = AbandonsSo s c after
 Happens may s (RepliesOwnBytes c request reply options) after =
     RepliesOwnBytesSo s c request reply options after
+Happens may s (SetsOptions options) after = SetsOptionsSo s options after
 Happens may s (Remaps m) after = RemapsSo s m after
 Happens may s (MovesDevice m queues) after = MovesDeviceSo s m queues after
 

@@ -149,7 +149,7 @@ pub record IsAReturn {G : Type 0} (m : State G) (limit : ℕ) (w : LiveQueue) (c
       ≡ return_acts (return_stores (returning w) c.head (room_of c) x.reply last) seen
   pub notice_is : notice ≡ wants w seen
 
--- so it is for each such chain of a run: no call is made, and the options stay
+-- so it is for each such chain of a run: its return makes no call, and the options stay
 abbrev pub OwnIsReturned : {F : Type 0} → (G : Type 0) → May F → Type 0
 OwnIsReturned {F} G may =
     (s now after : LiveState F) (es : List LiveEvent) (c : InFlightChain) (x : Exchange) (notice : Bool)

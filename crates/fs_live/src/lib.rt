@@ -10,7 +10,8 @@ ghost use Rattle.fs_live.specs.Handles.{HandleCalls, HandleRefusesPop, HandleDec
 ghost use Rattle.fs_live.specs.Handles.{HandleReceivesAnswer, HandleResetsQueue};
 ghost use Rattle.fs_live.specs.Handles.{HandleFaulty, HandleLoads, HandlePushesChain};
 ghost use Rattle.fs_live.specs.Handles.{HandleStoresNotification, HandleEndsPop};
-ghost use Rattle.fs_live.specs.Handles.{HandleGathers, HandleMakesCall, OptionsStay};
+ghost use Rattle.fs_live.specs.Handles.{HandleGathers, HandleLeavesOut, HandleMakesCall};
+ghost use Rattle.fs_live.specs.Handles.{HandleSetsOptions, OptionsStay};
 ghost use Rattle.fs_live.specs.InitBeside.{InitBeside};
 ghost use Rattle.fs_live.specs.Others.{DecodedIsUnanswered, HandleAbandons, HandleGivesUpChain};
 ghost use Rattle.fs_live.specs.Others.{HandleMovesDevice};
@@ -87,12 +88,13 @@ pub fn law_examples<F: FileSystem>()
 ///   makes no more loads, and each that it asks for is mapped. If its queue is stopped meanwhile, it is
 ///   refused
 /// - a decoding, and each answer: of the call, of a listing's look-ups, of a FORGET. If the chain is never
-///   answered: of the call, and of a listing's look-ups
+///   answered: of the call, of a listing's look-ups, and of the FORGET of an entry that isn't added
 /// - the return of a chain, also of a faulty one
 /// - a store before a sleep, if its address is mapped
-/// - the reset of a queue, once no call of its chains is pending
+/// - the reset of a queue, once no call of its chains is pending; setting the session's options
 /// - giving up a chain, freeing its handle, a reply of the caller's own bytes, and the return with them
-/// - storing data in the windows, or the ranges, of a reply buffer
+/// - storing data in the windows, or the ranges, of a reply buffer. A window is found by the mappings of its
+///   chain's pop
 /// - other regions, which map the addresses of the returns of chains in flight exactly if the old do
 /// - while no chain is in flight, a record that is made here and read elsewhere
 pub fn law_handles<F: FileSystem>()
@@ -108,9 +110,11 @@ pub fn law_handles<F: FileSystem>()
     ensures calls { HandleCalls F.may }
     ensures makes_call { HandleMakesCall F.may }
     ensures gathers { HandleGathers F.may }
+    ensures leaves_out { HandleLeavesOut F.may }
     ensures pushes_chain { HandlePushesChain F.may }
     ensures faulty { HandleFaulty F.may }
     ensures stores_notification { HandleStoresNotification F.may }
+    ensures sets_options { HandleSetsOptions F.may }
     ensures resets_queue { HandleResetsQueue F.may }
     ensures gives_up_chain { HandleGivesUpChain F.may }
     ensures abandons { HandleAbandons F.may }

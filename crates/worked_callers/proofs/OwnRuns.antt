@@ -42,8 +42,8 @@ use Rattle.plain_machine.specs.MarkedPages.{returned_addresses}
 use Rattle.plain_machine.specs.Step.{Calls, Exchange}
 use Rattle.plain_machine.specs.StepBy.{Act}
 use Rattle.fs_live.specs.Guest.{DeviceEvent, PagesOfRun, Writes}
-use Rattle.fs_live.specs.Handles.{HandleDecodesRequest, HandleGathers, HandleEndsPop, HoldsResult, HoldsPopped, IsReached, IsSessionOf}
-use Rattle.fs_live.specs.Handles.{calls_so_far, live_of}
+use Rattle.fs_live.specs.Handles.{HandleDecodesRequest, HandleGathers, HandleEndsPop, HandleLeavesOut, HoldsResult, HoldsPopped, IsReached}
+use Rattle.fs_live.specs.Handles.{IsSessionOf, calls_left_out, calls_so_far, live_of}
 use Rattle.fs_live.specs.Live.{DecodesRequest, PushedWith, Happens, LiveEvent, LiveRun, LiveState, InFlightChain, Own, Phase}
 use Rattle.fs_live.specs.Live.{PushesChain, RepliesOwnBytes}
 use Rattle.fs_live.specs.Live.{EndsPop, after_decoding, after_push, after_own, after_pop, asked_chain, calls_among, new_chain}
@@ -253,7 +253,7 @@ module _ {F : Type 0} (may : May F) (walks_law : HandleEndsPop may) (replies_law
         (
           refl,
           refl,
-          λ first second third last m.
+          λ first second third last m has.
               law s whole.end
               (
               Writes first ∷ DeviceEvent walked
@@ -261,7 +261,7 @@ module _ {F : Type 0} (may : May F) (walks_law : HandleEndsPop may) (replies_law
               ∷ Writes third ∷ DeviceEvent returned
               ∷ Writes last ∷ []
               )
-              m (s₁, pop.happens, (whole.now, replied.0, (whole.end, whole.returns, refl))) (tt, (tt, (tt, tt))),
+              m (s₁, pop.happens, (whole.now, replied.0, (whole.end, whole.returns, refl))) has (tt, (tt, (tt, tt))),
         ),
       )
 
@@ -306,26 +306,27 @@ module _ {F : Type 0} (may : May F) (walks_law : HandleEndsPop may) (replies_law
 
 -- ---- a decoded request
 
--- an entry that is added leaves the chain in the handle
-no_entry : (why : ChainError) → ◌≡◌ {A = Result Added ChainError} (Ok added.In) (Err why) → ⊥
-no_entry why is = cc
+-- an entry that is brought, added or not, leaves the chain in the handle
+no_entry : (a : Added) (why : ChainError) → ◌≡◌ {A = Result Added ChainError} (Ok a) (Err why) → ⊥
+no_entry a why is = cc
 
-added_keeps : (st st' : state.ChainState) (list list' : List ℕ) (e : Brought) (outcome : Listing → Result (Unit {0}) NotAdded)
-    (out : InFlight) → AddsTo st st' list list' e outcome (Ok added.In) → FromUnreplied st (λ o. o ≡ out) → FromUnreplied st' (λ o. o ≡ out)
-added_keeps (at.Lists kept l) st' list list' e outcome out adds is =
+added_keeps : (st st' : state.ChainState) (list list' : List ℕ) (e : Brought) (a : Added)
+    (outcome : Listing → Result (Unit {0}) NotAdded) (out : InFlight) → AddsTo st st' list list' e outcome (Ok a)
+    → FromUnreplied st (λ o. o ≡ out) → FromUnreplied st' (λ o. o ≡ out)
+added_keeps (at.Lists kept l) st' list list' e a outcome out adds is =
     subst (λ (st : state.ChainState). FromUnreplied st (λ o. o ≡ out)) (sym adds.1.1) is
-added_keeps (at.Waits kept w) st' list list' e outcome out adds is = absurd (no_entry error.OtherKind adds.0)
-added_keeps (at.Taken kept) st' list list' e outcome out adds is = absurd (no_entry error.WrongOrder adds.0)
-added_keeps at.Free st' list list' e outcome out adds is = absurd is
-added_keeps (at.Walking course pop_id walk) st' list list' e outcome out adds is = absurd is
-added_keeps (at.HasReply o reply) st' list list' e outcome out adds is = absurd is
-added_keeps (at.Pushing o) st' list list' e outcome out adds is = absurd is
+added_keeps (at.Waits kept w) st' list list' e a outcome out adds is = absurd (no_entry a error.OtherKind adds.0)
+added_keeps (at.Taken kept) st' list list' e a outcome out adds is = absurd (no_entry a error.WrongOrder adds.0)
+added_keeps at.Free st' list list' e a outcome out adds is = absurd is
+added_keeps (at.Walking course pop_id walk) st' list list' e a outcome out adds is = absurd is
+added_keeps (at.HasReply o reply) st' list list' e a outcome out adds is = absurd is
+added_keeps (at.Pushing o) st' list list' e a outcome out adds is = absurd is
 
-pub entry_keeps : (w w' : ChainHandle) (list list' : List ℕ) (e : Brought) (out : InFlight) → BringsEntry w list e (Ok added.In) w' list' →
-    FromUnreplied w.state (λ o. o ≡ out) → FromUnreplied w'.state (λ o. o ≡ out)
-entry_keeps w w' list list' e out brings is = elim brings.0 [
-  | inl adds ↦ added_keeps w.state w'.state list list' e (λ l. added_plain l (length list) (length e.0.name)) out adds is
-  | inr adds ↦ added_keeps w.state w'.state list list' e (λ l. added_found l (length list) (length e.0.name)) out adds is
+pub entry_keeps : (w w' : ChainHandle) (list list' : List ℕ) (e : Brought) (a : Added) (out : InFlight)
+    → BringsEntry w list e (Ok a) w' list' → FromUnreplied w.state (λ o. o ≡ out) → FromUnreplied w'.state (λ o. o ≡ out)
+entry_keeps w w' list list' e a out brings is = elim brings.0 [
+  | inl adds ↦ added_keeps w.state w'.state list list' e a (λ l. added_plain l (length list) (length e.0.name)) out adds is
+  | inr adds ↦ added_keeps w.state w'.state list list' e a (λ l. added_found l (length list) (length e.0.name)) out adds is
 ]
 
 module _ {F : Type 0} (may : May F) (walks_law : HandleEndsPop may) (asks_law : HandleDecodesRequest may) (held_law : DecodedIsUnanswered)
@@ -381,14 +382,13 @@ module _ {F : Type 0} (may : May F) (walks_law : HandleEndsPop may) (asks_law : 
         ),
       )
 
-  pub replied_listed : HandleGathers may → (with_nodes : Bool) (es : List Brought) (others : List Listed) (next : Option FileAnswer)
-      (list list' : List ℕ) → FromLists two.state (λ l. l.with_nodes ≡ with_nodes) → Gathers es two list three list'
-      → (s : LiveState F) (i : ℕ) → IsOfRun may s i old before → IsSessionOf s session
-      → (files : F) → FileRun may s.files (calls_so_far call with_nodes es others next) files
-      → (whole : ReturnsOwn may s i before (gave after) request reply (calls_so_far call with_nodes es others next) notice)
-      × IsOwnReplyOnceDecoded s i given old before request reply (calls_so_far call with_nodes es others next) notice
+  -- after these calls, each of which is an event
+  pub replied_after : (calls : Calls) (s : LiveState F) (i : ℕ) → EachIsAnswered may two request s.options (asks.Call made) calls
+      → IsOfRun may s i old before → IsSessionOf s session → (files : F) → FileRun may s.files calls files
+      → (whole : ReturnsOwn may s i before (gave after) request reply calls notice)
+      × IsOwnReplyOnceDecoded s i given old before request reply calls notice
       (whole.earlier ++ PushesChain whole.chain whole.exchange notice 0 whole.used loaded_flags ∷ [])
-  replied_listed gathers_law with_nodes es others next list list' kind gathers s i here in_session files run =
+  replied_after calls s i each here in_session files run =
       let q = live_of before in
       let ds = one.descriptors.items in
       let pop = popped may walks_law old one before after head n r goes (given_so_far walks.0 given, walks.1) s i here in
@@ -401,11 +401,6 @@ module _ {F : Type 0} (may : May F) (walks_law : HandleEndsPop may) (asks_law : 
       let s₂ : LiveState F = after_decoding s₁ s.chains [] c request in
       let d : InFlightChain = asked_chain c request s.options [] in
       let held = held_law s.page_size s.options request d made two asking.1 in
-      let calls : Calls = calls_so_far call with_nodes es others next in
-      let each : EachIsAnswered may two request s.options (asks.Call made) calls =
-      λ t d before behind earlier later call answer files out asked kept calls_are fits so.
-      gathers_law t d before behind two three request s.options made with_nodes es others next list list' earlier later call answer
-      files out asked kept kind gathers calls_are fits so in
       let ans = each_answered may two request s.options (asks.Call made) calls each s₂ c s.chains [] [] calls files refl asking.1 refl run
       in
       let e : InFlightChain = asked_chain c request s.options calls in
@@ -436,3 +431,24 @@ module _ {F : Type 0} (may : May F) (walks_law : HandleEndsPop may) (asks_law : 
               ∙ ap (λ (l : List LiveEvent). l ++ replies ∷ returned ∷ []) ans.es_are),
         ),
       )
+
+-- the calls of a listing that hasn't ended are events
+pub each_gathered : {F : Type 0} (may : May F) → HandleGathers may → (two three : ChainHandle) (request : List ℕ) (options : ℕ)
+    (made : made_call.FileCall) (with_nodes : Bool) (es : List Brought) (others : List Listed) (next : Option FileAnswer)
+    (list list' : List ℕ) → FromLists two.state (λ l. l.with_nodes ≡ with_nodes) → Gathers es two list three list'
+    → EachIsAnswered may two request options (asks.Call made) (calls_so_far (call_of (drop 80 request) made) with_nodes es others next)
+each_gathered may law two three request options made with_nodes es others next list list' kind gathers =
+    λ t d before behind earlier later call answer files out asked kept calls_are fits so.
+    law t d before behind two three request options made with_nodes es others next list list' earlier later call answer files out asked kept
+    kind gathers calls_are fits so
+
+-- so are those up to an entry that isn't added
+pub each_left_out : {F : Type 0} (may : May F) → HandleLeavesOut may → (two three last : ChainHandle) (request : List ℕ) (options : ℕ)
+    (made : made_call.FileCall) (with_nodes : Bool) (es : List Brought) (e : Brought) (others : List Listed) (why : Added)
+    (list list' list'' : List ℕ) → FromLists two.state (λ l. l.with_nodes ≡ with_nodes) → Gathers es two list three list'
+    → BringsEntry three list' e (Ok why) last list'' → (why ≡ added.In → ⊥)
+    → EachIsAnswered may two request options (asks.Call made) (calls_left_out (call_of (drop 80 request) made) with_nodes es e others)
+each_left_out may law two three last request options made with_nodes es e others why list list' list'' kind gathers brings isnt =
+    λ t d before behind earlier later call answer files out asked kept calls_are fits so.
+    law t d before behind two three last request options made with_nodes es e others why list list' list'' earlier later call answer files
+    out asked kept kind gathers brings isnt calls_are fits so

@@ -53,6 +53,7 @@ use Rattle.fs_live.specs.Live.{
   InFlightChain,
   RepliesOwnBytes,
   PushesChain,
+  SetsOptions,
   StoresNotification,
   EndsPop,
   after_answer,
@@ -99,6 +100,7 @@ calls_behind (FillsBuffer c stores) es fs is = is
 calls_behind (GivesUpChain c) es fs is = is
 calls_behind (Abandons c) es fs is = is
 calls_behind (RepliesOwnBytes c request reply options) es fs is = is
+calls_behind (SetsOptions options) es fs is = is
 calls_behind (Remaps m) es fs is = is
 calls_behind (MovesDevice m queues) es fs is = is
 

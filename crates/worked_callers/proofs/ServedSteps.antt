@@ -32,6 +32,7 @@ use Rattle.fs_live.specs.Live.{
   Remaps,
   RepliesOwnBytes,
   ResetsQueue,
+  SetsOptions,
   StoresNotification,
   asked_chain,
   calls_among,
@@ -75,6 +76,7 @@ module _ {F : Type 0} (may : May F) where
   event_keeps s after (GivesUpChain c) h = keeps_by s after _ h.state (refl, refl)
   event_keeps s after (Abandons c) h = keeps_by s after _ h.state (refl, refl)
   event_keeps s after (RepliesOwnBytes c request reply options) h = keeps_by s after _ h.state (refl, refl)
+  event_keeps s after (SetsOptions options) h = keeps_by s after _ h.state (refl, refl)
   event_keeps s after (Remaps m) h = keeps_by s after _ h.state (refl, refl)
   event_keeps s after (MovesDevice m queues) h = keeps_by s after _ h.state (refl, refl)
 

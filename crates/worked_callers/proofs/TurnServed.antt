@@ -27,6 +27,7 @@ use Rattle.fs_live.specs.Live.{
   Remaps,
   RepliesOwnBytes,
   ResetsQueue,
+  SetsOptions,
   StoresNotification,
 }
 use Rattle.fs_live.specs.Serial.{IsOfChain, events_in, return_in}
@@ -72,6 +73,7 @@ module _ {F : Type 0} (may : May F) where
   event_stays s after (GivesUpChain c) keeps h = ap (λ (k : LiveState F). k.places) h.state
   event_stays s after (Abandons c) keeps h = ap (λ (k : LiveState F). k.places) h.state
   event_stays s after (RepliesOwnBytes c request reply options) keeps h = ap (λ (k : LiveState F). k.places) h.state
+  event_stays s after (SetsOptions options) keeps h = ap (λ (k : LiveState F). k.places) h.state
   event_stays s after (Remaps m) keeps h = absurd keeps
   event_stays s after (MovesDevice m queues) keeps h = absurd keeps
 

@@ -1,5 +1,5 @@
 -- The calls of a chain that is served, and the loads of its pop.
-use Rattle.std.specs.Prelude.{◌≡◌, ℕ, Bool, List, [], ◌∷◌, drop, length, Option, Some, None}
+use Rattle.std.specs.Prelude.{◌≡◌, ◌+◌, ◌%◌, ◌^◌, ℕ, Bool, List, [], ◌∷◌, drop, length, Option, Some, None}
 use Rattle.std.specs.Prelude.{if◌then◌else◌}
 use Rattle.std.specs.Borrow.{Bor}
 use Rattle.fuse_fs.specs.Answers.{listed}
@@ -101,6 +101,15 @@ HasMemory old new regions limit =
 -- a handle has the regions, with their table, and the limit that this one has
 abbrev pub HasMemoryOf : (other handle : ChainHandle) → Type 0
 HasMemoryOf other handle = (handle.regions ≡ other.regions) × (handle.limit ≡ other.limit)
+
+-- a handle keeps its regions, its table, its limit, and its chain's number
+abbrev pub KeepsChain : (old new : ChainHandle) → Type 0
+KeepsChain old new = HasMemoryOf old new × (new.serial ≡ old.serial)
+
+-- a handle that was free and served one chain: its regions, its table and its limit are as before, its next
+-- chain has the next number, and no list has entries
+abbrev pub HasServedOne : (old new : ChainHandle) → Type 0
+HasServedOne old new = HasMemoryOf old new × (new.serial ≡ (old.serial + 1) % 2 ^ 32) × (new.list_len ≡ 0)
 
 -- these acts are a push by these stores, whose caller loads these two bytes last
 abbrev pub AreActsOf : (stores : PushStores) → (seen : List ℕ) → List Act → Type 0

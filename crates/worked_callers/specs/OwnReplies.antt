@@ -11,7 +11,7 @@ use Rattle.fs_chain.specs.declared.chain_handle.ChainHandle.{ChainHandle}
 use Rattle.fs_chain.specs.declared.queue.QueueState.{QueueState}
 use Rattle.plain_machine.specs.MarkedPages.{returned_addresses}
 use Rattle.plain_machine.specs.Step.{Calls, Exchange, State}
-use Rattle.fs_live.specs.Guest.{DeviceEvent, MarksOfBoth, Writes, after_moments}
+use Rattle.fs_live.specs.Guest.{DeviceEvent, HasMappings, MarksOfBoth, Writes, after_moments}
 use Rattle.fs_live.specs.Handles.{IsReached, live_of}
 use Rattle.fs_live.specs.Live.{Happens, LiveEvent, LiveRun, LiveState, InFlightChain, Own, PushesChain}
 use Rattle.fs_live.specs.Live.{RepliesOwnBytes, calls_among}
@@ -88,9 +88,9 @@ abbrev pub written : List (ℕ × ℕ) → List ℕ
 written ws = map (λ w. w.0) ws
 
 -- such a chain is popped from queue i by a prefix of the given loads. Its caller replies to the request with
--- bytes of its own, and it is returned. The guest writes before, between and after these three events. The
--- pages that are marked in the end are those marked before, those of the guest's writes, and those that the
--- return reports
+-- bytes of its own, and it is returned. The guest writes before, between and after these three events. In a
+-- memory with the mappings of the run and of its chains' pops, the pages that are marked in the end are those
+-- marked before, those of the guest's writes, and those that the return reports
 abbrev pub LogsOwn : {F : Type 0} → (may : May F) → (s : LiveState F) → (i : ℕ) →
     (given : List (Bor (List ℕ))) → (old : ChainHandle) → (before after : QueueState) →
     (request reply : List ℕ) → (notice : Bool) → Type 0
@@ -104,6 +104,7 @@ LogsOwn {F} may s i given old before after request reply notice =
     (r.earlier ≡ popped ∷ replied ∷ [])
     × (r.chain ≡ record c { phase = Own request reply })
     × ((first second third last : List (ℕ × ℕ)) (m : Memory) →
+    HasMappings s m →
     MarksOfBoth m (written first ++ (written second ++ (written third ++ (written last ++ []))))
     (reported_by r.now returned ++ [])
     (after_moments m

@@ -10,6 +10,7 @@ ghost use Rattle.fuse_values.specs.declared.call.FileCall as value;
 ghost use Rattle.fs_chain.specs.Answers.{IsNotTaken};
 ghost use Rattle.fs_chain.specs.Pushes.{IsFreed};
 ghost use Rattle.fs_chain.specs.Queues.{took};
+ghost use Rattle.fs_chain.specs.Walks.{IsAllBut};
 ghost use Rattle.fs_chain.specs.declared.decoding.Decoded.TheVariants as asks;
 ghost use Rattle.fs_chain.specs.declared.state.ChainState.TheVariants as at;
 ghost use Rattle.fs_live.specs.Handles.{IsReached, IsSessionOf, live_of};
@@ -43,6 +44,7 @@ pub fn abandon_decoded<F: FileSystem>(
     ensures again { OnOk result (handle.new.state ≡ at.Free) }
     ensures run { IfOk result (λ error. (made : value.FileCall) × (asked : ChainHandle)
         × DecodesPopped given.now handle.old queue.old session request.now (asks.Call made) asked
+        × IsAllBut handle.old asked
         × IsFreed asked handle.new
         × IsNotTaken handle.new asked.serial late error
         × ((s : LiveState F) (i : ℕ)

@@ -7,6 +7,7 @@ ghost use Rattle.fuse_fs.specs.Calls.{Bytes, FileRun};
 ghost use Rattle.fuse_values.specs.Values.{call_of};
 ghost use Rattle.fuse_values.specs.declared.call.FileCall as value;
 ghost use Rattle.fs_chain.specs.Answers.{CanBeGiven, IfWaits};
+ghost use Rattle.fs_chain.specs.Walks.{IsAllBut};
 ghost use Rattle.fs_chain.specs.Queues.{gave, took};
 ghost use Rattle.fs_chain.specs.Whole.{ByEntries, IsAnsweredBy};
 ghost use Rattle.fs_chain.specs.WholeListings.{EndsThere, listing_calls};
@@ -15,7 +16,7 @@ ghost use Rattle.fs_chain.specs.declared.state.ChainState.TheVariants as at;
 ghost use Rattle.plain_machine.specs.Step.{Calls};
 ghost use Rattle.fs_live.specs.Handles.{IsReached, IsSessionOf, live_of};
 ghost use Rattle.fs_live.specs.Live.{LiveEvent, LiveRun, LiveState, calls_among};
-ghost use Rattle.worked_callers.specs.ChainCalls.{AreCallsBy, both_entries, with_data};
+ghost use Rattle.worked_callers.specs.ChainCalls.{AreCallsBy, HasServedOne, both_entries, with_data};
 ghost use Rattle.worked_callers.specs.Events.{IsServedChain};
 
 use crate::listings::{TwoEntries, decode_call, list_two};
@@ -33,6 +34,7 @@ pub fn answer_data(handle: &mut ChainHandle, bytes: &[u8]) -> Result<(), ChainEr
         × IsAnsweredBy handle.old (FileAnswer.Bytes (length bytes.now)) bytes.now told handle.new) }
     ensures taken { OnOk result (IfWaits handle.old.state
         (λ out w. CanBeGiven w (FileAnswer.Bytes (length bytes.now)))) }
+    ensures kept { OnOk result (IsAllBut handle.old handle.new) }
 {
     let serial = handle.serial();
     let answer = FileAnswer::Bytes { len: bytes.len() };
@@ -55,6 +57,7 @@ pub fn read_beside<F: FileSystem>(
     requires free { handle.old.state ≡ at.Free }
     requires goes { queue.old.stopped ≡ None }
     ensures again { OnOk result (handle.new.state ≡ at.Free) }
+    ensures one { OnOk result (HasServedOne handle.old handle.new) }
     ensures queue { OnOk result (queue.new ≡ gave (took queue.old)) }
     ensures run { IfOk result (λ notice. (s : LiveState F) (i : ℕ) (files : F)
         → IsReached F.may s
@@ -99,6 +102,7 @@ pub fn list_beside<F: FileSystem>(
     requires free { handle.old.state ≡ at.Free }
     requires goes { queue.old.stopped ≡ None }
     ensures again { OnOk result (handle.new.state ≡ at.Free) }
+    ensures one { OnOk result (HasServedOne handle.old handle.new) }
     ensures queue { OnOk result (queue.new ≡ gave (took queue.old)) }
     ensures run { IfOk result (λ notice. (s : LiveState F) (i : ℕ) (files : F)
         → IsReached F.may s

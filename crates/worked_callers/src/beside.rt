@@ -24,7 +24,7 @@ ghost use Rattle.plain_machine.specs.Step.{Calls};
 ghost use Rattle.fs_live.specs.Handles.{HoldsDecoded, IsReached, IsSessionOf, changes_options, live_of};
 ghost use Rattle.fs_live.specs.Handles.{load_count};
 ghost use Rattle.fs_live.specs.Live.{Asked, RefusesPop, Happens, StoreIsMapped, LiveEvent, ReceivesAnswer};
-ghost use Rattle.fs_live.specs.Live.{ResetsQueue};
+ghost use Rattle.fs_live.specs.Live.{ResetsQueue, SetsOptions};
 ghost use Rattle.fs_live.specs.Live.{LiveRun};
 ghost use Rattle.fs_live.specs.Live.{LiveState, NonePending, InFlightChain, StoresNotification, calls_among};
 ghost use Rattle.fs_live.specs.Live.{room_of};
@@ -32,7 +32,7 @@ ghost use Rattle.fs_live.specs.Live.{pop_refusal};
 ghost use Rattle.fs_live.specs.Runs.{EachStoresThere, events_on, going, in_flight_on};
 ghost use Rattle.fs_live.specs.Several.{LiveQueue, RunsOver, UsedFrom, returns_among};
 ghost use Rattle.worked_callers.specs.Notified.{IsWalkedBy, given_so_far};
-ghost use Rattle.worked_callers.specs.ChainCalls.{AreCallsOf};
+ghost use Rattle.worked_callers.specs.ChainCalls.{AreCallsOf, HasServedOne};
 ghost use Rattle.worked_callers.specs.Events.{IsFaultyChain, IsPopRefusedByLoads, IsServedChain};
 ghost use Rattle.worked_callers.specs.Refusals.{FailsToEnd};
 
@@ -59,6 +59,7 @@ pub fn serve_beside<F: FileSystem>(
     requires goes { queue.old.stopped ≡ None }
     requires data { TellsBytes [] answer }
     ensures again { OnOk result (handle.new.state ≡ at.Free) }
+    ensures one { OnOk result (HasServedOne handle.old handle.new) }
     ensures queue { OnOk result (queue.new ≡ gave (took queue.old)) }
     ensures run { IfOk result (λ notice. (s : LiveState F) (i : ℕ) (files : F)
         → IsReached F.may s
@@ -299,7 +300,8 @@ pub fn store_notification_beside<F: FileSystem>(
     queue.notification_store(wanted)
 }
 
-/// The reset of a queue is an event, once no call of its chains is pending.
+/// The reset of a queue is an event, once no call of its chains is pending. If the device is reset, its
+/// caller may then set the session's options, to none.
 pub fn reset_beside<F: FileSystem>(queue: &mut QueueState, layout: QueueLayout, position: u16)
     ensures reset { queue.new ≡ reset_to queue.old layout position }
     ensures begins { (s : LiveState F) (i : ℕ)
@@ -309,7 +311,11 @@ pub fn reset_beside<F: FileSystem>(queue: &mut QueueState, layout: QueueLayout, 
         → AllByRecursion (λ c. NonePending s.page_size i c c.phase) s.chains
         → (next : LiveState F)
         × Happens F.may s (ResetsQueue i (live_of queue.new)) next
-        × (slice_get next.queues i ≡ Some (live_of queue.new)) }
+        × (slice_get next.queues i ≡ Some (live_of queue.new))
+        × ((session : Session)
+        → (end : LiveState F)
+        × Happens F.may next (SetsOptions session.options.0) end
+        × (session.page_size ≡ s.page_size → IsSessionOf end session)) }
 {
     law_handles::<F>();
     queue.reset(layout, position);

@@ -5,7 +5,6 @@ ghost use Rattle.std.specs.Prelude.{Some, slice_get, take};
 ghost use Rattle.vm_iotlb.specs.declared.permissions.Permissions.TheVariants.{Write};
 ghost use Rattle.vm_memory_core.specs.Window.{places_of};
 ghost use Rattle.vm_memory.specs.Memory.{located, location};
-ghost use Rattle.fs_regions.specs.Places.{places_in};
 ghost use Rattle.fs_chain.specs.Queues.{took};
 ghost use Rattle.fs_chain.specs.declared.popping.PopOutcome.{PopOutcome};
 ghost use Rattle.fs_chain.specs.declared.state.ChainState.TheVariants as at;
@@ -46,8 +45,7 @@ pub fn pop_for_window<F: FileSystem>(
         × LiveRun F.may s
         (pop_event c None ∷ FillsBuffer c (data_stores (room_of c) from bytes.now) ∷ []) end
         × (slice_get end.queues i ≡ Some (live_of queue.new))
-        × (located (location (places_in handle.new.regions) Write)
-        (take (length bytes.now) (drop from (room_of c)))
+        × (located (location c.places Write) (take (length bytes.now) (drop from (room_of c)))
         ≡ Some (take (length bytes.now) (places_of v)))) }
 {
     law_handles::<F>();

@@ -13,7 +13,7 @@ ghost use Rattle.fs_queue.specs.Loads.{Load};
 ghost use Rattle.fs_regions.specs.Walks.{Loaded, queue_of};
 ghost use Rattle.fs_chain.specs.Events.{tells_of};
 ghost use Rattle.fs_chain.specs.Queues.{gave, took};
-ghost use Rattle.fs_chain.specs.Walks.{course_of};
+ghost use Rattle.fs_chain.specs.Walks.{IsAllBut, course_of};
 ghost use Rattle.fs_chain.specs.Whole.{ByEntries, FromTaken, IsDecodedBy, IsMachineBefore, IsSession};
 ghost use Rattle.fs_chain.specs.Whole.{LackPlaces, after_chain, step_loads};
 ghost use Rattle.fs_chain.specs.WholeListings.{BringsEntry, EndsThere, FromLists, IsListedBy, listing_calls};
@@ -21,7 +21,8 @@ ghost use Rattle.fs_chain.specs.declared.decoding.Decoded.TheVariants as asks;
 ghost use Rattle.fs_chain.specs.declared.loads.LoadOutcome.TheVariants as wents;
 ghost use Rattle.fs_chain.specs.declared.popping.PopOutcome.TheVariants as says;
 ghost use Rattle.fs_chain.specs.declared.state.ChainState.TheVariants as at;
-ghost use Rattle.worked_callers.specs.ChainCalls.{AreCallsBy, ArePopLoads, both_entries};
+ghost use Rattle.worked_callers.specs.ChainCalls.{AreCallsBy, ArePopLoads, HasServedOne, KeepsChain};
+ghost use Rattle.worked_callers.specs.ChainCalls.{both_entries};
 ghost use Rattle.worked_callers.specs.Events.{loaded_flags};
 
 use crate::wholes::{push_reply, walk_chain};
@@ -48,6 +49,7 @@ pub fn decode_call(
     requires taken { FromTaken handle.old.state (λ out. out.request_len ≡ length request.now) }
     ensures asked { OnOk result ((made : value.FileCall)
         × IsDecodedBy handle.old session request.now request.now (asks.Call made) handle.new) }
+    ensures kept { IsAllBut handle.old handle.new }
 {
     match handle.decode(session, request)? {
         Decoded::Call(_) => Ok(()),
@@ -76,6 +78,27 @@ pub fn add_entry(
     }
 }
 
+/// Brings an entry with its node to the listing. Fails with `BadArgument` if the entry is added.
+pub fn leave_out(
+    handle: &mut ChainHandle,
+    list: &mut [u8],
+    entry: &DirEntry<'_>,
+    node: Entry<u64>,
+) -> Result<Added, ChainError>
+    ensures brought { IfOk result (λ why.
+        BringsEntry handle.old list.old (listed entry.now, node) (Ok why) handle.new list.new
+        × (why ≡ Added.In → ⊥)) }
+    ensures number { node.inode < 2 ^ 64 }
+{
+    // for the proof: a node number fits 64 bits.
+    let _number = node.inode;
+    let serial = handle.serial();
+    match handle.add_with_node(serial, list, entry, node)? {
+        Added::In => Err(ChainError::BadArgument),
+        why => Ok(why),
+    }
+}
+
 /// Adds two entries with their nodes, and ends the listing. Returns how many bytes of the list are the data.
 pub fn list_two(
     handle: &mut ChainHandle,
@@ -86,6 +109,7 @@ pub fn list_two(
     ensures lists { IfOk result (λ n. IsListedBy handle.old true
         (both_entries entries.now.first entries.now.second nodes) EndsThere (take n list.new) handle.new) }
     ensures numbers { OnOk result ((nodes.0.inode < 2 ^ 64) × (nodes.1.inode < 2 ^ 64)) }
+    ensures kept { OnOk result (KeepsChain handle.old handle.new) }
 {
     let (first, second) = nodes;
     add_entry(handle, list, &entries.first, first)?;
@@ -111,6 +135,7 @@ pub fn serve_listing<F: FileSystem>(
     requires none_in_flight { queue.old.next_used ≡ queue.old.next_avail }
     requires by_flags { queue.old.event_index ≡ false }
     ensures again { OnOk result (handle.new.state ≡ at.Free) }
+    ensures one { OnOk result (HasServedOne handle.old handle.new) }
     ensures queue { OnOk result (queue.new ≡ gave (took queue.old)) }
     ensures told { IfOk result (λ notice. notice ≡ tells_of queue.old loaded_flags) }
     ensures step { IfOk result (λ notice. (i : ℕ) (m : State F) (files : F)

@@ -19,7 +19,7 @@ ghost use Rattle.fs_live.specs.Several.{AtTheirPositions, LiveQueue};
 ghost use Rattle.fuse_fs.specs.Calls.{Destroy, Done, FileRun};
 ghost use Rattle.worked_callers.specs.InARow.{after_both, one, two, with_both};
 ghost use Rattle.worked_callers.specs.OwnReplies.{IsOfRun};
-ghost use Rattle.worked_callers.specs.ChainCalls.{AreCallsOf};
+ghost use Rattle.worked_callers.specs.ChainCalls.{AreCallsOf, HasServedOne};
 ghost use Rattle.worked_callers.specs.Events.{IsServedChain};
 
 use crate::wholes::{decode_and_answer, push_reply, walk_chain};
@@ -80,6 +80,7 @@ pub fn serve_single<F: FileSystem>(
     requires by_flags { queue.old.event_index ≡ false }
     requires data { TellsBytes [] answer }
     ensures again { OnOk result (handle.new.state ≡ at.Free) }
+    ensures one { OnOk result (HasServedOne handle.old handle.new) }
     ensures queue { OnOk result (queue.new ≡ gave (took queue.old)) }
     ensures step { IfOk result (λ notice. (s : LiveState F) (i : ℕ) (files : F)
         → IsOfRun F.may s i handle.old queue.old

@@ -26,7 +26,7 @@ ghost use Rattle.fs_live.specs.Live.{Remaps};
 ghost use Rattle.fs_live.specs.Live.{calls_among};
 ghost use Rattle.fs_live.specs.Others.{PushedOwn, recorded};
 ghost use Rattle.fs_live.specs.Runs.{HasNoneInFlight, in_flight_on};
-ghost use Rattle.worked_callers.specs.ChainCalls.{HasMemory, IsResetBy, stop_of};
+ghost use Rattle.worked_callers.specs.ChainCalls.{HasMemory, HasServedOne, IsResetBy, stop_of};
 ghost use Rattle.worked_callers.specs.Events.{IsAbandonedChain, IsGivenUpChain, IsRepliedChain};
 ghost use Rattle.worked_callers.specs.Events.{loaded_flags};
 ghost use Rattle.worked_callers.specs.Notified.{IsWalkedBy};
@@ -120,6 +120,7 @@ pub fn reply_beside<F: FileSystem>(
     requires free { handle.old.state ≡ at.Free }
     requires goes { queue.old.stopped ≡ None }
     ensures again { OnOk result (handle.new.state ≡ at.Free) }
+    ensures one { OnOk result (HasServedOne handle.old handle.new) }
     ensures queue { OnOk result (queue.new ≡ gave (took queue.old)) }
     ensures run { IfOk result (λ notice. (s : LiveState F) (i : ℕ)
         → IsReached F.may s

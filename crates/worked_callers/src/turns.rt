@@ -14,7 +14,7 @@ ghost use Rattle.plain_machine.specs.Step.{Calls};
 ghost use Rattle.fs_live.specs.Handles.{IsSessionOf};
 ghost use Rattle.fs_live.specs.Live.{LiveState};
 ghost use Rattle.fs_live.specs.Serial.{FoundIn, plain, turn_of};
-ghost use Rattle.worked_callers.specs.ChainCalls.{AreCallsOf};
+ghost use Rattle.worked_callers.specs.ChainCalls.{AreCallsOf, HasServedOne};
 ghost use Rattle.worked_callers.specs.OwnReplies.{IsOfRun};
 ghost use Rattle.worked_callers.specs.Turns.{ServesTurn, after_its_push};
 
@@ -46,6 +46,7 @@ pub fn serve_turn<F: FileSystem>(
     requires goes { queue.old.stopped ≡ None }
     requires data { TellsBytes [] answer }
     ensures again { OnOk result (handle.new.state ≡ at.Free) }
+    ensures one { OnOk result (HasServedOne handle.old handle.new) }
     ensures queue { OnOk result (queue.new ≡ gave (took queue.old)) }
     ensures turn { IfOk result (λ notice. (s : LiveState F) (i : ℕ) (files : F)
         → IsOfRun F.may s i handle.old queue.old

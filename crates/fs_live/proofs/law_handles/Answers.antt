@@ -1,7 +1,8 @@
+use Rattle.std.proofs.Common.{refl}
 use Rattle.fs_live.proofs.Among.{handle_finds_stopped, handle_walks_among}
 use Rattle.fs_live.proofs.AmongLoads.{handle_loads_among}
 use Rattle.fs_live.proofs.Filling.{handle_fills, handle_fills_range}
-use Rattle.fs_live.proofs.Answered.{handle_answers, handle_asks, handle_calls, handle_gathers, handle_makes_call}
+use Rattle.fs_live.proofs.Answered.{handle_answers, handle_asks, handle_calls, handle_gathers, handle_leaves_out, handle_makes_call}
 use Rattle.fs_live.proofs.NoneAmid.{handle_loads, handle_walks}
 use Rattle.fs_live.proofs.Options.{options_stay}
 use Rattle.fs_live.proofs.Others.{asked_is_held, handle_abandons, handle_drops, handle_maps, handle_moves, handle_replies}
@@ -39,6 +40,9 @@ returns-clause-makes_call g c = handle_makes_call g.F.FileSystemBase.may
 pub returns-clause-gathers : goal.returns-clause-gathers
 returns-clause-gathers g c = handle_gathers g.F.FileSystemBase.may
 
+pub returns-clause-leaves_out : goal.returns-clause-leaves_out
+returns-clause-leaves_out g c = handle_leaves_out g.F.FileSystemBase.may
+
 pub returns-clause-pushes_chain : goal.returns-clause-pushes_chain
 returns-clause-pushes_chain g c = handle_returns g.F.FileSystemBase.may
 
@@ -47,6 +51,9 @@ returns-clause-faulty g c = handle_faulty g.F.FileSystemBase.may
 
 pub returns-clause-stores_notification : goal.returns-clause-stores_notification
 returns-clause-stores_notification g c = handle_sleeps g.F.FileSystemBase.may
+
+pub returns-clause-sets_options : goal.returns-clause-sets_options
+returns-clause-sets_options g c = λ s options. record { state = refl }
 
 pub returns-clause-resets_queue : goal.returns-clause-resets_queue
 returns-clause-resets_queue g c = handle_begins g.F.FileSystemBase.may

@@ -6,6 +6,7 @@ use Rattle.fs_chain.specs.declared.chain_handle.ChainHandle.{ChainHandle}
 use Rattle.fs_chain.specs.declared.decoding.Decoded.TheVariants as asks
 use Rattle.worked_callers.proofs.CalledBy.{decodes_by}
 use Rattle.worked_callers.proofs.AbandonedDecoded.{late_refused, lost_asked}
+use Rattle.worked_callers.proofs.KeptMemory.{all_keep, chain_keeps}
 use Rattle.worked_callers.proofs.Served.{more_taken, taken_so}
 use Rattle.worked_callers.proofs.abandoned.abandon_decoded.Goals as goal
 
@@ -37,6 +38,10 @@ returns-in-Err g c =
         asked.0,
         c.decode_call.new.handle,
         decoded,
+        all_keep c.args.handle.now c.walk_chain.new.handle c.decode_call.new.handle
+            (chain_keeps c.args.handle.now c.walk_chain.new.handle c.args.queue.now c.walk_chain.new.queue _ _ _ c.requires.goes
+            c.in_ok-request_len.ensures.walked)
+            c.in_ok-decode_call.ensures.kept,
         subst (λ (w : ChainHandle). IsFreed c.decode_call.new.handle w) (sym c.in-Err.ensures.same) c.abandon.ensures,
         subst (λ (w : ChainHandle). IsNotTaken w c.decode_call.new.handle.serial c.args.late c.in-Err.error) (sym c.in-Err.ensures.same)
             (subst (λ (n : ℕ). IsNotTaken c.abandon.new.self n c.args.late c.in-Err.error) c.serial-serial.ensures

@@ -9,6 +9,7 @@ use Rattle.fs_chain.specs.declared.queue.QueueState.{QueueState}
 use Rattle.fs_live.specs.Handles.{live_of}
 use Rattle.worked_callers.specs.ChainCalls.{both_entries}
 use Rattle.worked_callers.specs.Notified.{given_so_far}
+use Rattle.worked_callers.proofs.KeptMemory.{keeps_more, keeps_so, pop_keeps, reply_served_one}
 use Rattle.worked_callers.proofs.CalledBy.{calls_by}
 use Rattle.worked_callers.proofs.CallsSuit.{listed_suits}
 use Rattle.worked_callers.proofs.NamedEvents.{served_named}
@@ -78,5 +79,13 @@ returns g c =
           ))
           c.push_reply.ensures.back c.push_reply.ensures.queue;
       again = c.push_reply.ensures.again;
+      one = reply_served_one c.args.handle.now c.list_two.new.handle c.push_reply.new.handle c.walk_chain.new.queue c.push_reply.result
+          (keeps_more c.args.handle.now c.decode_call.new.handle c.list_two.new.handle
+          (keeps_more c.args.handle.now c.walk_chain.new.handle c.decode_call.new.handle
+          (pop_keeps c.args.handle.now c.walk_chain.new.handle c.args.queue.now c.walk_chain.new.queue _ _ _ c.requires.goes
+          c.in_ok-request_len.ensures.walked)
+          (keeps_so c.walk_chain.new.handle c.decode_call.new.handle c.in_ok-decode_call.ensures.kept))
+          c.in_ok-_len.ensures.kept)
+          c.push_reply.ensures.back c.push_reply.ensures.freed;
       queue = gave_took c.push_reply.result _ _ _ c.in_ok-request_len.ensures.queue c.push_reply.ensures.queue;
     }

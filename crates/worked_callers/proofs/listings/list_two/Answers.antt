@@ -1,6 +1,7 @@
 use Rattle.std.proofs.Common.{refl}
 use Rattle.worked_callers.proofs.Ended.{ended_ok}
-use Rattle.worked_callers.proofs.Served.{if_ok, on_ok}
+use Rattle.worked_callers.proofs.KeptMemory.{keeps_more, place_keeps}
+use Rattle.worked_callers.proofs.Served.{if_ok, on_ok, on_ok_by}
 use Rattle.worked_callers.proofs.listings.list_two.Goals as goal
 
 pub returns : goal.returns
@@ -23,4 +24,11 @@ returns c =
           })
           (ended_ok c.end.result gathered c.end.new.self c.end.ensures.ended c.end.ensures.stays);
       numbers = on_ok c.end.result _ (first.number, second.number);
+      kept = on_ok_by c.end.result _ _
+          (λ n ended. keeps_more c.args.handle.now gathered c.end.new.self
+          (keeps_more c.args.handle.now c.add_entry.new.handle gathered
+          (place_keeps c.args.handle.now c.add_entry.new.handle first.brought.1)
+          (place_keeps c.add_entry.new.handle gathered second.brought.1))
+          (place_keeps gathered c.end.new.self ended.1))
+          (ended_ok c.end.result gathered c.end.new.self c.end.ensures.ended c.end.ensures.stays);
     }

@@ -10,6 +10,7 @@ use Rattle.fs_live.specs.Live.{LiveEvent, calls_in, event_acts}
 use Rattle.fs_live.specs.Serial.{IsAtRest, plain, return_in}
 use Rattle.worked_callers.specs.Events.{IsServedChain}
 use Rattle.worked_callers.specs.Notified.{given_so_far}
+use Rattle.worked_callers.proofs.KeptMemory.{keeps_more, keeps_so, pop_keeps, reply_served_one}
 use Rattle.worked_callers.proofs.CalledBy.{calls_of_answer}
 use Rattle.worked_callers.proofs.NamedEvents.{served_named}
 use Rattle.worked_callers.proofs.Served.{if_ok_so, more_taken, taken_so}
@@ -74,5 +75,12 @@ returns g c =
           ))
           c.push_reply.ensures.back c.push_reply.ensures.queue;
       again = c.push_reply.ensures.again;
+      one = reply_served_one c.args.handle.now c.decode_and_answer.new.handle c.push_reply.new.handle c.walk_chain.new.queue
+          c.push_reply.result
+          (keeps_more c.args.handle.now c.walk_chain.new.handle c.decode_and_answer.new.handle
+          (pop_keeps c.args.handle.now c.walk_chain.new.handle c.args.queue.now c.walk_chain.new.queue _ _ _ c.requires.goes
+          c.in_ok-request_len.ensures.walked)
+          (keeps_so c.walk_chain.new.handle c.decode_and_answer.new.handle c.in_ok-decode_and_answer.ensures.kept))
+          c.push_reply.ensures.back c.push_reply.ensures.freed;
       queue = gave_took c.push_reply.result _ _ _ c.in_ok-request_len.ensures.queue c.push_reply.ensures.queue;
     }

@@ -11,9 +11,10 @@ use Rattle.plain_machine.specs.Step.{Calls}
 use Rattle.fs_live.specs.Handles.{calls_so_far}
 use Rattle.worked_callers.specs.Events.{IsOwnReplyOnceDecoded}
 use Rattle.worked_callers.specs.OwnReplies.{ReturnsAsStep}
+use Rattle.worked_callers.proofs.KeptMemory.{keeps_more, keeps_so, own_served_one, place_keeps, pop_keeps}
 use Rattle.worked_callers.proofs.CalledBy.{decodes_by}
-use Rattle.worked_callers.proofs.OwnRuns.{as_step, entry_keeps, replied_listed}
-use Rattle.worked_callers.proofs.Served.{if_ok_so, more_taken, taken_so}
+use Rattle.worked_callers.proofs.OwnRuns.{as_step, each_gathered, entry_keeps, replied_after}
+use Rattle.worked_callers.proofs.Served.{if_ok_so, more_taken, taken_so, on_ok_more}
 use Rattle.worked_callers.proofs.TookQueue.{gave_took}
 use Rattle.worked_callers.proofs.own_replies.reply_during_listing.Goals as goal
 
@@ -58,16 +59,17 @@ returns g c =
             decodes_by c.args.given.now old one two before after c.in_ok-request_len.field-0-0 c.in_ok-request_len.request_len
                 c.in_ok-request_len.field-0-2 c.args.session request (asks.Call asked.0) c.in_ok-request_len.ensures.given asked.1,
             brought,
-            λ others files run.
-                let calls : Calls = calls_so_far (call_of (drop 80 request) asked.0) true es others None in
-                let whole = replied_listed may handles.ends_pop handles.decodes_request handles.held handles.replies_instead
+            λ others next files run.
+                let calls : Calls = calls_so_far (call_of (drop 80 request) asked.0) true es others next in
+                let whole = replied_after may handles.ends_pop handles.decodes_request handles.held handles.replies_instead
                 handles.pushes_own given old one
                 two three four
                 before after c.in_ok-request_len.field-0-0 c.in_ok-request_len.request_len c.in_ok-request_len.field-0-2 _ c.args.session
                 request bytes asked.0 notice c.requires.goes c.in_ok-request_len.ensures.given asked.1
-                (λ out is. entry_keeps two three _ _ _ out brought is)
-                c.in_ok-reply.ensures.ok c.in_ok-reply.ensures.kept back handles.gathers true es others None c.args.list.now added kind
-                (three, added, brought, (refl, refl)) s i here session files run in
+                (λ out is. entry_keeps two three _ _ _ _ out brought is)
+                c.in_ok-reply.ensures.ok c.in_ok-reply.ensures.kept back calls s i
+                (each_gathered may handles.gathers two three request s.options asked.0 true es others next c.args.list.now added kind
+                (three, added, brought, (refl, refl))) here session files run in
                 subst
                 (λ (q : QueueState). ReturnsAsStep g.row.G.Denot may s i before q request bytes calls notice
                 (IsOwnReplyOnceDecoded s i given old before request bytes calls notice)) (sym final_is)
@@ -77,5 +79,15 @@ returns g c =
           ))
           c.push_own.ensures.back c.push_own.ensures.queue;
       again = c.push_own.ensures.again;
+      one = on_ok_more c.push_own.result _ _
+          (own_served_one c.args.handle.now c.add_entry.new.handle c.reply.new.self c.push_own.new.handle _ _
+          (keeps_more c.args.handle.now c.decode_call.new.handle c.add_entry.new.handle
+          (keeps_more c.args.handle.now c.walk_chain.new.handle c.decode_call.new.handle
+          (pop_keeps c.args.handle.now c.walk_chain.new.handle c.args.queue.now c.walk_chain.new.queue _ _ _ c.requires.goes
+          c.in_ok-request_len.ensures.walked)
+          (keeps_so c.walk_chain.new.handle c.decode_call.new.handle c.in_ok-decode_call.ensures.kept))
+          (place_keeps c.decode_call.new.handle c.add_entry.new.handle brought.1))
+          c.in_ok-reply.ensures.ok c.in_ok-reply.ensures.kept)
+          c.push_own.ensures.freed;
       queue = gave_took c.push_own.result _ _ _ c.in_ok-request_len.ensures.queue c.push_own.ensures.queue;
     }

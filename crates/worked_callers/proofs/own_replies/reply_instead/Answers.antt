@@ -5,9 +5,10 @@ use Rattle.fs_chain.specs.declared.decoding.Decoded.TheVariants as asks
 use Rattle.fs_chain.specs.declared.queue.QueueState.{QueueState}
 use Rattle.worked_callers.specs.Events.{IsOwnReplyOnceDecoded}
 use Rattle.worked_callers.specs.OwnReplies.{ReturnsAsStep}
+use Rattle.worked_callers.proofs.KeptMemory.{keeps_more, keeps_so, own_served_one, pop_keeps}
 use Rattle.worked_callers.proofs.CalledBy.{decodes_by}
 use Rattle.worked_callers.proofs.OwnRuns.{as_step, replied_asked}
-use Rattle.worked_callers.proofs.Served.{if_ok_so, more_taken, taken_so}
+use Rattle.worked_callers.proofs.Served.{if_ok_so, more_taken, taken_so, on_ok_more}
 use Rattle.worked_callers.proofs.TookQueue.{gave_took}
 use Rattle.worked_callers.proofs.own_replies.reply_instead.Goals as goal
 
@@ -61,5 +62,13 @@ returns g c =
           ))
           c.push_own.ensures.back c.push_own.ensures.queue;
       again = c.push_own.ensures.again;
+      one = on_ok_more c.push_own.result _ _
+          (own_served_one c.args.handle.now c.decode_call.new.handle c.reply.new.self c.push_own.new.handle _ _
+          (keeps_more c.args.handle.now c.walk_chain.new.handle c.decode_call.new.handle
+          (pop_keeps c.args.handle.now c.walk_chain.new.handle c.args.queue.now c.walk_chain.new.queue _ _ _ c.requires.goes
+          c.in_ok-request_len.ensures.walked)
+          (keeps_so c.walk_chain.new.handle c.decode_call.new.handle c.in_ok-decode_call.ensures.kept))
+          c.in_ok-reply.ensures.ok c.in_ok-reply.ensures.kept)
+          c.push_own.ensures.freed;
       queue = gave_took c.push_own.result _ _ _ c.in_ok-request_len.ensures.queue c.push_own.ensures.queue;
     }

@@ -4,8 +4,9 @@ use Rattle.fs_chain.specs.Queues.{gave}
 use Rattle.fs_chain.specs.declared.queue.QueueState.{QueueState}
 use Rattle.worked_callers.specs.Events.{IsRepliedChain}
 use Rattle.worked_callers.specs.OwnReplies.{LogsOwn, ReportsOwn, ReturnsAsStep}
+use Rattle.worked_callers.proofs.KeptMemory.{own_served_one, pop_keeps}
 use Rattle.worked_callers.proofs.OwnRuns.{as_step, fetched_named, logged, replied_fetched, reports}
-use Rattle.worked_callers.proofs.Served.{if_ok_so, more_taken, taken_so}
+use Rattle.worked_callers.proofs.Served.{if_ok_so, more_taken, taken_so, on_ok_more}
 use Rattle.worked_callers.proofs.TookQueue.{gave_took}
 use Rattle.worked_callers.proofs.own_replies.reply_logged.Goals as goal
 
@@ -74,5 +75,11 @@ returns g c =
           by taken ok kept back runs.log s i here))
           c.push_own.ensures.back c.push_own.ensures.queue;
       again = c.push_own.ensures.again;
+      one = on_ok_more c.push_own.result _ _
+          (own_served_one c.args.handle.now c.walk_chain.new.handle c.reply.new.self c.push_own.new.handle _ _
+          (pop_keeps c.args.handle.now c.walk_chain.new.handle c.args.queue.now c.walk_chain.new.queue _ _ _ c.requires.goes
+          c.in_ok-request_len.ensures.walked)
+          c.in_ok-reply.ensures.ok c.in_ok-reply.ensures.kept)
+          c.push_own.ensures.freed;
       queue = gave_took c.push_own.result _ _ _ c.in_ok-request_len.ensures.queue c.push_own.ensures.queue;
     }
