@@ -141,13 +141,18 @@ impl<B: Bitmap + 'static> GuestMemory for MappedMemory<B> {
         size_of::<B>() > 0
     }
 
+    /// A range may begin in one region and end in another: it ends with a descriptor or with a used
+    /// element, not with a region.
     fn mark(&self, written: GuestRange) {
-        let place = |k: usize| Some((self.memory.iter().nth(k)?, self.stretches.get(k)?));
-        let found = self.number(written.guest).and_then(|number| self.find(number, 0));
-        let found = found.and_then(|(k, offset)| Some((place(k)?, offset)));
-        if let Some(((region, stretch), offset)) = found {
-            let len = written.len.min(stretch.len - offset as u64);
-            region.bitmap().mark_dirty(offset, usize::try_from(len).unwrap_or(usize::MAX));
+        let end = written.guest.saturating_add(written.len);
+        for (region, stretch) in self.memory.iter().zip(&self.stretches) {
+            let first = written.guest.max(stretch.guest);
+            let end = end.min(stretch.guest + stretch.len);
+            if first < end {
+                let (offset, len) = (first - stretch.guest, end - first);
+                // both are below the region's length, which `new` has found to fit
+                region.bitmap().mark_dirty(offset as usize, len as usize);
+            }
         }
     }
 }
@@ -227,14 +232,50 @@ mod tests {
     fn written_pages_are_marked() {
         let memory = mapped();
         memory.mark(GuestRange { guest: HIGH + 0x1000, len: 2 });
-        memory.mark(GuestRange { guest: 0x4fff, len: u64::MAX });
+        memory.mark(GuestRange { guest: 0x4fff, len: 2 });
         memory.mark(GuestRange { guest: 0x8000, len: 8 }); // in no region
-        let dirty = memory
-            .memory()
-            .iter()
-            .flat_map(|region| [0, 0x1000].map(|page| region.bitmap().dirty_at(page)));
-        assert_eq!(dirty.collect::<Vec<_>>(), [true, true, false, true]);
+        assert_eq!(dirty(&memory), [true, true, false, true]);
         assert!(memory.is_logging() && !MappedMemory::<()>::default().is_logging());
+    }
+
+    /// The pages that were marked, of all regions.
+    fn dirty(memory: &MappedMemory<AtomicBitmap>) -> Vec<bool> {
+        let pages = |region: &GuestRegionMmap<_>| {
+            (0..region.len() / PAGE).map(|k| (k * PAGE) as usize).collect::<Vec<_>>()
+        };
+        let regions = memory.memory().iter();
+        regions
+            .flat_map(|region| pages(region).into_iter().map(|at| region.bitmap().dirty_at(at)))
+            .collect()
+    }
+
+    /// Regions side by side, as hotplugged memory has them: a range ends with its descriptor, not
+    /// with a region.
+    #[test]
+    fn a_range_over_two_regions_is_marked_in_both() {
+        let side_by_side = || {
+            let ranges = [0x4000, 0x6000].map(|at| (GuestAddress(at), 0x2000));
+            MappedMemory::<AtomicBitmap>::new(GuestMemoryMmap::from_ranges(&ranges).unwrap())
+                .unwrap()
+        };
+        let places = [
+            (0x5000, 0x2000, [false, true, true, false]),
+            (0x4000, 0x4000, [true; 4]),
+            (0x3000, 0x3000, [true, true, false, false]),
+            (0, u64::MAX, [true; 4]),
+            (0x5ffc, 8, [false, true, true, false]), // a used element over the regions' border
+            (0x6ffc, 8, [false, false, true, true]), // and over a page's
+            (0x6000, 1, [false, false, true, false]),
+            (0x7fff, u64::MAX, [false, false, false, true]),
+            (0x6000, 0, [false; 4]),
+            (0x8000, 8, [false; 4]),
+            (0x3ff8, 8, [false; 4]),
+        ];
+        for (guest, len, pages) in places {
+            let memory = side_by_side();
+            memory.mark(GuestRange { guest, len });
+            assert_eq!(dirty(&memory), pages, "{guest:#x} {len:#x}");
+        }
     }
 
     #[test]

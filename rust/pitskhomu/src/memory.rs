@@ -54,7 +54,7 @@ pub trait GuestMemory {
 
     /// Marks the pages of these written bytes in the migration's log. The worker calls it after the
     /// stores and before the driver is notified, also for bytes that a file system wrote by
-    /// windows.
+    /// windows. A range may go over the end of a page, and of a region into the next.
     fn mark(&self, _written: GuestRange) {}
 }
 
