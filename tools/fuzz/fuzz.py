@@ -4,8 +4,8 @@ what the three print.
 
 usage: fuzz.py SECONDS [SEED], with the paths of built programs in PROGRAM and, if the handle is to
 be played, in HANDLE (./run --fuzz has both). Status 0 if nothing differed, 1 if something did or no
-script with a served chain was compared whole, 2 if it couldn't begin, 130 if it was interrupted
-before that."""
+script with a served chain was compared whole or too many weren't played to their end, 2 if it
+couldn't begin, 130 if it was interrupted before that."""
 
 import os
 import sys
@@ -23,9 +23,13 @@ from shrink import shrunk
 FOLDER = Path(__file__).resolve().parent / "out"
 # A run of so many seconds plays the slow scripts, too: of an index that wraps, and of kicks that
 # cost much.
-SECONDS_TO_WRAP = 200
+SECONDS_TO_WRAP = 40
 MOST_DIFFERENCES = 10
+# Of so many random scripts or more a device plays all but so many to their end.
+RANDOM_TO_COUNT, MOST_LEFT = 1000, 0.03
 SERVED = "whole scripts with a served chain"
+SEED = "seed"
+UP_TO = "up to "
 
 
 class Device:
@@ -45,6 +49,8 @@ class Fuzzer:
         self.end = end
         self.coverage = Counter()
         self.scripts = 0
+        self.random = 0
+        self.left = Counter()
         self.skipped = 0
         self.differences = 0
 
@@ -62,7 +68,7 @@ class Fuzzer:
         while self.differences < MOST_DIFFERENCES and (fixed or time.monotonic() < self.end):
             played, fixed = fixed[:size - 1], fixed[size - 1:]
             seeds = range(self.seed, self.seed + size - len(played))
-            self.compare([(f"seed {seed}", made(seed, store)) for seed in seeds] + played)
+            self.compare([(f"{SEED} {seed}", made(seed, store)) for seed in seeds] + played)
             self.seed = seeds.stop
 
     def compare(self, named):
@@ -77,9 +83,12 @@ class Fuzzer:
                 self.skipped += 1
                 continue
             self.scripts += 1
+            self.random += name.startswith(SEED)
             self.coverage += want[1]
             for device, results in zip(self.devices, found):
-                self.coverage[device.name, played(script, *results[index])] += 1
+                how = played(script, *results[index])
+                self.coverage[device.name, how] += 1
+                self.left[device.name] += name.startswith(SEED) and how.startswith(UP_TO)
                 if results[index] != want[0][device.name]:
                     self.tell(name, script, device)
 
@@ -94,6 +103,12 @@ class Fuzzer:
     def idle_devices(self):
         """The devices that served no chain of a script that was compared whole."""
         return [it.name for it in self.devices if not self.coverage[it.name, SERVED]]
+
+    def weak_devices(self):
+        """The devices that ended too many random scripts early."""
+        if self.random < RANDOM_TO_COUNT:
+            return []
+        return [it.name for it in self.devices if self.left[it.name] > MOST_LEFT * self.random]
 
     def differ(self, device, scripts):
         """For each script whether the device and the plain machine differ."""
@@ -134,6 +149,9 @@ class Fuzzer:
         commands = sum(kinds.get("command", {}).values())
         say(f"scripts {self.scripts}, commands {commands}, left out as too long {self.skipped}, "
             f"differences {self.differences}")
+        for device in self.devices:
+            count = self.left[device.name]
+            say(f"{device.name} can't play {count} of {self.random} random scripts to their end")
 
 
 def played(script, printed, status):
@@ -143,7 +161,7 @@ def played(script, printed, status):
     number = printed.rpartition(b"line ")[2].partition(b":")[0]
     lines = dict(enumerate(script.split(b"\n"), 1))
     word = lines.get(int(number) if number.isdigit() else 0, b"no line").split(b" ")[0]
-    return "up to " + word.decode("latin-1")
+    return UP_TO + word.decode("latin-1")
 
 
 def zip_lines(first, second):
@@ -184,6 +202,9 @@ def main(arguments):
     say(f"seeds from {seed} to {fuzzer.seed - 1}")
     for name in fuzzer.idle_devices():
         say(f"FAILED: {name} played no script whole in which a chain is served")
+        status = status or 1
+    for name in fuzzer.weak_devices():
+        say(f"FAILED: {name} plays too few of the random scripts to their end")
         status = status or 1
     return 1 if fuzzer.differences else status
 

@@ -8,6 +8,8 @@ from make_requests import INIT, number, request, room_length
 NEXT, WRITE, INDIRECT = 1, 2, 4
 SPAN = 0x3000
 BASES = [0] * 6 + [0x10000, 2**32 - 0x2000, 2**40, 2**64 - SPAN, 2**64 - 0x10000]
+# So many of the scripts have only regions and mappings of whole pages.
+FOR_HANDLE = 0.95
 NO_COMMANDS = [
     " ", "harvest ", "kick 0", "kick 0 65536", "read 0 -1", "write 0 0", "write 0 ",
     "queue 4 0 0 0", "iommu", "x", "read 0X0 1"]
@@ -31,13 +33,15 @@ class Guest:
     """Makes a script line by line. Addresses are the device's; a guest knows where they stand in
     its memory."""
 
+    rounds = [1, 2, 3, 5, 8, 12]
+
     def __init__(self, rng):
         self.rng = rng
         self.lines = []
         self.base = rng.choice(BASES)
         # The handle has regions and mappings of whole pages.
-        self.for_handle = rng.random() < 0.4
-        self.iommu = rng.random() < (0.4 if self.for_handle else 0.6)
+        self.for_handle = rng.random() < FOR_HANDLE
+        self.iommu = rng.random() < 0.4
         self.start = self.base
         if self.iommu:
             self.start = rng.choice([0, 0x1000, 2**20, 2**64 - SPAN - 0x1000])
@@ -66,7 +70,7 @@ class Guest:
             self.put(queue.avail, struct.pack("<HH", self.flags(), 0))
         if self.chance(0.7):
             self.say("harvest")
-        for _ in range(self.rng.choice([1, 2, 3, 5, 8, 12])):
+        for _ in range(self.rng.choice(self.rounds)):
             self.round()
         self.look()
         return "\n".join(self.lines).encode() + b"\n"
@@ -503,8 +507,8 @@ def wraps():
     """A script whose used index wraps: a queue of the greatest size goes round twice, with chains
     of no byte."""
     size = 32768
-    lines = [f"queue {size} 0 0x100000 0x200000", "region 0 0x10", "region 0x100000 0x10010",
-        "region 0x200000 0x40010"]
+    lines = [f"queue {size} 0 0x100000 0x200000", "region 0 0x1000", "region 0x100000 0x11000",
+        "region 0x200000 0x41000"]
     for index in (0x8000, 0x0000, 0x0001):
         lines += [f"write 0x100002 {index.to_bytes(2, 'little').hex()}", "kick 0 65535",
             "read 0x200000 16"]

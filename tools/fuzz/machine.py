@@ -6,180 +6,21 @@ import re
 from collections import Counter
 
 from grammar import Fault, Files, NAMES, Server
+from memory import (
+    LAST, NO_SUCH_QUEUE, PAGE, Memory, Refused, TooMuchWork, bytes_at, length_of, singles)
 
-LAST = 2**64 - 1
+__all__ = ["LACKING", "TooMuchWork", "play"]
 LIMIT = 0x101000
-PAGE = 4096
 LONGEST_SCRIPT = 1 << 20
-# A block that no host has.
-TOO_LARGE = 1 << 47
 
 NEXT, WRITE, INDIRECT = 1, 2, 4
 # Refusals of a step.
 STOPPED, INDEX_UNREACHABLE, TOO_FAR, ENTRY_UNREACHABLE, HEAD_OUT = range(1, 6)
-USED_UNREACHABLE, FLAGS_UNREACHABLE = 6, 7
-DESCRIPTOR_UNREACHABLE, NO_MEMORY, NO_QUEUE = 8, 9, 10
-# Refusals of other commands.
-NO_PLACE, EMPTY_BLOCK, UNKNOWN_BLOCK, BAD_REGION, OVERLAP = range(1, 6)
-NO_REGION, BAD_MAPPING, NO_SUCH_QUEUE = 6, 7, 8
-# What the handle lacks: more regions, and a reply of these opcodes whose header lies over its data.
-MOST_REGIONS, HEADER = 64, 16
-WITH_DATA = ("read", "readdir", "readdirplus")
+USED_UNREACHABLE, FLAGS_UNREACHABLE, DESCRIPTOR_UNREACHABLE, NO_QUEUE = 6, 7, 8, 10
+# What the handle lacks: a reply of these opcodes whose header lies over its data.
+WITH_DATA, HEADER = ("read", "readdir", "readdirplus"), 16
 # The status of a script that ends at a command which the device lacks.
 LACKING = 4
-
-
-class Refused(Exception):
-    """A command or a step that is refused with a number."""
-
-    def __init__(self, number):
-        super().__init__(number)
-        self.number = number
-
-
-class TooMuchWork(Exception):
-    """A script that takes a plain machine too long."""
-
-
-class Block:
-    """Bytes of a host, all 0 at first, and the pages that were written."""
-
-    def __init__(self, size):
-        self.size = size
-        self.bytes = {}
-        self.marks = set()
-
-
-class Memory:
-    """Blocks, regions over them, and the table of the IOMMU."""
-
-    def __init__(self, work):
-        self.blocks = []
-        self.regions = []
-        self.table = []
-        self.iommu = False
-        self.work = work
-
-    def place(self, address):
-        """The block and the offset of a guest address, or None."""
-        self.work -= 1
-        if self.work < 0:
-            raise TooMuchWork
-        for base, size, block in self.regions:
-            if base <= address < base + size:
-                return self.blocks[block], address - base
-        return None
-
-    def target(self, address, access):
-        """The guest address that an I/O address is mapped to for an access, or None: the latest
-        change of it decides."""
-        for iova, length, target, may in reversed(self.table):
-            if iova <= address < iova + length:
-                return target + (address - iova) if access in may else None
-        return None
-
-    def where(self, address, access):
-        """The place that the device's address has for an access, or None."""
-        if self.iommu:
-            address = self.target(address, access)
-        return None if address is None else self.place(address)
-
-    def places(self, address, length, access):
-        """The places of a range of the device's, or None where it can't be reached."""
-        if address + length > LAST:
-            return None
-        found = []
-        for one in range(address, address + length):
-            place = self.where(one, access)
-            if place is None:
-                return None
-            found.append(place)
-        return found
-
-    def fetch(self, address, length, refusal):
-        """The bytes that the device reads there."""
-        places = self.places(address, length, "r")
-        if places is None:
-            raise Refused(refusal)
-        return bytes_at(places)
-
-    def number(self, address, length, refusal):
-        """The little-endian number that the device reads there."""
-        return int.from_bytes(self.fetch(address, length, refusal), "little")
-
-    def store(self, places, data):
-        """The device writes bytes, in order. Behind an IOMMU it marks no page of a block."""
-        for (block, offset), byte in zip(places, data):
-            block.bytes[offset] = byte
-            if not self.iommu:
-                block.marks.add(offset // PAGE)
-
-    def guest_places(self, address, length):
-        """The places of a range of the guest's."""
-        if address + length > LAST:
-            raise Refused(NO_PLACE)
-        places = []
-        for one in range(address, address + length):
-            place = self.place(one)
-            if place is None:
-                raise Refused(NO_PLACE)
-            places.append(place)
-        return places
-
-    def guest_write(self, address, data):
-        """The guest writes, and marks the pages."""
-        for (block, offset), byte in zip(self.guest_places(address, len(data)), data):
-            block.bytes[offset] = byte
-            block.marks.add(offset // PAGE)
-
-    def new_block(self, size):
-        """One more block's number."""
-        if size == 0:
-            raise Refused(EMPTY_BLOCK)
-        if size >= TOO_LARGE:
-            raise Refused(NO_MEMORY)
-        self.blocks.append(Block(size))
-        return len(self.blocks) - 1
-
-    def insert(self, base, block):
-        """One more region over a whole block."""
-        if block >= len(self.blocks):
-            raise Refused(UNKNOWN_BLOCK)
-        size = self.blocks[block].size
-        if base + size - 1 > LAST:
-            raise Refused(BAD_REGION)
-        if any(base < other + length and other < base + size for other, length, _ in self.regions):
-            raise Refused(OVERLAP)
-        self.regions.append((base, size, block))
-
-    def remove(self, base, size):
-        """A region goes."""
-        kept = [region for region in self.regions if region[:2] != (base, size)]
-        if len(kept) == len(self.regions):
-            raise Refused(NO_REGION)
-        self.regions = kept
-
-    def fits_handle(self):
-        """Whether the handle takes the regions: few, and of whole pages."""
-        return len(self.regions) <= MOST_REGIONS and not any(
-            (base | size) % PAGE for base, size, _ in self.regions)
-
-    def map(self, iova, target, length, may):
-        """A range of I/O addresses is mapped."""
-        if iova + length > LAST or target + length > LAST:
-            raise Refused(BAD_MAPPING)
-        self.table.append((iova, length, target, may))
-
-    def unmap(self, iova, length):
-        """A range of I/O addresses isn't mapped any more."""
-        if iova + length > LAST:
-            raise Refused(BAD_MAPPING)
-        self.table.append((iova, length, 0, ""))
-
-
-def bytes_at(places):
-    """The bytes at places."""
-    return bytes(block.bytes.get(offset, 0) for block, offset in places)
 
 
 class Queue:
@@ -329,13 +170,13 @@ class Machine:
         self.header_meets_data = False
         if fault is None:
             try:
-                reply = self.server.answer(request, len(room))
+                reply = self.server.answer(request, length_of(room))
             except Fault as found:
                 fault = found
             self.count_request(reply, fault)
-            self.count_shape(room[:len(reply)], element + used_index)
+            self.count_shape(singles(room, 0, len(reply)), singles(element + used_index, 0, 10))
             self.header_meets_data = NAMES.get(self.server.opcode) in WITH_DATA and \
-                not set(room[:HEADER]).isdisjoint(room[HEADER:len(reply)])
+                not set(singles(room, 0, HEADER)).isdisjoint(singles(room, HEADER, len(reply)))
         else:
             self.coverage["chain fault", str(fault)] += 1
         self.give_back(queue, head, element, used_index, room, reply)

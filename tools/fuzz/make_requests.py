@@ -165,18 +165,45 @@ def body(rng, kind):
     return data + extensions(rng) if kind in EXTENDED and rng.random() < 0.6 else data
 
 
-def request(rng, session=False):
-    """A request's bytes, and how many its reply would have. In a session extensions are read."""
-    opcode = rng.choice(list(NAMES))
+def asked(rng, session):
+    """An opcode: any, or one of those that are wanted most."""
     if session and rng.random() < 0.3:
-        opcode = rng.choice([number for number, kind in NAMES.items() if kind in EXTENDED])
-    elif rng.random() < 0.45:
-        opcode = rng.choice([number for number, kind in NAMES.items() if kind in FAVOURITES])
+        return rng.choice([number for number, kind in NAMES.items() if kind in EXTENDED])
+    if rng.random() < 0.45:
+        return rng.choice([number for number, kind in NAMES.items() if kind in FAVOURITES])
+    return rng.choice(list(NAMES))
+
+
+def header(rng, length, opcode, node):
+    """A request's header."""
+    ids = [number(rng, 4) for _ in range(3)]
+    return struct.pack("<IIQQIIIHH", length % 2**32, opcode, number(rng), node, *ids,
+        number(rng, 2), 0)
+
+
+def reply_length(kind, data):
+    """How many bytes a good reply to a request's body has."""
+    if kind in ("read", "readdir", "readdirplus"):
+        return 16 + min(int.from_bytes(data[16:20], "little"), 5000)
+    return REPLY_LENGTH.get(kind, 16)
+
+
+def good_request(rng):
+    """A request whose header is right, about a node that is there, and how many bytes its reply
+    would have."""
+    opcode = rng.choice(list(NAMES))
     kind = NAMES[opcode]
     data = body(rng, kind)
-    wanted = REPLY_LENGTH.get(kind, 16)
-    if kind in ("read", "readdir", "readdirplus"):
-        wanted = 16 + min(int.from_bytes(data[16:20], "little"), 5000)
+    node = 2 if kind in ("read", "write") else rng.choice([1, 1, 2])
+    return header(rng, 40 + len(data), opcode, node) + data, reply_length(kind, data)
+
+
+def request(rng, session=False):
+    """A request's bytes, and how many its reply would have. In a session extensions are read."""
+    opcode = asked(rng, session)
+    kind = NAMES[opcode]
+    data = body(rng, kind)
+    wanted = reply_length(kind, data)
     length = 40 + len(data)
     if rng.random() < 0.1:
         near = [length - 1, length + 1, length - 8, length + 8]
@@ -186,9 +213,7 @@ def request(rng, session=False):
     node = rng.choice([1, 1, 1, 2, 2, 2, 0, 3, number(rng)])
     if kind in ("read", "write") and rng.random() < 0.8:
         node = 2
-    ids = [number(rng, 4) for _ in range(3)]
-    data = struct.pack("<IIQQIIIHH", length % 2**32, opcode, number(rng), node, *ids,
-        number(rng, 2), 0) + data
+    data = header(rng, length, opcode, node) + data
     if rng.random() < 0.05:
         data = data[:rng.randint(0, len(data))]
     if rng.random() < 0.08:

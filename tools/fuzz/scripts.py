@@ -5,6 +5,7 @@ import random
 import re
 from pathlib import Path
 
+from busy import Busy
 from guests import Guest
 from hostile import Hostile
 from make_requests import number
@@ -13,6 +14,11 @@ ROOT = Path(__file__).resolve().parents[2]
 GREATEST_REGION = 1 << 20
 LEAST_REFUSED = 1 << 62
 NUMBER = re.compile(rb"0x[0-9a-fA-F]+|[0-9]+")
+# The numbers of lines that the handle takes in whole pages alone.
+OF_PAGES = re.compile(rb"^(?:region|map|unmap) ([0-9a-fA-Fx ]+)", re.MULTILINE)
+PAGE = 4096
+# Of the scripts with others so many are played.
+PARTS_OF_PAGES = 0.3
 MALFORMED = [
     b" ", b"\t", b"\r", b"  ", b"-1", b"+1", b"0x", b"0X1", b"1_0", b"18446744073709551616",
     b"65536", b"0x10000", b"on", b"rwx",
@@ -34,16 +40,22 @@ def is_playable(script):
     return sum(size for size in sizes if size < LEAST_REFUSED) <= 8 * GREATEST_REGION
 
 
+def is_of_pages(script):
+    """Whether regions and mappings are of whole pages, as the handle's have to be."""
+    return not any(value_of(word) % PAGE for line in OF_PAGES.findall(script)
+        for word in NUMBER.findall(line))
+
+
 def made(seed, store):
     """The script of a seed."""
     rng = random.Random(seed)
     while True:
+        guest = rng.choice([Guest, Busy, Hostile])
         kind = rng.random()
-        guest = Guest if kind < 0.5 else Hostile
-        script = rng.choice(store) if kind < 0.12 else guest(rng).script()
-        if kind < 0.12 or kind > 0.72:
+        script = rng.choice(store) if kind < 0.1 else guest(rng).script()
+        if kind < 0.3:
             script = changed(rng, script)
-        if is_playable(script):
+        if is_playable(script) and (is_of_pages(script) or rng.random() < PARTS_OF_PAGES):
             return script
 
 
