@@ -18,13 +18,13 @@ const REPLY: usize = 0x8000;
 const MEMORY: usize = 0x1_0000;
 const READ: u32 = 15;
 
-/// The data of each read that is done, by the guest's number of its request; `None` while it is in
-/// work.
-type Reads = Arc<Mutex<HashMap<u64, Option<String>>>>;
+/// The data of each read that is done, by the worker's number of its request, which no other
+/// request has; `None` while it is in work.
+type Reads = Arc<Mutex<HashMap<RequestId, Option<String>>>>;
 
 /// A read that the other thread is to do.
 struct Job {
-    unique: u64,
+    id: RequestId,
     offset: u64,
 }
 
@@ -45,17 +45,17 @@ impl FileSystem for Files {
 
     fn read(&self, context: &Context, _: Node, read: Read, data: &mut ReadData<'_>) -> Answer<()> {
         let mut reads = self.reads.lock().map_err(|_| Errno::EIO)?;
-        let unique = context.unique;
-        match reads.get(&unique) {
+        let id = context.id;
+        match reads.get(&id) {
             None => {
-                reads.insert(unique, None);
-                self.jobs.send(Job { unique, offset: read.offset }).map_err(|_| Errno::EIO)?;
+                reads.insert(id, None);
+                self.jobs.send(Job { id, offset: read.offset }).map_err(|_| Errno::EIO)?;
                 Err(Errno::LATER)
             }
             Some(None) => Err(Errno::LATER),
             Some(Some(text)) => {
                 data.put(text.as_bytes());
-                reads.remove(&unique);
+                reads.remove(&id);
                 Ok(())
             }
         }
@@ -65,9 +65,9 @@ impl FileSystem for Files {
 /// The other thread: it begins when it has two jobs, and does the later one first.
 fn work(jobs: &Receiver<Job>, reads: &Reads, done: &Sender<()>) {
     let mut jobs: Vec<Job> = jobs.iter().take(2).collect();
-    while let Some(Job { unique, offset }) = jobs.pop() {
+    while let Some(Job { id, offset }) = jobs.pop() {
         let text = format!("the data at {offset}");
-        reads.lock().expect("no thread panicked").insert(unique, Some(text));
+        reads.lock().expect("no thread panicked").insert(id, Some(text));
         done.send(()).expect("the serving thread waits");
     }
 }

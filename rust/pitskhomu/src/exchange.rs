@@ -1,6 +1,6 @@
 //! A chain by its bytes, for a file system that is itself a FUSE server.
 use crate::chain::Chain;
-use crate::data::{at_most, load_request, store_room};
+use crate::data::{at_most, load_request, store_room, Written};
 use crate::errno::Errno;
 use crate::memory::{GuestMemory, Window};
 use core::fmt;
@@ -17,8 +17,7 @@ pub struct Exchange<'a> {
     front: &'a [u8],
     request_len: u64,
     room_len: u64,
-    /// The end of the bytes of the reply buffer that may have been written.
-    written: u64,
+    written: Written<'a>,
 }
 
 impl fmt::Debug for Exchange<'_> {
@@ -38,8 +37,9 @@ impl<'a> Exchange<'a> {
         front: &'a [u8],
         request_len: u64,
         room_len: u64,
+        written: &'a mut u64,
     ) -> Exchange<'a> {
-        Exchange { chain, memory, front, request_len, room_len, written: 0 }
+        Exchange { chain, memory, front, request_len, room_len, written: Written::new(written) }
     }
 
     /// The length of the request, in bytes.
@@ -89,21 +89,22 @@ impl<'a> Exchange<'a> {
 
     /// Stores bytes in the reply buffer, from its byte `from` on, and returns how many fit.
     pub fn store(&mut self, from: u64, bytes: &[u8]) -> usize {
-        let stored = store_room(self.chain, self.memory, from, bytes);
-        self.written_up_to(from.saturating_add(stored as u64));
-        stored
+        self.written_up_to(from.saturating_add(bytes.len() as u64));
+        store_room(self.chain, self.memory, from, bytes)
     }
 
     /// The windows of the reply buffer from its byte `from` on, as many as the slice holds. Report
     /// the bytes that you store by them with `written_up_to`.
     pub fn reply_windows<'w>(&mut self, from: u64, windows: &'w mut [Window]) -> &'w [Window] {
-        self.chain.reply_windows(from, u64::MAX - from, windows)
+        let windows = self.chain.reply_windows(from, u64::MAX - from, windows);
+        self.written.lend(from, windows);
+        windows
     }
 
     /// Reports that the bytes of the reply buffer before `end` may have been written by its
     /// windows. A migration's log needs this for bytes after the reply's end.
     pub fn written_up_to(&mut self, end: u64) {
-        self.written = self.written.max(end.min(self.room_len));
+        self.written.reach(end.min(self.room_len));
     }
 
     /// Stores the reply of an error, and returns its length in bytes: 0 if the request has no
@@ -121,8 +122,9 @@ impl<'a> Exchange<'a> {
         self.store(0, &header) as u64
     }
 
-    pub(crate) fn written(&self) -> u64 {
-        self.written
+    /// The file system has returned: what it reported is all that was written.
+    pub(crate) fn settle(&mut self) {
+        self.written.settle();
     }
 }
 

@@ -23,9 +23,12 @@ use core::time::Duration;
 /// A method that has no answer yet returns [`Errno::LATER`]. The next call of
 /// [`Worker::answer`](crate::Worker::answer) calls it again, with the same arguments and fresh
 /// data. So a file system may pass a request to another thread, and a thread may have several
-/// workers with unanswered chains, as in the example `later`. WRITE's data may have changed when
-/// the method is called again. So take it at the first call, and report it with
-/// [`WriteData::advance`] at the last.
+/// workers with unanswered chains, as in the example `later`. Keep what belongs to the request by
+/// [`Context::id`], which is the same at each of its calls, and never another request's. By
+/// `Context::unique`, the guest's number, one request could get another's answer: a guest may use a
+/// number twice at a time, and does so after each start. WRITE's data may have changed when the
+/// method is called again. So take it at the first call, and report it with [`WriteData::advance`]
+/// at the last.
 ///
 /// # Errors
 /// Each method returns the errno with which the guest's system call fails.

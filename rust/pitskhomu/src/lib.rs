@@ -94,7 +94,7 @@ pub use requests::{
 pub use slice::GuestSlice;
 pub use status::{Fault, RequestFault, Status};
 pub use values::{
-    Attributes, Context, DirectoryEntry, Entry, Handle, Node, Opened, Statistics, Time,
+    Attributes, Context, DirectoryEntry, Entry, Handle, Node, Opened, RequestId, Statistics, Time,
 };
 pub use worker::{Lent, Served, Taken, Worker};
 

@@ -1,6 +1,8 @@
 //! The values of file calls and answers: nodes, attributes, entries, times.
 use crate::flags::{FileKind, OpenOptions};
 use crate::sys;
+use core::fmt;
+use core::sync::atomic::{AtomicU64, Ordering};
 use core::time::Duration;
 
 /// The number of a node (`nodeid` of linux/fuse.h): the file system's own, 1 for the root.
@@ -22,11 +24,42 @@ pub struct Handle(
     pub u64,
 );
 
-/// The caller, and the request's number (struct `fuse_in_header`).
+/// The number of a request: that of the chain that a worker took. No two chains of this process
+/// have the same, of whatever queue and device, and also after a reset: so what is kept by it is
+/// never another request's.
+#[derive(Clone, Copy, Debug, Default, PartialEq, Eq, PartialOrd, Ord, Hash)]
+pub struct RequestId(u64);
+
+/// The number of the last chain that was taken.
+static LAST_REQUEST: AtomicU64 = AtomicU64::new(0);
+
+impl RequestId {
+    /// That of a chain that was just taken.
+    pub(crate) fn next() -> RequestId {
+        RequestId(LAST_REQUEST.fetch_add(1, Ordering::Relaxed) + 1)
+    }
+
+    /// The number; 0 only of the default, which no chain has.
+    #[must_use]
+    pub const fn number(self) -> u64 {
+        self.0
+    }
+}
+
+impl fmt::Display for RequestId {
+    fn fmt(&self, f: &mut fmt::Formatter<'_>) -> fmt::Result {
+        self.0.fmt(f)
+    }
+}
+
+/// The caller, and the request's numbers (struct `fuse_in_header`).
 #[derive(Clone, Copy, Debug, Default, PartialEq, Eq)]
 #[non_exhaustive]
 pub struct Context {
-    /// The request's `unique`, the guest's number of it.
+    /// The worker's number of the request, which no other request has.
+    pub id: RequestId,
+    /// The request's `unique`, the guest's number of it. Two requests in flight may have the same,
+    /// and a guest that starts again uses its numbers again. So keep nothing by it.
     pub unique: u64,
     /// The user. With `Options::ALLOW_IDMAP` (Linux 6.12 and later) only calls that make a node
     /// have it; in all others it is `u32::MAX`.

@@ -14,6 +14,7 @@ use crate::memory::{self, GuestMemory, Region};
 use crate::queue::Queue;
 use crate::status::{Fault, RequestFault, Status};
 use crate::sys;
+use crate::values::RequestId;
 use alloc::vec::Vec;
 use core::fmt;
 use core::mem;
@@ -128,6 +129,8 @@ pub struct Worker {
     /// The data of the reply to a listing, READLINK, GETXATTR or LISTXATTR.
     list: Vec<u8>,
     front: [u8; sys::FRONT_MAX],
+    /// The number of the chain that it has, or had last.
+    id: RequestId,
     pop: sys::Pop,
     call: sys::Call,
     replied: Replied,
@@ -173,6 +176,7 @@ impl Worker {
             request: Vec::new(),
             list: Vec::new(),
             front: [0; sys::FRONT_MAX],
+            id: RequestId::default(),
             pop: sys::Pop::default(),
             call: sys::Call::default(),
             replied: Replied::Whole,
@@ -267,6 +271,7 @@ impl Worker {
             Popped::Idle | Popped::Load => return Ok(Taken::Idle),
         }
         mem::forget(popping);
+        self.id = RequestId::next();
         Ok(Taken::Chain)
     }
 
@@ -417,7 +422,8 @@ impl Worker {
         let sys::Pop { request_len, reply_len: room_len, .. } = self.pop;
         self.call.opcode = exchange::opcode(&self.request[..front]);
         self.call.unique = exchange::unique(&self.request[..front]);
-        Exchange::new(&mut self.chain, memory, &self.request[..front], request_len, room_len)
+        let (chain, front) = (&mut self.chain, &self.request[..front]);
+        Exchange::new(chain, memory, front, request_len, room_len, &mut self.written)
     }
 
     /// Whether the file system replies by bytes (`FileSystem::reply_by_bytes`).
@@ -429,7 +435,8 @@ impl Worker {
     ) -> Result<bool, Status> {
         let mut exchange = self.by_bytes(front, memory);
         let reply = file_system.reply_by_bytes(&mut exchange);
-        self.written = exchange.written();
+        exchange.settle();
+        drop(exchange);
         match reply.map(|len| self.chain.reply_bytes(len)) {
             None => Ok(false),
             Some(Err(Status::LongReply)) => self.reply_error(memory, Errno::EIO).map(|()| true),

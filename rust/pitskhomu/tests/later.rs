@@ -4,7 +4,8 @@ mod guest;
 use guest::recorder::{entry, Recorder};
 use guest::*;
 use pitskhomu::*;
-use std::cell::Cell;
+use std::cell::{Cell, RefCell};
+use std::collections::HashMap;
 use std::panic::{catch_unwind, AssertUnwindSafe};
 use std::time::Duration;
 
@@ -159,6 +160,75 @@ fn a_chain_that_is_answered_later_may_be_abandoned() {
     guest.worker.abandon();
     assert!(!guest.worker.has_chain());
     assert_eq!(guest.serve(&Recorder::default()).1.data().len(), 128, "the queue's next is it");
+}
+
+/// Answers READ once another thread has done it: what is done is kept by the request's number.
+#[derive(Default)]
+struct Jobs {
+    todo: RefCell<Vec<RequestId>>,
+    done: RefCell<HashMap<RequestId, &'static [u8]>>,
+}
+
+impl FileSystem for Jobs {
+    fn lookup(&self, _: &Context, _: Node, _: &CStr) -> Answer<Entry> {
+        Err(Errno::EIO)
+    }
+
+    fn getattr(&self, _: &Context, _: Node, _: Option<Handle>) -> Answer<(Attributes, Duration)> {
+        Err(Errno::EIO)
+    }
+
+    fn read(&self, context: &Context, _: Node, _: Read, data: &mut ReadData<'_>) -> Answer<()> {
+        assert_eq!(context.unique, UNIQUE);
+        if !self.todo.borrow().contains(&context.id) {
+            self.todo.borrow_mut().push(context.id);
+        }
+        data.put(self.done.borrow().get(&context.id).ok_or(Errno::LATER)?);
+        Ok(())
+    }
+}
+
+/// The guest starts again while a READ is in work, and then has one of the same number.
+#[test]
+fn a_rebooted_guest_gets_no_earlier_bytes() {
+    let (mut guest, jobs) = (Guest::new(), Jobs::default());
+    let read = request(15, 1, &args().q(3).q(0).d(100).bytes(&[0; 20]).0);
+    guest.offer_request(&read, 116);
+    assert_eq!(serve(&mut guest, &jobs), None);
+    guest.queue.begin(Queue::new(layout(), guest.offered).unwrap()).unwrap();
+    guest.worker.abandon();
+    guest.offer_request(&read, 116);
+    jobs.done.borrow_mut().insert(jobs.todo.borrow()[0], b"the old file's");
+    assert_eq!(serve(&mut guest, &jobs), None);
+    let now = jobs.todo.borrow()[1];
+    jobs.done.borrow_mut().insert(now, b"the new file's");
+    let served = serve(&mut guest, &jobs).expect("it is answered");
+    assert_eq!(guest.reply(served.reply_len as usize).data(), b"the new file's");
+    assert_eq!(jobs.todo.borrow().len(), 2, "one number for all calls of a request");
+}
+
+/// Two requests in flight with one number of the guest's.
+#[test]
+fn requests_of_one_number_are_told_apart() {
+    let (mut guest, jobs) = (Guest::new(), Jobs::default());
+    guest.queue = Queue::new(layout(), guest.offered).unwrap().with_max_in_flight(2).unwrap();
+    let mut other = Worker::new();
+    let region = Region { guest: 0, len: LEN as u64, host: guest.memory.host };
+    other.set_memory(&guest.device, &[region]).unwrap();
+    let read = request(15, 1, &args().q(3).q(0).d(100).bytes(&[0; 20]).0);
+    guest.offer_request(&read, 116);
+    assert_eq!(serve(&mut guest, &jobs), None);
+    guest.offer_request(&read, 116);
+    let mut serve_other = |guest: &mut Guest| {
+        other.serve(&mut guest.queue, &guest.device, &jobs, &guest.memory).unwrap()
+    };
+    assert_eq!(serve_other(&mut guest), None);
+    let ids = jobs.todo.borrow().clone();
+    assert!(ids.len() == 2 && ids[0] != ids[1] && ids.iter().all(|id| id.number() > 0));
+    jobs.done.borrow_mut().insert(ids[1], b"two");
+    assert_eq!(serve(&mut guest, &jobs), None);
+    let served = serve_other(&mut guest).expect("it is answered");
+    assert_eq!(guest.reply(served.reply_len as usize).data(), b"two");
 }
 
 #[test]

@@ -97,7 +97,8 @@ impl Worker {
 
     fn context(&self) -> Context {
         let sys::Call { unique, uid, gid, pid, has_group, group, .. } = self.call;
-        Context { unique, uid, gid, pid, supplementary_group: optional(has_group, group) }
+        let (id, supplementary_group) = (self.id, optional(has_group, group));
+        Context { id, unique, uid, gid, pid, supplementary_group }
     }
 
     fn node(&self) -> Node {
@@ -347,10 +348,14 @@ impl Worker {
         let sys::Call { offset, size, flags, data_at, data_len, .. } = self.call;
         let read =
             Read { handle: self.handle(), offset, size, flags, lock_owner: self.lock_owner() };
-        let mut data = ReadData::new(&mut self.chain, memory, data_at, data_len.min(size));
+        let (chain, written) = (&mut self.chain, &mut self.written);
+        let mut data = ReadData::new(chain, memory, data_at, data_len.min(size), written);
         let answer = file_system.read(&context, node, read, &mut data);
         let done = data.done();
-        self.written = self.written.max(data_at + done);
+        if answer.is_ok() {
+            data.settle();
+        }
+        drop(data);
         self.reply(answer, |worker, ()| worker.chain.reply_data(done))
     }
 
@@ -399,8 +404,8 @@ impl Worker {
             if counts {
                 return worker.chain.reply_xattr(number(len as u64));
             }
-            store_room(&mut worker.chain, memory, sys::HEADER, &worker.list[..len]);
             worker.written = worker.written.max(sys::HEADER + len as u64);
+            store_room(&mut worker.chain, memory, sys::HEADER, &worker.list[..len]);
             worker.chain.reply_data(len as u64)
         })
     }
@@ -444,8 +449,8 @@ impl Worker {
             }
         });
         self.reply(listed, |worker, used| {
-            store_room(&mut worker.chain, memory, sys::HEADER, &worker.list[..used]);
             worker.written = worker.written.max(sys::HEADER + used as u64);
+            store_room(&mut worker.chain, memory, sys::HEADER, &worker.list[..used]);
             worker.chain.reply_entries()
         })
     }

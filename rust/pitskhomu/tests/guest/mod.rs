@@ -38,6 +38,8 @@ pub struct Memory {
     pub index_loads: Cell<u32>,
     /// Where each slice began that was asked for: a guest address.
     pub slices: RefCell<Vec<u64>>,
+    /// How many slices were asked for before each mark.
+    pub marked_at: RefCell<Vec<usize>>,
 }
 
 impl Memory {
@@ -53,6 +55,7 @@ impl Memory {
             panics_at: Cell::new(None),
             index_loads: Cell::new(0),
             slices: RefCell::default(),
+            marked_at: RefCell::default(),
         }
     }
 
@@ -96,6 +99,7 @@ impl GuestMemory for Memory {
 
     fn mark(&self, written: GuestRange) {
         self.marks.borrow_mut().push(written);
+        self.marked_at.borrow_mut().push(self.slices.borrow().len());
     }
 }
 
