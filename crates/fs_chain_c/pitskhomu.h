@@ -30,9 +30,9 @@
  *
  * OWNERSHIP. `struct pk_device` and `struct pk_queue` hold plain numbers and may be copied. `struct
  * pk_chain` is a handle for one chain at a time: zero it before its first use, never copy it, and
- * free it with pk_chain_free. The library keeps no pointer that you pass and returns none: names
- * and values are offsets into the request (`struct pk_span`). A later header may add fields at the
- * end of a struct, so initialise structs with zeros.
+ * free it with pk_chain_free. The library keeps no pointer that you pass, and returns none but the
+ * text of pk_build: names and values are offsets into the request (`struct pk_span`). A later
+ * header may add fields at the end of a struct, so initialise structs with zeros.
  *
  * THREADS. Calls may run at the same time if they share only arguments that all of them take as
  * const. Otherwise calls on one chain, queue or device need an order: a lock, or a join. A chain
@@ -259,6 +259,9 @@ enum pk_answer_kind {
 };
 
 uint32_t pk_version(void); /* the archive's PK_VERSION, to compare */
+/* What the archive is, for logs: its release, its commit, and the logic that proved it or else
+ * "NOT PROVED". The text stays. */
+const char *pk_build(void);
 
 /* Returns 1 if a name is one component of a path (POSIX.1-2017, 3.170 and 4.13), else 0: "", ".",
  * "..", or with a slash or a zero byte. Test each name of the guest before the host uses it. */

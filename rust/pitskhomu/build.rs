@@ -1,20 +1,19 @@
-//! Finds the library's archive, and has it linked.
+//! Finds the library's archive, `libpitskhomu.a`, and has it linked. It takes the first of these:
 //!
-//! - `PITSKHOMU_ARCHIVE`: the path of the archive of `fs_chain_c`. Unset: the newer one of the
-//!   repository's two, `crates/fs_chain_c/out/libfs_chain_c.a`, which is proved, and
-//!   `out/unproved/libfs_chain_c.a`, which isn't. Empty: nothing is linked, so that `cargo check`
-//!   and `cargo doc` need no archive.
-//! - `PITSKHOMU_HEAP`: the path of the toolchain's archive for the heap; empty if the first has it
-//!   already. Unset: `liblibc_c.a` beside the archive, or else in the folder `c` of the toolchain
-//!   whose `rt` is in PATH, if it is there.
+//! 1. the file that `PITSKHOMU_ARCHIVE` names. If it is empty, nothing is linked, so that
+//!    `cargo check` and `cargo doc` need no archive;
+//! 2. `../../lib/libpitskhomu.a`, which a release has;
+//! 3. the newer of a clone's two: `../../out/proved/libpitskhomu.a`, and
+//!    `../../out/unproved/libpitskhomu.a`, which isn't proved;
+//! 4. the one in the folder `libdir` of pkg-config's `pitskhomu`.
 use std::env;
 use std::fs;
 use std::path::{Path, PathBuf};
-use std::process;
+use std::process::{self, Command};
 
-const PROVED: &str = "crates/fs_chain_c/out/libfs_chain_c.a";
-const UNPROVED: &str = "out/unproved/libfs_chain_c.a";
-const HEAP: &str = "liblibc_c.a";
+const NAME: &str = "libpitskhomu.a";
+/// What is in an archive that isn't proved, in the text of `pk_build`.
+const UNPROVED: &[u8] = b", NOT PROVED";
 
 fn main() {
     let archive = match env::var_os("PITSKHOMU_ARCHIVE").map(PathBuf::from) {
@@ -25,25 +24,22 @@ fn main() {
             path.display()
         )),
         None if env::var_os("DOCS_RS").is_some() => None,
-        None => Some(of_repository()),
-    };
-    let heap = match env::var_os("PITSKHOMU_HEAP") {
-        Some(path) => Some(PathBuf::from(path)).filter(|path| !path.as_os_str().is_empty()),
-        None => archive.as_deref().and_then(heap_beside).or_else(heap_of_toolchain),
+        None => Some(of_release().or_else(of_clone).or_else(of_pkg_config).unwrap_or_else(|| {
+            refuse(
+                "there is no libpitskhomu.a to link: not in ../../lib (a release), not in \
+                 ../../out (a clone, where `./run --rust` makes one in a minute), and \
+                 `pkg-config pitskhomu` names none. PITSKHOMU_ARCHIVE=FILE names one that lies \
+                 elsewhere, and PKG_CONFIG_PATH the folder of another pitskhomu.pc",
+            )
+        })),
     };
     // Nothing is printed before a refusal, which cargo would show beside it.
     println!("cargo:rerun-if-changed=build.rs");
-    for name in ["PITSKHOMU_ARCHIVE", "PITSKHOMU_HEAP", "PATH"] {
+    for name in ["PITSKHOMU_ARCHIVE", "PKG_CONFIG_PATH"] {
         println!("cargo:rerun-if-env-changed={name}");
     }
     if let Some(archive) = archive {
-        if archive.ends_with(UNPROVED) {
-            println!("cargo:warning=the library was built without proofs: {}", archive.display());
-        }
-        link(&archive, "fs_chain_c");
-        if let Some(heap) = heap {
-            link(&heap, "pitskhomu_heap");
-        }
+        link(&archive);
     }
 }
 
@@ -53,46 +49,50 @@ fn refuse(why: &str) -> ! {
     process::exit(1)
 }
 
-/// The top of the repository, if the package lies in one.
+/// The top of the release or clone, if the package lies in one.
 fn top() -> PathBuf {
     let package = env::var_os("CARGO_MANIFEST_DIR").map(PathBuf::from).unwrap_or_default();
     package.ancestors().nth(2).map(Path::to_path_buf).unwrap_or_default()
 }
 
-/// The newer of the repository's two archives.
-fn of_repository() -> PathBuf {
-    let archives = [top().join(UNPROVED), top().join(PROVED)];
-    let newest = archives
+fn of_release() -> Option<PathBuf> {
+    Some(top().join("lib").join(NAME)).filter(|path| path.is_file())
+}
+
+/// The newer of the clone's two archives.
+fn of_clone() -> Option<PathBuf> {
+    ["unproved", "proved"]
         .into_iter()
+        .map(|kind| top().join("out").join(kind).join(NAME))
         .filter(|path| path.is_file())
-        .max_by_key(|path| fs::metadata(path).and_then(|data| data.modified()).ok());
-    newest.unwrap_or_else(|| {
-        refuse(
-            "there is no archive to link: `./run --rust` at the top of the repository makes one \
-             in a minute, and PITSKHOMU_ARCHIVE names one that lies elsewhere",
-        )
-    })
+        .max_by_key(|path| fs::metadata(path).and_then(|data| data.modified()).ok())
 }
 
-fn heap_beside(archive: &Path) -> Option<PathBuf> {
-    Some(archive.with_file_name(HEAP)).filter(|heap| heap.is_file())
+fn of_pkg_config() -> Option<PathBuf> {
+    let asked =
+        Command::new("pkg-config").args(["--variable=libdir", "pitskhomu"]).output().ok()?;
+    let folder = String::from_utf8(asked.stdout).ok()?;
+    Some(Path::new(folder.trim()).join(NAME)).filter(|path| path.is_file())
 }
 
-fn heap_of_toolchain() -> Option<PathBuf> {
-    let paths = env::var_os("PATH")?;
-    let command = env::split_paths(&paths)
-        .map(|folder| folder.join("rt"))
-        .find(|command| command.is_file())?;
-    let toolchain = fs::canonicalize(command).ok()?.parent()?.parent()?.to_path_buf();
-    Some(toolchain.join("c").join(HEAP)).filter(|heap| heap.is_file())
-}
-
-/// Links an archive, under a name of its own.
-fn link(archive: &Path, name: &str) {
+/// Links the archive, and warns if it isn't proved.
+fn link(archive: &Path) {
+    let bytes = fs::read(archive)
+        .unwrap_or_else(|error| refuse(&format!("{} can't be read: {error}", archive.display())));
+    let has = |text: &[u8]| bytes.windows(text.len()).any(|part| part == text);
+    if !has(b"pk_build") {
+        refuse(&format!(
+            "{} isn't a libpitskhomu.a: `tools/library take` makes one of the toolchain's archive",
+            archive.display()
+        ));
+    }
     println!("cargo:rerun-if-changed={}", archive.display());
+    if has(UNPROVED) {
+        println!("cargo:warning=the library was built without proofs: {}", archive.display());
+    }
     let folder = env::var_os("OUT_DIR").map(PathBuf::from).expect("cargo sets OUT_DIR");
-    fs::copy(archive, folder.join(format!("lib{name}.a")))
-        .unwrap_or_else(|error| panic!("{} can't be copied: {error}", archive.display()));
+    fs::write(folder.join(NAME), bytes)
+        .unwrap_or_else(|error| panic!("{NAME} can't be written: {error}"));
     println!("cargo:rustc-link-search=native={}", folder.display());
-    println!("cargo:rustc-link-lib=static={name}");
+    println!("cargo:rustc-link-lib=static=pitskhomu");
 }

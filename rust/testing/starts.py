@@ -55,6 +55,10 @@ for word in ("--no-such-option", "--posix-acl=yes"):
 told = subprocess.run([DAEMON, "--print-capabilities"], stdout=subprocess.PIPE, check=True).stdout
 check("capabilities",
     json.loads(told) == {"type": "fs", "features": ["migrate-precopy", "separate-options"]})
+version, core = subprocess.run([DAEMON, "--version"], stdout=subprocess.PIPE, check=True,
+    text=True).stdout.splitlines()
+check(f"--version: {core}", version.startswith("pitskhomu-virtiofsd ")
+    and (core.endswith(", NOT PROVED") or ", proved by logic " in core))
 
 daemon = start("--socket-path", PATH)
 while not os.path.exists(PATH):
@@ -63,7 +67,9 @@ check("its number stands beside the socket", open(PATH + ".pid").read().strip() 
 status, told = ended(start("--socket-path", PATH))
 check(f"a second daemon is refused: {told}", status == 1 and "locked" in told)
 meet(PATH)
-check("it ends with its front-end", ended(daemon)[0] == 0)
+status, told = ended(daemon)
+check("it ends with its front-end", status == 0)
+check(f"it logs what the core is: {told}", f"the core: {core}\n" in told)
 
 for number in (signal.SIGTERM, signal.SIGINT, signal.SIGHUP):
     os.unlink(PATH)

@@ -6,6 +6,7 @@ mod values;
 use clap::Parser;
 use std::os::fd::RawFd;
 use std::path::PathBuf;
+use std::sync::LazyLock;
 use values::{tag, xattr_map};
 pub use values::{CapabilityChanges, Handles, Seccomp};
 use virtiofsd::idmap::{GidMap, UidMap};
@@ -19,7 +20,7 @@ use virtiofsd::soft_idmap::cmdline::IdMap;
 #[derive(Debug, Parser)]
 #[command(
     name = "pitskhomu-virtiofsd",
-    version,
+    version = version(),
     args_override_self = true,
     arg_required_else_help = true,
     override_usage = "pitskhomu-virtiofsd --shared-dir <SHARED_DIR> --socket-path <SOCKET_PATH> \
@@ -170,6 +171,13 @@ pub struct Options {
     /// Whether there were such options.
     #[arg(skip)]
     pub is_compat: bool,
+}
+
+/// What --version prints: the daemon's version, and on a line of its own what the core is.
+fn version() -> &'static str {
+    static VERSION: LazyLock<String> =
+        LazyLock::new(|| format!("{}\n{}", env!("CARGO_PKG_VERSION"), pitskhomu::build()));
+    &VERSION
 }
 
 impl Options {

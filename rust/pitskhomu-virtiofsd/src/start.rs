@@ -7,7 +7,7 @@ use crate::options::Options;
 use crate::serve::{Core, Parts, QueueWorker, ServedFs};
 use crate::socket::Socket;
 use crate::state;
-use log::{debug, error, info, warn};
+use log::{debug, error, info, warn, Level};
 use std::env;
 use std::error::Error;
 use std::fs::File;
@@ -212,9 +212,17 @@ fn no_file_system(e: io::Error) -> String {
     format!("Failed to create internal filesystem representation: {e}")
 }
 
+/// Logs what the core is, and warns if it isn't proved.
+fn log_build() {
+    let build = pitskhomu::build();
+    let level = if build.ends_with("NOT PROVED") { Level::Warn } else { Level::Info };
+    log::log!(level, "the core: {build}");
+}
+
 /// Serves the directory with these options, and returns when the front-end has disconnected.
 pub fn run(mut options: Options) -> Result<(), Failure> {
     handle_signals();
+    log_build();
     let shared_dir =
         options.shared_dir.take().ok_or("missing \"--shared-dir\" or \"-o source\" option")?;
     if !Path::new(&shared_dir).is_dir() && !Path::new(&shared_dir).is_file() {

@@ -13,6 +13,7 @@ use crate::memory::{GuestRange, Region, Window};
 use crate::queue::Queue;
 use crate::status::Status;
 use crate::sys::{self, state, status};
+use crate::CStr;
 use core::ptr;
 
 /// How far the handle's chain is.
@@ -500,6 +501,12 @@ pub(crate) fn begin(queue: &mut sys::Queue, position: u16) -> Result<(), Status>
 pub(crate) fn version() -> u32 {
     // SAFETY: it takes nothing.
     unsafe { sys::pk_version() }
+}
+
+/// What the archive is.
+pub(crate) fn build() -> &'static str {
+    // SAFETY: it takes nothing, and returns a text that ends with a zero byte and stays.
+    unsafe { CStr::from_ptr(sys::pk_build().cast()) }.to_str().unwrap_or_default()
 }
 
 /// Whether a name is one component of a path.

@@ -108,6 +108,13 @@ pub fn version() -> u32 {
     chain::version()
 }
 
+/// What the linked archive is, for logs: its release and commit, and the logic that proved it or
+/// "NOT PROVED".
+#[must_use]
+pub fn build() -> &'static str {
+    chain::build()
+}
+
 /// Whether a name is one component of a path. If not, it is empty, `.` or `..`, or has a slash or a
 /// zero byte. The name may still be that of a symbolic link, which leads elsewhere.
 #[must_use]

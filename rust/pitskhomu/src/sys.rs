@@ -286,6 +286,7 @@ pub struct Store {
 #[rustfmt::skip]
 extern "C" {
     pub fn pk_version() -> u32;
+    pub fn pk_build() -> *const u8;
     pub fn pk_is_name(name: *const u8, name_len: usize) -> u8;
     pub fn pk_chain_set_memory(chain: &mut Chain, device: &Device, regions: *const Region,
         region_count: usize) -> u32;

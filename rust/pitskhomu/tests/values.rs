@@ -10,6 +10,17 @@ fn names() {
     assert!(![&b""[..], b".", b"..", b"/", b"a/b", b"a\0"].into_iter().any(is_name));
 }
 
+/// The text that tools/archive gives the archive.
+#[test]
+fn the_archive_says_what_it_is() {
+    let parts: Vec<&str> = build().split(", ").collect();
+    assert_eq!(parts.len(), 3, "{}", build());
+    assert_eq!(parts[0], concat!("pitskhomu ", env!("CARGO_PKG_VERSION")));
+    assert!(parts[1].contains("commit"), "{}", parts[1]);
+    let logic = parts[2].strip_prefix("proved by logic ");
+    assert!(parts[2] == "NOT PROVED" || logic.map(str::len) == Some(16), "{}", parts[2]);
+}
+
 #[test]
 fn errnos() {
     let numbers = [
