@@ -72,7 +72,7 @@
  *
  * NOTIFICATIONS. Between resets (rule 8) none is lost, of driver or device, under these rules and
  * VIRTIO's for the driver (2.7.13, 2.7.14). In brackets is a rule's name in the model of crate
- * notify: without the rule, a run of the model loses a notification.
+ * notify: without the rule, a run of the model loses a notification, or stops the queue.
  *   - Before a thread sleeps, after its last pop: pk_set_notification(1), the store, a full
  *     barrier, and one more pop. That pop must load the available index again (taker_waits, late).
  *     Sleep if it returns PK_IDLE, or if `max_in_flight` are in flight.
@@ -158,7 +158,8 @@ enum pk_status {
     PK_NO_ROOM = 35,    /* the call is answered, but the reply buffer is too small: push the chain,
                            without a reply. The guest doesn't count the look-up of an entry */
     PK_FULL = 36,       /* the entry doesn't fit in the size that the guest asked for: undo its
-                           look-up (READDIRPLUS), and reply with the list */
+                           look-up (READDIRPLUS), and reply with the list. If it is the first
+                           entry: with pk_reply_err(EINVAL) */
     PK_LIST_FAILS = 37, /* the entry fits in that size, but not in the reply buffer: undo its
                            look-up, and reply with pk_reply_err(EIO) */
     PK_ENTRIES = 38,    /* the listing failed behind entries whose look-ups are counted: the reply
@@ -233,7 +234,7 @@ enum pk_call_kind {
     PK_CALL_FLUSH = 25,       /* handle, owner -> done */
     PK_CALL_INIT = 26,        /* options that the guest supports; a new session begins -> init */
     PK_CALL_OPENDIR = 27,     /* flags -> open */
-    PK_CALL_READDIR = 28,     /* handle, offset, size -> entries (pk_add_direntry) */
+    PK_CALL_READDIR = 28,     /* handle, offset, size, data_len -> entries (pk_add_direntry) */
     PK_CALL_RELEASEDIR = 29,  /* handle, flags -> done */
     PK_CALL_FSYNCDIR = 30,    /* handle, data_only -> done */
     PK_CALL_ACCESS = 34,      /* mode: R_OK, W_OK, X_OK -> done */
@@ -241,7 +242,7 @@ enum pk_call_kind {
     PK_CALL_DESTROY = 38,     /* set the device's options to 0 -> done. No reply is sent */
     PK_CALL_BATCH_FORGET = 42, /* value: count pairs, read by pk_pair -> none */
     PK_CALL_FALLOCATE = 43,   /* handle, mode, offset, size -> done */
-    PK_CALL_READDIRPLUS = 44, /* handle, offset, size -> entries (pk_add_direntry_plus) */
+    PK_CALL_READDIRPLUS = 44, /* the same -> entries (pk_add_direntry_plus) */
     PK_CALL_RENAME2 = 45,     /* never: it is PK_CALL_RENAME with flags */
     PK_CALL_LSEEK = 46,       /* handle, offset, flags: whence -> lseek */
     PK_CALL_COPY_FILE_RANGE = 47, /* handle, offset, size; to node2, handle2, offset2 -> write */
@@ -354,9 +355,11 @@ struct pk_pop {
  * load the bytes and call again with them, at most 2 * size + 6 times. PK_DONE: it is in flight.
  * PK_IDLE, PK_MISS and errors 1 to 8: the handle is free. PK_MISS leaves the queue as it was. Other
  * errors leave the pop under way; pk_drop ends it.
- * Two loads can be saved. For the first, the available index, you may pass an earlier value,
- * loaded over the same memory since the queue's reset, if it isn't `next_avail`. An entry of a
- * table that crosses two regions or mappings has two loads: pass the whole entry for the first.
+ * Two loads can be saved. For the first, the available index, you may pass the value that was
+ * loaded last for this queue, by any thread, over the same memory and since the queue's reset, if
+ * it isn't `next_avail`. Keep it with the queue, under its lock: an older value, such as a thread's
+ * own, is refused and stops the queue (takes_newest). An entry of a table that crosses two regions
+ * or mappings has two loads: pass the whole entry for the first.
  * Errors: PK_WRONG_ORDER (no memory was set); PK_BAD_ARGUMENT (the queue's fields are invalid, such
  * as zeros); PK_WRONG_ORDER (the chain is in flight); PK_BAD_ARGUMENT (`loaded_len` isn't the
  * load's); PK_OTHER_QUEUE (then drop or abandon the pop); PK_CHAIN_IN_FLIGHT; then, in no order,
@@ -554,13 +557,15 @@ uint32_t pk_reply_lseek(struct pk_chain *chain, uint32_t ticket, uint64_t offset
 uint32_t pk_reply_init(struct pk_chain *chain, uint32_t ticket, struct pk_device *device,
                        uint64_t wanted) PK_CHECK;
 
-/* READDIR: appends an entry to `list`, a buffer of yours of at most data_len bytes, the same one
- * for all entries of the reply. `next_offset` is the offset of the READDIR that continues after
- * this entry; `type` is DT_ of dirent.h. Returns PK_DONE, PK_FULL or PK_LIST_FAILS.
+/* READDIR: appends an entry to `list`, a buffer of yours, the same one for all entries of the
+ * reply. `list_len` is the size of the whole buffer, the same at each call: the library counts the
+ * bytes that the entries take (pk_direntry_len). The entries of a reply take data_len bytes at
+ * most. `next_offset` is the offset of the READDIR that continues after this entry; `type` is DT_
+ * of dirent.h. Returns PK_DONE, PK_FULL or PK_LIST_FAILS.
  * Errors: PK_BAD_ARGUMENT (the name is empty, has a slash or is longer than 255 bytes; the type
  * isn't DT_UNKNOWN, FIFO, CHR, DIR, BLK, REG, LNK or SOCK); PK_WRONG_ORDER; PK_OTHER_CALL;
  * PK_BAD_ARGUMENT (list_len isn't that of the earlier entries); PK_OTHER_KIND; PK_SHORT_BUFFER (the
- * list ends before the entry). */
+ * buffer ends before the entry: reply with the list, if it has entries). */
 uint32_t pk_add_direntry(struct pk_chain *chain, uint32_t ticket, uint8_t *list, size_t list_len,
                          const uint8_t *name, size_t name_len, uint64_t ino, uint64_t next_offset,
                          uint32_t type) PK_CHECK PK_READS(5, 6);
@@ -574,7 +579,8 @@ uint32_t pk_add_direntry_plus(struct pk_chain *chain, uint32_t ticket, uint8_t *
     PK_CHECK PK_READS(5, 6);
 
 /* READDIR, READDIRPLUS: replies with the entries so far; a reply without any is the end of the
- * directory. Copy the first `*len` bytes of the list into the reply buffer from PK_HEADER on. */
+ * directory, so after PK_FULL of the first entry reply with pk_reply_err(EINVAL). Copy the first
+ * `*len` bytes of the list into the reply buffer from PK_HEADER on. */
 uint32_t pk_reply_entries(struct pk_chain *chain, uint32_t ticket, uint64_t *len)
     PK_CHECK PK_FILLS(3);
 

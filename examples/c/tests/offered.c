@@ -113,6 +113,21 @@ static void takes_again(void) {
     expect("too far", take(), PK_AVAIL_TOO_FAR);
 }
 
+/* Threads share one `offered`. By one of its own, which another thread's load has overtaken, a
+ * thread would stop the queue. */
+static void threads_share_it(void) {
+    struct offered own;
+    begin(7, 2);
+    serve("the first of two");
+    own = offered;
+    set_index(11);
+    for (int k = 0; k < 3; k++) serve("up to the fourth");
+    set_index(12);
+    serve("the fifth, by the shared index");
+    offered = own;
+    expect("the sixth, by an older index", take(), PK_AVAIL_TOO_FAR);
+}
+
 int main(void) {
     work_over(memory);
     put(DESC + 16 * HEAD, ROOM, 8), put(DESC + 16 * HEAD + 8, 16, 4),
@@ -122,6 +137,7 @@ int main(void) {
     refuses_by_the_next_load();
     forgets_what_was();
     takes_again();
+    threads_share_it();
     pk_chain_free(&chain);
     printf("offered chains: the index is loaded once for all its chains\n");
     return 0;
