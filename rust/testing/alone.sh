@@ -62,6 +62,7 @@ alone() {
     SECONDS_EACH=${SECONDS_EACH:-60}
     compile checks checks.c escape.c held.c labels.c platform.c wild.c front.c
     compile hostile hostile.c front.c
+    compile log log.c front.c
     compile state state.c moved.c front.c
     rm -rf "$work/starts"
     mkdir -p "$work/starts"
@@ -106,6 +107,12 @@ alone() {
     try hostile cut 1
     grep -q 'lent is gone (SIGBUS)' "$work/hostile-cut.errors" ||
         failure "cut: the daemon doesn't say why it ended"
+    try log broken 1500
+    [ "$(grep -c 'queue 1 is refused' "$work/log-broken.errors")" = 21 ] ||
+        failure "log: broken rings have another number of lines"
+    grep -q '1480 more such lines' "$work/log-broken.errors" ||
+        failure "log: the number of lines left out isn't there"
+    try log unread 1500
     try state "$SECONDS_EACH"
     try state full
     try state cut

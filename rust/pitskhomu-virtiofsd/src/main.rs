@@ -5,6 +5,7 @@ mod capabilities;
 mod front_end;
 mod in_flight;
 mod iommu;
+mod logger;
 mod marks;
 mod memory;
 mod migration;
@@ -17,6 +18,7 @@ mod start;
 mod state;
 
 use clap::Parser;
+use logger::Logger;
 use options::Options;
 use std::process::ExitCode;
 
@@ -35,15 +37,21 @@ fn main() -> ExitCode {
         println!("{CAPABILITIES}");
         return ExitCode::SUCCESS;
     }
-    if let Err(why) = start::log(&options) {
-        eprintln!("pitskhomu-virtiofsd: {why}");
-        return ExitCode::FAILURE;
-    }
-    match start::run(options) {
-        Ok(()) => ExitCode::SUCCESS,
+    let logger = match Logger::new(&options) {
+        Ok(logger) => logger,
         Err(why) => {
-            log::error!("{why}");
-            ExitCode::FAILURE
+            eprintln!("pitskhomu-virtiofsd: {why}");
+            return ExitCode::FAILURE;
         }
+    };
+    let ended = start::run(options, &logger);
+    if let Err(why) = &ended {
+        log::error!("{why}");
+    }
+    logger.finish();
+    if ended.is_ok() {
+        ExitCode::SUCCESS
+    } else {
+        ExitCode::FAILURE
     }
 }

@@ -2,24 +2,21 @@
 use crate::capabilities;
 use crate::front_end::FrontEnd;
 use crate::iommu;
+use crate::logger::{self, Logger};
 use crate::open_flags::{Descriptors, OpenFlags};
 use crate::options::Options;
 use crate::serve::{Core, Parts, QueueWorker, ServedFs};
 use crate::socket::Socket;
 use crate::state;
 use log::{debug, error, info, warn, Level};
-use std::env;
 use std::error::Error;
 use std::fs::File;
 use std::io;
 use std::os::fd::AsRawFd;
-use std::panic::PanicHookInfo;
 use std::path::Path;
-use std::sync::atomic::{AtomicU32, Ordering};
 use std::sync::{Arc, Mutex};
 use std::thread;
 use std::time::Duration;
-use syslog::{BasicLogger, Facility, Formatter3164};
 use vhost::vhost_user::{BackendListener, BackendReqHandler, Error as FrontEndError, Listener};
 use virtiofsd::limits::setup_rlimit_nofile;
 use virtiofsd::passthrough::read_only::PassthroughFsRo;
@@ -37,44 +34,6 @@ const OWN_DESCRIPTORS: u64 = 609;
 const FEW_DESCRIPTORS: u64 = 128;
 const DAY: Duration = Duration::from_secs(24 * 60 * 60);
 
-/// The most panics that are logged. A guest that can cause a panic may repeat it, and must not fill
-/// the log.
-const PANICS_TOLD: u32 = 100;
-
-fn tell_panic(panic: &PanicHookInfo<'_>) {
-    static PANICS: AtomicU32 = AtomicU32::new(0);
-    match PANICS.fetch_add(1, Ordering::Relaxed) {
-        0..PANICS_TOLD => error!("{}: {panic}", thread::current().name().unwrap_or("a thread")),
-        PANICS_TOLD => error!("more panics aren't told"),
-        _ => {}
-    }
-}
-
-/// Sends messages, also those of panics, to the log of the options. A panic's backtrace would need
-/// system calls that the filter refuses.
-pub fn log(options: &Options) -> Result<(), Failure> {
-    std::panic::set_hook(Box::new(tell_panic));
-    if options.syslog {
-        let process = "pitskhomu-virtiofsd".into();
-        let format = Formatter3164 {
-            facility: Facility::LOG_DAEMON,
-            hostname: None,
-            process,
-            pid: std::process::id(),
-        };
-        log::set_boxed_logger(Box::new(BasicLogger::new(syslog::unix(format)?)))?;
-        log::set_max_level(options.messages());
-    } else {
-        let mut logger = env_logger::Builder::new();
-        match env::var("RUST_LOG") {
-            Ok(filters) => logger.parse_filters(&filters),
-            Err(_) => logger.filter_level(options.messages()),
-        };
-        logger.try_init()?;
-    }
-    Ok(())
-}
-
 extern "C" fn end(_signal: libc::c_int) {
     // SAFETY: a signal handler may call _exit, which touches no memory.
     unsafe { libc::_exit(0) }
@@ -83,14 +42,12 @@ extern "C" fn end(_signal: libc::c_int) {
 /// The handler of SIGBUS: a page of the front-end's memory is gone, or the host's memory is faulty.
 /// A thread that accesses the page can't continue, and the daemon serves no other front-end.
 extern "C" fn end_for_lost_memory(_signal: libc::c_int) {
-    const WHY: &[u8] =
+    logger::write_at_the_end(
         b"pitskhomu-virtiofsd: memory that the front-end lent is gone (SIGBUS), so nothing more \
-         can be served\n";
-    // SAFETY: a signal handler may call both, and the bytes are static.
-    unsafe {
-        libc::write(libc::STDERR_FILENO, WHY.as_ptr().cast(), WHY.len());
-        libc::_exit(1)
-    }
+         can be served\n",
+    );
+    // SAFETY: a signal handler may call _exit, which touches no memory.
+    unsafe { libc::_exit(1) }
 }
 
 /// The daemon is the first process of its namespace, so without a handler it wouldn't receive
@@ -220,7 +177,7 @@ fn log_build() {
 }
 
 /// Serves the directory with these options, and returns when the front-end has disconnected.
-pub fn run(mut options: Options) -> Result<(), Failure> {
+pub fn run(mut options: Options, logger: &Logger) -> Result<(), Failure> {
     handle_signals();
     log_build();
     let shared_dir =
@@ -255,9 +212,9 @@ pub fn run(mut options: Options) -> Result<(), Failure> {
     let readonly = options.readonly;
     let config = config(options, &mut sandbox, proc_self_fd, guest_descriptors);
     if readonly {
-        serving.serve(PassthroughFsRo::new(config).map_err(no_file_system)?)
+        serving.serve(PassthroughFsRo::new(config).map_err(no_file_system)?, logger)
     } else {
-        serving.serve(PassthroughFs::new(config).map_err(no_file_system)?)
+        serving.serve(PassthroughFs::new(config).map_err(no_file_system)?, logger)
     }
 }
 
@@ -305,7 +262,7 @@ impl Serving {
         }
     }
 
-    fn serve<F: ServedFs>(self, fs: F) -> Result<(), Failure> {
+    fn serve<F: ServedFs>(self, fs: F, logger: &Logger) -> Result<(), Failure> {
         let Serving { request_queues, threads, flags, descriptors, always_agreed, .. } = self;
         let core = Arc::new(Core::new(Parts {
             fs,
@@ -315,10 +272,12 @@ impl Serving {
             descriptors,
             always_agreed,
         })?);
+        logger.keep_errors()?;
         capabilities::give_up(&self.capabilities)?;
         if let Some(action) = self.seccomp.action() {
             enable_seccomp(action, self.syslog)?; // new threads inherit it
         }
+        logger.start()?;
         for (index, ring) in core.rings.iter().enumerate() {
             for _ in 0..ring.threads {
                 start_thread(core.clone(), index)?;

@@ -6,7 +6,7 @@ use pitskhomu::{Access, Iotlb, Miss};
 use std::collections::VecDeque;
 use std::io::{self, ErrorKind, IoSlice, IoSliceMut};
 use std::os::fd::{AsRawFd, OwnedFd};
-use std::sync::atomic::{AtomicBool, AtomicU64, AtomicUsize, Ordering};
+use std::sync::atomic::{AtomicBool, AtomicU64, Ordering};
 use std::sync::{Arc, Condvar, Mutex, MutexGuard, PoisonError};
 use std::thread;
 use std::time::{Duration, Instant};
@@ -26,8 +26,6 @@ const MOST_PAGES: usize = 1024;
 const MOST_UNANSWERED: usize = 4096;
 /// `VHOST_USER_BACKEND_IOTLB_MSG`.
 const BACKEND_IOTLB_MSG: u32 = 1;
-/// So often the log says that the front-end doesn't answer: a guest fills no log.
-const SILENCES_TOLD: usize = 20;
 
 /// A reply: its head and a number.
 const REPLY_LEN: usize = HEAD_LEN + 8;
@@ -117,7 +115,6 @@ pub struct Channel {
     /// The number of times that the device began. QEMU refuses each miss that it reads while the
     /// device is stopped. So the answer to an ask of an earlier epoch isn't used.
     epoch: AtomicU64,
-    silences: AtomicUsize,
 }
 
 impl State {
@@ -333,18 +330,12 @@ impl Channel {
             if left.is_zero() || is_lost || cancel.is_set_since(cancelled) {
                 drop(state);
                 if left.is_zero() {
-                    self.say_silence();
+                    warn!("the front-end doesn't answer what an I/O address means");
                 }
                 return None;
             }
             let changed = self.changed.wait_timeout(state, left);
             state = changed.unwrap_or_else(PoisonError::into_inner).0;
-        }
-    }
-
-    fn say_silence(&self) {
-        if self.silences.fetch_add(1, Ordering::Relaxed) < SILENCES_TOLD {
-            warn!("the front-end doesn't answer what an I/O address means; its chain waits");
         }
     }
 }

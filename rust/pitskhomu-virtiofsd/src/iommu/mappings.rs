@@ -9,9 +9,6 @@ use std::collections::{BTreeMap, BTreeSet};
 /// The daemon asks again for those that it needs.
 const MOST_RANGES: usize = 65536;
 
-/// So often the log says that the table began again: a guest fills no log.
-const BEGINNINGS_TOLD: u32 = 20;
-
 /// What I/O addresses mean, from a first one up to `end`.
 #[derive(Debug, Clone, Copy, PartialEq, Eq)]
 struct Range {
@@ -60,8 +57,6 @@ pub struct Mappings {
     rings: Vec<Parts>,
     /// Pages that the front-end has unmapped, and that a ring needs yet.
     stale: BTreeSet<u64>,
-    /// How often the table began again.
-    begun_again: u32,
 }
 
 impl Mappings {
@@ -252,10 +247,7 @@ impl Mappings {
 
     /// All mappings go but the rings'.
     fn begin_again(&mut self, why: &str) {
-        if self.begun_again < BEGINNINGS_TOLD {
-            warn!("the IOMMU's table {why}, and begins again with those of the rings");
-        }
-        self.begun_again = self.begun_again.saturating_add(1);
+        warn!("the IOMMU's table {why}, and begins again with those of the rings");
         self.drop_all_but(|_| true);
     }
 

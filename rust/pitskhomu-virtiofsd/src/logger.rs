@@ -1,0 +1,278 @@
+//! The log: lines to standard error or to syslog. While a directory is served a thread of its own
+//! writes them, so that no ring and no message waits for those who read the log. Each kind of line
+//! has a limit (`limits`). If nobody reads the log, lines are left out, and counted.
+mod limits;
+
+use limits::{Limits, Line};
+use log::{Level, Log, Metadata, Record};
+use std::env;
+use std::error::Error;
+use std::fs::{File, OpenOptions};
+use std::io;
+use std::os::fd::{AsFd, AsRawFd};
+use std::panic::PanicHookInfo;
+use std::sync::atomic::{AtomicI32, AtomicU64, Ordering};
+use std::sync::mpsc::{sync_channel, Receiver, RecvTimeoutError, SyncSender};
+use std::sync::{Arc, Mutex, MutexGuard, OnceLock, PoisonError};
+use std::thread;
+use std::time::{Duration, Instant};
+use syslog::{BasicLogger, Facility, Formatter3164};
+
+use crate::options::Options;
+
+/// The most lines that wait for the thread.
+const MOST_WAITING: usize = 1024;
+/// The time in which the last lines must be written when the daemon ends.
+const LAST_LINES: Duration = Duration::from_millis(200);
+/// The time between two looks for numbers of lines left out, if no period ends before.
+const LOOK: Duration = Duration::from_secs(3600);
+
+/// The descriptor of standard error, as the daemon was started with it.
+static ERRORS: AtomicI32 = AtomicI32::new(libc::STDERR_FILENO);
+
+/// A message to the thread that writes.
+enum ToWrite {
+    Line(Line),
+    /// Write the numbers of all lines left out, and answer.
+    All(SyncSender<()>),
+}
+
+/// The parts that the log's users and its thread share.
+struct Shared {
+    /// Formats and writes lines.
+    writer: Box<dyn Log>,
+    limits: Mutex<Limits>,
+    /// To the thread, once it runs.
+    sender: OnceLock<SyncSender<ToWrite>>,
+    /// The number of lines that the thread didn't get, since the log wasn't read.
+    lost: AtomicU64,
+    /// Where other writes to standard error go while a directory is served.
+    nowhere: Option<File>,
+}
+
+/// The daemon's log.
+pub struct Logger(Arc<Shared>);
+
+/// Each panic is a line of the log. A backtrace would need system calls that the filter refuses.
+fn log_panic(panic: &PanicHookInfo<'_>) {
+    log::error!("{}: {panic}", thread::current().name().unwrap_or("a thread"));
+}
+
+/// The writer of lines that the options and the environment ask for.
+fn writer(options: &Options) -> Result<(Box<dyn Log>, log::LevelFilter), Box<dyn Error>> {
+    if options.syslog {
+        let format = Formatter3164 {
+            facility: Facility::LOG_DAEMON,
+            hostname: None,
+            process: "pitskhomu-virtiofsd".into(),
+            pid: std::process::id(),
+        };
+        return Ok((Box::new(BasicLogger::new(syslog::unix(format)?)), options.messages()));
+    }
+    let errors = File::from(io::stderr().as_fd().try_clone_to_owned()?);
+    ERRORS.store(errors.as_raw_fd(), Ordering::Relaxed);
+    let mut builder = env_logger::Builder::new();
+    match env::var("RUST_LOG") {
+        Ok(filters) => builder.parse_filters(&filters),
+        Err(_) => builder.filter_level(options.messages()),
+    };
+    let logger = builder.target(env_logger::Target::Pipe(Box::new(errors))).build();
+    let level = logger.filter();
+    Ok((Box::new(logger), level))
+}
+
+impl Logger {
+    /// Begins the log. Until `start` the caller itself writes each line.
+    pub fn new(options: &Options) -> Result<Logger, Box<dyn Error>> {
+        let (writer, level) = writer(options)?;
+        let logger = Logger::over(writer, OpenOptions::new().write(true).open("/dev/null").ok());
+        log::set_boxed_logger(Box::new(Logger(logger.0.clone())))?;
+        log::set_max_level(level);
+        std::panic::set_hook(Box::new(log_panic));
+        Ok(logger)
+    }
+
+    fn over(writer: Box<dyn Log>, nowhere: Option<File>) -> Logger {
+        Logger(Arc::new(Shared {
+            writer,
+            limits: Mutex::default(),
+            sender: OnceLock::new(),
+            lost: AtomicU64::new(0),
+            nowhere,
+        }))
+    }
+
+    /// Starts the thread that writes. It must have the caller's filter and capabilities. A library
+    /// that writes to standard error itself writes nowhere from here on.
+    pub fn start(&self) -> io::Result<()> {
+        let (sender, receiver) = sync_channel(MOST_WAITING);
+        let shared = self.0.clone();
+        thread::Builder::new().name("log".into()).spawn(move || shared.write_all(&receiver))?;
+        let _ = self.0.sender.set(sender);
+        Ok(())
+    }
+
+    /// Leads standard error nowhere, but for the log's own lines.
+    pub fn keep_errors(&self) -> io::Result<()> {
+        let Some(nowhere) = &self.0.nowhere else { return Ok(()) };
+        // SAFETY: both descriptors are open, and no memory is touched.
+        match unsafe { libc::dup2(nowhere.as_raw_fd(), libc::STDERR_FILENO) } {
+            -1 => Err(io::Error::last_os_error()),
+            _ => Ok(()),
+        }
+    }
+
+    /// Waits a moment until the last lines are written.
+    pub fn finish(&self) {
+        let Some(sender) = self.0.sender.get() else { return };
+        let (done, is_done) = sync_channel(1);
+        if sender.try_send(ToWrite::All(done)).is_ok() {
+            let _ = is_done.recv_timeout(LAST_LINES);
+        }
+    }
+}
+
+impl Shared {
+    fn limits(&self) -> MutexGuard<'_, Limits> {
+        self.limits.lock().unwrap_or_else(PoisonError::into_inner)
+    }
+
+    fn write(&self, line: &Line) {
+        let mut record = Record::builder();
+        record.level(line.level).target(&line.target);
+        self.writer.log(&record.args(format_args!("{}", line.text)).build());
+    }
+
+    /// Hands a line to the thread. If there is none, writes it, unless that would have to wait.
+    fn pass(&self, line: Line) {
+        let is_passed = match self.sender.get() {
+            Some(sender) => sender.try_send(ToWrite::Line(line)).is_ok(),
+            None if errors_have_room() => {
+                self.write(&line);
+                true
+            }
+            None => false,
+        };
+        if !is_passed {
+            self.lost.fetch_add(1, Ordering::Relaxed);
+        }
+    }
+
+    /// Says how many lines were lost since the last time.
+    fn say_lost(&self) {
+        let lost = self.lost.swap(0, Ordering::Relaxed);
+        if lost > 0 {
+            let (level, target) = (Level::Warn, module_path!().into());
+            let text = format!("{lost} lines are left out, since nobody read the log");
+            self.write(&Line { level, target, text });
+        }
+    }
+
+    /// The thread that writes.
+    fn write_all(&self, receiver: &Receiver<ToWrite>) {
+        loop {
+            let next = self.limits().next_due(Instant::now()).unwrap_or(LOOK);
+            let (lines, done) = match receiver.recv_timeout(next) {
+                Ok(ToWrite::Line(line)) => (vec![line], None),
+                Ok(ToWrite::All(done)) => (self.limits().all(), Some(done)),
+                Err(RecvTimeoutError::Timeout) => (self.limits().due(Instant::now()), None),
+                Err(RecvTimeoutError::Disconnected) => return,
+            };
+            lines.iter().for_each(|line| self.write(line));
+            self.say_lost();
+            if let Some(done) = done {
+                let _ = done.try_send(());
+            }
+        }
+    }
+}
+
+impl Log for Logger {
+    fn enabled(&self, metadata: &Metadata<'_>) -> bool {
+        self.0.writer.enabled(metadata)
+    }
+
+    fn log(&self, record: &Record<'_>) {
+        if self.enabled(record.metadata()) {
+            let lines = self.0.limits().admit(record, Instant::now());
+            lines.into_iter().for_each(|line| self.0.pass(line));
+        }
+    }
+
+    fn flush(&self) {
+        self.0.writer.flush();
+    }
+}
+
+/// Whether standard error takes a line at once: a pipe that nobody reads is full some time.
+fn errors_have_room() -> bool {
+    let fd = ERRORS.load(Ordering::Relaxed);
+    let mut errors = libc::pollfd { fd, events: libc::POLLOUT, revents: 0 };
+    // SAFETY: the one structure is borrowed mutably.
+    unsafe { libc::poll(&raw mut errors, 1, 0) != 0 }
+}
+
+/// Writes to standard error from a signal's handler, and doesn't wait for those who read it.
+pub fn write_at_the_end(bytes: &[u8]) {
+    let fd = ERRORS.load(Ordering::Relaxed);
+    // SAFETY: a signal's handler may call all of these, and the bytes are borrowed.
+    unsafe {
+        let flags = libc::fcntl(fd, libc::F_GETFL);
+        libc::fcntl(fd, libc::F_SETFL, flags | libc::O_NONBLOCK);
+        libc::write(fd, bytes.as_ptr().cast(), bytes.len());
+        libc::fcntl(fd, libc::F_SETFL, flags);
+    }
+}
+
+#[cfg(test)]
+mod tests {
+    use super::*;
+    use std::sync::mpsc::{channel, Sender};
+
+    /// A writer that waits for a permit at each line.
+    struct Slow {
+        permits: Mutex<Receiver<()>>,
+        written: Mutex<Sender<String>>,
+    }
+
+    impl Log for Slow {
+        fn enabled(&self, _metadata: &Metadata<'_>) -> bool {
+            true
+        }
+        fn log(&self, record: &Record<'_>) {
+            let _ = self.permits.lock().expect("permits").recv();
+            let _ = self.written.lock().expect("who reads").send(record.args().to_string());
+        }
+        fn flush(&self) {}
+    }
+
+    #[test]
+    fn nobody_waits_for_a_log_that_is_not_read() {
+        let ((permit, permits), (written, lines)) = (channel(), channel());
+        let slow = Slow { permits: Mutex::new(permits), written: Mutex::new(written) };
+        let logger = Logger::over(Box::new(slow), None);
+        logger.start().expect("a thread");
+        let before = Instant::now();
+        for k in 0..3000 {
+            let text = k.to_string();
+            let mut record = Record::builder();
+            record.level(Level::Debug); // without a limit
+            logger.log(&record.args(format_args!("{text}")).build());
+        }
+        logger.finish();
+        assert!(before.elapsed() < Duration::from_secs(5));
+        drop(permit); // all are written from here on
+        let mut count = 0;
+        let lost = loop {
+            let line = lines.recv_timeout(Duration::from_secs(20)).expect("a line");
+            match line.strip_suffix(" lines are left out, since nobody read the log") {
+                Some(lost) => break lost.parse::<usize>().expect("a number"),
+                None => count += 1,
+            }
+        };
+        let rest = lines.recv_timeout(Duration::from_millis(300)).into_iter();
+        count += rest.chain(lines.try_iter()).count();
+        assert_eq!(count + lost, 3000);
+        assert!((MOST_WAITING..=MOST_WAITING + 2).contains(&count), "{count}");
+    }
+}
