@@ -116,6 +116,7 @@ alone() {
     try state "$SECONDS_EACH"
     try state full
     try state cut
+    try state turned
     try state flags
     try state writeback
     try state lost

@@ -14,6 +14,7 @@ enum {
     PLAIN = O_RDWR | O_SYNC | O_NONBLOCK,
     RAW = PLAIN | O_APPEND | O_DIRECT,
     MARK_LEN = 8,
+    SUM_LEN = 8,
     RESET_DEVICE = 34
 };
 
@@ -74,22 +75,24 @@ static void number(uint8_t bytes[4], uint32_t flags) {
         bytes[k] = (uint8_t)(flags * 2 >> 7 * k & 0x7f) | (k < 3 ? 0x80 : 0);
 }
 
-/* The same state as virtiofsd sends it: without what is ours, and with the flags that the guest
- * asked for. */
-static size_t as_virtiofsds(uint8_t *state, size_t len) {
-    uint8_t plain[4], raw[4];
+size_t as_virtiofsds(uint8_t *state, size_t len) {
     uint32_t record;
-    number(plain, PLAIN);
-    number(raw, RAW);
-    memcpy(&record, state + len - MARK_LEN - 4, sizeof record);
+    memcpy(&record, state + len - MARK_LEN - SUM_LEN - 4, sizeof record);
     if (state[0] != 0x81 || state[1] != 0) die("the state begins otherwise");
-    len -= MARK_LEN + 4 + record + 1;
+    len -= MARK_LEN + SUM_LEN + 4 + record + 1;
     memmove(state + 1, state + 2, len - 1);
     state[0] = 1;
+    return len;
+}
+
+/* The flags that the guest asked for, as virtiofsd has them. */
+static void make_raw(uint8_t *state, size_t len) {
+    uint8_t plain[4], raw[4];
+    number(plain, PLAIN);
+    number(raw, RAW);
     uint8_t *at = memmem(state, len, plain, sizeof plain);
     if (!at) die("the state has no such flags");
     memcpy(at, raw, sizeof raw);
-    return len;
 }
 
 void move_flags(struct front *front, bool writes_back, size_t (*save)(uint8_t *),
@@ -108,7 +111,10 @@ void move_flags(struct front *front, bool writes_back, size_t (*save)(uint8_t *)
     for (int from = 0; from < 2; from++) {
         if (front_stop_ring(front, 1) != front->rings[1].offered) die("another position");
         size_t len = save(state);
-        if (from == 1) len = as_virtiofsds(state, len);
+        if (from == 1) {
+            len = as_virtiofsds(state, len);
+            make_raw(state, len);
+        }
         if (front_tell(front, RESET_DEVICE, NULL, 0, NULL, 0)) die("no reset");
         if (!load(state, len)) die("the state is refused");
         front_start_ring(front, 1, front->rings[1].offered);

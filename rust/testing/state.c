@@ -1,12 +1,14 @@
-/* Migration streams of one's own: state DAEMON DIR SECONDS|full|lost|cut|flags|writeback. A state
- * is taken out of the daemon, changed by chance, and handed in, again and again. Each time the
+/* Migration streams of one's own: state DAEMON DIR
+ * SECONDS|full|lost|cut|turned|flags|writeback. A state is taken out of the daemon, changed by
+ * chance, and handed in, again and again, as the daemon's own or as virtiofsd's. Each time the
  * daemon says whether it takes it; no node and no handle that came so leads out of DIR, beside
  * which a file has the word `secret`; and a device that is reset after it serves as a new one. With
  * `full` the daemon has no descriptor left for the guest: memory comes all the same, and the state
  * goes out, and in again. With `lost` the guest holds a file that it has removed, which no path
  * leads to: such a state isn't taken. With `cut` the last bytes of a state are missing, one more
- * each time. With `flags`, and with `writeback` by a daemon that has this option, files are open
- * with flags that don't hold on the host. */
+ * each time. With `turned` each bit of a state is turned, and the state is there twice. With
+ * `flags`, and with `writeback` by a daemon that has this option, files are open with flags that
+ * don't hold on the host. */
 #define _GNU_SOURCE
 #include "chance.h"
 #include "front.h"
@@ -149,9 +151,14 @@ static void hostile_streams(time_t end) {
         stop();
         size_t len = save(state);
         memcpy(changed, state, len);
+        bool is_plain = below(4), is_same = loads == 0;
+        if (is_plain) len = as_virtiofsds(changed, len);
+        size_t before = len;
         for (uint64_t k = loads ? 1 + below(3) : 0; k > 0; k--) len = change(changed, len);
+        if (!is_plain) is_same = len == before && !memcmp(changed, state, len);
         bool is_taken = load(changed, len);
-        if (loads == 0 && !is_taken) die("its own state is refused");
+        if (is_same && !is_taken) die("its own state is refused");
+        if (!is_same && !is_plain && is_taken) die("a state that is damaged is taken");
         loads++, taken += is_taken;
         front_start_ring(&front, 1, front.rings[1].offered);
         reads += look_about();
@@ -216,10 +223,35 @@ static void cut(void) {
     printf("state: none of %zu bytes that is cut short is taken\n", len);
 }
 
+/* A state in which one place of it has another byte isn't taken, nor is one that is there twice. */
+static void turned(void) {
+    static uint8_t state[2 * MOST];
+    unsigned taken = 0;
+    begin_anew();
+    stop();
+    size_t len = save(state);
+    for (unsigned bit = 0; bit < 8; bit++)
+        for (size_t k = 0; k < len; k++) {
+            state[k] ^= (uint8_t)(1 << bit);
+            taken += load(state, len);
+            state[k] ^= (uint8_t)(1 << bit);
+        }
+    if (taken > 0) die("%u of %zu states with another bit are taken", taken, 8 * len);
+    memcpy(state + len, state, len);
+    if (load(state, 2 * len)) die("a state that is there twice is taken");
+    if (!load(state, len)) die("its own state is refused");
+    size_t plain = as_virtiofsds(state, len);
+    memcpy(state + plain, state, plain);
+    if (load(state, 2 * plain)) die("a state of virtiofsd's that is there twice is taken");
+    if (!load(state, plain)) die("a state of virtiofsd's is refused");
+    printf("state: none of %zu states with another bit is taken, nor one that is there twice\n",
+           8 * len);
+}
+
 int main(int argc, char **argv) {
     static const char *const few[] = {"--rlimit-nofile", "1600", NULL};
     static const char *const writeback[] = {"--writeback", NULL};
-    if (argc < 4) die("usage: state DAEMON DIR SECONDS|full|lost|cut|flags|writeback");
+    if (argc < 4) die("usage: state DAEMON DIR SECONDS|full|lost|cut|turned|flags|writeback");
     bool is_full = !strcmp(argv[3], "full"), writes_back = !strcmp(argv[3], "writeback");
     time_t now = time(NULL);
     chance_begin((uint64_t)now * 0x9e3779b97f4a7c15u | 1);
@@ -233,6 +265,8 @@ int main(int argc, char **argv) {
         lost();
     else if (!strcmp(argv[3], "cut"))
         cut();
+    else if (!strcmp(argv[3], "turned"))
+        turned();
     else if (writes_back || !strcmp(argv[3], "flags")) {
         begin_session(&front);
         move_flags(&front, writes_back, save, load);

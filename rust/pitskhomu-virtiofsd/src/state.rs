@@ -1,24 +1,32 @@
 //! The device's state for a migration: virtiofsd's own, and after it the library's record (options,
-//! positions):
+//! positions), and a sum:
 //!
 //! ```text
-//! virtiofsd's bytes (postcard) | record | its length (4 bytes, little-endian) | MARK
+//! virtiofsd's bytes (postcard) | record | its length (4 bytes, little-endian)
+//!     | the sum of all bytes before (8 bytes, little-endian) | MARK
 //! ```
 //!
 //! virtiofsd's reader ignores bytes after its own, so a plain virtiofsd can continue from this
 //! state. virtiofsd's first byte, the version of the state, is written as two bytes: postcard
 //! allows numbers that are longer than needed, and virtiofsd never writes one. A state that begins
-//! with two such bytes is this daemon's. It is accepted only if it ends with the mark, so one that
-//! was cut short is refused. A state with neither is a plain virtiofsd's, which has no options: the
-//! options that every session with this command line agrees on are taken as agreed.
+//! with two such bytes, or ends with the mark, is this daemon's. It is accepted only if it has both
+//! and its sum is right, so one that was cut short or damaged is refused. A state with neither is a
+//! plain virtiofsd's, which has no options: the options that every session with this command line
+//! agrees on are taken as agreed. virtiofsd's own part is accepted only if its numbers may be
+//! (`inner`).
+mod inner;
+
 use crate::serve::{Core, ServedFs};
 use pitskhomu as p;
 use std::fs::File;
+use std::hash::Hasher;
 use std::io::{self, Read, Seek, Write};
 use std::os::fd::FromRawFd;
 use virtiofsd::filesystem::SerializableFileSystem;
 
-const MARK: &[u8; 8] = b"pitskhmu";
+/// No state of virtiofsd's ends with these bytes: its last are those of a string of UTF-8, or of
+/// numbers that are less than 128.
+const MARK: &[u8; 8] = b"pitskhm\xff";
 /// The bit of each byte of a postcard number except the last.
 const GOES_ON: u8 = 0x80;
 /// The greatest length of a state in bytes. A longer one could fill the host's memory.
@@ -38,6 +46,14 @@ pub fn scratch() -> io::Result<File> {
 
 fn invalid(why: &str) -> io::Error {
     io::Error::new(io::ErrorKind::InvalidData, why)
+}
+
+/// The sum of these bytes: SipHash-2-4 with a key of zeros, which finds damage, and no forger.
+#[allow(deprecated, reason = "std documents this hasher's function, and not its successor's")]
+fn sum(bytes: &[u8]) -> [u8; 8] {
+    let mut hasher = std::hash::SipHasher::new();
+    hasher.write(bytes);
+    hasher.finish().to_le_bytes()
 }
 
 /// Sends the state of a core whose rings are stopped.
@@ -60,15 +76,14 @@ fn send(
         .split_first()
         .filter(|(version, _)| **version < GOES_ON)
         .ok_or_else(|| invalid("virtiofsd's state has another form than that of 1.13.2"))?;
-    pipe.write_all(&[version | GOES_ON, 0])?;
-    pipe.write_all(rest)?;
     // A record has at least one queue. If no queue was ever used, there are no options either.
-    let mut record = if queues.is_empty() { Vec::new() } else { device.save(queues)? };
+    let record = if queues.is_empty() { Vec::new() } else { device.save(queues)? };
     #[allow(clippy::cast_possible_truncation, reason = "a record has at most 64 queues")]
     let len = record.len() as u32;
-    record.extend(len.to_le_bytes());
-    record.extend(MARK);
-    pipe.write_all(&record)
+    let sent = [&[version | GOES_ON, 0], rest, &record, &len.to_le_bytes()].concat();
+    pipe.write_all(&sent)?;
+    pipe.write_all(&sum(&sent))?;
+    pipe.write_all(MARK)
 }
 
 /// Receives a state from this daemon on another host, or from virtiofsd.
@@ -79,27 +94,37 @@ pub fn load<F: ServedFs>(core: &Core<F>, scratch: &File, pipe: File) -> io::Resu
     core.descriptors.mend_since(&before, core.flags)
 }
 
-/// Splits a state into virtiofsd's own, as virtiofsd wrote it, and the library's record, if it has
-/// one.
-fn split(mut bytes: Vec<u8>) -> io::Result<(Vec<u8>, Option<Vec<u8>>)> {
-    let cut = || invalid("the state is cut short");
-    let version = *bytes.first().ok_or_else(cut)?;
-    let is_ours = version & GOES_ON != 0;
-    if bytes.strip_suffix(MARK).is_none() {
-        return if is_ours { Err(cut()) } else { Ok((bytes, None)) };
+/// The two parts of a state: virtiofsd's own, as virtiofsd wrote it, and the library's record, if
+/// the state has one.
+type Halves = (Vec<u8>, Option<Vec<u8>>);
+
+/// Splits a state.
+fn split(bytes: Vec<u8>) -> io::Result<Halves> {
+    let is_ours = bytes.first().is_some_and(|version| version & GOES_ON != 0);
+    if is_ours || bytes.ends_with(MARK) {
+        return split_ours(&bytes).ok_or_else(|| {
+            invalid("the state is cut short or damaged, or of an earlier version of this daemon")
+        });
     }
-    let (rest, len) = bytes[..bytes.len() - MARK.len()].split_last_chunk::<4>().ok_or_else(cut)?;
-    let at = rest.len().checked_sub(u32::from_le_bytes(*len) as usize).ok_or_else(cut)?;
-    let record = rest[at..].to_vec();
-    bytes.truncate(at);
-    if is_ours {
-        if bytes.get(1) != Some(&0) {
-            return Err(cut());
+    Ok((bytes, None))
+}
+
+/// Splits a state of this daemon's: `None` unless it is whole.
+fn split_ours(bytes: &[u8]) -> Option<Halves> {
+    let (summed, theirs) = bytes.strip_suffix(MARK)?.split_last_chunk::<8>()?;
+    if sum(summed) != *theirs {
+        return None;
+    }
+    let (rest, len) = summed.split_last_chunk::<4>()?;
+    let at = rest.len().checked_sub(u32::from_le_bytes(*len) as usize)?;
+    let (inner, record) = rest.split_at(at);
+    match inner {
+        [version, 0, inner @ ..] if version & GOES_ON != 0 => {
+            let inner = [&[version & !GOES_ON], inner].concat();
+            Some((inner, Some(record.to_vec())))
         }
-        bytes[0] = version & !GOES_ON;
-        bytes.remove(1);
+        _ => None,
     }
-    Ok((bytes, Some(record)))
 }
 
 /// The direction of bytes through the file in memory.
@@ -144,6 +169,7 @@ fn receive(
         return Err(io::Error::other("the state is longer than any"));
     }
     let (state, record) = split(bytes)?;
+    inner::check(&state)?;
     over(scratch, |file| fs.deserialize_and_apply(file), &Scratch::Write(&state))?;
     device.set_options(p::Options::empty());
     match record {
@@ -169,6 +195,8 @@ mod tests {
     use std::sync::Mutex;
 
     const NONE: p::Options = p::Options::empty();
+    /// A state of virtiofsd's without a node, whose next numbers are 2 and 0.
+    const EMPTY: &[u8] = &[1, 0, 2, 0, 0, 0, 0, 0, 0, 0];
 
     struct Fs(Mutex<Vec<u8>>);
     impl SerializableFileSystem for Fs {
@@ -195,7 +223,7 @@ mod tests {
 
     #[test]
     fn goes_and_comes() {
-        let (source, device) = (Fs(Mutex::new(b"\x01virtiofsd's".to_vec())), p::Device::default());
+        let (source, device) = (Fs(Mutex::new(EMPTY.to_vec())), p::Device::default());
         let layout =
             p::QueueLayout { size: 64, descriptors: 0x10000, available: 0x11000, used: 0x12000 };
         let room = scratch().unwrap();
@@ -203,17 +231,26 @@ mod tests {
             let pipe = scratch().unwrap();
             send(&source, &device, &queues, &room, pipe.try_clone().unwrap()).unwrap();
             let sent = bytes(&pipe);
-            assert!(sent.starts_with(b"\x81\0virtiofsd's") && sent.ends_with(MARK));
+            assert!(sent.starts_with(&[&[0x81, 0], &EMPTY[1..]].concat()) && sent.ends_with(MARK));
             let target = Fs(Mutex::default());
             receive(&target, &device, NONE, &room, file(&sent)).unwrap();
-            assert_eq!(*target.0.lock().unwrap(), b"\x01virtiofsd's");
-            for cut in 0..sent.len() {
-                assert!(
-                    receive(&target, &device, NONE, &room, file(&sent[..cut])).is_err(),
-                    "{cut}"
-                );
+            assert_eq!(*target.0.lock().unwrap(), EMPTY);
+            target.0.lock().unwrap().clear();
+            let refused = |bytes: &[u8], what: usize| {
+                let received = receive(&target, &device, NONE, &room, file(bytes));
+                assert!(received.is_err(), "{what}");
+            };
+            for at in 0..sent.len() {
+                refused(&sent[..at], at);
+                for turn in [1, 0x80, 0xff] {
+                    let mut turned = sent.clone();
+                    turned[at] ^= turn;
+                    refused(&turned, at);
+                }
+                refused(&[&sent[..=at], &sent[..]].concat(), at);
+                refused(&[&sent[..], &sent[at..]].concat(), at);
             }
-            assert_eq!(*target.0.lock().unwrap(), b"\x01virtiofsd's"); // none of them was passed on
+            assert_eq!(*target.0.lock().unwrap(), b""); // none of them was passed on
         }
     }
 
@@ -223,10 +260,18 @@ mod tests {
             (Fs(Mutex::default()), scratch().unwrap(), p::Device::default());
         let agreed = p::Options::SETXATTR_EXT | p::Options::SECURITY_CTX;
         for agreed in [NONE, agreed] {
-            receive(&target, &device, agreed, &room, file(b"\x01virtiofsd's")).unwrap();
-            assert_eq!(*target.0.lock().unwrap(), b"\x01virtiofsd's");
+            receive(&target, &device, agreed, &room, file(EMPTY)).unwrap();
+            assert_eq!(*target.0.lock().unwrap(), EMPTY);
             assert_eq!(device.options(), agreed);
         }
+        assert!(receive(&target, &device, NONE, &room, file(&EMPTY.repeat(2))).is_err());
+    }
+
+    /// By `openssl mac -macopt size:8 -macopt hexkey:00000000000000000000000000000000 SIPHASH`.
+    #[test]
+    fn the_sum_is_siphash_2_4() {
+        assert_eq!(sum(b""), [0xd7, 0x00, 0x77, 0x73, 0x9d, 0x4b, 0x92, 0x1e]);
+        assert_eq!(sum(b"pitskhomu"), [0x41, 0xa7, 0x83, 0xc4, 0xb5, 0x5b, 0xda, 0x7d]);
     }
 
     /// virtiofsd's own reader accepts a version of two bytes.
@@ -255,11 +300,12 @@ mod tests {
     fn bad_records_are_refused() {
         let (target, room, device) =
             (Fs(Mutex::default()), scratch().unwrap(), p::Device::default());
+        let ours = [&[0x81, 0], &EMPTY[1..]].concat();
         for (len, record) in [(5u32, &b""[..]), (u32::MAX, b"xx"), (3, b"abc"), (32, &[0; 32])] {
-            let sent = [b"bytes", record, &len.to_le_bytes(), &MARK[..]].concat();
+            let summed = [&ours[..], record, &len.to_le_bytes()].concat();
+            let sent = [&summed[..], &sum(&summed), MARK].concat();
             let loaded = receive(&target, &device, NONE, &room, file(&sent));
-            // 5: the length reaches into virtiofsd's own bytes
-            assert!(loaded.is_err() || len == 5, "{len}");
+            assert!(loaded.is_err(), "{len}");
         }
     }
 }

@@ -1,0 +1,265 @@
+//! virtiofsd's own state, as 1.13.2 writes it (postcard), to refuse numbers that no state has.
+//! virtiofsd's reader takes some of them, and ignores bytes after its own. It refuses a node that
+//! has no way to the root itself.
+use serde::Deserialize;
+use std::collections::{BTreeMap, BTreeSet};
+use std::io;
+
+/// The number of the root's node (`FUSE_ROOT_ID`).
+const ROOT: u64 = 1;
+/// Flags that virtiofsd removes before it keeps the flags of an open file.
+const NEVER_KEPT: i32 = libc::O_CREAT | libc::O_EXCL | libc::O_TRUNC;
+
+/// The state (`serialized::PassthroughFs` of virtiofsd).
+#[derive(Debug, Deserialize)]
+#[cfg_attr(test, derive(serde::Serialize))]
+enum State {
+    V1(Parts),
+    /// With the paths of mounts.
+    V2(Parts, #[allow(dead_code, reason = "the paths are only read over")] BTreeMap<u64, String>),
+}
+
+#[derive(Debug, Deserialize)]
+#[cfg_attr(test, derive(serde::Serialize))]
+struct Parts {
+    nodes: Vec<Node>,
+    next_node: u64,
+    handles: Vec<Handle>,
+    next_handle: u64,
+    /// What INIT agreed on.
+    _agreed: [bool; 4],
+}
+
+#[derive(Debug, Deserialize)]
+#[cfg_attr(test, derive(serde::Serialize))]
+struct Node {
+    number: u64,
+    /// The look-ups of the guest, and one for each node whose place names this one.
+    count: u64,
+    place: Place,
+    _file_handle: Option<FileHandle>,
+}
+
+#[derive(Debug, Deserialize)]
+#[cfg_attr(test, derive(serde::Serialize))]
+enum Place {
+    Root,
+    Name { parent: u64, name: String },
+    Lost,
+    Path { path: String },
+    FileHandle { _handle: FileHandle },
+}
+
+/// A mount, a type, and bytes.
+type FileHandle = (u64, i32, Vec<u8>);
+
+#[derive(Debug, Deserialize)]
+#[cfg_attr(test, derive(serde::Serialize))]
+struct Handle {
+    number: u64,
+    node: u64,
+    source: Source,
+}
+
+#[derive(Debug, Deserialize)]
+#[cfg_attr(test, derive(serde::Serialize))]
+enum Source {
+    Open { flags: i32 },
+}
+
+fn is_name(name: &str) -> bool {
+    !matches!(name, "" | "." | "..") && !name.contains(['/', '\0'])
+}
+
+fn is_path(path: &str) -> bool {
+    path.split('/').all(is_name)
+}
+
+/// The nodes' numbers, if each number and each place may be.
+fn check_nodes(nodes: &[Node], next: u64) -> Result<BTreeSet<u64>, String> {
+    let (mut numbers, mut children) = (BTreeSet::new(), BTreeMap::<u64, u64>::new());
+    for Node { number, count, place, .. } in nodes {
+        if *number == 0 || *number >= next || !numbers.insert(*number) {
+            return Err(format!("a node {number} that can't be, or is there twice"));
+        }
+        if *count == 0 {
+            return Err(format!("a node {number} that nobody looked up"));
+        }
+        let is_right = match place {
+            Place::Root => *number == ROOT,
+            Place::Name { parent, name } => {
+                *children.entry(*parent).or_default() += 1;
+                *number != ROOT && parent != number && is_name(name)
+            }
+            Place::Path { path } => *number != ROOT && is_path(path),
+            Place::Lost | Place::FileHandle { .. } => *number != ROOT,
+        };
+        if !is_right {
+            return Err(format!("a node {number} at a place that can't be: {place:?}"));
+        }
+    }
+    if !nodes.is_empty() && !numbers.contains(&ROOT) {
+        return Err("no root".into());
+    }
+    let counts: BTreeMap<u64, u64> = nodes.iter().map(|node| (node.number, node.count)).collect();
+    match children.into_iter().find(|(parent, names)| counts.get(parent).is_none_or(|n| n < names))
+    {
+        Some((parent, names)) => Err(format!("{names} nodes below a node {parent} that can't be")),
+        None => Ok(numbers),
+    }
+}
+
+fn check_parts(parts: &Parts) -> Result<(), String> {
+    let nodes = check_nodes(&parts.nodes, parts.next_node)?;
+    let mut numbers = BTreeSet::new();
+    for Handle { number, node, source: Source::Open { flags } } in &parts.handles {
+        if *number >= parts.next_handle || !numbers.insert(*number) {
+            return Err(format!("a handle {number} that can't be, or is there twice"));
+        }
+        if !nodes.contains(node) {
+            return Err(format!("a handle {number} of a node {node} that isn't there"));
+        }
+        if flags & NEVER_KEPT != 0 {
+            return Err(format!("a handle {number} with flags that none has: {flags:#o}"));
+        }
+    }
+    Ok(())
+}
+
+/// Refuses a state with a number that can't be, and one with more bytes.
+pub fn check(state: &[u8]) -> io::Result<()> {
+    let refuse = |why: String| {
+        io::Error::new(io::ErrorKind::InvalidData, format!("the state is damaged: it has {why}"))
+    };
+    let (read, rest) = postcard::take_from_bytes::<State>(state)
+        .map_err(|e| refuse(format!("another form than virtiofsd's ({e})")))?;
+    if !rest.is_empty() {
+        return Err(refuse(format!("{} bytes after its end", rest.len())));
+    }
+    let (State::V1(parts) | State::V2(parts, _)) = &read;
+    check_parts(parts).map_err(refuse)
+}
+
+#[cfg(test)]
+mod tests {
+    use super::*;
+
+    fn node(number: u64, count: u64, place: Place) -> Node {
+        Node { number, count, place, _file_handle: None }
+    }
+
+    fn below(parent: u64, name: &str) -> Place {
+        Place::Name { parent, name: name.into() }
+    }
+
+    fn handle(number: u64, node: u64, flags: i32) -> Handle {
+        Handle { number, node, source: Source::Open { flags } }
+    }
+
+    /// The root, a directory in it, a file in that, and the file open.
+    fn parts() -> Parts {
+        let nodes = vec![
+            node(5, 1, below(3, "file")),
+            node(3, 2, below(1, "dir")),
+            node(1, 4, Place::Root),
+        ];
+        let handles = vec![handle(7, 5, libc::O_RDWR)];
+        Parts { nodes, next_node: 6, handles, next_handle: 8, _agreed: [false; 4] }
+    }
+
+    fn checked(parts: Parts) -> io::Result<()> {
+        check(&postcard::to_stdvec(&State::V2(parts, BTreeMap::new())).expect("bytes"))
+    }
+
+    #[test]
+    fn a_state_that_can_be_is_taken() {
+        checked(parts()).expect("a state");
+        check(&postcard::to_stdvec(&State::V1(parts())).expect("bytes")).expect("a state");
+        let none = Parts { nodes: Vec::new(), handles: Vec::new(), next_handle: 0, ..parts() };
+        checked(none).expect("a state before INIT");
+        let places = [
+            Place::Lost,
+            Place::Path { path: "dir/file".into() },
+            Place::FileHandle { _handle: (1, 2, vec![3]) },
+        ];
+        for place in places {
+            let mut parts = parts();
+            parts.nodes[0].place = place;
+            checked(parts).expect("a state");
+        }
+    }
+
+    #[test]
+    fn each_number_that_can_not_be_is_refused() {
+        type Change = fn(&mut Parts);
+        let changes: [(&str, Change); 18] = [
+            ("a handle of no node", |parts| parts.handles[0].node = 4),
+            ("a handle that is to come", |parts| parts.next_handle = 7),
+            ("a handle twice", |parts| parts.handles.push(handle(7, 3, 0))),
+            ("O_TRUNC", |parts| parts.handles[0].source = Source::Open { flags: 0o1002 }),
+            ("O_CREAT", |parts| parts.handles[0].source = Source::Open { flags: 0o102 }),
+            ("a node that is to come", |parts| parts.next_node = 5),
+            ("a node twice", |parts| parts.nodes.push(node(3, 1, below(1, "other")))),
+            ("a node 0", |parts| parts.nodes[0].number = 0),
+            ("a node that nobody looked up", |parts| parts.nodes[0].count = 0),
+            ("more names than the parent's count", |parts| parts.nodes[1].count = 0),
+            ("two names, a count of one", |parts| {
+                parts.nodes[1].count = 1;
+                parts.nodes.push(node(4, 1, below(3, "another")));
+            }),
+            ("no parent", |parts| parts.nodes[0].place = below(4, "file")),
+            ("its own parent", |parts| parts.nodes[0].place = below(5, "file")),
+            ("a name that leads out", |parts| parts.nodes[0].place = below(3, "..")),
+            ("a name with a slash", |parts| parts.nodes[0].place = below(3, "a/b")),
+            ("a path that leads out", |parts| {
+                parts.nodes[0].place = Place::Path { path: "dir/../..".into() };
+            }),
+            ("another root", |parts| parts.nodes[0].place = Place::Root),
+            ("no root", |parts| parts.nodes[2].place = Place::Lost),
+        ];
+        for (what, change) in changes {
+            let mut parts = parts();
+            change(&mut parts);
+            assert!(checked(parts).is_err(), "{what}");
+        }
+    }
+
+    #[test]
+    fn bytes_that_are_no_state_are_refused() {
+        let state = postcard::to_stdvec(&State::V1(parts())).expect("bytes");
+        for len in 0..state.len() {
+            assert!(check(&state[..len]).is_err(), "{len}");
+        }
+        assert!(check(&[&state[..], &[0]].concat()).is_err());
+        assert!(check(&state.repeat(2)).is_err());
+        assert!(check(&[&[2], &state[1..]].concat()).is_err()); // another version
+    }
+
+    /// These are virtiofsd's types, whose bytes virtiofsd itself writes.
+    #[test]
+    fn virtiofsds_own_is_taken() {
+        use std::io::{Read, Seek};
+        use virtiofsd::filesystem::{Context, FileSystem, SerializableFileSystem};
+        use virtiofsd::passthrough::{Config, PassthroughFs};
+        let root_dir = std::env::temp_dir().join(format!("pitskhomu-inner-{}", std::process::id()));
+        std::fs::create_dir_all(root_dir.join("dir")).expect("a directory");
+        std::fs::write(root_dir.join("dir/file"), "bytes").expect("a file");
+        let root = root_dir.to_str().expect("a path").into();
+        let fs = PassthroughFs::new(Config { root_dir: root, ..Config::default() }).expect("files");
+        fs.init(virtiofsd::fuse::FsOptions::empty()).expect("a session");
+        let x = || Context { uid: 0.into(), gid: 0.into(), pid: 1 };
+        let dir = fs.lookup(x(), 1, c"dir").expect("the directory").inode;
+        let file = fs.lookup(x(), dir, c"file").expect("the file").inode;
+        fs.open(x(), file, false, libc::O_RDWR as u32).expect("an open file");
+        fs.prepare_serialization(std::sync::Arc::default());
+        let mut bytes = Vec::new();
+        let mut written = crate::state::scratch().expect("a file in memory");
+        fs.serialize(written.try_clone().expect("a descriptor")).expect("a state");
+        written.rewind().and_then(|()| written.read_to_end(&mut bytes)).expect("bytes");
+        check(&bytes).expect("virtiofsd's state");
+        let (State::V1(parts) | State::V2(parts, _)) = postcard::from_bytes(&bytes).expect("read");
+        assert_eq!((parts.nodes.len(), parts.handles.len()), (3, 1));
+        assert_eq!((parts.next_node, parts.next_handle), (file + 1, 1));
+        std::fs::remove_dir_all(&root_dir).expect("removed");
+    }
+}
