@@ -105,7 +105,9 @@
  * and stores follow from the bytes passed, by VIRTIO 1.2 and the FUSE grammar. This holds for one
  * chain (law_chains), and for many in flight (law_runs, law_handles: in Rattle). See PROVED.md.
  * TESTED, not proved: that pk_chain_free frees all; calls on a chain that moves between threads;
- * the inline functions. Also which error is returned if PK_OUT_OF_MEMORY and a later one apply.
+ * the inline functions; the numbers that pk_chain_set_memory, pk_queue_begin and pk_restore give,
+ * which are C (tools/pk_numbers.c). Also which error is returned if PK_OUT_OF_MEMORY and a later
+ * one apply.
  */
 #ifndef PITSKHOMU_CHAIN_H
 #define PITSKHOMU_CHAIN_H
@@ -131,7 +133,7 @@ extern "C" {
 #endif
 
 /* ---------------------------------------------------------------- numbers */
-#define PK_VERSION 10u           /* of this header; pk_version() is the archive's */
+#define PK_VERSION 11u           /* of this header; pk_version() is the archive's */
 #define PK_REGIONS_MAX 64u       /* regions of the guest's memory */
 #define PK_QUEUES_MAX 64u        /* queues in a saved record */
 #define PK_LOAD_MAX 4096u        /* bytes of the longest load of a pop */
@@ -287,14 +289,13 @@ struct pk_queue {
     uint8_t pushing;        /* 1 from pk_push to pk_pushed, else 0 */
     uint8_t event_index;    /* yours: 1 if VIRTIO_F_EVENT_IDX was agreed on, else 0. With 1 each pop
                                tests first that used_event (7) and avail_event (6) are mapped */
-    uint32_t reset_count;   /* resets, modulo 2^32. A chain knows its queue by this number and the
-                               addresses. A guest may give two queues the same addresses, so start
-                               each queue at another number, such as its index times 2^24 */
+    uint32_t reset_count;   /* the number of its last reset: of 2^32 resets in the process no two
+                               have the same. By it and the addresses a chain knows its queue */
     uint32_t pop_count;     /* pops and drops, modulo 2^32 */
 };
 
 /* Resets a queue: then no chain of it is in flight, and it isn't stopped. `next_avail` is the
- * number of SET_VRING_BASE, or 0. Calls with its earlier chains are refused (up to 2^32 resets).
+ * number of SET_VRING_BASE, or 0. Calls with its earlier chains are refused.
  * Enable notifications next: an earlier device may have left them disabled.
  * Errors: PK_BAD_ARGUMENT (your fields are invalid). */
 uint32_t pk_queue_begin(struct pk_queue *queue, uint16_t next_avail) PK_CHECK;
@@ -322,7 +323,7 @@ uint32_t pk_chain_state(const struct pk_chain *chain) PK_CHECK; /* enum pk_state
 
 /* Copies the regions and the device's limit for the chain's next pops. The regions, up to
  * PK_REGIONS_MAX in any order, aren't empty, don't overlap and end at 2^64 at most. Call it first,
- * and for each chain after each change of the guest's memory.
+ * and for each chain after each change of the guest's memory. A new handle gets its tickets.
  * Errors: PK_BAD_ARGUMENT, PK_OUT_OF_MEMORY, PK_CHAIN_IN_FLIGHT (also while a pop is under way). */
 uint32_t pk_chain_set_memory(struct pk_chain *chain, const struct pk_device *device,
                              const struct pk_region *regions, size_t region_count)
@@ -332,8 +333,10 @@ uint32_t pk_chain_set_memory(struct pk_chain *chain, const struct pk_device *dev
  * flight until a reset. If freed between pk_push and pk_pushed, pushes fail until that reset. */
 void pk_chain_free(struct pk_chain *chain) PK_NONNULL;
 
-/* Sets the ticket of the chain's next pop. Each pop takes the next number, modulo 2^32; the first
- * takes 1 without this call. Set handle k of n to k * (2^32 / n): it then refuses others' answers.
+/* Sets the ticket of the chain's next pop. Each pop takes the next number, modulo 2^32. You needn't
+ * call it: a new handle begins at a number of its own. Of the first n handles of a process, up to
+ * 10,000, no two have a ticket in common in the first 2^32 / (3 * n) chains of each. So a handle
+ * refuses answers to others' chains, and to those of a handle that was freed.
  * Errors: PK_WRONG_ORDER (no memory was set); PK_CHAIN_IN_FLIGHT (or a pop is under way). */
 uint32_t pk_chain_set_ticket(struct pk_chain *chain, uint32_t first) PK_CHECK;
 
@@ -644,10 +647,12 @@ uint32_t pk_save(const struct pk_device *device, const struct pk_queue *queues, 
     PK_CHECK PK_READS(2, 3) PK_WRITES(4, 5) PK_FILLS(6);
 
 /* Reads a record at the front of `saved` into device->options and the first `*count` queues, and
- * resets these. Set before: page size and limit, which must be the record's; event_index and
- * max_in_flight, which it doesn't have. After an error device and queues are unchanged.
+ * resets these. Before the call set page size and limit, which must be the record's, and of each
+ * queue event_index and max_in_flight, which the record doesn't have. After an error device and
+ * queues are unchanged.
  * Errors: PK_BAD_ARGUMENT (the device's fields); 81 to 90, in the order of the record's parts;
- * PK_SHORT_BUFFER (too few queues: `*count` is how many the record has). */
+ * PK_SHORT_BUFFER (too few queues: `*count` is how many the record has); PK_BAD_ARGUMENT (a
+ * queue's event_index is above 1, or its max_in_flight above the record's size of it). */
 uint32_t pk_restore(struct pk_device *device, struct pk_queue *queues, size_t queue_count,
                     const uint8_t *saved, size_t saved_len, size_t *count)
     PK_CHECK PK_WRITES(2, 3) PK_READS(4, 5) PK_FILLS(6);

@@ -1,4 +1,4 @@
-/* pitskhomu_names.h: inline functions of pitskhomu.h, which includes it. */
+/* pitskhomu_names.h: inline functions of pitskhomu.h, which includes it; its structs' layout. */
 #ifndef PITSKHOMU_NAMES_H
 #define PITSKHOMU_NAMES_H
 /* Fills in pair `k` of BATCH_FORGET, below call->count: `*node`, whose look-up count falls by
@@ -83,4 +83,70 @@ static inline const char *pk_call_name(uint32_t kind) {
     }
 #undef PK_NAME
 }
+
+/* ---------------------------------------------------------------- layout */
+/* Where each field lies, and each struct's size, in bytes. The library's source and the crate for
+ * Rust have the same numbers (tools/layouts.py). */
+#ifdef __cplusplus
+#define PK_ASSERT static_assert
+#else
+#define PK_ASSERT _Static_assert
+#endif
+#define PK_AT(kind, field, at) PK_ASSERT(offsetof(struct kind, field) == at, #kind)
+#define PK_SIZE(kind, size) PK_ASSERT(sizeof(struct kind) == size, #kind)
+PK_AT(pk_device, page_size, 0); PK_AT(pk_device, limit, 4); PK_AT(pk_device, options, 8);
+PK_SIZE(pk_device, 16);
+PK_AT(pk_queue, desc, 0); PK_AT(pk_queue, avail, 8); PK_AT(pk_queue, used, 16);
+PK_AT(pk_queue, size, 24); PK_AT(pk_queue, next_avail, 26); PK_AT(pk_queue, next_used, 28);
+PK_AT(pk_queue, max_in_flight, 30); PK_AT(pk_queue, stopped, 32); PK_AT(pk_queue, pushing, 34);
+PK_AT(pk_queue, event_index, 35); PK_AT(pk_queue, reset_count, 36); PK_AT(pk_queue, pop_count, 40);
+PK_SIZE(pk_queue, 48);
+PK_AT(pk_region, guest, 0); PK_AT(pk_region, len, 8); PK_AT(pk_region, host, 16);
+PK_SIZE(pk_region, 24);
+PK_AT(pk_chain, at, 0); PK_AT(pk_chain, state, 8); PK_SIZE(pk_chain, 16);
+PK_AT(pk_pop, load_at, 0); PK_AT(pk_pop, load_len, 8); PK_AT(pk_pop, request_len, 16);
+PK_AT(pk_pop, reply_len, 24); PK_AT(pk_pop, fault, 32); PK_AT(pk_pop, head, 36);
+PK_AT(pk_pop, ticket, 40); PK_AT(pk_pop, miss_at, 48); PK_AT(pk_pop, miss_len, 56);
+PK_AT(pk_pop, miss_access, 64); PK_SIZE(pk_pop, 72);
+PK_AT(pk_window, at, 0); PK_AT(pk_window, len, 8); PK_SIZE(pk_window, 16);
+PK_AT(pk_range, guest, 0); PK_AT(pk_range, len, 8); PK_SIZE(pk_range, 16);
+PK_AT(pk_iotlb, at, 0); PK_AT(pk_iotlb, full, 8); PK_SIZE(pk_iotlb, 16);
+PK_AT(pk_miss, at, 0); PK_AT(pk_miss, len, 8); PK_AT(pk_miss, access, 16); PK_SIZE(pk_miss, 24);
+PK_AT(pk_span, at, 0); PK_AT(pk_span, len, 4); PK_SIZE(pk_span, 8);
+PK_AT(pk_attr, ino, 0); PK_AT(pk_attr, size, 8); PK_AT(pk_attr, blocks, 16);
+PK_AT(pk_attr, atime, 24); PK_AT(pk_attr, mtime, 32); PK_AT(pk_attr, ctime, 40);
+PK_AT(pk_attr, atime_nanos, 48); PK_AT(pk_attr, mtime_nanos, 52); PK_AT(pk_attr, ctime_nanos, 56);
+PK_AT(pk_attr, mode, 60); PK_AT(pk_attr, nlink, 64); PK_AT(pk_attr, uid, 68);
+PK_AT(pk_attr, gid, 72); PK_AT(pk_attr, rdev, 76); PK_AT(pk_attr, block_size, 80);
+PK_AT(pk_attr, flags, 84); PK_SIZE(pk_attr, 88);
+PK_AT(pk_call, kind, 0); PK_AT(pk_call, answer, 4); PK_AT(pk_call, opcode, 8);
+PK_AT(pk_call, error, 12); PK_AT(pk_call, fault, 16); PK_AT(pk_call, unique, 24);
+PK_AT(pk_call, uid, 32); PK_AT(pk_call, gid, 36); PK_AT(pk_call, pid, 40);
+PK_AT(pk_call, needed, 44); PK_AT(pk_call, node, 48); PK_AT(pk_call, handle, 56);
+PK_AT(pk_call, offset, 64); PK_AT(pk_call, size, 72); PK_AT(pk_call, owner, 80);
+PK_AT(pk_call, options, 88); PK_AT(pk_call, count, 96); PK_AT(pk_call, node2, 104);
+PK_AT(pk_call, handle2, 112); PK_AT(pk_call, offset2, 120); PK_AT(pk_call, name, 128);
+PK_AT(pk_call, name2, 136); PK_AT(pk_call, value, 144); PK_AT(pk_call, data_at, 152);
+PK_AT(pk_call, data_len, 160); PK_AT(pk_call, flags, 168); PK_AT(pk_call, mode, 172);
+PK_AT(pk_call, umask, 176); PK_AT(pk_call, rdev, 180); PK_AT(pk_call, valid, 184);
+PK_AT(pk_call, has_handle, 188); PK_AT(pk_call, has_owner, 189); PK_AT(pk_call, delayed, 190);
+PK_AT(pk_call, kill_priv, 191); PK_AT(pk_call, flush, 192); PK_AT(pk_call, unlock, 193);
+PK_AT(pk_call, data_only, 194); PK_AT(pk_call, has_group, 195); PK_AT(pk_call, attr, 200);
+PK_AT(pk_call, group, 288); PK_AT(pk_call, ticket, 292); PK_AT(pk_call, label_name, 296);
+PK_AT(pk_call, label, 304); PK_AT(pk_call, setxattr_flags, 312); PK_AT(pk_call, has_label, 316);
+PK_SIZE(pk_call, 320);
+PK_AT(pk_entry, node, 0); PK_AT(pk_entry, generation, 8); PK_AT(pk_entry, entry_secs, 16);
+PK_AT(pk_entry, attr_secs, 24); PK_AT(pk_entry, entry_nanos, 32); PK_AT(pk_entry, attr_nanos, 36);
+PK_AT(pk_entry, attr, 40); PK_SIZE(pk_entry, 128);
+PK_AT(pk_statfs, blocks, 0); PK_AT(pk_statfs, bfree, 8); PK_AT(pk_statfs, bavail, 16);
+PK_AT(pk_statfs, files, 24); PK_AT(pk_statfs, ffree, 32); PK_AT(pk_statfs, bsize, 40);
+PK_AT(pk_statfs, namelen, 44); PK_AT(pk_statfs, frsize, 48); PK_SIZE(pk_statfs, 56);
+PK_AT(pk_stores, front_len, 0); PK_AT(pk_stores, id_at, 8); PK_AT(pk_stores, len_at, 16);
+PK_AT(pk_stores, id, 24); PK_AT(pk_stores, len, 28); PK_AT(pk_stores, index_at, 32);
+PK_AT(pk_stores, index, 40); PK_AT(pk_stores, seen_at, 48); PK_AT(pk_stores, element_guest, 56);
+PK_AT(pk_stores, index_guest, 64); PK_SIZE(pk_stores, 72);
+PK_AT(pk_store, at, 0); PK_AT(pk_store, value, 8); PK_AT(pk_store, len, 10); PK_SIZE(pk_store, 16);
+#undef PK_AT
+#undef PK_SIZE
+#undef PK_ASSERT
 #endif

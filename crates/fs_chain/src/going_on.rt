@@ -1,7 +1,7 @@
 //! A pop continues with the bytes of its load; and the windows of these bytes.
 
-ghost use Rattle.std.specs.Prelude.{◌≡◌, ◌⊎◌, ◌<◌, ◌+◌, ◌-◌, Some, None, IfErr, IfOk, OnOk, OnErr, IfSome};
-ghost use Rattle.std.specs.Prelude.{OnSome, length, min};
+ghost use Rattle.std.specs.Prelude.{◌≡◌, ◌⊎◌, ◌<◌, ◌≤◌, ◌+◌, ◌-◌, Some, None, IfErr, IfOk, OnOk, OnErr};
+ghost use Rattle.std.specs.Prelude.{IfSome, OnSome, length, min};
 ghost use Rattle.smallvec.specs.SmallVec.{HasRoomFor};
 ghost use Rattle.vm_iotlb.specs.declared.permissions.Permissions.TheVariants.{Read};
 ghost use Rattle.vm_memory.specs.Memory.{location};
@@ -35,6 +35,7 @@ fn window_of(regions: &GuestMap, walk: &QueueWalk, from: usize) -> Option<Volati
     ensures none { result ≡ None
         → from < asked_len walk.now
         → location (places_in regions.now) Read (asked_by walk.now + from) ≡ None }
+    ensures few { IfSome result (λ w. w.len ≤ 4096) }
 {
     let len = walk.len();
     if len <= from {
@@ -222,8 +223,8 @@ impl ChainHandle {
         }
     }
 
-    /// The longest window of the bytes for which a pop asks, from byte `from` of them on. None past their
-    /// end, or if the pop asks for nothing.
+    /// The longest window of the bytes for which a pop asks, from byte `from` of them on: 4096 bytes at
+    /// most. None past their end, or if the pop asks for nothing.
     #[inline(always)]
     pub fn load_window(&self, from: usize) -> Option<VolatileSlice>
         ensures some { IfSome result (λ w. IfWalking self.now.state (λ walk. (from < asked_len walk)
@@ -235,6 +236,7 @@ impl ChainHandle {
             → IfWalking self.now.state (λ walk. from < asked_len walk
             → location (places_in self.now.regions) Read (asked_by walk + from) ≡ None) }
         ensures walking { OnSome result (IsWalking self.now.state) }
+        ensures few { IfSome result (λ w. w.len ≤ 4096) }
     {
         match &self.state {
             ChainState::Walking(_, _, walk) => window_of(&self.regions, walk, from),

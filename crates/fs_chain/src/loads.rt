@@ -1,6 +1,6 @@
 //! A pop whose loads the caller makes: in parts, if one crosses the end of a region or of a mapping.
 
-ghost use Rattle.std.specs.Prelude.{◌≡◌, ◌⊎◌, ◌<◌, ◌+◌, ◌++◌, [], Some, None, true, false, length, take};
+ghost use Rattle.std.specs.Prelude.{◌≡◌, ◌⊎◌, ◌<◌, ◌≤◌, ◌+◌, ◌++◌, [], Some, None, true, false, length, take};
 ghost use Rattle.std.specs.Prelude.{IfOk, IfErr, IfSome, OnOk, OnErr, vec_capacity};
 ghost use Rattle.memory_requests.specs.Refused.{RoomWasRefused};
 ghost use Rattle.fs_chain.specs.Loads.{AreDue, AreOthers, AreWanted, AreWhole, GoesSo, HasNoPlace};
@@ -27,11 +27,12 @@ pub enum LoadOutcome {
 
 impl ChainHandle {
     /// The window of the bytes that a pop still needs: the rest of its load, up to the end of their
-    /// region. None if it needs none, or if they aren't mapped.
+    /// region, and 4096 bytes at most. None if it needs none, or if they aren't mapped.
     #[inline(always)]
     pub fn still_wanted(&self) -> Option<VolatileSlice>
         ensures some { IfSome result (IsLoadWindow self.now (came self.now)) }
         ensures none { result ≡ None → HasNoPlace self.now (came self.now) }
+        ensures few { IfSome result (λ window. window.len ≤ 4096) }
     {
         self.load_window(self.part.len())
     }

@@ -23,7 +23,8 @@ use Rattle.fs_chain_c.specs.declared.queue.FsQueue.{FsQueue}
 use Rattle.fs_chain_c.specs.Moving.{AreQueueStates, HasItsWidths, HasNoneInFlight, HasValidMaximum, MovesByRecord, RestoresARecord}
 use Rattle.fs_chain_c.specs.Moving.{SavesARecord, recorded}
 use Rattle.fs_chain_c.specs.Queues.{IsQueue, IsQueueState, stop_of}
-use Rattle.fs_chain_c.specs.Records.{HasNoneOut, Restored, HasRecord, NoDevice, TooFewQueues, NoRecord, ReadsSo, RestoreOutcome, SavesSo}
+use Rattle.fs_chain_c.specs.Records.{HasNoneOut, Restored, HasRecord, NoDevice, TooFewQueues, UnfitQueues, NoRecord, ReadsSo}
+use Rattle.fs_chain_c.specs.Records.{RestoreOutcome, SavesSo}
 use Rattle.fs_chain_c.specs.Records.{bytes_of, numbers_over, queue_of, read_status, restored_over, saved_status}
 
 same_some : {A : Type 0} (x y : A) → Some x ≡ Some y → x ≡ y
@@ -158,6 +159,7 @@ read_so : (d : FsDevice) (queues : List FsQueue) (saved : List ℕ) (how : Resto
     (queues' : List FsQueue) → 0 ≡ read_status how → ReadsSo d queues saved how count d' queues' → ReadSo d queues saved count d' queues'
 read_so d queues saved (Restored options qs) count d' queues' is so = (options, qs, so)
 read_so d queues saved (TooFewQueues options qs) count d' queues' is so = absurd (no_error error.ShortBuffer is)
+read_so d queues saved (UnfitQueues options qs) count d' queues' is so = absurd (no_error error.BadArgument is)
 read_so d queues saved (NoRecord e) count d' queues' is so = absurd (no_record (restore_error_number e) is)
 read_so d queues saved NoDevice count d' queues' is so = absurd (no_error error.BadArgument is)
 

@@ -1,11 +1,13 @@
--- One queue of a record more over some.
+-- One queue of a record more over some; and queues that fit a record.
 use Rattle.std.proofs.Common.{◌≡◌, ◌∙◌, ℕ, zero, suc, ◌+◌, List, [], ◌∷◌, get_or, take, slice_get, slice_set, Option, Some, None, refl, ap}
-use Rattle.std.proofs.Common.{sym, subst, arith}
+use Rattle.std.proofs.Common.{sym, subst, arith, ◌⊎◌, inl, inr, ◌≤◌}
 use Rattle.std.specs.Prelude.{◌<◌, length, unwrap_or}
-use Rattle.std.proofs.lemmas.Option.{slice_get-get_or, slice_get_read}
+use Rattle.std.proofs.lemmas.Bool.{cases_lt}
+use Rattle.std.proofs.lemmas.Option.{slice_get-get_or, slice_get_past, slice_get_read}
 use Rattle.fs_queue.specs.Queue.{Queue}
 use Rattle.fs_chain_c.specs.declared.queue.FsQueue.{FsQueue}
-use Rattle.fs_chain_c.specs.Records.{numbers_over, restored_over}
+use Rattle.fs_chain_c.specs.Queues.{IsQueue}
+use Rattle.fs_chain_c.specs.Records.{FitRecord, numbers_over, restored_over}
 
 abbrev IsThere : {A : Type 0} → Option A → Type 0
 IsThere (Some x) = Unit {0}
@@ -38,3 +40,42 @@ over_next olds now qs k old fresh q is_now low there is_q is_fresh =
     ap (λ (x : FsQueue). slice_set now k x) is_fresh ∙ ap (λ (l : List FsQueue). slice_set l k (numbers_over (get_or now k old) q)) is_now
     ∙ over_suc olds qs k (get_or now k old) q was (slice_get_read qs (length qs) k q refl there is_q)
     ∙ ap (λ (n : ℕ). restored_over olds (take n qs)) next
+
+-- ---- queues that fit a record
+
+-- the first so many queues fit a record
+abbrev pub FitBefore : (olds : List FsQueue) → List Queue → (count : ℕ) → Type 0
+FitBefore olds qs n =
+    (k : ℕ) (old : FsQueue) (q : Queue) → k < n → slice_get olds k ≡ Some old → slice_get qs k ≡ Some q → IsQueue (numbers_over old q)
+
+pub none_fits : (olds : List FsQueue) (qs : List Queue) → FitBefore olds qs 0
+none_fits olds qs k old q less was is = absurd (omega (arith, less))
+
+pub next_fits : (olds : List FsQueue) (qs : List Queue) (k : ℕ) (old fresh : FsQueue) (q : Queue)
+    → k < length olds → k < length qs → q ≡ get_or qs k q → fresh ≡ numbers_over (get_or olds k old) q → IsQueue fresh
+    → FitBefore olds qs k → FitBefore olds qs (k + 1)
+next_fits olds qs k old fresh q low there is_q is_fresh fits before j older queue less was is = elim (cases_lt j k) [
+  | inl earlier ↦ before j older queue earlier was is
+  | inr last ↦
+      let same : j ≡ k = omega (arith, less, last) in
+      let was' : slice_get olds k ≡ Some older = subst (λ (n : ℕ). slice_get olds n ≡ Some older) same was in
+      let is' : slice_get qs k ≡ Some queue = subst (λ (n : ℕ). slice_get qs n ≡ Some queue) same is in
+      let old_is : get_or olds k old ≡ older = is_old (get_or olds k old) older (sym (slice_get-get_or olds k old low) ∙ was') in
+      let queue_is : q ≡ queue = is_queue q queue (sym (slice_get_read qs (length qs) k q refl there is_q) ∙ is') in
+      subst IsQueue
+      (is_fresh ∙ ap (λ (x : FsQueue). numbers_over x q) old_is ∙ ap (λ (x : Queue). numbers_over older x) queue_is) fits
+]
+
+pub all_fit : (olds : List FsQueue) (qs : List Queue) (n : ℕ) → length qs ≤ n → FitBefore olds qs n → FitRecord olds qs
+all_fit olds qs n few fit k old q was is = elim (cases_lt k (length qs)) [
+  | inl low ↦ fit k old q (omega (arith, low, few)) was is
+  | inr past ↦ absurd (subst IsThere (sym is ∙ slice_get_past qs k past) tt)
+]
+
+pub one_unfit : (olds : List FsQueue) (qs : List Queue) (k : ℕ) (old fresh : FsQueue) (q : Queue)
+    → k < length olds → k < length qs → q ≡ get_or qs k q → fresh ≡ numbers_over (get_or olds k old) q → (IsQueue fresh → ⊥)
+    → FitRecord olds qs → ⊥
+one_unfit olds qs k old fresh q low there is_q is_fresh unfit fit =
+    unfit
+    (subst IsQueue (sym is_fresh)
+    (fit k (get_or olds k old) q (slice_get-get_or olds k old low) (slice_get_read qs (length qs) k q refl there is_q)))

@@ -1,4 +1,4 @@
--- What `law_moves` says of real calls of `pk_save` and `pk_restore`.
+-- What `law_moves` says of real calls of `pk_save` and `pk_restore_unnumbered`.
 use Rattle.std.specs.Prelude.{◌≡◌, ◌++◌, ℕ, List, drop, length, map, take}
 use Rattle.std.specs.List.{AllByRecursion}
 use Rattle.fs_record.specs.Record.{IsRecord, Version}

@@ -48,8 +48,8 @@ SavesARecord =
     × IsRecord bytes v d.options (map recorded ks)
     × AllByRecursion HasNoneInFlight ks
 
--- `pk_restore` reads a record: the device has its options, and the core's queues are reset from it, each to
--- its position, stopped or not
+-- `pk_restore_unnumbered` reads a record: the device has its options, and the core's queues are reset from
+-- it, each to its position, stopped or not
 abbrev pub RestoresARecord : Type 0
 RestoresARecord =
     (d d' : FsDevice) (queues queues' : List FsQueue) (ks : List QueueState) (saved : List ℕ) (count : ℕ)

@@ -1,6 +1,6 @@
 -- The record of a device and its queues, as C has them.
 use Rattle.std.specs.Prelude.{◌≡◌, ◌⊎◌, ◌==◌, ◌≤◌, ◌<◌, ◌+◌, ◌%◌, ◌^◌, ◌++◌, [], ◌∷◌, ℕ, false, not, List}
-use Rattle.std.specs.Prelude.{All, map, length, drop, Option, Some, None, if◌then◌else◌}
+use Rattle.std.specs.Prelude.{All, map, length, drop, slice_get, Option, Some, None, if◌then◌else◌}
 use Rattle.memory_requests.specs.Refused.{RoomWasRefused}
 use Rattle.fs_queue.specs.Queue.{Queue, resumed}
 use Rattle.fs_record.specs.Numbers.{restore_error_number}
@@ -112,6 +112,15 @@ restored_over olds [] = olds
 restored_over [] (q ∷ qs) = []
 restored_over (old ∷ olds) (q ∷ qs) = numbers_over old q ∷ restored_over olds qs
 
+-- queues fit a record: each of the record's, over the earlier numbers at its place, has a queue's numbers. So
+-- no more chains may be in flight than it has descriptors, and `event_index` is 0 or 1
+abbrev pub FitRecord : (olds : List FsQueue) → List Queue → Type 0
+FitRecord olds qs =
+    (k : ℕ) (old : FsQueue) (q : Queue)
+    → slice_get olds k ≡ Some old
+    → slice_get qs k ≡ Some q
+    → IsQueue (numbers_over old q)
+
 -- some bytes begin with a record that matches the device's page size and limit
 abbrev pub HasRecord : FsDevice → (saved : List ℕ) → (options : ℕ) → List Queue → Type 0
 HasRecord d saved options qs =
@@ -125,11 +134,12 @@ HasNoRecord d saved e =
     × RefusesRecord taken d.page_size d.limit e
     × LeavesSource e (Some rest) false false
 
--- how restoring ends: the record is read; there are too few queues for it; the bytes aren't a record for this
--- device; or the numbers aren't a device's
+-- how restoring ends: the record is read; there are too few queues for it; they don't fit it; the bytes
+-- aren't a record for this device; or the numbers aren't a device's
 pub data RestoreOutcome : Type 0 where
   Restored : (options : ℕ) → List Queue → RestoreOutcome
   TooFewQueues : (options : ℕ) → List Queue → RestoreOutcome
+  UnfitQueues : (options : ℕ) → List Queue → RestoreOutcome
   NoRecord : RestoreError → RestoreOutcome
   NoDevice : RestoreOutcome
 
@@ -137,6 +147,7 @@ pub data RestoreOutcome : Type 0 where
 abbrev pub read_status : RestoreOutcome → ℕ
 read_status (Restored options qs) = 0
 read_status (TooFewQueues options qs) = chain_error_number ShortBuffer
+read_status (UnfitQueues options qs) = chain_error_number BadArgument
 read_status (NoRecord e) = 80 + restore_error_number e
 read_status NoDevice = chain_error_number BadArgument
 
@@ -150,11 +161,20 @@ ReadsSo d queues saved (Restored options qs) count d' queues' =
     × (count ≤ length queues)
     × (d' ≡ record d { options = options })
     × (queues' ≡ restored_over queues qs)
+    × FitRecord queues qs
 ReadsSo d queues saved (TooFewQueues options qs) count d' queues' =
     IsDevice d
     × HasRecord d saved options qs
     × (count ≡ length qs)
     × (length queues < count)
+    × (d' ≡ d)
+    × (queues' ≡ queues)
+ReadsSo d queues saved (UnfitQueues options qs) count d' queues' =
+    IsDevice d
+    × HasRecord d saved options qs
+    × (count ≡ 0)
+    × (length qs ≤ length queues)
+    × (FitRecord queues qs → ⊥)
     × (d' ≡ d)
     × (queues' ≡ queues)
 ReadsSo d queues saved (NoRecord e) count d' queues' =

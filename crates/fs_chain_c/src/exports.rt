@@ -1,6 +1,6 @@
 //! The functions on a chain that C calls. Each returns 0, or the number of a status.
 
-ghost use Rattle.std.specs.Prelude.{◌≡◌, false, true, None};
+ghost use Rattle.std.specs.Prelude.{◌≡◌, ◌≤◌, false, true, None};
 ghost use Rattle.fs_chain_c.specs.Handles.{AbandonsChain, DropsChain, EndsPush, IsZeros, Numbers};
 ghost use Rattle.fs_chain_c.specs.Handles.{NumbersHandle, Pushes, SetsMemory, TellsStretches, Pops};
 ghost use Rattle.fs_chain_c.specs.Queues.{BeginsQueue};
@@ -18,7 +18,7 @@ use fs_chain::{ChainError, ChainHandle};
 use std::alloc::Global;
 
 /// The version of the header (PK_VERSION).
-const VERSION: u32 = 10;
+const VERSION: u32 = 11;
 
 /// The status of a handle whose memory was never set: WrongOrder.
 pub(crate) fn wrong_order() -> u32
@@ -37,14 +37,15 @@ pub(crate) fn bad_argument() -> u32
 /// The version of the header that the archive was built with.
 #[unsafe(no_mangle)]
 pub extern "C" fn pk_version() -> u32
-    ensures { result ≡ 10 }
+    ensures { result ≡ 11 }
 {
     VERSION
 }
 
-/// Sets the memory of the chain's next pops, and the device's limit. A handle of zeros gets its box.
+/// Sets the memory of the chain's next pops, and the device's limit. A handle of zeros gets its box. C calls
+/// pk_chain_set_memory, which then gives a new handle its first ticket (tools/pk_numbers.c).
 #[unsafe(no_mangle)]
-pub extern "C" fn pk_chain_set_memory(
+pub extern "C" fn pk_chain_set_memory_unnumbered(
     alloc: Global,
     chain: &mut FsChain,
     device: &FsDevice,
@@ -120,7 +121,9 @@ pub extern "C" fn pk_pop(
     loaded: &[u8],
     pop: &mut FsPop,
 ) -> u32
-    ensures { Pops chain.old.held.value queue.old loaded.now result pop.new chain.new.held.value queue.new }
+    ensures pops { Pops chain.old.held.value queue.old loaded.now result pop.new chain.new.held.value
+        queue.new }
+    ensures few { pop.new.load_len ≤ 4096 }
 {
     let Some(mut handle) = chain.take(alloc) else {
         *pop = FsPop::nothing();
@@ -133,9 +136,10 @@ pub extern "C" fn pk_pop(
 }
 
 /// Resets a queue to a position, with the addresses and size that it has. Pops and chains from before are
-/// refused from then on.
+/// refused from then on. C calls pk_queue_begin, which then gives the queue a number of its own
+/// (tools/pk_numbers.c).
 #[unsafe(no_mangle)]
-pub extern "C" fn pk_queue_begin(queue: &mut FsQueue, next_avail: u16) -> u32
+pub extern "C" fn pk_queue_begin_unnumbered(queue: &mut FsQueue, next_avail: u16) -> u32
     ensures { BeginsQueue queue.old next_avail result queue.new }
 {
     if queue.begin(next_avail) {

@@ -37,12 +37,14 @@ mod record_place;
 mod replies;
 mod saved_bytes;
 mod setting;
+mod sizes;
 pub mod spans_called;
 mod windows;
 
 pub use exports::{
-    pk_abandon, pk_chain_free, pk_chain_set_memory, pk_chain_set_ticket, pk_chain_state, pk_drop,
-    pk_pop, pk_push, pk_pushed, pk_queue_begin, pk_reply_windows, pk_request_windows, pk_version,
+    pk_abandon, pk_chain_free, pk_chain_set_memory_unnumbered, pk_chain_set_ticket, pk_chain_state,
+    pk_drop, pk_pop, pk_push, pk_pushed, pk_queue_begin_unnumbered, pk_reply_windows,
+    pk_request_windows, pk_version,
 };
 pub use iotlbs::{
     pk_chain_exchange_iotlb, pk_iotlb_free, pk_iotlb_map, pk_iotlb_new, pk_iotlb_unmap,
@@ -52,7 +54,7 @@ pub use missing::{pk_miss, pk_uses};
 pub use names::pk_is_name;
 pub use notifications::pk_set_notification;
 pub use ranges::pk_reply_ranges;
-pub use record::{pk_restore, pk_save};
+pub use record::{pk_restore_unnumbered, pk_save};
 pub use replies::{
     pk_decode, pk_reply_attr, pk_reply_bytes, pk_reply_create, pk_reply_data, pk_reply_entry,
     pk_reply_init, pk_reply_lseek, pk_reply_open, pk_reply_statfs, pk_reply_write, pk_reply_xattr,

@@ -10,7 +10,7 @@ use crate::device::FsDevice;
 use crate::exports::bad_argument;
 use crate::laws_moving::law_moves;
 use crate::queue::FsQueue;
-use crate::record::{pk_restore, pk_save};
+use crate::record::{pk_restore_unnumbered, pk_save};
 use std::alloc::Global;
 
 // Whether the numbers of each queue are valid.
@@ -58,7 +58,7 @@ fn restore_valid(
         → Restores device.old queues.old saved.now 0 count.new device.new queues.new }
     ensures are { result ≡ 0 → All IsQueue (take count.new queues.new) }
 {
-    let status = pk_restore(alloc, device, queues, saved, count);
+    let status = pk_restore_unnumbered(alloc, device, queues, saved, count);
     if status != 0 {
         return status;
     }

@@ -1,6 +1,6 @@
 //! A pop by loads that C makes: in parts, if a load crosses the end of a region.
 
-ghost use Rattle.std.specs.Prelude.{◌≡◌};
+ghost use Rattle.std.specs.Prelude.{◌≡◌, ◌≤◌};
 ghost use Rattle.fs_chain_c.specs.Popping.{TellsLoad, TellsWanted, TellsWent, PopsHandle, host_at, no_step};
 
 use crate::access::access_number;
@@ -26,7 +26,7 @@ pub const NOT_MAPPED: u32 = 77;
 pub struct FsPop {
     /// The host address of the load.
     pub load_at: usize,
-    /// How many bytes to load.
+    /// How many bytes to load, at most PK_LOAD_MAX.
     pub load_len: usize,
     /// How many bytes the chain's request has.
     pub request_len: u64,
@@ -75,7 +75,8 @@ pub fn host_at(window: &VolatileSlice) -> usize
 
 // The load that a pop still needs, if any.
 fn still_wanted(handle: &ChainHandle) -> FsPop
-    ensures { TellsWanted handle.now result }
+    ensures told { TellsWanted handle.now result }
+    ensures few { result.load_len ≤ 4096 }
 {
     let mut step = FsPop::nothing();
     match handle.still_wanted() {
@@ -90,7 +91,8 @@ fn still_wanted(handle: &ChainHandle) -> FsPop
 
 // The load that the pop still needs, and a status; nothing if its address isn't mapped.
 fn told_load(handle: &ChainHandle) -> (FsPop, u32)
-    ensures { TellsLoad handle.now result.0 result.1 }
+    ensures told { TellsLoad handle.now result.0 result.1 }
+    ensures few { result.0.load_len ≤ 4096 }
 {
     let mut step = FsPop::nothing();
     match handle.still_wanted() {
@@ -105,7 +107,8 @@ fn told_load(handle: &ChainHandle) -> (FsPop, u32)
 
 // A pop's result, as C gets it.
 fn told(handle: &ChainHandle, went: LoadOutcome) -> (FsPop, u32)
-    ensures { TellsWent handle.now went result.0 result.1 }
+    ensures told { TellsWent handle.now went result.0 result.1 }
+    ensures few { result.0.load_len ≤ 4096 }
 {
     let mut step = FsPop::nothing();
     match went {
@@ -141,7 +144,8 @@ fn told(handle: &ChainHandle, went: LoadOutcome) -> (FsPop, u32)
 
 /// Pops the next chain of a queue: at first without bytes, then with those of each load.
 pub fn pop_handle(handle: &mut ChainHandle, queue: &mut FsQueue, loaded: &[u8]) -> (FsPop, u32)
-    ensures { PopsHandle handle.old queue.old loaded.now result.0 result.1 handle.new queue.new }
+    ensures pops { PopsHandle handle.old queue.old loaded.now result.0 result.1 handle.new queue.new }
+    ensures few { result.0.load_len ≤ 4096 }
 {
     let Some(mut kept) = queue.kept() else {
         return (

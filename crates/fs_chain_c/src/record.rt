@@ -1,13 +1,15 @@
 //! The record of a device and its queues.
 
-ghost use Rattle.std.specs.Prelude.{◌≡◌, ◌⊎◌, ◌≤◌, All, Err, IfErr, IfOk, IfSome, None, OnOk, length, map};
+ghost use Rattle.std.specs.Prelude.{◌≡◌, ◌⊎◌, ◌≤◌, All, Err, IfErr, IfOk, IfSome, None, OnOk, false, length};
+ghost use Rattle.std.specs.Prelude.{map, true};
 ghost use Rattle.fs_chain.specs.declared.error.ChainError.TheVariants.{BadArgument, ChainInFlight};
 ghost use Rattle.fs_chain.specs.declared.error.ChainError.TheVariants.{OutOfMemory};
 ghost use Rattle.memory_requests.specs.Refused.{RoomWasRefused};
 ghost use Rattle.fs_record.specs.Record.{HasKnownBits};
 ghost use Rattle.fs_chain_c.specs.Queues.{IsQueue};
-ghost use Rattle.fs_chain_c.specs.Records.{HasNoneOut, RefusesToSave, RefusesQueues, Restores, Saves};
-ghost use Rattle.fs_chain_c.specs.Records.{SavesSo, numbers_over, queue_of, restored_over, saved_status};
+ghost use Rattle.fs_chain_c.specs.Records.{FitRecord, HasNoneOut, RefusesToSave, RefusesQueues, Restores};
+ghost use Rattle.fs_chain_c.specs.Records.{Saves, SavesSo, numbers_over, queue_of, restored_over};
+ghost use Rattle.fs_chain_c.specs.Records.{saved_status};
 
 use crate::device::FsDevice;
 use crate::queue::FsQueue;
@@ -186,9 +188,25 @@ fn put_queues(queues: &mut [FsQueue], restored: &[Queue])
     }
 }
 
-/// Reads a record into the device's options and the queues, and returns how many queues it has.
+// Whether queues fit a record: no more chains may be in flight than each then has descriptors, and its
+// `event_index` is 0 or 1.
+fn fit_record(queues: &[FsQueue], restored: &[Queue]) -> bool
+    requires { length restored.now ≤ length queues.now }
+    ensures fit { result ≡ true → FitRecord queues.now restored.now }
+    ensures none { result ≡ false → FitRecord queues.now restored.now → ⊥ }
+{
+    for k in 0..restored.len() {
+        if numbers_over(&queues[k], &restored[k]).kept().is_none() {
+            return false;
+        }
+    }
+    true
+}
+
+/// Reads a record into the device's options and the queues, and returns how many queues it has. C calls
+/// pk_restore, which then gives each of the queues a number of its own (tools/pk_numbers.c).
 #[unsafe(no_mangle)]
-pub extern "C" fn pk_restore(
+pub extern "C" fn pk_restore_unnumbered(
     alloc: Global,
     device: &mut FsDevice,
     queues: &mut [FsQueue],
@@ -204,10 +222,14 @@ pub extern "C" fn pk_restore(
     let mut source = SavedBytes(saved);
     match restore_record(alloc, &mut source, device.page_size, device.limit) {
         Ok((options, restored)) => {
-            *count = restored.len();
             if restored.len() > queues.len() {
+                *count = restored.len();
                 return u32::from(ChainError::ShortBuffer.number());
             }
+            if !fit_record(queues, &restored) {
+                return u32::from(ChainError::BadArgument.number());
+            }
+            *count = restored.len();
             put_queues(queues, &restored);
             device.options = options.bits();
             0

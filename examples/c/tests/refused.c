@@ -105,8 +105,11 @@ static void set_memory(unsigned low, uint64_t high, uint32_t wanted) {
     uintptr_t host = (uintptr_t)now.pages;
     struct pk_region regions[] = {{high, PAGE, host + HIGH * PAGE},
                                   {0, 2 * PAGE, host + low * PAGE}};
+    bool is_new = pk_chain_state(chain) == PK_STATE_NONE;
     do begin(SET_MEMORY);
     while (again(pk_chain_set_memory(chain, &now.device, regions, 2), wanted));
+    /* the tickets are the same each time */
+    if (is_new && wanted == PK_DONE && pk_chain_set_ticket(chain, 1)) exit(1);
 }
 
 /* Pops up to the load at an address, or to the end for address 0. The library chooses the length
@@ -282,10 +285,17 @@ static void save(size_t room, uint32_t wanted) {
     while (again(pk_save(&now.device, now.queues, 2, now.record, room, &now.len), wanted));
 }
 
+/* The numbers of resets aren't the same each time, so they are taken away. */
+static uint32_t read_record(size_t room) {
+    uint32_t status =
+        pk_restore(&now.moved, now.restored, room, now.record, now.len, &now.count);
+    for (size_t k = 0; status == PK_DONE && k < now.count; k++) now.restored[k].reset_count = 0;
+    return status;
+}
+
 static void restore(size_t room, uint32_t wanted) {
     do begin(RESTORE);
-    while (
-        again(pk_restore(&now.moved, now.restored, room, now.record, now.len, &now.count), wanted));
+    while (again(read_record(room), wanted));
 }
 
 /* A restored queue is reset, so some of its fields differ. */

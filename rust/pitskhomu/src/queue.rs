@@ -2,7 +2,6 @@
 use crate::chain;
 use crate::status::Status;
 use crate::sys;
-use core::sync::atomic::{AtomicU32, Ordering};
 
 /// The size of a split virtqueue and the guest addresses of its parts (VIRTIO 1.2, 2.7), as the
 /// driver set them.
@@ -67,17 +66,10 @@ impl Default for Queue {
     }
 }
 
-/// The first reset count of the next new queue. A chain identifies its queue by this count and the
-/// addresses, and a guest may give two queues the same addresses.
-static RESET_COUNT: AtomicU32 = AtomicU32::new(0);
-
-/// The distance between the counts of two new queues: odd, so that all 2^32 counts are used.
-const RESET_COUNTS_APART: u32 = (1 << 24) + 1;
-
-/// Zeros, except for a reset count that no other queue has, and one chain in flight at most.
+/// Zeros, except for one chain in flight at most. The library gives each queue that is reset or
+/// restored a number of its own, by which a chain identifies it.
 pub(crate) fn fresh_numbers() -> sys::Queue {
-    let reset_count = RESET_COUNT.fetch_add(RESET_COUNTS_APART, Ordering::Relaxed);
-    sys::Queue { max_in_flight: 1, reset_count, ..sys::Queue::default() }
+    sys::Queue { max_in_flight: 1, ..sys::Queue::default() }
 }
 
 impl Queue {

@@ -5,14 +5,35 @@
 
 use crate::memory::{GuestRange as Range, Region, Window};
 use core::ffi::c_void;
+use core::mem::size_of;
 
-pub const VERSION: u32 = 10;
+pub const VERSION: u32 = 11;
 pub const REGIONS_MAX: usize = 64;
 pub const QUEUES_MAX: usize = 64;
 pub const FIRST: usize = 80;
 pub const REQUEST_MAX: usize = 0x101000;
 pub const FRONT_MAX: usize = 160;
 pub const HEADER: u64 = 16;
+
+// The header asserts the same sizes.
+const _: () = {
+    assert!(size_of::<Device>() == 16);
+    assert!(size_of::<Queue>() == 48);
+    assert!(size_of::<Region>() == 24);
+    assert!(size_of::<Chain>() == 16);
+    assert!(size_of::<Pop>() == 72);
+    assert!(size_of::<Window>() == 16);
+    assert!(size_of::<Range>() == 16);
+    assert!(size_of::<Iotlb>() == 16);
+    assert!(size_of::<Miss>() == 24);
+    assert!(size_of::<Span>() == 8);
+    assert!(size_of::<Attr>() == 88);
+    assert!(size_of::<Call>() == 320);
+    assert!(size_of::<Entry>() == 128);
+    assert!(size_of::<Statfs>() == 56);
+    assert!(size_of::<Stores>() == 72);
+    assert!(size_of::<Store>() == 16);
+};
 
 /// enum `pk_status`: the numbers that aren't refusals. The refusals are `Status`.
 pub mod status {

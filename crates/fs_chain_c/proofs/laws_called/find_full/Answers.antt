@@ -11,4 +11,4 @@ returns c =
     let most : q.max_in_flight < 2 ^ 16 = Prim.search in
     let at : handle_state c.args.chain.now.held.value ≡ 1 = Prim.search in
     sleeps_so c.law_acts.ensures.full c.args.chain.now.held.value c.pk_pop.new.chain.held.value q c.pk_pop.new.queue c.pk_pop.new.pop
-    c.pk_pop.result (avail, used, most) at c.pk_pop.ensures
+    c.pk_pop.result (avail, used, most) at c.pk_pop.ensures.pops

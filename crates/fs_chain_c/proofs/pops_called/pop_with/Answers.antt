@@ -6,7 +6,7 @@ pub loop-bytes-init : goal.loop-bytes-init
 loop-bytes-init c =
     let first = c.pk_pop-status in
     pops_first c.args.given.now c.args.chain.now.held.value first.new.chain.held.value c.args.queue.now first.new.queue first.new.pop
-    first.result c.requires first.ensures
+    first.result c.requires first.ensures.pops
 
 pub loop-bytes-preserved : goal.loop-bytes-preserved
 loop-bytes-preserved c =
@@ -15,4 +15,4 @@ loop-bytes-preserved c =
     let loads : so_far.status ≡ 32 = Prim.search in
     pops_next c.args.given.now so_far.bytes-index c.args.chain.now.held.value so_far.chain.held.value next.new.chain.held.value
     c.args.queue.now so_far.queue next.new.queue so_far.pop next.new.pop so_far.status next.result c.loop-bytes-test.true loads
-    so_far.invariant next.ensures
+    so_far.invariant next.ensures.pops

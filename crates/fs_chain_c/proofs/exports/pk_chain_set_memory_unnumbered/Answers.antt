@@ -1,6 +1,6 @@
 use Rattle.std.proofs.Common.{rules}
 use Rattle.fs_chain_c.proofs.HandleLemmas.{sets_some}
-use Rattle.fs_chain_c.proofs.exports.pk_chain_set_memory.Goals as goal
+use Rattle.fs_chain_c.proofs.exports.pk_chain_set_memory_unnumbered.Goals as goal
 
 pub returns-in-Some : goal.returns-in-Some
 returns-in-Some c =

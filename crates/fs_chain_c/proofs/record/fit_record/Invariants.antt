@@ -1,0 +1,7 @@
+use Rattle.std.proofs.Common.{◌≤◌, length}
+use Rattle.fs_chain_c.proofs.QueueLemmas.{FitBefore}
+use Rattle.fs_chain_c.proofs.record.fit_record.Given as goal
+
+-- those that were looked at fit
+abbrev pub invariant-loop-k : goal.invariant-loop-k
+invariant-loop-k l = (l.k ≤ length l.restored) × FitBefore l.queues l.restored l.k
