@@ -4,7 +4,8 @@
 // more as the number, which is refused and begins the count anew; a request of NOTED bytes says
 // that a call told of the refusal, and one of TELL bytes and as many more as a binary digit is
 // refused if the count has that digit. Digits above the count: since the last number above 0 a
-// request was refused, and a call told of it.
+// request was refused, and a call told of it. Another request of SAID bytes or more fails, as it
+// does on every machine, and doesn't count as refused.
 #define _GNU_SOURCE
 #include <dlfcn.h>
 #include <stdio.h>
@@ -37,14 +38,17 @@ static int is_refused(size_t len) {
         marks |= IS_REFUSED;
         return 1;
     }
-    if (len >= TELL) return (((made & COUNT) | marks) & len & NUMBER) != 0;
-    if (len >= NOTED) {
+    switch (len & ~(size_t)NUMBER) {
+    case TELL:
+        return (((made & COUNT) | marks) & len & NUMBER) != 0;
+    case NOTED:
         marks |= IS_TOLD;
         return 1;
+    case SAID:
+        made = 0;
+        refused = len & NUMBER;
+        if (refused != 0) marks = 0;
     }
-    made = 0;
-    refused = len & NUMBER;
-    if (refused != 0) marks = 0;
     return 1;
 }
 
