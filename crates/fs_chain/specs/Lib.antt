@@ -1,6 +1,10 @@
 pub mod Answers
 pub mod Decoding
+pub mod Driving
+pub mod DrivingLaws
 pub mod Events
+pub mod Holds
+pub mod HoldsLaws
 pub mod Laws
 pub mod Listings
 pub mod Loads
@@ -16,3 +20,4 @@ pub mod Whole
 pub mod Missed
 pub mod Tables
 pub mod WholeListings
+pub mod Together

@@ -137,3 +137,16 @@ listing_calls call with_nodes es (NotFound d behind errno) =
     (call, Entries (entries_of es ++ d ∷ behind))
     ∷ (all_looked_up call with_nodes es ++ looked_up call with_nodes d (Failed errno))
 listing_calls call with_nodes es (Unreadable errno) = unreadable_calls call with_nodes es errno
+
+-- the look-up of the first of these entries, with its answer, if it was made
+abbrev pub next_looked_up : FileCall → (with_nodes : Bool) → List Listed → Option FileAnswer → Calls
+next_looked_up call with_nodes (d ∷ others) (Some answer) = looked_up call with_nodes d answer
+next_looked_up call with_nodes others next = []
+
+-- the calls of a listing that hasn't ended. The directory was read, and has other entries behind those that
+-- were added; the first of the others may be looked up already
+abbrev pub calls_so_far :
+    FileCall → (with_nodes : Bool) → List Brought → (others : List Listed) → Option FileAnswer → Calls
+calls_so_far call with_nodes es others next =
+    (call, Entries (entries_of es ++ others))
+    ∷ (all_looked_up call with_nodes es ++ next_looked_up call with_nodes others next)

@@ -5,6 +5,7 @@ ghost use Rattle.virtiofsd_fuse.specs.Serving.{setting};
 ghost use Rattle.fs_chain.specs.Answers.{AnswerFails, CanBeGiven, IfWaits, IsGiven, IsNotTaken};
 ghost use Rattle.fs_chain.specs.Answers.{RefusesAnswer, IsWaiting, data_len, refusal_error, fits, replied_of};
 ghost use Rattle.fs_chain.specs.Answers.{reply_of};
+ghost use Rattle.fs_chain.specs.Holds.{Answers};
 ghost use Rattle.fs_chain.specs.Walks.{IsAllBut};
 ghost use Rattle.fs_chain.specs.declared.state.ChainState.TheVariants as at;
 
@@ -137,6 +138,7 @@ impl ChainHandle {
     /// - `OtherKind`: the call needs an answer of another kind. A listing is answered entry by entry, or
     ///   by `fail`.
     /// - `LongReply`: the data is too long for the reply.
+    #[tactic(auto, using(crate::proofs::HoldsAnswered::answers_from))]
     pub fn answer(&mut self, serial: u32, answer: FileAnswer) -> Result<Replied, ChainError>
         ensures given { IfOk result (λ told. IfWaits self.old.state (λ out w.
             IsGiven (setting self.old.session.page_size self.old.session.options.0 w.room) w answer out
@@ -150,6 +152,7 @@ impl ChainHandle {
         ensures stays { IsAllBut self.old self.new
             × (self.new.descriptors ≡ self.old.descriptors)
             × (self.new.part ≡ self.old.part) }
+        ensures step { IfOk result (λ told. Answers self.old self.new answer told) }
     {
         match self.serial_error(serial) {
             Some(error) => Err(error),

@@ -14,6 +14,7 @@ ghost use Rattle.server_phases.specs.Asking.{AsksCall, HasAskerByFront, IsAskedB
 ghost use Rattle.server_phases.specs.Asking.{IsDecodedByFront, is_decoded};
 ghost use Rattle.fs_chain.specs.Decoding.{IfUndecoded, IsKeptFor, KeepsCall, TellsMeaning, wanted};
 ghost use Rattle.fs_chain.specs.Decoding.{wanted_after, wanted_by};
+ghost use Rattle.fs_chain.specs.Holds.{Decodes};
 ghost use Rattle.fs_chain.specs.Orders.{ask_error};
 ghost use Rattle.fs_chain.specs.Walks.{IsAllBut, IsAllButPlace};
 ghost use Rattle.fs_chain.specs.declared.state.ChainState.TheVariants as at;
@@ -168,6 +169,7 @@ impl ChainHandle {
     /// nothing changed:
     /// - `WrongOrder`: no chain is in flight, or its request was decoded already.
     /// - `BadArgument`: the request is shorter.
+    #[tactic(auto, using(crate::proofs::HoldsDecoded::decodes_from))]
     pub fn decode<'a>(
         &mut self,
         session: Session,
@@ -194,6 +196,7 @@ impl ChainHandle {
         ensures session { OnOk result (self.new.session ≡ session) }
         ensures stays { OnErr result ((self.new.state ≡ self.old.state)
             × (self.new.session ≡ self.old.session)) }
+        ensures step { IfOk result (λ told. Decodes self.old self.new session request.now told) }
     {
         match &self.state {
             ChainState::Taken(out) => {

@@ -1,6 +1,7 @@
 //! How a chain is given up before its request is decoded.
 
 ghost use Rattle.std.specs.Prelude.{◌≡◌, Some, None, IfErr, OnOk, OnErr, if◌then◌else◌};
+ghost use Rattle.fs_chain.specs.Holds.{GivesUp};
 ghost use Rattle.fs_chain.specs.Orders.{give_up_error, is_out};
 ghost use Rattle.fs_chain.specs.Queues.{gave_up};
 ghost use Rattle.fs_chain.specs.Pushes.{IsFreed};
@@ -38,6 +39,7 @@ impl ChainHandle {
     /// - `OtherQueue`: the chain isn't in flight in this queue.
     /// - `WrongOrder`: its request was decoded, so only a push ends it, with a reply or without (`reply`).
     ///   Or it isn't the last chain that was popped.
+    #[tactic(auto, using(crate::proofs::HoldsEnded::gives_up, crate::proofs::HoldsEnded::gives_up_from))]
     pub fn give_up(&mut self, queue: &mut QueueState) -> Result<(), ChainError>
         ensures error { IfErr result (λ e. give_up_error self.old.state queue.old ≡ Some e) }
         ensures ok { OnOk result (give_up_error self.old.state queue.old ≡ None) }
@@ -45,6 +47,7 @@ impl ChainHandle {
         ensures free { OnOk result (self.new ≡ freed self.old) }
         ensures queue { OnOk result (queue.new ≡ (if is_out self.old.state then gave_up queue.old
             else queue.old)) }
+        ensures step { OnOk result (GivesUp self.old self.new queue.old queue.new) }
     {
         match &self.state {
             ChainState::Free | ChainState::Walking(_, _, _) => {

@@ -6,6 +6,7 @@ ghost use Rattle.fs_chain.specs.Missed.{EventMissIsNoStep, MissIsNoStep};
 ghost use Rattle.fs_chain.specs.Whole.{ChainIsAnsweredBy, ChainIsStep, ChainIsStepBy, EventFaultRefuses};
 ghost use Rattle.fs_chain.specs.Whole.{FaultyIsAnsweredBy, FaultyIsStepBy, IdleIsStepBy, RefusalIsStepBy};
 ghost use Rattle.fs_chain.specs.Whole.{ReturnsAreToldBySeen, WantedIsMapped};
+ghost use Rattle.fs_chain.specs.Together.{FindsOwn, JoinsOthers, KeepsOthers, LeavesOthers};
 
 use fs_regions::laws::{law_misses_can_be_mapped, law_offers};
 use fuse_fs::FileSystem;
@@ -55,4 +56,13 @@ pub fn law_chains<F: FileSystem>()
     ensures served { ChainIsStepBy F.may }
     ensures told { ReturnsAreToldBySeen }
     ensures memory { ChainIsStep F.may }
+{}
+
+/// Several handles of one run. A call of one of them, by which it keeps, gets or loses its chain, leaves the
+/// others what they hold.
+pub fn law_together()
+    ensures finds { FindsOwn }
+    ensures keeps { KeepsOthers }
+    ensures leaves { LeavesOthers }
+    ensures joins { JoinsOthers }
 {}

@@ -4,11 +4,14 @@
 mod answering;
 mod beginning;
 mod chain_handle;
+mod commands;
 mod decoding;
+mod driven;
 mod error;
 mod event_index;
 mod giving_up;
 mod going_on;
+pub mod held_laws;
 mod iotlb;
 mod iotlb_place;
 pub mod laws;
@@ -25,7 +28,9 @@ mod window_cursor;
 
 pub use answering::Replied;
 pub use chain_handle::ChainHandle;
+pub use commands::{Command, drive, drive_all, drive_one};
 pub use decoding::Decoded;
+pub use driven::push_whole;
 pub use error::ChainError;
 pub use event_index::NotificationStore;
 pub use iotlb_place::IotlbPlace;

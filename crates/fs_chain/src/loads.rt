@@ -3,6 +3,7 @@
 ghost use Rattle.std.specs.Prelude.{◌≡◌, ◌⊎◌, ◌<◌, ◌≤◌, ◌+◌, ◌++◌, [], Some, None, true, false, length, take};
 ghost use Rattle.std.specs.Prelude.{IfOk, IfErr, IfSome, OnOk, OnErr, vec_capacity};
 ghost use Rattle.memory_requests.specs.Refused.{RoomWasRefused};
+ghost use Rattle.fs_chain.specs.Holds.{PopsBy};
 ghost use Rattle.fs_chain.specs.Loads.{AreDue, AreOthers, AreWanted, AreWhole, GoesSo, HasNoPlace};
 ghost use Rattle.fs_chain.specs.Loads.{IsLoadWindow, IsSame, RefusesWalk, came, due_len, whole};
 ghost use Rattle.fs_chain.specs.Orders.{load_len, walk_error};
@@ -198,10 +199,13 @@ impl ChainHandle {
     /// - `ChainInFlight`: the queue has as many chains in flight as it may.
     /// - `OutOfMemory`: no room for the descriptors of the entries that are asked for, or for a part of a
     ///   load.
+    #[tactic(auto, using(crate::proofs::HoldsPopped::pops_from))]
     pub fn pop(&mut self, queue: &mut QueueState, loaded: &[u8]) -> Result<LoadOutcome, ChainError>
         ensures goes { IfOk result (λ went. GoesSo self.old queue.old loaded.now went self.new queue.new) }
         ensures error { IfErr result (RefusesWalk self.old queue.old loaded.now) }
         ensures same { OnErr result (IsSame self.old self.new × (queue.new ≡ queue.old)) }
+        ensures step { IfOk result
+            (λ went. PopsBy self.old.state self.old self.new queue.old queue.new loaded.now went) }
     {
         if self.load_len() != 0 {
             return self.give_part(queue, loaded);

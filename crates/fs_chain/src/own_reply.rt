@@ -1,6 +1,7 @@
 //! A reply of the caller's own bytes, to a request that the server doesn't serve.
 
 ghost use Rattle.std.specs.Prelude.{◌≡◌, None, Some, IfErr, OnOk, OnErr};
+ghost use Rattle.fs_chain.specs.Holds.{RepliesOwn};
 ghost use Rattle.fs_chain.specs.OwnReplies.{IfUnanswered, own_error, own_len_error, own_reply};
 ghost use Rattle.fs_chain.specs.Orders.{front_len, reply_len};
 ghost use Rattle.fs_chain.specs.declared.state.ChainState.TheVariants as at;
@@ -26,19 +27,8 @@ impl ChainHandle {
         Ok(())
     }
 
-    /// Replies with `len` bytes of the caller's own, header included (struct fuse_out_header of
-    /// linux/fuse.h). The caller puts them at the start of the reply buffer, before it stores the used
-    /// index. With 0 bytes the chain is pushed without a reply.
-    ///
-    /// This replaces `decode`, for a request that the server doesn't serve; or it replaces the answer to a
-    /// call in flight, of which nothing is kept. `push` then returns no front, and the used element has
-    /// `len` (VIRTIO 1.2, 2.7.8).
-    ///
-    /// After an error nothing changed:
-    /// - `WrongOrder`: no chain is in flight, or its reply is known. A faulty chain's is: it has none.
-    /// - `OtherCall`: the number is another one (`serial`).
-    /// - `LongReply`: the reply buffer is shorter, or `len` is 2^32 or more.
-    pub fn reply(&mut self, serial: u32, len: usize) -> Result<(), ChainError>
+    // Keeps a reply for the chain of this number, if it has none.
+    fn reply_known(&mut self, serial: u32, len: usize) -> Result<(), ChainError>
         ensures error { IfErr result (λ e. own_error self.old.state self.old.serial serial len ≡ Some e) }
         ensures ok { OnOk result (own_error self.old.state self.old.serial serial len ≡ None) }
         ensures same { OnErr result (self.new ≡ self.old) }
@@ -57,5 +47,31 @@ impl ChainHandle {
             }
             _ => Err(ChainError::WrongOrder),
         }
+    }
+
+    /// Replies with `len` bytes of the caller's own, header included (struct fuse_out_header of
+    /// linux/fuse.h). The caller puts them at the start of the reply buffer, before it stores the used
+    /// index. With 0 bytes the chain is pushed without a reply.
+    ///
+    /// This replaces `decode`, for a request that the server doesn't serve; or it replaces the answer to a
+    /// call in flight, of which nothing is kept. `push` then returns no front, and the used element has
+    /// `len` (VIRTIO 1.2, 2.7.8).
+    ///
+    /// After an error nothing changed:
+    /// - `WrongOrder`: no chain is in flight, or its reply is known. A faulty chain's is: it has none.
+    /// - `OtherCall`: the number is another one (`serial`).
+    /// - `LongReply`: the reply buffer is shorter, or `len` is 2^32 or more.
+    #[tactic(auto, using(crate::proofs::HoldsEnded::replies_own_from))]
+    pub fn reply(&mut self, serial: u32, len: usize) -> Result<(), ChainError>
+        ensures error { IfErr result (λ e. own_error self.old.state self.old.serial serial len ≡ Some e) }
+        ensures ok { OnOk result (own_error self.old.state self.old.serial serial len ≡ None) }
+        ensures same { OnErr result (self.new ≡ self.old) }
+        ensures kept { OnOk result (IfUnanswered self.old.state
+            (λ out. self.new ≡ record self.old { state = at.HasReply out (own_reply len) })) }
+        ensures told { OnOk result (IfUnanswered self.old.state (λ out. (front_len (own_reply len) ≡ 0)
+            × (reply_len out (own_reply len) ≡ len))) }
+        ensures step { OnOk result (RepliesOwn self.old self.new len) }
+    {
+        self.reply_known(serial, len)
     }
 }

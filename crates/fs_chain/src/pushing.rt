@@ -5,6 +5,7 @@ ghost use Rattle.std.specs.Prelude.{OnOk, OnErr, length};
 ghost use Rattle.fs_chain.specs.Events.{tells_of};
 ghost use Rattle.fs_chain.specs.Orders.{end_error, front_len, return_error};
 ghost use Rattle.fs_chain.specs.Queues.{gave};
+ghost use Rattle.fs_chain.specs.Holds.{EndsPush, Pushes};
 ghost use Rattle.fs_chain.specs.Pushes.{IfHasReply, PushesBy, put_front};
 ghost use Rattle.fs_chain.specs.Serials.{freed};
 ghost use Rattle.fs_chain.specs.declared.state.ChainState.TheVariants as at;
@@ -120,6 +121,7 @@ impl ChainHandle {
             (λ s. IfHasReply self.old.state (λ out reply. PushesBy queue.old out reply s)) }
         ensures front { OnOk result
             (IfHasReply self.old.state (λ out reply. front.new ≡ put_front reply front.old)) }
+        ensures step { IfOk result (λ s. Pushes self.old self.new queue.old front.new s) }
     {
         match &self.state {
             ChainState::HasReply(out, reply) => {
@@ -140,6 +142,7 @@ impl ChainHandle {
     /// Ends a push after its stores were made: the queue's next chain is pushed at the next position, and
     /// the handle is free. Returns whether the driver wants a notification, by the two bytes that the
     /// caller loaded. `WrongOrder` if no push was begun, `OtherQueue` if it was another queue's.
+    #[tactic(auto, using(crate::proofs::HoldsPushed::ends_push))]
     pub fn pushed(&mut self, queue: &mut QueueState, seen: [u8; 2]) -> Result<bool, ChainError>
         ensures error { IfErr result (λ e. end_error self.old.state queue.old ≡ Some e) }
         ensures ok { OnOk result (end_error self.old.state queue.old ≡ None) }
@@ -147,6 +150,7 @@ impl ChainHandle {
         ensures free { OnOk result (self.new ≡ freed self.old) }
         ensures queue { OnOk result (queue.new ≡ gave queue.old) }
         ensures tells { IfOk result (λ told. told ≡ tells_of queue.old seen) }
+        ensures step { IfOk result (λ notice. EndsPush self.old queue.old queue.new seen notice) }
     {
         match &self.state {
             ChainState::Pushing(out) => {

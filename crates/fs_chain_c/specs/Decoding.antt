@@ -19,6 +19,7 @@ use Rattle.fs_chain.specs.declared.error.ChainError.TheVariants.{BadArgument}
 use Rattle.fs_chain.specs.declared.chain_handle.ChainHandle.{ChainHandle}
 use Rattle.fs_chain.specs.Answers.{CanBeGiven, IfWaits, IsGiven, IsNotTaken, IsWaiting}
 use Rattle.fs_chain.specs.Decoding.{IfUndecoded, TellsMeaning, wanted_after, wanted_by}
+use Rattle.fs_chain.specs.Holds as holds
 use Rattle.fs_chain.specs.Numbers.{chain_error_number}
 use Rattle.fs_chain.specs.Orders.{ask_error, room_len}
 use Rattle.fs_chain.specs.Walks.{IsAllBut, IsAllButPlace}
@@ -90,6 +91,7 @@ pub record Decodes (w : ChainHandle) (s : Session) (request : List ℕ) (made : 
       → TellsMeaning (setting s.page_size s.options.0 out.room_len) (meaning s.options.0 all out.room_len)
       (drop 80 all) out made w'.state)
   pub wanted : IfUndecoded w.state (λ out. wanted_by made ≡ wanted_after request out.request_len)
+  pub step : holds.Decodes w w' s request made
   pub session : w'.session ≡ s
   pub stays : IsAllBut w w' × (w'.descriptors ≡ w.descriptors) × (w'.part ≡ w.part)
 

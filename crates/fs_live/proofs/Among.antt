@@ -40,13 +40,13 @@ use Rattle.fs_chain.specs.declared.chain_handle.ChainHandle.{ChainHandle}
 use Rattle.fs_chain.proofs.WholeWalks.{ComesSo, walk_comes}
 use Rattle.fs_live.specs.Among.{HandleFindsStopped, HandleEndsPopAmong, LoadsAmong, WalksAmong}
 use Rattle.fs_live.specs.Handles.{IsPopDone, live_of}
-use Rattle.fs_live.specs.Live.{LoadsAreMapped, pop_refusal, with_live}
-use Rattle.fs_live.specs.Several.{LiveQueue, avail_event_at, used_event_at}
+use Rattle.live_machine.specs.Live.{LoadsAreMapped, pop_refusal, with_live}
+use Rattle.live_machine.specs.Several.{LiveQueue, avail_event_at, used_event_at}
 use Rattle.fs_live.proofs.Declined.{goes_there}
 use Rattle.fs_live.proofs.Popped.{IsUnrefused, begins_whole, begun_room, event_of, held_by, walked_events}
-use Rattle.fs_live.proofs.Loads.{IsInside, inside_of}
-use Rattle.fs_live.proofs.MappedLoads.{more_mapped, none_mapped}
-use Rattle.fs_live.proofs.Queues.{none_some, there_same}
+use Rattle.live_machine.proofs.Loads.{IsInside, inside_of}
+use Rattle.live_machine.proofs.MappedLoads.{more_mapped, none_mapped}
+use Rattle.live_machine.proofs.Queues.{none_some, there_same}
 
 -- ---- the bytes of a load
 

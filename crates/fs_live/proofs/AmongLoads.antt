@@ -17,7 +17,7 @@ use Rattle.fs_chain.specs.declared.chain_handle.ChainHandle.{ChainHandle}
 use Rattle.fs_live.specs.Among.{HandleLoadsAmong, WalksAmong, load_count_among}
 use Rattle.fs_live.specs.Handles.{loads_after}
 use Rattle.fs_live.proofs.Among.{AfterCall, IsALoad, Stands, all_among, load_stands, on_call, standing, stands_still, wants_unrefused}
-use Rattle.fs_live.proofs.Loads.{made, made_more, room_for_one}
+use Rattle.live_machine.proofs.Loads.{made, made_more, room_for_one}
 
 -- a walk stands somewhere after k loads or more
 abbrev StandsAfter : (k : ℕ) → (old w : ChainHandle) → (before : QueueState) → Type 0

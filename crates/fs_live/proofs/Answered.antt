@@ -29,15 +29,16 @@ use Rattle.fs_chain.specs.declared.state.ChainState.TheVariants as at
 use Rattle.fs_chain.specs.declared.chain_handle.ChainHandle.{ChainHandle}
 use Rattle.fs_chain.proofs.WholeOffers.{fits_limit}
 use Rattle.plain_machine.specs.Step.{Calls, answers_alone}
-use Rattle.fs_live.specs.Live.{Asked, Happens, InFlightChain, LiveState, Phase, ReceivesAnswer, after_answer, fault_of_phase}
-use Rattle.fs_live.specs.Live.{room_of_phase, room_of}
+use Rattle.live_machine.specs.Live.{Asked, Happens, InFlightChain, LiveState, Phase, ReceivesAnswer, after_answer, fault_of_phase}
+use Rattle.live_machine.specs.Live.{room_of_phase, room_of}
 use Rattle.fs_live.specs.Handles.{HandleCalls, HandleDecodesRequest, HandleGathers, HandleLeavesOut, HandleMakesCall}
 use Rattle.fs_live.specs.Handles.{HandleReceivesAnswer, HoldsDecoded, IsDecodedWhole, calls_decoded, calls_left_out, calls_so_far}
-use Rattle.fs_live.proofs.Alone.{Walked, walked_there}
-use Rattle.fs_live.proofs.EachCall.{each_waits, each_waits_first}
+use Rattle.live_machine.proofs.Alone.{Walked, walked_there}
+use Rattle.live_machine.proofs.EachCall.{each_waits, each_waits_first}
 use Rattle.fs_live.proofs.Left.{options_left_by}
 use Rattle.fs_live.proofs.Listed.{AreServed, list_all_served, one_served}
-use Rattle.fs_live.proofs.ListedSoFar.{AreServedFirst, left_out_served_first, list_served_first}
+use Rattle.fs_chain.proofs.SoFar.{AreServedFirst}
+use Rattle.fs_live.proofs.ListedSoFar.{left_out_served_first, list_served_first}
 
 -- ---- asking
 

@@ -28,7 +28,7 @@ use Rattle.fs_chain.proofs.WholeListings.{listed_out}
 use Rattle.fs_chain.proofs.WholeSteps.{by_options, serves_call}
 use Rattle.plain_machine.specs.Step.{Calls, answers_alone, calls_alone}
 use Rattle.fs_live.proofs.Listed.{from_lists, list_command}
-use Rattle.fs_live.proofs.Options.{leaves_none, lists_leave}
+use Rattle.live_machine.proofs.Options.{leaves_none, lists_leave}
 
 -- ---- its place
 

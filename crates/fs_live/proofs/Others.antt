@@ -29,18 +29,19 @@ use Rattle.fs_chain.specs.declared.state.ChainState.TheVariants as at
 use Rattle.fs_chain.proofs.WholeOffers.{fits_limit}
 use Rattle.plain_machine.specs.Step.{Exchange}
 use Rattle.plain_machine.specs.StepBy.{reply_stores, return_acts}
-use Rattle.fs_live.specs.Several.{LiveQueue, returning, seen_at}
-use Rattle.fs_live.specs.Several as several
-use Rattle.fs_live.specs.Live.{PushedWith, IsUnreplied, KeepsQueue, InFlightChain, Own, Phase, fault_of_phase, own_exchange, room_of_phase}
-use Rattle.fs_live.specs.Live.{room_of}
+use Rattle.live_machine.specs.Several.{LiveQueue, returning, seen_at}
+use Rattle.live_machine.specs.Several as several
+use Rattle.live_machine.specs.Live.{PushedWith, IsUnreplied, KeepsQueue, InFlightChain, Own, Phase, fault_of_phase, own_exchange}
+use Rattle.live_machine.specs.Live.{room_of_phase}
+use Rattle.live_machine.specs.Live.{room_of}
 use Rattle.fs_live.specs.Handles.{live_of}
 use Rattle.fs_live.specs.Others.{DecodedIsUnanswered, HandleAbandons, HandleGivesUpChain, HandleMovesDevice, HandleRemaps}
 use Rattle.fs_live.specs.Others.{HandleRepliesInstead}
 use Rattle.fs_live.specs.Others.{HandleRepliesOwnBytes}
 use Rattle.fs_live.specs.Others.{HandlePushesOwn, FromUnreplied, HoldsOwnReply, recorded}
-use Rattle.fs_live.proofs.Alone.{Walked, walked_there}
+use Rattle.live_machine.proofs.Alone.{Walked, walked_there}
 use Rattle.fs_live.proofs.Pushed.{seen_of}
-use Rattle.fs_live.proofs.Queues.{none_some, there_same}
+use Rattle.live_machine.proofs.Queues.{none_some, there_same}
 
 -- ---- giving up
 

@@ -34,12 +34,12 @@ use Rattle.fs_chain.specs.declared.popping.PopOutcome.TheVariants as says
 use Rattle.fs_chain.specs.declared.chain_handle.ChainHandle.{ChainHandle}
 use Rattle.fs_chain.proofs.WholeWalks.{event_fault_refuses, event_miss_is_no_step}
 use Rattle.fs_chain.specs.Queues.{pop_id_of}
-use Rattle.fs_live.specs.Several.{LiveQueue, may_take}
-use Rattle.fs_live.specs.Several as several
-use Rattle.fs_live.specs.Live.{LiveState, EndsPopIn, after_pop, event_miss_of, pop_refusal, with_live}
+use Rattle.live_machine.specs.Several.{LiveQueue, may_take}
+use Rattle.live_machine.specs.Several as several
+use Rattle.live_machine.specs.Live.{LiveState, EndsPopIn, after_pop, event_miss_of, pop_refusal, with_live}
 use Rattle.fs_live.specs.Handles.{HandleRefusesPop, IsPopDone, HoldsResult, live_of}
-use Rattle.fs_live.proofs.Queues.{none_some, same_some, there_same}
-use Rattle.fs_live.proofs.Refusals.{refusal_stops}
+use Rattle.live_machine.proofs.Queues.{none_some, same_some, there_same}
+use Rattle.live_machine.proofs.Refusals.{refusal_stops}
 
 -- ---- walks
 

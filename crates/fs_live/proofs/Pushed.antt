@@ -23,12 +23,12 @@ use Rattle.fs_chain.specs.Queues.{at_return}
 use Rattle.plain_machine.specs.Step.{Calls, EachSuits, Exchange, State, answers_alone, calls_alone, faulty, served_exchange}
 use Rattle.plain_machine.specs.StepBy as act
 use Rattle.plain_machine.specs.StepBy.{Act, reply_stores, return_acts}
-use Rattle.fs_live.specs.Several.{returning, seen_at}
-use Rattle.fs_live.specs.Several as several
-use Rattle.fs_live.specs.Live.{Phase, room_of_phase, room_of, PushedWith}
+use Rattle.live_machine.specs.Several.{returning, seen_at}
+use Rattle.live_machine.specs.Several as several
+use Rattle.live_machine.specs.Live.{Phase, room_of_phase, room_of, PushedWith}
 use Rattle.fs_live.specs.Handles.{HandleFaulty, HandlePushesChain, live_of}
 use Rattle.fs_live.proofs.Left.{out_left, seen_left}
-use Rattle.fs_live.proofs.Queues.{there_same}
+use Rattle.live_machine.proofs.Queues.{there_same}
 
 any_file : May (Unit {0})
 any_file before call answer after = Unit {0}

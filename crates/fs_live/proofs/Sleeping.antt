@@ -7,10 +7,10 @@ use Rattle.fs_queue.specs.Returning.{Store}
 use Rattle.virtiofsd_fuse.specs.Serving.{May}
 use Rattle.fs_chain.specs.Events as chain_events
 use Rattle.fs_chain.specs.declared.queue.QueueState.{QueueState}
-use Rattle.fs_live.specs.Live.{StoreIsMapped, HasValidMaximum}
+use Rattle.live_machine.specs.Live.{StoreIsMapped, HasValidMaximum}
 use Rattle.fs_live.specs.Handles.{HandleResetsQueue, HandleStoresNotification, live_of}
-use Rattle.fs_live.proofs.Declined.{has_events}
-use Rattle.fs_live.proofs.Queues.{none_some, same_some, there_same}
+use Rattle.live_machine.proofs.Declined.{has_events}
+use Rattle.live_machine.proofs.Queues.{none_some, same_some, there_same}
 
 not_stored : (event wanted : Bool) (one other : Store) → (if event then (if wanted then Some one else None) else Some other) ≡ None →
     (event ≡ true) × (wanted ≡ false)

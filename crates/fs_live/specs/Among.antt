@@ -17,7 +17,7 @@ use Rattle.fs_chain.specs.declared.state.ChainState.TheVariants as at
 use Rattle.fs_chain.specs.declared.popping.PopOutcome as walked
 use Rattle.fs_chain.specs.declared.popping.PopOutcome.TheVariants as says
 use Rattle.fs_chain.specs.declared.chain_handle.ChainHandle.{ChainHandle}
-use Rattle.fs_live.specs.Live.{RefusesPop, Happens, LiveState, EndsPop, after_pop}
+use Rattle.live_machine.specs.Live.{RefusesPop, Happens, LiveState, EndsPop, after_pop}
 use Rattle.fs_live.specs.Handles.{IsPopDone, HoldsResult, loads_after, live_of}
 
 -- a pop by calls of the handle, the last one first, which finds the queue as `now`. Before each call

@@ -10,9 +10,10 @@ use Rattle.fs_regions.specs.Windows.{IsRangeFrom, IsWindowFrom}
 use Rattle.virtiofsd_fuse.specs.Serving.{May}
 use Rattle.fs_chain.specs.declared.chain_handle.ChainHandle.{ChainHandle}
 use Rattle.plain_machine.specs.StepBy.{byte_store}
-use Rattle.fs_live.specs.Live.{Abandoned, FillsBuffer, Happens, LiveState, InFlightChain, Phase, PoppedFaulty}
-use Rattle.fs_live.specs.Live.{room_of}
-use Rattle.fs_live.specs.Runs.{reported_by}
+use Rattle.live_machine.specs.Live.{Abandoned, FillsBuffer, Happens, LiveState, InFlightChain, Phase}
+use Rattle.live_machine.specs.Live.{PoppedFaulty}
+use Rattle.live_machine.specs.Live.{room_of}
+use Rattle.live_machine.specs.Runs.{reported_by}
 
 -- a chain that has its reply buffer still: it isn't faulty, and its handle wasn't freed
 abbrev pub HasRoom : Phase → Type 0

@@ -23,12 +23,15 @@ use Rattle.server_phases.specs.Gathering.{Brought, entries_of}
 use Rattle.server_phases.specs.declared.session.Session.{Session}
 use Rattle.fs_chain.specs.Answers.{CanBeGiven, IfWaits}
 use Rattle.fs_chain.specs.Decoding.{TellsMeaning}
+pub use Rattle.fs_chain.specs.Holds.{live_of}
 use Rattle.fs_chain.specs.Events.{event_miss, notification_store, store_of}
 use Rattle.fs_chain.specs.Queues.{reset_to, gave}
 use Rattle.fs_chain.specs.Walks.{RefusalHasEvents, course_of, faulty_out, no_reply, out_of, told_of}
 use Rattle.fs_chain.specs.Whole.{ChainAnswer, PushedBy, IsRepliedBy, IsAnsweredBy, IsDecodedBy, LoadsOf}
 use Rattle.fs_chain.specs.Whole.{WalksBy, data_behind, file_calls}
-use Rattle.fs_chain.specs.WholeListings.{BringsEntry, FromLists, Gathers, all_looked_up, looked_up, node_back}
+use Rattle.fs_chain.specs.WholeListings.{BringsEntry, FromLists, Gathers, node_back}
+pub use Rattle.fs_chain.specs.WholeListings.{calls_so_far, next_looked_up}
+use Rattle.fs_chain.specs.WholeListings.{looked_up}
 use Rattle.fs_chain.specs.declared.answering.Replied.{Replied}
 use Rattle.fs_chain.specs.declared.decoding.Decoded.{Decoded}
 use Rattle.fs_chain.specs.declared.decoding.Decoded.TheVariants as asks
@@ -47,23 +50,16 @@ use Rattle.fs_chain.specs.declared.popping.PopOutcome.TheVariants as says
 use Rattle.fs_chain.specs.declared.chain_handle.ChainHandle.{ChainHandle}
 use Rattle.plain_machine.specs.Step.{Calls, EachSuits, Exchange}
 use Rattle.plain_machine.specs.StepBy.{Act}
-use Rattle.fs_live.specs.Several.{LiveQueue, seen_at}
-use Rattle.fs_live.specs.Live.{Asked, RefusesPop, DecodesRequest, Fetched, LiveEvent, LiveRun, ReceivesAnswer}
-use Rattle.fs_live.specs.Live.{ResetsQueue, SetsOptions}
-use Rattle.fs_live.specs.Live.{PoppedFaulty}
-use Rattle.fs_live.specs.Live.{LiveState, InFlightChain, PushesChain, StoresNotification, EndsPop}
-use Rattle.fs_live.specs.Live.{Happens, StoreIsMapped, NonePending, after_answer, after_decoding, event_acts}
-use Rattle.fs_live.specs.Live.{after_reset, after_push, after_pop, asked_chain, new_chain, room_of}
-use Rattle.fs_live.specs.Live.{serving, pop_refusal}
-
--- a `QueueState` as a queue of a run
-abbrev pub live_of : QueueState → LiveQueue
-live_of q = record {
-  queue = record (at_position q.layout q.next_avail) { stopped = is_some q.stopped };
-  next_used = q.next_used;
-  max_in_flight = q.max_in_flight;
-  event_index = q.event_index;
-}
+use Rattle.live_machine.specs.Several.{LiveQueue, seen_at}
+use Rattle.live_machine.specs.Live.{Asked, RefusesPop, DecodesRequest, Fetched, LiveEvent, LiveRun}
+use Rattle.live_machine.specs.Live.{ReceivesAnswer}
+use Rattle.live_machine.specs.Live.{ResetsQueue, SetsOptions}
+use Rattle.live_machine.specs.Live.{PoppedFaulty}
+use Rattle.live_machine.specs.Live.{LiveState, InFlightChain, PushesChain, StoresNotification, EndsPop}
+use Rattle.live_machine.specs.Live.{Happens, StoreIsMapped, NonePending, after_answer, after_decoding}
+use Rattle.live_machine.specs.Live.{event_acts}
+use Rattle.live_machine.specs.Live.{after_reset, after_push, after_pop, asked_chain, new_chain, room_of}
+use Rattle.live_machine.specs.Live.{serving, pop_refusal}
 
 -- ---- pops
 
@@ -267,19 +263,6 @@ HandleMakesCall {F} may =
     Happens may s (ReceivesAnswer c call answer)
     (after_answer s before behind c request options ((call, answer) ∷ []) files)
 
--- the look-up of the first of these entries, with its answer, if it was made
-abbrev pub next_looked_up : FileCall → (with_nodes : Bool) → List Listed → Option FileAnswer → Calls
-next_looked_up call with_nodes (d ∷ others) (Some answer) = looked_up call with_nodes d answer
-next_looked_up call with_nodes others next = []
-
--- the calls of a listing that hasn't ended. The directory was read, and has other entries behind those that
--- were added; the first of the others may be looked up already
-abbrev pub calls_so_far :
-    FileCall → (with_nodes : Bool) → List Brought → (others : List Listed) → Option FileAnswer → Calls
-calls_so_far call with_nodes es others next =
-    (call, Entries (entries_of es ++ others))
-    ∷ (all_looked_up call with_nodes es ++ next_looked_up call with_nodes others next)
-
 -- each of these calls is an event too. So it is one if the caller then replies with bytes of its own, or
 -- frees the handle
 abbrev pub HandleGathers : {F : Type 0} → May F → Type 0
@@ -328,33 +311,6 @@ HandleLeavesOut {F} may =
     may s.files call answer files →
     Happens may s (ReceivesAnswer c call answer)
     (after_answer s before behind c request options (earlier ++ (call, answer) ∷ []) files)
-
--- DESTROY ends the negotiated options
-abbrev pub is_destroy : FileCall → Bool
-is_destroy Destroy = true
-is_destroy _ = false
-
--- the answer to INIT with which options are negotiated
-abbrev pub agrees : FileAnswer → Bool
-agrees (Wants wanted) = true
-agrees _ = false
-
--- whether the answers to a request change the session's options: the one to DESTROY does, and the one to INIT
--- with which options are negotiated
-abbrev pub changes_options : Meaning → List FileAnswer → Bool
-changes_options (grammar.Asks (One unique call)) (a ∷ answers) = is_destroy call
-changes_options (grammar.Asks (Starts unique capable readahead)) (a ∷ answers) = agrees a
-changes_options m answers = false
-
--- the options of the session after an answer. An answer that doesn't change them leaves those of this moment,
--- not those of the decoding. An answer that changes them leaves the same options from both
-abbrev pub OptionsStay : Type 0
-OptionsStay =
-    (page_size asked now room : ℕ) (m : Meaning) (answers : List FileAnswer) →
-    let left = (served (setting page_size now room) m answers).options in
-    let alone = (served (setting page_size asked room) m answers).options in
-    (changes_options m answers ≡ false → (left ≡ now) × (alone ≡ asked))
-    × (changes_options m answers ≡ true → left ≡ alone)
 
 -- ---- returns
 

@@ -1,12 +1,4 @@
 pub mod Among
 pub mod Filling
-pub mod Guest
 pub mod Handles
-pub mod InitBeside
-pub mod Live
 pub mod Others
-pub mod Overlap
-pub mod Rewritten
-pub mod Runs
-pub mod Serial
-pub mod Several

@@ -26,14 +26,15 @@ use Rattle.fs_chain.specs.declared.state.ChainState.TheVariants as at
 use Rattle.fs_chain.specs.declared.chain_handle.ChainHandle.{ChainHandle}
 use Rattle.plain_machine.specs.Step.{Calls}
 use Rattle.plain_machine.specs.StepBy.{Act, reply_stores, return_acts}
-use Rattle.fs_live.specs.Live.{Abandons, Asked, GivesUpChain, Fetched, HasValidMaximum, KeepsQueue, LiveState}
-use Rattle.fs_live.specs.Live.{MovesDevice}
-use Rattle.fs_live.specs.Live.{Remaps}
-use Rattle.fs_live.specs.Live.{InFlightChain, Own, RepliesOwnBytes, Happens, after_giving_up}
-use Rattle.fs_live.specs.Live.{after_abandoning}
-use Rattle.fs_live.specs.Live.{after_own}
-use Rattle.fs_live.specs.Live.{room_of}
-use Rattle.fs_live.specs.Runs.{HasNoneInFlight}
+use Rattle.live_machine.specs.Live.{Abandons, Asked, GivesUpChain, Fetched, HasValidMaximum, KeepsQueue}
+use Rattle.live_machine.specs.Live.{LiveState}
+use Rattle.live_machine.specs.Live.{MovesDevice}
+use Rattle.live_machine.specs.Live.{Remaps}
+use Rattle.live_machine.specs.Live.{InFlightChain, Own, RepliesOwnBytes, Happens, after_giving_up}
+use Rattle.live_machine.specs.Live.{after_abandoning}
+use Rattle.live_machine.specs.Live.{after_own}
+use Rattle.live_machine.specs.Live.{room_of}
+use Rattle.live_machine.specs.Runs.{HasNoneInFlight}
 use Rattle.fs_live.specs.Handles.{HoldsDecoded, HoldsPopped, IsReached, IsReturn, live_of}
 
 -- ---- chains that are given up, and handles that are freed

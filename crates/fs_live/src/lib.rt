@@ -1,84 +1,23 @@
-//! Theorems on runs of several chains on several queues, while the guest writes. Each theorem is the contract
+//! Theorems that calls of handles are events of a run, while the guest writes. Each theorem is the contract
 //! of a function that does nothing.
 #![tactic(auto)]
 
 ghost use Rattle.fs_live.specs.Among.{HandleFindsStopped, HandleLoadsAmong, HandleEndsPopAmong};
 ghost use Rattle.fs_live.specs.Among.{WantedAmongIsMapped};
 ghost use Rattle.fs_live.specs.Filling.{HandleFillsBuffer, HandleFillsRange};
-ghost use Rattle.fs_live.specs.Guest.{PagesOfRun};
 ghost use Rattle.fs_live.specs.Handles.{HandleCalls, HandleRefusesPop, HandleDecodesRequest};
 ghost use Rattle.fs_live.specs.Handles.{HandleReceivesAnswer, HandleResetsQueue};
 ghost use Rattle.fs_live.specs.Handles.{HandleFaulty, HandleLoads, HandlePushesChain};
 ghost use Rattle.fs_live.specs.Handles.{HandleStoresNotification, HandleEndsPop};
 ghost use Rattle.fs_live.specs.Handles.{HandleGathers, HandleLeavesOut, HandleMakesCall};
-ghost use Rattle.fs_live.specs.Handles.{HandleSetsOptions, OptionsStay};
-ghost use Rattle.fs_live.specs.InitBeside.{InitBeside};
+ghost use Rattle.fs_live.specs.Handles.{HandleSetsOptions};
+ghost use Rattle.live_machine.specs.Options.{OptionsStay};
 ghost use Rattle.fs_live.specs.Others.{DecodedIsUnanswered, HandleAbandons, HandleGivesUpChain};
 ghost use Rattle.fs_live.specs.Others.{HandleMovesDevice};
 ghost use Rattle.fs_live.specs.Others.{HandleRemaps};
 ghost use Rattle.fs_live.specs.Others.{HandlePushesOwn, HandleRepliesInstead, HandleRepliesOwnBytes};
-ghost use Rattle.fs_live.specs.Overlap.{Overlap};
-ghost use Rattle.fs_live.specs.Rewritten.{Rewritten};
-ghost use Rattle.fs_live.specs.Runs.{CallsAreARun, LiveUsedInOrder, MovedGoesOn, OncePerLiveChain};
-ghost use Rattle.fs_live.specs.Runs.{OwnIsReturned, PagesAreReported, ReturnedIsStepBy, ReturnsAreMapped};
-ghost use Rattle.fs_live.specs.Runs.{ReturnsReport, RunsOnQueue, PositionsAgree, StoresStayThere};
-ghost use Rattle.fs_live.specs.Serial.{SingleIsStep, SerialIsKick};
-ghost use Rattle.fs_live.specs.Several.{ByEvent, KeepsOrder, OncePerChain, OneAtATime, UsedInOrder};
 
 use fuse_fs::FileSystem;
-
-/// The theorems on the pops and returns of one queue. Each popped chain ends once, and the used ring is
-/// filled in order. If chains are popped one at a time, or returned oldest first, each is returned at the
-/// position of its pop. With the event index, `used_event` enables the notification of a return exactly if
-/// the used index passes it.
-pub fn law_queues()
-    ensures once { OncePerChain }
-    ensures used { UsedInOrder }
-    ensures one { OneAtATime }
-    ensures order { KeepsOrder }
-    ensures event { ByEvent }
-{}
-
-/// The theorems on a run of several chains. The guest may write meanwhile, chains may be given up or
-/// abandoned, and the memory may get other mappings.
-/// - The calls are a run of the file system.
-/// - Each returned chain is by itself the plain machine's step by its loads. A chain with its caller's own
-///   bytes is stored as a step's reply is.
-/// - Stores stay where they may be, and those of a return are mapped. The pages that an event reports are
-///   those that its stores mark.
-/// - On each queue, chains are popped and returned as on that queue alone.
-/// - A queue without chains in flight has one position.
-/// - A device that moves then goes on as one that didn't.
-pub fn law_runs<F: FileSystem, G: FileSystem>()
-    ensures calls { CallsAreARun F.may }
-    ensures step { ReturnedIsStepBy F.may G.may }
-    ensures own { OwnIsReturned G F.may }
-    ensures stores { StoresStayThere F.may }
-    ensures pages { PagesAreReported F.may }
-    ensures tell { ReturnsReport F.may }
-    ensures log { PagesOfRun F.may }
-    ensures positions { PositionsAgree F.may }
-    ensures moves { MovedGoesOn F.may }
-    ensures places { ReturnsAreMapped F.may }
-    ensures queue { RunsOnQueue F.may }
-    ensures once { OncePerLiveChain F.may }
-    ensures used { LiveUsedInOrder F.may }
-{}
-
-/// One chain after another on one queue, over a memory that has the loaded bytes: the plain machine's steps,
-/// and its run for one available buffer notification.
-pub fn law_serial<F: FileSystem>()
-    ensures single { SingleIsStep F.may }
-    ensures kick { SerialIsKick F.may }
-{}
-
-/// Worked examples: two chains in flight that are returned in the other order; an available ring's entry that
-/// the driver rewrites after its load; INIT beside a chain whose call is pending.
-pub fn law_examples<F: FileSystem>()
-    ensures overlap { Overlap F.may }
-    ensures rewritten { Rewritten F.may }
-    ensures init { InitBeside F.may }
-{}
 
 /// The theorems that calls of handles are events of a run, by their contracts, while any other chains
 /// are in flight. These are events:

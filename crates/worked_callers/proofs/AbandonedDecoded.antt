@@ -26,10 +26,11 @@ use Rattle.fs_chain.specs.declared.popping.PopOutcome.TheVariants as says
 use Rattle.fs_chain.specs.declared.chain_handle.ChainHandle.{ChainHandle}
 use Rattle.fs_live.specs.Handles.{HandleDecodesRequest, HandleEndsPop, HandleMakesCall, HoldsResult, HoldsPopped, IsReached}
 use Rattle.fs_live.specs.Handles.{IsSessionOf, live_of}
-use Rattle.fs_live.specs.Live.{Abandons, DecodesRequest, Happens, LiveEvent, LiveRun, LiveState, InFlightChain, ReceivesAnswer, EndsPop}
-use Rattle.fs_live.specs.Live.{after_answer}
-use Rattle.fs_live.specs.Live.{after_decoding}
-use Rattle.fs_live.specs.Live.{after_abandoning, after_pop, asked_chain, calls_among, new_chain}
+use Rattle.live_machine.specs.Live.{Abandons, DecodesRequest, Happens, LiveEvent, LiveRun, LiveState, InFlightChain, ReceivesAnswer}
+use Rattle.live_machine.specs.Live.{EndsPop}
+use Rattle.live_machine.specs.Live.{after_answer}
+use Rattle.live_machine.specs.Live.{after_decoding}
+use Rattle.live_machine.specs.Live.{after_abandoning, after_pop, asked_chain, calls_among, new_chain}
 use Rattle.fs_live.specs.Others.{HandleAbandons}
 use Rattle.worked_callers.specs.Events.{IsAbandonedDecoded}
 use Rattle.worked_callers.specs.Notified.{IsWalkedBy, given_so_far}

@@ -25,12 +25,12 @@ use Rattle.notify.specs.Threads.{Loads, TakesOne, ThreadedQueue, Walker, after_a
 use Rattle.plain_machine.specs.Step.{Exchange, faulty}
 use Rattle.plain_machine.specs.StepBy.{Act}
 use Rattle.fs_live.specs.Handles.{HandleEndsPop, HandleFaulty, HoldsFaulty, HoldsResult, live_of}
-use Rattle.fs_live.specs.Live.{EndsPop, Happens, LiveEvent, LiveRun, LiveState, InFlightChain, PushesChain, after_pop, after_push}
-use Rattle.fs_live.specs.Live.{new_chain}
-use Rattle.fs_live.specs.Runs.{events_on, going}
-use Rattle.fs_live.specs.Several.{AtTheirPositions, KeepsOrder, LiveQueue, QueueEvent, returns_among, took}
-use Rattle.fs_live.specs.Several as several
-use Rattle.fs_live.proofs.Queues.{same_some, there_same}
+use Rattle.live_machine.specs.Live.{EndsPop, Happens, LiveEvent, LiveRun, LiveState, InFlightChain, PushesChain, after_pop, after_push}
+use Rattle.live_machine.specs.Live.{new_chain}
+use Rattle.live_machine.specs.Runs.{events_on, going}
+use Rattle.live_machine.specs.Several.{AtTheirPositions, KeepsOrder, LiveQueue, QueueEvent, returns_among, took}
+use Rattle.live_machine.specs.Several as several
+use Rattle.live_machine.proofs.Queues.{same_some, there_same}
 use Rattle.fs_notify.specs.Takers.{HasU16Numbers, IsModelOf, TakesByWalk, ways_of}
 use Rattle.worked_callers.specs.Events.{AreFaultyInOrder, IsPoppedChain, loaded_flags}
 use Rattle.worked_callers.specs.Notified.{ActsTo, IsWalkedBy, PopsWithIndex, given_so_far}

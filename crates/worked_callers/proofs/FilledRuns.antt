@@ -14,8 +14,8 @@ use Rattle.fs_chain.specs.declared.queue.QueueState.{QueueState}
 use Rattle.fs_chain.specs.declared.chain_handle.ChainHandle.{ChainHandle}
 use Rattle.fs_live.specs.Filling.{HandleFillsBuffer, HandleFillsRange, data_stores}
 use Rattle.fs_live.specs.Handles.{HandleEndsPop, live_of}
-use Rattle.fs_live.specs.Live.{FillsBuffer, LiveRun, LiveState, InFlightChain, after_pop, new_chain, room_of}
-use Rattle.fs_live.specs.Runs.{reported_by}
+use Rattle.live_machine.specs.Live.{FillsBuffer, LiveRun, LiveState, InFlightChain, after_pop, new_chain, room_of}
+use Rattle.live_machine.specs.Runs.{reported_by}
 use Rattle.worked_callers.specs.Events.{IsPoppedChain, pop_event}
 use Rattle.worked_callers.specs.Notified.{IsWalkedBy, given_so_far}
 use Rattle.worked_callers.specs.OwnReplies.{IsOfRun}

@@ -46,7 +46,7 @@ use Rattle.fs_chain.proofs.WholeSteps.{by_reply, serves_call}
 use Rattle.plain_machine.specs.Step.{Calls, Exchange, answers_alone, calls_alone}
 use Rattle.plain_machine.specs.StepBy.{Act}
 use Rattle.fs_live.specs.Handles.{HoldsDecoded}
-use Rattle.fs_live.specs.Live.{Asked, InFlightChain, PushedWith, room_of, serving}
+use Rattle.live_machine.specs.Live.{Asked, InFlightChain, PushedWith, room_of, serving}
 use Rattle.fs_live.proofs.Listed.{from_lists, list_command}
 use Rattle.worked_callers.specs.Events.{HasFront}
 

@@ -17,13 +17,13 @@ use Rattle.virtiofsd_fuse.specs.Grammar.{meaning, meant, row}
 use Rattle.virtiofsd_fuse.specs.Serving.{May}
 use Rattle.plain_machine.specs.Examples.{queue}
 use Rattle.plain_machine.specs.StepBy.{FindFlags}
-use Rattle.fs_live.specs.Live.{DecodesRequestSo, ReceivesAnswerSo, PushesChainSo, EndsPopSo, event_acts}
-use Rattle.fs_live.specs.Overlap.{at_positions, destroy, first, first_loads, first_table, second, second_loads, second_table, state}
-use Rattle.fs_live.specs.Overlap.{unknown}
-use Rattle.fs_live.specs.Serial.{FoundIn, SerialRun, return_in}
-use Rattle.fs_live.specs.Several.{LiveQueue}
-use Rattle.fs_live.proofs.OverlapRun.{first_fetches, first_mapped, second_fetches, second_mapped}
-use Rattle.fs_live.proofs.Queues.{same_some}
+use Rattle.live_machine.specs.Live.{DecodesRequestSo, ReceivesAnswerSo, PushesChainSo, EndsPopSo, event_acts}
+use Rattle.live_machine.specs.Overlap.{at_positions, destroy, first, first_loads, first_table, second, second_loads, second_table, state}
+use Rattle.live_machine.specs.Overlap.{unknown}
+use Rattle.live_machine.specs.Serial.{FoundIn, SerialRun, return_in}
+use Rattle.live_machine.specs.Several.{LiveQueue}
+use Rattle.live_machine.proofs.OverlapRun.{first_fetches, first_mapped, second_fetches, second_mapped}
+use Rattle.live_machine.proofs.Queues.{same_some}
 use Rattle.worked_callers.specs.InARow.{after_both, after_one, first_asked, first_exchange, first_used, one, second_answered, second_asked}
 use Rattle.worked_callers.specs.InARow.{second_exchange, second_used, two, with_both}
 

@@ -14,7 +14,7 @@ use Rattle.plain_machine.specs.Step.{Exchange}
 use Rattle.plain_machine.specs.StepBy as act
 use Rattle.plain_machine.specs.StepBy.{Act, reply_stores, return_acts}
 use Rattle.fs_live.specs.Handles.{IsReturn, live_of}
-use Rattle.fs_live.specs.Live.{Happens, LiveState, InFlightChain, PushesChain, after_push, room_of}
+use Rattle.live_machine.specs.Live.{Happens, LiveState, InFlightChain, PushesChain, after_push, room_of}
 use Rattle.fs_live.specs.Others.{PushedOwn}
 use Rattle.worked_callers.specs.Events.{loaded_flags}
 

@@ -13,7 +13,7 @@ use Rattle.fs_regions.specs.Places.{Mapped, places_in, untranslated}
 use Rattle.fs_chain.specs.Events.{avail_event_at, event_fault, event_miss, used_event_at}
 use Rattle.fs_chain.specs.declared.queue.QueueState.{QueueState}
 use Rattle.fs_live.specs.Handles.{live_of}
-use Rattle.fs_live.specs.Live.{pop_refusal}
+use Rattle.live_machine.specs.Live.{pop_refusal}
 
 -- regions behind a table without mappings
 abbrev pub behind_none : List Region → Mapped

@@ -27,7 +27,7 @@ use Rattle.fs_chain.specs.declared.state.ChainState as state
 use Rattle.fs_chain.specs.declared.state.ChainState.TheVariants as at
 use Rattle.fs_chain.specs.declared.chain_handle.ChainHandle.{ChainHandle}
 use Rattle.fs_chain.proofs.WholeWalks.{walk_comes}
-use Rattle.fs_live.proofs.Queues.{same_some}
+use Rattle.live_machine.proofs.Queues.{same_some}
 use Rattle.notify.specs.Kicks as kicks
 use Rattle.notify.specs.Kicks.{NotifyState}
 use Rattle.notify.specs.Threads.{DropsOne, Loads, SleepsNow, TakesOne, ThreadedQueue, Walker, WishIsThere, Wishes, after_act, walks}

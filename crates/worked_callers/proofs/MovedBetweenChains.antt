@@ -2,7 +2,7 @@
 use Rattle.std.proofs.Common.{List, ◌++◌}
 use Rattle.virtiofsd_fuse.specs.Serving.{May}
 use Rattle.fs_live.specs.Handles.{IsReached}
-use Rattle.fs_live.specs.Live.{LiveEvent, LiveRun, LiveState}
+use Rattle.live_machine.specs.Live.{LiveEvent, LiveRun, LiveState}
 use Rattle.worked_callers.proofs.ServedCrossed.{run_both}
 
 -- a run leads from a state that is reached to one that is

@@ -17,7 +17,7 @@ use Rattle.fs_chain.specs.declared.popping.PopOutcome.TheVariants as says
 use Rattle.fs_chain.specs.declared.queue.QueueState.{QueueState}
 use Rattle.plain_machine.specs.Step.{Calls}
 use Rattle.fs_live.specs.Handles.{live_of}
-use Rattle.fs_live.specs.Live.{LiveState, new_chain}
+use Rattle.live_machine.specs.Live.{LiveState, new_chain}
 use Rattle.worked_callers.specs.ChainCalls.{ArePopLoads}
 use Rattle.worked_callers.specs.Events.{IsPoppedChain, IsServedChain}
 use Rattle.worked_callers.specs.Notified.{IsWalkedBy, given_so_far}

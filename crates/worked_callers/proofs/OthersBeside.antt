@@ -31,18 +31,18 @@ use Rattle.fs_chain.specs.declared.popping.PopOutcome.TheVariants as says
 use Rattle.fs_chain.specs.declared.chain_handle.ChainHandle.{ChainHandle}
 use Rattle.plain_machine.specs.StepBy.{Act, reply_stores, return_acts}
 use Rattle.fs_live.specs.Handles.{HandleEndsPop, HoldsResult, HoldsPopped, IsReached, live_of}
-use Rattle.fs_live.specs.Live.{Abandons, GivesUpChain, Happens, HasNoneInFlight, HasValidMaximum, LiveEvent, LiveRun, LiveState}
-use Rattle.fs_live.specs.Live.{MovesDevice}
-use Rattle.fs_live.specs.Live.{InFlightChain, Own}
-use Rattle.fs_live.specs.Live.{RepliesOwnBytes}
-use Rattle.fs_live.specs.Live.{PushesChain, EndsPop, after_abandoning, after_giving_up, after_push, after_own, after_pop, calls_among}
-use Rattle.fs_live.specs.Live.{new_chain}
-use Rattle.fs_live.specs.Live.{room_of}
+use Rattle.live_machine.specs.Live.{Abandons, GivesUpChain, Happens, HasNoneInFlight, HasValidMaximum, LiveEvent, LiveRun, LiveState}
+use Rattle.live_machine.specs.Live.{MovesDevice}
+use Rattle.live_machine.specs.Live.{InFlightChain, Own}
+use Rattle.live_machine.specs.Live.{RepliesOwnBytes}
+use Rattle.live_machine.specs.Live.{PushesChain, EndsPop, after_abandoning, after_giving_up, after_push, after_own, after_pop, calls_among}
+use Rattle.live_machine.specs.Live.{new_chain}
+use Rattle.live_machine.specs.Live.{room_of}
 use Rattle.fs_live.specs.Others.{AreResetBy, PushedOwn, HandleAbandons, HandleGivesUpChain, HandleMovesDevice, HandlePushesOwn}
 use Rattle.fs_live.specs.Others.{HandleRepliesOwnBytes, FromUnreplied}
 use Rattle.fs_live.specs.Others.{HoldsOwnReply, recorded}
-use Rattle.fs_live.specs.Several.{took}
-use Rattle.fs_live.proofs.Queues.{same_some, there_same}
+use Rattle.live_machine.specs.Several.{took}
+use Rattle.live_machine.proofs.Queues.{same_some, there_same}
 use Rattle.worked_callers.specs.ChainCalls.{stop_of}
 use Rattle.worked_callers.specs.Events.{IsAbandonedChain, IsGivenUpChain, IsRepliedChain, loaded_flags}
 use Rattle.worked_callers.specs.Notified.{IsWalkedBy, given_so_far}

@@ -41,23 +41,24 @@ use Rattle.fs_chain.specs.declared.chain_handle.ChainHandle.{ChainHandle}
 use Rattle.plain_machine.specs.MarkedPages.{returned_addresses}
 use Rattle.plain_machine.specs.Step.{Calls, Exchange}
 use Rattle.plain_machine.specs.StepBy.{Act}
-use Rattle.fs_live.specs.Guest.{DeviceEvent, PagesOfRun, Writes}
+use Rattle.live_machine.specs.Guest.{DeviceEvent, PagesOfRun, Writes}
 use Rattle.fs_live.specs.Handles.{HandleDecodesRequest, HandleGathers, HandleEndsPop, HandleLeavesOut, HoldsResult, HoldsPopped, IsReached}
 use Rattle.fs_live.specs.Handles.{IsSessionOf, calls_left_out, calls_so_far, live_of}
-use Rattle.fs_live.specs.Live.{DecodesRequest, PushedWith, Happens, LiveEvent, LiveRun, LiveState, InFlightChain, Own, Phase}
-use Rattle.fs_live.specs.Live.{PushesChain, RepliesOwnBytes}
-use Rattle.fs_live.specs.Live.{EndsPop, after_decoding, after_push, after_own, after_pop, asked_chain, calls_among, new_chain}
-use Rattle.fs_live.specs.Live.{room_of}
+use Rattle.live_machine.specs.Live.{DecodesRequest, PushedWith, Happens, LiveEvent, LiveRun, LiveState, InFlightChain, Own, Phase}
+use Rattle.live_machine.specs.Live.{PushesChain, RepliesOwnBytes}
+use Rattle.live_machine.specs.Live.{EndsPop, after_decoding, after_push, after_own, after_pop, asked_chain, calls_among, new_chain}
+use Rattle.live_machine.specs.Live.{room_of}
 use Rattle.fs_live.specs.Others.{DecodedIsUnanswered, PushedOwn, HandlePushesOwn, HandleRepliesInstead, HandleRepliesOwnBytes}
 use Rattle.fs_live.specs.Others.{FromUnreplied}
 use Rattle.fs_live.specs.Others.{HoldsUnanswered}
 use Rattle.fs_live.specs.Others.{HoldsOwnReply}
-use Rattle.fs_live.specs.Runs.{IsAskedIn, IsBefore, OwnIsReturned, ReturnsReport, RunsOnQueue, events_on, going, in_flight_on, reported_by}
-use Rattle.fs_live.specs.Several.{InFlightId, IsSerial, LiveQueue, OncePerChain, OneAtATime, QueueEvent, RunsOver, UsedInOrder}
-use Rattle.fs_live.specs.Several.{heads_taken, returning, took}
-use Rattle.fs_live.specs.Several as several
-use Rattle.fs_live.proofs.Moved.{joined}
-use Rattle.fs_live.proofs.Queues.{same_some, there_same}
+use Rattle.live_machine.specs.Runs.{IsAskedIn, IsBefore, OwnIsReturned, ReturnsReport, RunsOnQueue, events_on, going, in_flight_on}
+use Rattle.live_machine.specs.Runs.{reported_by}
+use Rattle.live_machine.specs.Several.{InFlightId, IsSerial, LiveQueue, OncePerChain, OneAtATime, QueueEvent, RunsOver, UsedInOrder}
+use Rattle.live_machine.specs.Several.{heads_taken, returning, took}
+use Rattle.live_machine.specs.Several as several
+use Rattle.live_machine.proofs.Moved.{joined}
+use Rattle.live_machine.proofs.Queues.{same_some, there_same}
 use Rattle.worked_callers.specs.Events.{IsRepliedChain, IsOwnReplyOnceDecoded, loaded_flags}
 use Rattle.worked_callers.specs.Notified.{IsWalkedBy, given_so_far}
 use Rattle.worked_callers.specs.OwnReplies.{EndsAlone, IsOfRun, LogsOwn, ReturnsOwn, ReturnsAsStep}

@@ -18,11 +18,13 @@ use Rattle.fs_chain.specs.declared.popping.PopOutcome.TheVariants as says
 use Rattle.fs_chain.specs.declared.chain_handle.ChainHandle.{ChainHandle}
 use Rattle.plain_machine.specs.StepBy.{Act}
 use Rattle.fs_live.specs.Handles.{HandleEndsPop, HoldsResult, HoldsPopped, IsReached, live_of}
-use Rattle.fs_live.specs.Live.{Happens, IfKeepsReturns, KeepsQueue, KeepsReturns, LiveEvent, LiveRun, LiveState, InFlightChain, Own, Remaps}
-use Rattle.fs_live.specs.Live.{PushesChain, RepliesOwnBytes, EndsPop, after_push, after_own, after_pop, calls_among, new_chain, room_of}
+use Rattle.live_machine.specs.Live.{Happens, IfKeepsReturns, KeepsQueue, KeepsReturns, LiveEvent, LiveRun, LiveState, InFlightChain, Own}
+use Rattle.live_machine.specs.Live.{Remaps}
+use Rattle.live_machine.specs.Live.{PushesChain, RepliesOwnBytes, EndsPop, after_push, after_own, after_pop, calls_among, new_chain}
+use Rattle.live_machine.specs.Live.{room_of}
 use Rattle.fs_live.specs.Others.{PushedOwn, HandlePushesOwn, HandleRemaps, HandleRepliesOwnBytes, HoldsOwnReply}
-use Rattle.fs_live.specs.Several.{LiveQueue, took}
-use Rattle.fs_live.proofs.Queues.{same_some, there_same}
+use Rattle.live_machine.specs.Several.{LiveQueue, took}
+use Rattle.live_machine.proofs.Queues.{same_some, there_same}
 use Rattle.worked_callers.specs.Events.{IsRepliedChain, loaded_flags}
 use Rattle.worked_callers.specs.Notified.{IsWalkedBy, given_so_far}
 use Rattle.worked_callers.proofs.LoadedFlags.{pushed_own}

@@ -34,7 +34,7 @@ use Rattle.fs_live.specs.Handles.{HandleCalls, HandleDecodesRequest, HandleFault
 use Rattle.fs_live.specs.Handles.{HandleEndsPop}
 use Rattle.fs_live.specs.Handles.{HoldsFaulty, HoldsResult}
 use Rattle.fs_live.specs.Handles.{HoldsDecoded, HoldsPopped, IsReached, IsSessionOf, IsDecodedWhole, calls_decoded, live_of}
-use Rattle.fs_live.specs.Live.{
+use Rattle.live_machine.specs.Live.{
   Asked,
   ReceivesAnswer,
   DecodesRequest,
@@ -66,11 +66,11 @@ use Rattle.fs_live.specs.Live.{
   new_chain,
   room_of,
 }
-use Rattle.fs_live.specs.Runs.{EachStoresThere, NoReset, StoresStayThere}
-use Rattle.fs_live.specs.Serial.{IsOfChain, Single, events_in}
-use Rattle.fs_live.specs.Several.{LiveQueue, took}
-use Rattle.fs_live.proofs.Alone.{all_both}
-use Rattle.fs_live.proofs.Queues.{same_some, there_same}
+use Rattle.live_machine.specs.Runs.{EachStoresThere, NoReset, StoresStayThere}
+use Rattle.live_machine.specs.Serial.{IsOfChain, Single, events_in}
+use Rattle.live_machine.specs.Several.{LiveQueue, took}
+use Rattle.live_machine.proofs.Alone.{all_both}
+use Rattle.live_machine.proofs.Queues.{same_some, there_same}
 use Rattle.worked_callers.specs.Events.{HasFront, IsFaultyChain, answer_events, loaded_flags}
 use Rattle.worked_callers.specs.Notified.{IsWalkedBy, given_so_far}
 use Rattle.worked_callers.proofs.Fronts.{front_of, no_front}

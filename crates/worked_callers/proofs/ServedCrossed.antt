@@ -24,11 +24,12 @@ use Rattle.fs_live.specs.Handles.{HandleCalls, HandleDecodesRequest, HandlePushe
 use Rattle.fs_live.specs.Handles.{HoldsPopped, IsReached}
 use Rattle.fs_live.specs.Handles.{IsSessionOf}
 use Rattle.fs_live.specs.Handles.{calls_decoded, live_of}
-use Rattle.fs_live.specs.Live.{DecodesRequest, Happens, LiveEvent, LiveRun, LiveState, InFlightChain, PushesChain, EndsPop, after_decoding}
-use Rattle.fs_live.specs.Live.{after_push}
-use Rattle.fs_live.specs.Live.{after_pop, asked_chain, calls_among, new_chain, room_of}
-use Rattle.fs_live.specs.Several.{LiveQueue, took}
-use Rattle.fs_live.proofs.Queues.{same_some, there_same}
+use Rattle.live_machine.specs.Live.{DecodesRequest, Happens, LiveEvent, LiveRun, LiveState, InFlightChain, PushesChain, EndsPop}
+use Rattle.live_machine.specs.Live.{after_decoding}
+use Rattle.live_machine.specs.Live.{after_push}
+use Rattle.live_machine.specs.Live.{after_pop, asked_chain, calls_among, new_chain, room_of}
+use Rattle.live_machine.specs.Several.{LiveQueue, took}
+use Rattle.live_machine.proofs.Queues.{same_some, there_same}
 use Rattle.worked_callers.specs.Events.{AreCrossedChains, answer_events, loaded_flags}
 use Rattle.worked_callers.specs.Notified.{IsWalkedBy, given_so_far}
 use Rattle.worked_callers.proofs.Fronts.{front_of}

@@ -13,7 +13,7 @@ use Rattle.fs_chain.specs.declared.queue.QueueState.{QueueState}
 use Rattle.fs_chain.specs.Queues.{gave}
 use Rattle.plain_machine.specs.Step.{Calls}
 use Rattle.fs_live.specs.Handles.{IsReached, live_of}
-use Rattle.fs_live.specs.Live.{
+use Rattle.live_machine.specs.Live.{
   Abandons,
   DecodesRequest,
   EndsPop,
@@ -40,9 +40,10 @@ use Rattle.fs_live.specs.Live.{
   new_chain,
   room_of,
 }
-use Rattle.fs_live.specs.Runs.{IsAskedIn, IsBefore, IsServedPhase, PagesAreReported, ReturnIsMapped, ReturnedIsStepBy, ReturnsAreMapped}
-use Rattle.fs_live.specs.Runs.{are_mapped}
-use Rattle.fs_live.proofs.Moved.{joined}
+use Rattle.live_machine.specs.Runs.{IsAskedIn, IsBefore, IsServedPhase, PagesAreReported, ReturnIsMapped, ReturnedIsStepBy}
+use Rattle.live_machine.specs.Runs.{ReturnsAreMapped}
+use Rattle.live_machine.specs.Runs.{are_mapped}
+use Rattle.live_machine.proofs.Moved.{joined}
 use Rattle.worked_callers.specs.Events.{IsServedChain, answer_events, loaded_flags}
 use Rattle.worked_callers.specs.Notified.{IsWalkedBy, given_so_far}
 use Rattle.worked_callers.specs.ServedSteps.{IsReachedFromNone, ReturnsServed, ServesAsStep, ServesMapped, ServesMarking}

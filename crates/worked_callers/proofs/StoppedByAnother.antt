@@ -33,9 +33,9 @@ use Rattle.fs_chain.specs.declared.state.PopId.{PopId}
 use Rattle.fs_chain.proofs.WholeWalks.{walk_comes}
 use Rattle.fs_live.specs.Among.{HandleFindsStopped}
 use Rattle.fs_live.specs.Handles.{HandleEndsPop, HandleRefusesPop, HandleStoresNotification, live_of}
-use Rattle.fs_live.specs.Live.{EndsPop, Happens, LiveEvent, LiveRun, LiveState, RefusesPop, StoresNotification, after_pop, pop_refusal}
+use Rattle.live_machine.specs.Live.{EndsPop, Happens, LiveEvent, LiveRun, LiveState, RefusesPop, StoresNotification, after_pop, pop_refusal}
 use Rattle.fs_live.proofs.Declined.{goes_there}
-use Rattle.fs_live.proofs.Queues.{none_some}
+use Rattle.live_machine.proofs.Queues.{none_some}
 use Rattle.worked_callers.specs.Events.{FindsNoChain, IsPopRefusedByLoads}
 use Rattle.worked_callers.specs.Notified.{IsWalkedBy, given_so_far}
 use Rattle.worked_callers.proofs.NamedEvents.{idle_is, refusal_is}

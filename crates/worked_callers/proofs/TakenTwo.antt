@@ -14,9 +14,9 @@ use Rattle.fs_chain.specs.declared.queue.QueueState.{QueueState}
 use Rattle.fs_chain.specs.declared.popping.PopOutcome.TheVariants as says
 use Rattle.fs_chain.specs.declared.chain_handle.ChainHandle.{ChainHandle}
 use Rattle.fs_chain.proofs.WholeWalks.{walk_comes}
-use Rattle.fs_live.specs.Live.{Happens, LiveState, EndsPop, EndsPopIn}
-use Rattle.fs_live.specs.Runs.{events_on}
-use Rattle.fs_live.specs.Several.{heads_ended, heads_taken}
+use Rattle.live_machine.specs.Live.{Happens, LiveState, EndsPop, EndsPopIn}
+use Rattle.live_machine.specs.Runs.{events_on}
+use Rattle.live_machine.specs.Several.{heads_ended, heads_taken}
 use Rattle.worked_callers.proofs.ServedBeside.{chain_is}
 
 -- a walk that told a chain took it: places and limit stay

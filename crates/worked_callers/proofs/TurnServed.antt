@@ -10,7 +10,7 @@ use Rattle.fs_chain.specs.declared.loads.LoadOutcome.TheVariants as wents
 use Rattle.fs_chain.specs.declared.popping.PopOutcome.TheVariants as says
 use Rattle.fs_chain.specs.declared.queue.QueueState.{QueueState}
 use Rattle.plain_machine.specs.Step.{Calls}
-use Rattle.fs_live.specs.Live.{
+use Rattle.live_machine.specs.Live.{
   Abandons,
   DecodesRequest,
   EndsPop,
@@ -30,8 +30,8 @@ use Rattle.fs_live.specs.Live.{
   SetsOptions,
   StoresNotification,
 }
-use Rattle.fs_live.specs.Serial.{IsOfChain, events_in, return_in}
-use Rattle.fs_live.proofs.Alone.{all_both}
+use Rattle.live_machine.specs.Serial.{IsOfChain, events_in, return_in}
+use Rattle.live_machine.proofs.Alone.{all_both}
 use Rattle.worked_callers.specs.Events.{IsServedChain}
 use Rattle.worked_callers.specs.Notified.{IsWalkedBy, given_so_far}
 use Rattle.worked_callers.specs.Turns.{ServesTurn}

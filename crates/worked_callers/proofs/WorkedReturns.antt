@@ -4,8 +4,8 @@ use Rattle.fs_queue.specs.Returning.{Store}
 use Rattle.plain_machine.specs.Step.{Exchange}
 use Rattle.virtiofsd_fuse.specs.Examples.{le16}
 use Rattle.virtiofsd_fuse.specs.Serving.{May}
-use Rattle.fs_live.specs.Live.{Happens, LiveEvent, LiveRun, LiveState, InFlightChain, PushesChain}
-use Rattle.fs_live.specs.Runs.{IsServedPhase, ReturnedIsStepBy}
+use Rattle.live_machine.specs.Live.{Happens, LiveEvent, LiveRun, LiveState, InFlightChain, PushesChain}
+use Rattle.live_machine.specs.Runs.{IsServedPhase, ReturnedIsStepBy}
 use Rattle.worked_callers.specs.WorkedRuns.{LeadsToAStep}
 
 -- the state before the last event of a run

@@ -19,9 +19,10 @@ use Rattle.fs_chain.specs.declared.popping.PopOutcome.TheVariants as says
 use Rattle.fs_chain.specs.declared.queue.QueueState.{QueueState}
 use Rattle.fs_live.specs.Among.{LoadsAmong, WalksAmong}
 use Rattle.fs_live.specs.Handles.{live_of}
-use Rattle.fs_live.specs.Live.{Abandons, DecodesRequest, EndsPop, GivesUpChain, LiveEvent, LiveState}
-use Rattle.fs_live.specs.Live.{InFlightChain, Own, PushesChain, ReceivesAnswer, RepliesOwnBytes, asked_chain}
-use Rattle.fs_live.specs.Live.{new_chain}
+use Rattle.live_machine.specs.Live.{Abandons, DecodesRequest, EndsPop, GivesUpChain, LiveEvent, LiveState}
+use Rattle.live_machine.specs.Live.{InFlightChain, Own, PushesChain, ReceivesAnswer, RepliesOwnBytes}
+use Rattle.live_machine.specs.Live.{asked_chain}
+use Rattle.live_machine.specs.Live.{new_chain}
 use Rattle.worked_callers.specs.ChainCalls.{ArePopLoads}
 
 -- ---- a chain's pop

@@ -7,10 +7,10 @@ use Rattle.virtiofsd_fuse.specs.Examples.{le16, le32, zeros}
 use Rattle.plain_machine.specs.Examples.{blank, descriptor_bytes, put}
 use Rattle.plain_machine.specs.Step.{Exchange}
 use Rattle.plain_machine.specs.StepBy.{after_stores, stores_among}
-use Rattle.fs_live.specs.Live.{Asked, DecodesRequest, InFlightChain, ReceivesAnswer, event_acts}
-use Rattle.fs_live.specs.Overlap.{destroy, first, first_loads, first_table, second, second_loads}
-use Rattle.fs_live.specs.Overlap.{second_table, unknown}
-use Rattle.fs_live.specs.Serial.{Single, return_in}
+use Rattle.live_machine.specs.Live.{Asked, DecodesRequest, InFlightChain, ReceivesAnswer, event_acts}
+use Rattle.live_machine.specs.Overlap.{destroy, first, first_loads, first_table, second, second_loads}
+use Rattle.live_machine.specs.Overlap.{second_table, unknown}
+use Rattle.live_machine.specs.Serial.{Single, return_in}
 
 -- the table's four descriptors
 abbrev pub table : List ℕ

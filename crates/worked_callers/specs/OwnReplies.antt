@@ -11,14 +11,15 @@ use Rattle.fs_chain.specs.declared.chain_handle.ChainHandle.{ChainHandle}
 use Rattle.fs_chain.specs.declared.queue.QueueState.{QueueState}
 use Rattle.plain_machine.specs.MarkedPages.{returned_addresses}
 use Rattle.plain_machine.specs.Step.{Calls, Exchange, State}
-use Rattle.fs_live.specs.Guest.{DeviceEvent, HasMappings, MarksOfBoth, Writes, after_moments}
+use Rattle.live_machine.specs.Guest.{DeviceEvent, HasMappings, MarksOfBoth, Writes, after_moments}
 use Rattle.fs_live.specs.Handles.{IsReached, live_of}
-use Rattle.fs_live.specs.Live.{Happens, LiveEvent, LiveRun, LiveState, InFlightChain, Own, PushesChain}
-use Rattle.fs_live.specs.Live.{RepliesOwnBytes, calls_among}
-use Rattle.fs_live.specs.Live.{room_of}
-use Rattle.fs_live.specs.Runs.{IsAReturn, events_on, going, in_flight_on, reported_by}
-use Rattle.fs_live.specs.Several.{LiveQueue, StoresAsTaken, UsedFrom, heads_ended, heads_taken, returning}
-use Rattle.fs_live.specs.Several.{returns_among}
+use Rattle.live_machine.specs.Live.{Happens, LiveEvent, LiveRun, LiveState, InFlightChain, Own, PushesChain}
+use Rattle.live_machine.specs.Live.{RepliesOwnBytes, calls_among}
+use Rattle.live_machine.specs.Live.{room_of}
+use Rattle.live_machine.specs.Runs.{IsAReturn, events_on, going, in_flight_on, reported_by}
+use Rattle.live_machine.specs.Several.{LiveQueue, StoresAsTaken, UsedFrom, heads_ended, heads_taken}
+use Rattle.live_machine.specs.Several.{returning}
+use Rattle.live_machine.specs.Several.{returns_among}
 use Rattle.worked_callers.specs.Events.{IsPoppedChain, IsRepliedChain, loaded_flags, pop_event}
 
 -- a state that a run reaches. Its queue i, mappings and limit, of at most 2^31, are those of the caller's

@@ -10,10 +10,10 @@ use Rattle.fs_chain.specs.declared.chain_handle.ChainHandle.{ChainHandle}
 use Rattle.fs_chain.specs.declared.queue.QueueState.{QueueState}
 use Rattle.plain_machine.specs.Step.{Calls, Exchange, State}
 use Rattle.fs_live.specs.Handles.{live_of}
-use Rattle.fs_live.specs.Live.{Asked, Happens, LiveEvent, LiveRun, LiveState, InFlightChain, PushesChain}
-use Rattle.fs_live.specs.Live.{calls_among, room_of}
-use Rattle.fs_live.specs.Runs.{EachIsReported, HasNoneInFlight, IsAStep, ReturnIsMapped, are_mapped}
-use Rattle.fs_live.specs.Several.{LiveQueue}
+use Rattle.live_machine.specs.Live.{Asked, Happens, LiveEvent, LiveRun, LiveState, InFlightChain, PushesChain}
+use Rattle.live_machine.specs.Live.{calls_among, room_of}
+use Rattle.live_machine.specs.Runs.{EachIsReported, HasNoneInFlight, IsAStep, ReturnIsMapped, are_mapped}
+use Rattle.live_machine.specs.Several.{LiveQueue}
 use Rattle.worked_callers.specs.Events.{HasFront, IsServedChain, loaded_flags}
 
 -- a chain of queue i that was decoded from this request is returned: the events before its return, with these

@@ -9,8 +9,8 @@ use Rattle.fs_chain.specs.declared.queue.QueueState.{QueueState}
 use Rattle.plain_machine.specs.Step.{Calls}
 use Rattle.plain_machine.specs.StepBy.{after_stores, stores_among}
 use Rattle.fs_live.specs.Handles.{live_of}
-use Rattle.fs_live.specs.Live.{LiveRun, LiveState, event_acts}
-use Rattle.fs_live.specs.Serial.{IsOfChain, Single, events_in, return_in}
+use Rattle.live_machine.specs.Live.{LiveRun, LiveState, event_acts}
+use Rattle.live_machine.specs.Serial.{IsOfChain, Single, events_in, return_in}
 use Rattle.worked_callers.specs.Events.{IsServedChain}
 
 -- a chain of queue i is popped by a prefix of the given loads, decoded from this request, answered without

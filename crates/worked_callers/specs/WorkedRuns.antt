@@ -7,13 +7,14 @@ use Rattle.fuse_fs.specs.Calls.{Destroy, Done, Failed, FileRun, Wants}
 use Rattle.plain_machine.specs.Step.{Exchange, State}
 use Rattle.virtiofsd_fuse.specs.Examples.{le16}
 use Rattle.virtiofsd_fuse.specs.Serving.{May}
-use Rattle.fs_live.specs.InitBeside as init
-use Rattle.fs_live.specs.Live.{DecodesRequest, EndsPop, Happens, LiveEvent, LiveRun, LiveState, InFlightChain}
-use Rattle.fs_live.specs.Live.{PushesChain, ReceivesAnswer, calls_in}
-use Rattle.fs_live.specs.Overlap as overlap
-use Rattle.fs_live.specs.Rewritten as rewritten
-use Rattle.fs_live.specs.Runs.{IsAStep, IsBefore}
-use Rattle.fs_live.specs.Several.{LiveQueue}
+use Rattle.live_machine.specs.InitBeside as init
+use Rattle.live_machine.specs.Live.{DecodesRequest, EndsPop, Happens, LiveEvent, LiveRun, LiveState}
+use Rattle.live_machine.specs.Live.{InFlightChain}
+use Rattle.live_machine.specs.Live.{PushesChain, ReceivesAnswer, calls_in}
+use Rattle.live_machine.specs.Overlap as overlap
+use Rattle.live_machine.specs.Rewritten as rewritten
+use Rattle.live_machine.specs.Runs.{IsAStep, IsBefore}
+use Rattle.live_machine.specs.Several.{LiveQueue}
 
 -- the second chain is popped and returned while the call of the first one is pending, which is answered then
 abbrev pub overlap_events : List LiveEvent

@@ -14,7 +14,7 @@ ghost use Rattle.fs_chain.specs.Walks.{IsAllBut};
 ghost use Rattle.fs_chain.specs.declared.decoding.Decoded.TheVariants as asks;
 ghost use Rattle.fs_chain.specs.declared.state.ChainState.TheVariants as at;
 ghost use Rattle.fs_live.specs.Handles.{IsReached, IsSessionOf, live_of};
-ghost use Rattle.fs_live.specs.Live.{LiveEvent, LiveRun, LiveState, calls_among};
+ghost use Rattle.live_machine.specs.Live.{LiveEvent, LiveRun, LiveState, calls_among};
 ghost use Rattle.worked_callers.specs.ChainCalls.{DecodesPopped};
 ghost use Rattle.worked_callers.specs.Events.{IsAbandonedDecoded};
 

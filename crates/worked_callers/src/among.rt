@@ -13,7 +13,7 @@ ghost use Rattle.fs_chain.specs.declared.state.ChainState.TheVariants as at;
 ghost use Rattle.fs_chain.specs.declared.popping.PopOutcome.{PopOutcome};
 ghost use Rattle.fs_live.specs.Among.{WalksAmong, load_count_among};
 ghost use Rattle.fs_live.specs.Handles.{live_of};
-ghost use Rattle.fs_live.specs.Live.{RefusesPop, Happens, LiveEvent, LiveRun, LiveState};
+ghost use Rattle.live_machine.specs.Live.{RefusesPop, Happens, LiveEvent, LiveRun, LiveState};
 ghost use Rattle.worked_callers.specs.ChainCalls.{BeginsAndWants};
 ghost use Rattle.worked_callers.specs.Events.{IsIdlePop, loaded_flags};
 ghost use Rattle.worked_callers.specs.Notified.{IsRefusedCall};

@@ -7,9 +7,9 @@ ghost use Rattle.fs_chain.specs.declared.popping.PopOutcome.{PopOutcome};
 ghost use Rattle.fs_chain.specs.declared.state.ChainState.TheVariants as at;
 ghost use Rattle.notify.specs.Threads.{Loads, TakesOne, ThreadedQueue, Walker, after_act};
 ghost use Rattle.fs_live.specs.Handles.{live_of};
-ghost use Rattle.fs_live.specs.Live.{LiveEvent, LiveRun, LiveState};
-ghost use Rattle.fs_live.specs.Runs.{events_on, going};
-ghost use Rattle.fs_live.specs.Several.{AtTheirPositions, returns_among};
+ghost use Rattle.live_machine.specs.Live.{LiveEvent, LiveRun, LiveState};
+ghost use Rattle.live_machine.specs.Runs.{events_on, going};
+ghost use Rattle.live_machine.specs.Several.{AtTheirPositions, returns_among};
 ghost use Rattle.fs_notify.specs.Takers.{IsModelOf, ways_of};
 ghost use Rattle.worked_callers.specs.Events.{AreFaultyInOrder};
 ghost use Rattle.worked_callers.specs.Notified.{ActsTo, PopsWithIndex, given_so_far};
@@ -18,10 +18,11 @@ use crate::beside::take_faulty;
 use crate::takers::have_u16_numbers;
 use crate::wholes::push_reply;
 use fs_chain::{ChainError, ChainHandle, PopOutcome, QueueState};
-use fs_live::{law_handles, law_queues};
+use fs_live::law_handles;
 use fs_notify::law_takers;
 use fs_queue::ChainFault;
 use fuse_fs::FileSystem;
+use live_machine::law_queues;
 
 /// Pops a faulty chain: its head and its fault. The model's thread loads the index, and takes one.
 pub fn take_one_faulty(

@@ -18,7 +18,7 @@ ghost use Rattle.fs_chain.specs.declared.popping.PopOutcome.TheVariants as says;
 ghost use Rattle.fs_chain.specs.declared.state.ChainState.TheVariants as at;
 ghost use Rattle.plain_machine.specs.Step.{Calls};
 ghost use Rattle.fs_live.specs.Handles.{IsReached, IsSessionOf, live_of};
-ghost use Rattle.fs_live.specs.Live.{LiveEvent, LiveRun, LiveState, calls_among};
+ghost use Rattle.live_machine.specs.Live.{LiveEvent, LiveRun, LiveState, calls_among};
 ghost use Rattle.worked_callers.specs.ChainCalls.{AreCallsOf, HasMemoryOf};
 ghost use Rattle.worked_callers.specs.Events.{IsFaultyChain, IsGivenUpChain, IsServedChain};
 ghost use Rattle.worked_callers.specs.Notified.{IsWalkedBy};

@@ -11,11 +11,12 @@ ghost use Rattle.server_phases.specs.Answering.{TellsBytes};
 ghost use Rattle.fs_chain.specs.Queues.{gave, took};
 ghost use Rattle.fs_chain.specs.declared.state.ChainState.TheVariants as at;
 ghost use Rattle.fs_live.specs.Handles.{IsSessionOf, live_of};
-ghost use Rattle.fs_live.specs.Live.{LiveRun, LiveState, event_acts};
-ghost use Rattle.fs_live.specs.Overlap.{at_positions, state};
-ghost use Rattle.fs_live.specs.Serial.{FoundIn, IsAtRest, SerialRun, Single, events_in, plain, return_in};
-ghost use Rattle.fs_live.specs.Serial.{turn_of};
-ghost use Rattle.fs_live.specs.Several.{AtTheirPositions, LiveQueue};
+ghost use Rattle.live_machine.specs.Live.{LiveRun, LiveState, event_acts};
+ghost use Rattle.live_machine.specs.Overlap.{at_positions, state};
+ghost use Rattle.live_machine.specs.Serial.{FoundIn, IsAtRest, SerialRun, Single, events_in, plain};
+ghost use Rattle.live_machine.specs.Serial.{return_in};
+ghost use Rattle.live_machine.specs.Serial.{turn_of};
+ghost use Rattle.live_machine.specs.Several.{AtTheirPositions, LiveQueue};
 ghost use Rattle.fuse_fs.specs.Calls.{Destroy, Done, FileRun};
 ghost use Rattle.worked_callers.specs.InARow.{after_both, one, two, with_both};
 ghost use Rattle.worked_callers.specs.OwnReplies.{IsOfRun};
@@ -24,9 +25,10 @@ ghost use Rattle.worked_callers.specs.Events.{IsServedChain};
 
 use crate::wholes::{decode_and_answer, push_reply, walk_chain};
 use fs_chain::{ChainError, ChainHandle, QueueState};
-use fs_live::{law_handles, law_queues, law_serial};
+use fs_live::law_handles;
 use fuse_fs::FileSystem;
 use fuse_values::FileAnswer;
+use live_machine::{law_queues, law_serial};
 use server_phases::Session;
 
 /// Of two popped chains, if the first one is returned first, each is returned at the position of its pop.

@@ -6,15 +6,16 @@ ghost use Rattle.fs_regions.specs.Places.{places_in};
 ghost use Rattle.fs_chain.specs.Queues.{took};
 ghost use Rattle.fs_chain.specs.declared.state.ChainState.TheVariants as at;
 ghost use Rattle.fs_live.specs.Handles.{live_of};
-ghost use Rattle.fs_live.specs.Live.{LiveRun, LiveState, InFlightChain};
-ghost use Rattle.fs_live.specs.Runs.{in_flight_on};
+ghost use Rattle.live_machine.specs.Live.{LiveRun, LiveState, InFlightChain};
+ghost use Rattle.live_machine.specs.Runs.{in_flight_on};
 ghost use Rattle.worked_callers.specs.Events.{IsPoppedChain, pop_event};
 ghost use Rattle.worked_callers.specs.Notified.{IsWalkedBy};
 
 use crate::wholes::walk_chain;
 use fs_chain::{ChainError, ChainHandle, LoadOutcome, PopOutcome, QueueState};
-use fs_live::{law_handles, law_runs};
+use fs_live::law_handles;
 use fuse_fs::FileSystem;
+use live_machine::law_runs;
 
 /// Two handles pop two chains of one queue, the second one from the queue that the first pop leaves. Both
 /// chains are in flight then, each once.

@@ -9,7 +9,7 @@ ghost use Rattle.fs_regions.specs.Places.{places_in, untranslated};
 ghost use Rattle.fs_chain.specs.Events.{used_event_at};
 ghost use Rattle.fs_chain.specs.declared.state.ChainState.TheVariants as at;
 ghost use Rattle.fs_live.specs.Handles.{live_of};
-ghost use Rattle.fs_live.specs.Live.{Happens, LiveState, RefusesPop};
+ghost use Rattle.live_machine.specs.Live.{Happens, LiveState, RefusesPop};
 
 use crate::wholes::walk_by;
 use fs_chain::laws::{law_chains, law_misses};

@@ -11,10 +11,10 @@ ghost use Rattle.fs_regions.specs.Places.{places_in};
 ghost use Rattle.fs_chain.specs.Queues.{gave, reset_to, took};
 ghost use Rattle.fs_chain.specs.declared.state.ChainState.TheVariants as at;
 ghost use Rattle.fs_live.specs.Handles.{live_of};
-ghost use Rattle.fs_live.specs.Live.{Happens, LiveEvent, LiveRun, LiveState, MovesDevice, Remaps};
-ghost use Rattle.fs_live.specs.Live.{ResetsQueue};
+ghost use Rattle.live_machine.specs.Live.{Happens, LiveEvent, LiveRun, LiveState, MovesDevice, Remaps};
+ghost use Rattle.live_machine.specs.Live.{ResetsQueue};
 ghost use Rattle.fs_live.specs.Others.{recorded};
-ghost use Rattle.fs_live.specs.Runs.{HasNoneInFlight, unrecorded};
+ghost use Rattle.live_machine.specs.Runs.{HasNoneInFlight, unrecorded};
 ghost use Rattle.worked_callers.specs.ChainCalls.{IsResetBy};
 ghost use Rattle.worked_callers.specs.Events.{IsRepliedChain};
 ghost use Rattle.worked_callers.specs.OwnReplies.{IsOfRun};
@@ -24,10 +24,10 @@ use crate::moves::{only_queue, restore_one, save_one};
 use crate::others::{reply_beside, reset_by_record, reset_to_own_position};
 use crate::takers::have_u16_numbers;
 use fs_chain::{ChainError, ChainHandle, QueueState};
-use fs_live::law_runs;
 use fs_record::{RecordSink, RecordSource};
 use fuse_base::FsOptions;
 use fuse_fs::FileSystem;
+use live_machine::law_runs;
 use std::alloc::Global;
 
 /// Whether two queues agree on the parts that no record has: how many chains may be in flight, and the event

@@ -8,11 +8,11 @@ ghost use Rattle.fs_chain.specs.Queues.{gave};
 ghost use Rattle.fs_chain.specs.Whole.{PushedBy};
 ghost use Rattle.fs_chain.specs.declared.state.ChainState.TheVariants as at;
 ghost use Rattle.fs_live.specs.Handles.{live_of};
-ghost use Rattle.fs_live.specs.Several.{passes, returning};
+ghost use Rattle.live_machine.specs.Several.{passes, returning};
 
 use crate::seen::push_by;
 use fs_chain::{ChainError, ChainHandle, QueueState};
-use fs_live::law_queues;
+use live_machine::law_queues;
 
 /// Pushes a chain whose reply is known, with this used_event loaded. The driver is notified exactly if the
 /// used index passes it.

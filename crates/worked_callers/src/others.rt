@@ -20,12 +20,12 @@ ghost use Rattle.fs_chain.specs.declared.popping.PopOutcome.TheVariants as says;
 ghost use Rattle.fs_chain.specs.declared.state.ChainState.TheVariants as at;
 ghost use Rattle.plain_machine.specs.StepBy.{Act};
 ghost use Rattle.fs_live.specs.Handles.{IsReached, live_of};
-ghost use Rattle.fs_live.specs.Live.{Happens, LiveEvent, LiveRun, LiveState, MovesDevice, NonePending};
-ghost use Rattle.fs_live.specs.Live.{ResetsQueue};
-ghost use Rattle.fs_live.specs.Live.{Remaps};
-ghost use Rattle.fs_live.specs.Live.{calls_among};
+ghost use Rattle.live_machine.specs.Live.{Happens, LiveEvent, LiveRun, LiveState, MovesDevice, NonePending};
+ghost use Rattle.live_machine.specs.Live.{ResetsQueue};
+ghost use Rattle.live_machine.specs.Live.{Remaps};
+ghost use Rattle.live_machine.specs.Live.{calls_among};
 ghost use Rattle.fs_live.specs.Others.{PushedOwn, recorded};
-ghost use Rattle.fs_live.specs.Runs.{HasNoneInFlight, in_flight_on};
+ghost use Rattle.live_machine.specs.Runs.{HasNoneInFlight, in_flight_on};
 ghost use Rattle.worked_callers.specs.ChainCalls.{HasMemory, HasServedOne, IsResetBy, stop_of};
 ghost use Rattle.worked_callers.specs.Events.{IsAbandonedChain, IsGivenUpChain, IsRepliedChain};
 ghost use Rattle.worked_callers.specs.Events.{loaded_flags};
@@ -33,10 +33,11 @@ ghost use Rattle.worked_callers.specs.Notified.{IsWalkedBy};
 
 use crate::wholes::walk_chain;
 use fs_chain::{ChainError, ChainHandle, QueueState};
-use fs_live::{law_handles, law_runs};
+use fs_live::law_handles;
 use fs_queue::{Queue, QueueError};
 use fs_regions::GuestMap;
 use fuse_fs::FileSystem;
+use live_machine::law_runs;
 
 /// Pops a chain and gives it up. The same chains are in flight as before, and the chain is available again.
 pub fn drop_beside<F: FileSystem>(

@@ -12,8 +12,8 @@ ghost use Rattle.fuse_fs.specs.Calls.{FileRun};
 ghost use Rattle.fuse_values.specs.Values.{call_of};
 ghost use Rattle.fuse_values.specs.declared.call.FileCall as value;
 ghost use Rattle.fs_live.specs.Handles.{IsSessionOf, calls_left_out, calls_so_far};
-ghost use Rattle.fs_live.specs.Live.{LiveState};
-ghost use Rattle.fs_live.specs.Runs.{in_flight_on};
+ghost use Rattle.live_machine.specs.Live.{LiveState};
+ghost use Rattle.live_machine.specs.Runs.{in_flight_on};
 ghost use Rattle.worked_callers.specs.ChainCalls.{DecodesPopped, HasServedOne};
 ghost use Rattle.worked_callers.specs.Events.{IsRepliedChain, IsOwnReplyOnceDecoded};
 ghost use Rattle.worked_callers.specs.OwnReplies.{EndsAlone, IsOfRun, LogsOwn, ReportsOwn, ReturnsAsStep};
@@ -23,8 +23,9 @@ use crate::listings::{TwoEntries, add_entry, decode_call, leave_out};
 use crate::others::push_own;
 use crate::wholes::walk_chain;
 use fs_chain::{Added, ChainError, ChainHandle, QueueState};
-use fs_live::{law_handles, law_queues, law_runs};
+use fs_live::law_handles;
 use fuse_fs::{DirEntry, Entry, FileSystem};
+use live_machine::{law_queues, law_runs};
 use server_phases::Session;
 
 /// Pops a chain, replies with bytes of the caller's own, and returns it with them. The return reports the

@@ -6,7 +6,7 @@ ghost use Rattle.fs_regions.specs.Places.{places_in};
 ghost use Rattle.fs_chain.specs.Queues.{gave, took};
 ghost use Rattle.fs_chain.specs.declared.state.ChainState.TheVariants as at;
 ghost use Rattle.fs_live.specs.Handles.{live_of};
-ghost use Rattle.fs_live.specs.Live.{KeepsReturns, LiveEvent, LiveRun, LiveState, Remaps, calls_among};
+ghost use Rattle.live_machine.specs.Live.{KeepsReturns, LiveEvent, LiveRun, LiveState, Remaps, calls_among};
 ghost use Rattle.worked_callers.specs.ChainCalls.{HasMemory};
 ghost use Rattle.worked_callers.specs.Events.{IsRepliedChain};
 

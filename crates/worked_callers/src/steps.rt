@@ -8,7 +8,7 @@ ghost use Rattle.fs_chain.specs.Queues.{gave, took};
 ghost use Rattle.fs_chain.specs.declared.state.ChainState.TheVariants as at;
 ghost use Rattle.plain_machine.specs.Step.{Calls};
 ghost use Rattle.fs_live.specs.Handles.{IsSessionOf};
-ghost use Rattle.fs_live.specs.Live.{LiveState};
+ghost use Rattle.live_machine.specs.Live.{LiveState};
 ghost use Rattle.worked_callers.specs.ChainCalls.{AreCallsOf, HasServedOne};
 ghost use Rattle.worked_callers.specs.OwnReplies.{IsOfRun};
 ghost use Rattle.worked_callers.specs.ServedSteps.{IsReachedFromNone, ServesAsStep, ServesMapped};
@@ -16,9 +16,10 @@ ghost use Rattle.worked_callers.specs.ServedSteps.{ServesMarking};
 
 use crate::wholes::{decode_and_answer, push_reply, walk_chain};
 use fs_chain::{ChainError, ChainHandle, QueueState};
-use fs_live::{law_handles, law_runs};
+use fs_live::law_handles;
 use fuse_fs::FileSystem;
 use fuse_values::FileAnswer;
+use live_machine::law_runs;
 use server_phases::Session;
 
 /// Pops, decodes, answers and returns a chain, beside any other chains in flight. Its return is the plain

@@ -12,17 +12,18 @@ ghost use Rattle.fs_chain.specs.declared.state.ChainState.TheVariants as at;
 ghost use Rattle.plain_machine.specs.Run.{KickRun};
 ghost use Rattle.plain_machine.specs.Step.{Calls};
 ghost use Rattle.fs_live.specs.Handles.{IsSessionOf};
-ghost use Rattle.fs_live.specs.Live.{LiveState};
-ghost use Rattle.fs_live.specs.Serial.{FoundIn, plain, turn_of};
+ghost use Rattle.live_machine.specs.Live.{LiveState};
+ghost use Rattle.live_machine.specs.Serial.{FoundIn, plain, turn_of};
 ghost use Rattle.worked_callers.specs.ChainCalls.{AreCallsOf, HasServedOne};
 ghost use Rattle.worked_callers.specs.OwnReplies.{IsOfRun};
 ghost use Rattle.worked_callers.specs.Turns.{ServesTurn, after_its_push};
 
 use crate::wholes::{decode_and_answer, push_reply, walk_chain};
 use fs_chain::{ChainError, ChainHandle, QueueState};
-use fs_live::{law_handles, law_serial};
+use fs_live::law_handles;
 use fuse_fs::FileSystem;
 use fuse_values::FileAnswer;
+use live_machine::law_serial;
 use server_phases::Session;
 
 /// The loads of a chain's pop, and its request.

@@ -3,17 +3,17 @@
 ghost use Rattle.std.specs.Prelude.{◌≡◌, [], ◌∷◌, ◌++◌, List, Some, slice_get, true};
 ghost use Rattle.fuse_fs.specs.Calls.{Destroy, Done, Failed, Wants};
 ghost use Rattle.plain_machine.specs.Examples.{blank};
-ghost use Rattle.fs_live.specs.InitBeside as init;
-ghost use Rattle.fs_live.specs.Live.{Happens, LiveEvent, LiveRun, LiveState, MovesDevice, room_of};
-ghost use Rattle.fs_live.specs.Overlap.{at_positions, first_answered, first_exchange, first_used, state};
-ghost use Rattle.fs_live.specs.Rewritten as rewritten;
-ghost use Rattle.fs_live.specs.Runs.{EachIsReported, ReturnIsMapped, are_mapped};
-ghost use Rattle.fs_live.specs.Several.{LiveQueue};
+ghost use Rattle.live_machine.specs.InitBeside as init;
+ghost use Rattle.live_machine.specs.Live.{Happens, LiveEvent, LiveRun, LiveState, MovesDevice, room_of};
+ghost use Rattle.live_machine.specs.Overlap.{at_positions, first_answered, first_exchange, first_used, state};
+ghost use Rattle.live_machine.specs.Rewritten as rewritten;
+ghost use Rattle.live_machine.specs.Runs.{EachIsReported, ReturnIsMapped, are_mapped};
+ghost use Rattle.live_machine.specs.Several.{LiveQueue};
 ghost use Rattle.worked_callers.specs.WorkedRuns.{LeadsToAStep, init_events, overlap_events};
 ghost use Rattle.worked_callers.specs.WorkedRuns.{overlap_return, rewritten_events};
 
-use fs_live::{law_examples, law_runs};
 use fuse_fs::FileSystem;
+use live_machine::{law_examples, law_runs};
 
 /// DESTROY's chain, after which another one was popped and pushed, is a step by its own loads.
 pub fn law_overlap_is_step<F: FileSystem>()

@@ -4,7 +4,7 @@ use Rattle.fs_live.proofs.AmongLoads.{handle_loads_among}
 use Rattle.fs_live.proofs.Filling.{handle_fills, handle_fills_range}
 use Rattle.fs_live.proofs.Answered.{handle_answers, handle_asks, handle_calls, handle_gathers, handle_leaves_out, handle_makes_call}
 use Rattle.fs_live.proofs.NoneAmid.{handle_loads, handle_walks}
-use Rattle.fs_live.proofs.Options.{options_stay}
+use Rattle.live_machine.proofs.Options.{options_stay}
 use Rattle.fs_live.proofs.Others.{asked_is_held, handle_abandons, handle_drops, handle_maps, handle_moves, handle_replies}
 use Rattle.fs_live.proofs.Others.{handle_replies_instead, handle_returns_own}
 use Rattle.fs_live.proofs.Popped.{handle_refuses_pop}

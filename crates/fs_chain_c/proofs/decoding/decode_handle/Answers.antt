@@ -10,7 +10,14 @@ returns-in-Ok c =
         search rules,
         c.decode.new.self,
         c.in-Ok.told,
-        record { can = search rules; tells = search rules; wanted = search rules; session = search rules; stays = search rules },
+        record {
+          can = search rules;
+          tells = search rules;
+          wanted = search rules;
+          step = search rules;
+          session = search rules;
+          stays = search rules;
+        },
         c.tell-status.new.call,
         c.tell-status.ensures,
         ap (λ (n : ℕ). record c.tell-status.new.call { ticket = n }) (c.serial-ticket.ensures ∙ c.decode.ensures.same.0.2),

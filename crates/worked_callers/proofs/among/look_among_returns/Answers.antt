@@ -11,7 +11,7 @@ use Rattle.fs_chain.specs.declared.queue.QueueState.{QueueState}
 use Rattle.fs_chain.specs.declared.popping.PopOutcome.TheVariants as says
 use Rattle.fs_live.specs.Among.{WalksAmong}
 use Rattle.fs_live.specs.Handles.{live_of}
-use Rattle.fs_live.specs.Live.{EndsPop, after_pop}
+use Rattle.live_machine.specs.Live.{EndsPop, after_pop}
 use Rattle.worked_callers.specs.Events.{loaded_flags}
 use Rattle.worked_callers.proofs.Looks.{keeps_queue}
 use Rattle.worked_callers.proofs.NamedEvents.{idle_is}

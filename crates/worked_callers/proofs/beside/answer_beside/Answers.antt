@@ -3,7 +3,7 @@ use Rattle.std.specs.Prelude.{drop, length}
 use Rattle.fuse_values.specs.Answers.{answer_of}
 use Rattle.fuse_values.specs.Values.{call_of}
 use Rattle.virtiofsd_fuse.specs.Grammar.{meaning}
-use Rattle.fs_live.specs.Live.{after_answer, room_of}
+use Rattle.live_machine.specs.Live.{after_answer, room_of}
 use Rattle.worked_callers.proofs.ServedBeside.{options_after}
 use Rattle.worked_callers.proofs.beside.answer_beside.Goals as goal
 

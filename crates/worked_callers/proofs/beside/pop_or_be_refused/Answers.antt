@@ -5,7 +5,7 @@ use Rattle.fs_chain.specs.declared.loads.LoadOutcome.TheVariants as wents
 use Rattle.fs_chain.specs.declared.popping.PopOutcome as walked
 use Rattle.fs_chain.specs.declared.popping.PopOutcome.TheVariants as says
 use Rattle.fs_live.specs.Handles.{live_of}
-use Rattle.fs_live.specs.Live.{EndsPop, after_pop}
+use Rattle.live_machine.specs.Live.{EndsPop, after_pop}
 use Rattle.worked_callers.specs.Notified.{IsWalkedBy, given_so_far}
 use Rattle.worked_callers.proofs.NamedEvents.{refusal_is}
 use Rattle.worked_callers.proofs.Served.{if_ok}

@@ -1,6 +1,6 @@
 use Rattle.std.proofs.Common.{None, refl}
 use Rattle.fs_live.specs.Handles.{live_of}
-use Rattle.fs_live.specs.Live.{after_reset}
+use Rattle.live_machine.specs.Live.{after_reset}
 use Rattle.worked_callers.proofs.beside.reset_beside.Goals as goal
 
 pub returns : goal.returns

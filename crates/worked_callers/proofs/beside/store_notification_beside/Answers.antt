@@ -1,6 +1,6 @@
 use Rattle.std.proofs.Common.{[], ◌∷◌, refl}
 use Rattle.fs_chain.specs.Events.{store_of}
-use Rattle.fs_live.specs.Live.{StoresNotification}
+use Rattle.live_machine.specs.Live.{StoresNotification}
 use Rattle.worked_callers.proofs.ServedBeside.{sleep_is}
 use Rattle.worked_callers.proofs.beside.store_notification_beside.Goals as goal
 

@@ -1,6 +1,6 @@
 use Rattle.std.proofs.Common.{[], ◌∷◌, refl}
 use Rattle.fs_queue.specs.Returning.{next_position}
-use Rattle.fs_live.specs.Several.{PopsOne, PushesOne}
+use Rattle.live_machine.specs.Several.{PopsOne, PushesOne}
 use Rattle.worked_callers.proofs.live_queues.law_oldest_first.Goals as goal
 
 pub returns : goal.returns

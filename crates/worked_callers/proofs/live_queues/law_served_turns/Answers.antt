@@ -1,5 +1,5 @@
 use Rattle.std.proofs.Common.{[], ◌∷◌, refl}
-use Rattle.fs_live.specs.Overlap.{at_positions, state}
+use Rattle.live_machine.specs.Overlap.{at_positions, state}
 use Rattle.worked_callers.specs.InARow.{after_both, one, two, with_both}
 use Rattle.worked_callers.proofs.InARowRun.{in_a_row}
 use Rattle.worked_callers.proofs.live_queues.law_served_turns.Goals as goal

@@ -6,8 +6,8 @@ use Rattle.plain_machine.specs.Step.{Calls, Exchanged, Step}
 use Rattle.plain_machine.specs.StepBy.{after_stores, stores_among}
 use Rattle.fs_chain.specs.declared.queue.QueueState.{QueueState}
 use Rattle.fs_live.specs.Handles.{live_of}
-use Rattle.fs_live.specs.Live.{LiveEvent, calls_in, event_acts}
-use Rattle.fs_live.specs.Serial.{IsAtRest, plain, return_in}
+use Rattle.live_machine.specs.Live.{LiveEvent, calls_in, event_acts}
+use Rattle.live_machine.specs.Serial.{IsAtRest, plain, return_in}
 use Rattle.worked_callers.specs.Events.{IsServedChain}
 use Rattle.worked_callers.specs.Notified.{given_so_far}
 use Rattle.worked_callers.proofs.KeptMemory.{keeps_more, keeps_so, pop_keeps, reply_served_one}

@@ -5,9 +5,9 @@ use Rattle.fs_regions.specs.declared.step.CourseStep.TheVariants as step
 use Rattle.fs_chain.specs.Queues.{took}
 use Rattle.fs_chain.specs.declared.popping.PopOutcome.TheVariants as says
 use Rattle.fs_live.specs.Handles.{live_of}
-use Rattle.fs_live.specs.Live.{Happens, LiveEvent, LiveRun, InFlightChain, EndsPop, after_pop, new_chain}
-use Rattle.fs_live.specs.Runs.{events_on, in_flight_on}
-use Rattle.fs_live.specs.Several.{InFlightId, heads_taken}
+use Rattle.live_machine.specs.Live.{Happens, LiveEvent, LiveRun, InFlightChain, EndsPop, after_pop, new_chain}
+use Rattle.live_machine.specs.Runs.{events_on, in_flight_on}
+use Rattle.live_machine.specs.Several.{InFlightId, heads_taken}
 use Rattle.worked_callers.specs.Notified.{given_so_far}
 use Rattle.worked_callers.proofs.NamedEvents.{popped_by, told_so}
 use Rattle.worked_callers.proofs.TakenTwo.{goes_still, took_so, two_takes}

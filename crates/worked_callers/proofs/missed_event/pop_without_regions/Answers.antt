@@ -7,7 +7,7 @@ use Rattle.fs_chain.specs.declared.loads.LoadOutcome as went
 use Rattle.fs_chain.specs.declared.popping.PopOutcome.TheVariants as says
 use Rattle.vm_memory.specs.Memory.{Memory}
 use Rattle.fs_live.specs.Handles.{live_of}
-use Rattle.fs_live.specs.Live.{pop_refusal}
+use Rattle.live_machine.specs.Live.{pop_refusal}
 use Rattle.worked_callers.proofs.MissedEvent.{refused_unmapped, unmapped_event}
 use Rattle.worked_callers.proofs.Served.{if_ok, on_ok_by}
 use Rattle.worked_callers.proofs.missed_event.pop_without_regions.Goals as goal

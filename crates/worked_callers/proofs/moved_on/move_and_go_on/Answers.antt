@@ -6,10 +6,10 @@ use Rattle.fs_queue.specs.Queue.{Queue}
 use Rattle.fs_record.specs.Record.{IsRecord, Second}
 use Rattle.fs_regions.specs.Places.{places_in}
 use Rattle.fs_live.specs.Handles.{IsReached, live_of}
-use Rattle.fs_live.specs.Live.{HasNoneInFlight, LiveEvent, MovesDevice}
+use Rattle.live_machine.specs.Live.{HasNoneInFlight, LiveEvent, MovesDevice}
 use Rattle.fs_live.specs.Others.{recorded}
-use Rattle.fs_live.specs.Runs.{unrecorded}
-use Rattle.fs_live.specs.Several.{LiveQueue}
+use Rattle.live_machine.specs.Runs.{unrecorded}
+use Rattle.live_machine.specs.Several.{LiveQueue}
 use Rattle.worked_callers.proofs.MovedBetweenChains.{reached_run}
 use Rattle.worked_callers.proofs.ServedBeside.{reached_by}
 use Rattle.worked_callers.proofs.ServedCrossed.{run_both}

@@ -4,10 +4,10 @@ use Rattle.std.proofs.lemmas.Bool.Decides.{nat_tests}
 use Rattle.fs_chain.specs.Queues.{reset_to}
 use Rattle.fs_chain.specs.declared.queue.QueueState.{QueueState}
 use Rattle.fs_live.specs.Handles.{live_of}
-use Rattle.fs_live.specs.Live.{NonePending, InFlightChain, ResetsQueueSo}
-use Rattle.fs_live.specs.Runs.{in_flight_on}
-use Rattle.fs_live.specs.Several.{LiveQueue}
-use Rattle.fs_live.proofs.Queues.{there_same}
+use Rattle.live_machine.specs.Live.{NonePending, InFlightChain, ResetsQueueSo}
+use Rattle.live_machine.specs.Runs.{in_flight_on}
+use Rattle.live_machine.specs.Several.{LiveQueue}
+use Rattle.live_machine.proofs.Queues.{there_same}
 use Rattle.worked_callers.proofs.moved_on.reply_and_reset.Goals as goal
 
 pub returns : goal.returns

@@ -1,5 +1,5 @@
 use Rattle.std.proofs.Common.{inl, refl, subst}
-use Rattle.fs_live.specs.Live.{Happens, Remaps}
+use Rattle.live_machine.specs.Live.{Happens, Remaps}
 use Rattle.fs_regions.specs.Places.{Mapped, places_in}
 use Rattle.worked_callers.proofs.Served.{on_ok_more}
 use Rattle.worked_callers.proofs.others.map_beside.Goals as goal

@@ -1,8 +1,8 @@
 use Rattle.std.proofs.Common.{◌≡◌, None, subst, sym, ap, ◌∙◌}
 use Rattle.fs_chain.specs.declared.queue.QueueState.{QueueState}
 use Rattle.fs_live.specs.Handles.{live_of}
-use Rattle.fs_live.specs.Live.{Happens, LiveState, ResetsQueue, after_reset}
-use Rattle.fs_live.specs.Several.{LiveQueue}
+use Rattle.live_machine.specs.Live.{Happens, LiveState, ResetsQueue, after_reset}
+use Rattle.live_machine.specs.Several.{LiveQueue}
 use Rattle.worked_callers.proofs.OthersBeside.{begun_same}
 use Rattle.worked_callers.proofs.others.reset_to_own_position.Goals as goal
 

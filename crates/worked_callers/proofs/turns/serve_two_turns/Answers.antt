@@ -2,7 +2,7 @@ use Rattle.std.proofs.Common.{ap, ◌≤◌, ◌^◌, ℕ, [], ◌∷◌, refl, 
 use Rattle.fs_chain.specs.Queues.{gave, took}
 use Rattle.fs_chain.specs.declared.queue.QueueState.{QueueState}
 use Rattle.fs_live.specs.Handles.{live_of}
-use Rattle.fs_live.specs.Serial.{IsAtRest, events_in}
+use Rattle.live_machine.specs.Serial.{IsAtRest, events_in}
 use Rattle.worked_callers.specs.OwnReplies.{IsOfRun}
 use Rattle.worked_callers.specs.Turns.{after_its_push}
 use Rattle.worked_callers.proofs.MovedBetweenChains.{reached_run}

@@ -1,6 +1,6 @@
 use Rattle.std.proofs.Common.{[], refl}
-use Rattle.fs_live.specs.InitBeside.{first_answered, first_exchange, first_used}
-use Rattle.fs_live.specs.Overlap.{at_positions, state}
+use Rattle.live_machine.specs.InitBeside.{first_answered, first_exchange, first_used}
+use Rattle.live_machine.specs.Overlap.{at_positions, state}
 use Rattle.worked_callers.specs.WorkedRuns.{init_events}
 use Rattle.worked_callers.proofs.WorkedReturns.{returns_as_a_step}
 use Rattle.worked_callers.proofs.worked_runs.law_init_beside_is_step.Goals as goal

@@ -1,6 +1,6 @@
 use Rattle.std.proofs.Common.{arith, [], true, refl}
 use Rattle.virtiofsd_fuse.specs.Examples.{le16}
-use Rattle.fs_live.specs.Overlap.{at_positions, first_answered, first_exchange, first_used, state}
+use Rattle.live_machine.specs.Overlap.{at_positions, first_answered, first_exchange, first_used, state}
 use Rattle.worked_callers.specs.WorkedRuns.{overlap_events, overlap_return}
 use Rattle.worked_callers.proofs.WorkedReturns.{split_last}
 use Rattle.worked_callers.proofs.worked_runs.law_overlap_is_mapped.Goals as goal

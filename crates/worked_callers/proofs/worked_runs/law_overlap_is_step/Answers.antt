@@ -1,5 +1,5 @@
 use Rattle.std.proofs.Common.{[], refl}
-use Rattle.fs_live.specs.Overlap.{at_positions, first_answered, first_exchange, first_used, state}
+use Rattle.live_machine.specs.Overlap.{at_positions, first_answered, first_exchange, first_used, state}
 use Rattle.worked_callers.specs.WorkedRuns.{overlap_events}
 use Rattle.worked_callers.proofs.WorkedReturns.{returns_as_a_step}
 use Rattle.worked_callers.proofs.worked_runs.law_overlap_is_step.Goals as goal

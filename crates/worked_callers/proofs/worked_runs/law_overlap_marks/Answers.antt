@@ -1,6 +1,6 @@
 use Rattle.std.proofs.Common.{[], ◌∷◌, ◌++◌, List}
-use Rattle.fs_live.specs.Live.{LiveEvent, LiveRun}
-use Rattle.fs_live.specs.Overlap.{at_positions, state}
+use Rattle.live_machine.specs.Live.{LiveEvent, LiveRun}
+use Rattle.live_machine.specs.Overlap.{at_positions, state}
 use Rattle.worked_callers.specs.WorkedRuns.{overlap_events, overlap_return}
 use Rattle.worked_callers.proofs.worked_runs.law_overlap_marks.Goals as goal
 

@@ -1,8 +1,8 @@
 use Rattle.std.proofs.Common.{arith, [], ◌∷◌, ◌++◌, List, refl}
 use Rattle.plain_machine.specs.Examples.{blank}
-use Rattle.fs_live.specs.Live.{Happens, LiveEvent, LiveRun, MovesDevice}
-use Rattle.fs_live.specs.Overlap.{at_positions, state}
-use Rattle.fs_live.proofs.Moved.{joined}
+use Rattle.live_machine.specs.Live.{Happens, LiveEvent, LiveRun, MovesDevice}
+use Rattle.live_machine.specs.Overlap.{at_positions, state}
+use Rattle.live_machine.proofs.Moved.{joined}
 use Rattle.worked_callers.specs.WorkedRuns.{overlap_events, overlap_return}
 use Rattle.worked_callers.proofs.worked_runs.law_overlap_moves.Goals as goal
 

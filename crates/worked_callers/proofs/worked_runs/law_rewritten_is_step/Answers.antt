@@ -1,6 +1,6 @@
 use Rattle.std.proofs.Common.{[], refl}
-use Rattle.fs_live.specs.Overlap.{state}
-use Rattle.fs_live.specs.Rewritten.{at_positions, exchange, first_answered, stopped_at, used}
+use Rattle.live_machine.specs.Overlap.{state}
+use Rattle.live_machine.specs.Rewritten.{at_positions, exchange, first_answered, stopped_at, used}
 use Rattle.worked_callers.specs.WorkedRuns.{rewritten_events}
 use Rattle.worked_callers.proofs.WorkedReturns.{returns_as_a_step}
 use Rattle.worked_callers.proofs.worked_runs.law_rewritten_is_step.Goals as goal

@@ -1,0 +1,132 @@
+-- The answer to the call of a chain that the handle holds.
+use Rattle.std.proofs.Common.{◌≡◌, ◌+◌, ◌≤◌, ℕ, Bool, true, List, [], ◌∷◌, ◌++◌, length, Option, Some, None, refl, subst, sym, ap, ◌∙◌}
+use Rattle.std.specs.Prelude.{drop, IsTrue, IfOk, OnOk, Result, Ok, Err}
+use Rattle.fs_chain.specs.declared.error.ChainError.{ChainError}
+use Rattle.fs_queue.specs.Taking.{addresses_of, writable}
+use Rattle.fuse_fs.specs.Calls.{FileAnswer, FileCall, suits}
+use Rattle.fuse_values.specs.Answers.{answer_of}
+use Rattle.fuse_values.specs.Values.{call_of}
+use Rattle.fuse_values.specs.declared.answer.FileAnswer as made_answer
+use Rattle.virtiofsd_fuse.specs.Grammar.{FileCommand, Meaning, meaning}
+use Rattle.virtiofsd_fuse.specs.Serving.{ServedMessage, Setting, served, setting}
+use Rattle.virtiofsd_fuse.proofs.Serve.{served_fits}
+use Rattle.server_phases.specs.Answering.{Gives, TellsBytes, forget_calls, served_by}
+use Rattle.server_phases.specs.Waiting.{first_call}
+use Rattle.server_phases.specs.declared.answering.Sent.{Sent}
+use Rattle.server_phases.specs.declared.answering.Sent.TheVariants as sent
+use Rattle.server_phases.specs.declared.session.Session.{Session}
+use Rattle.plain_machine.specs.Step.{Calls, calls_alone}
+use Rattle.live_machine.specs.Live.{Asked, InFlightChain, Phase, asked_chain, room_of, room_of_phase}
+use Rattle.fs_chain.specs.Answers.{CanBeGiven, IfWaits, IsGiven, IsWaiting, data_len, reply_of}
+use Rattle.fs_chain.specs.Holds.{Answers, AnsweringIs, IsHeldIn, IsOutAs, KeepsReplyOf, Machine, served_so}
+use Rattle.fs_chain.specs.Orders.{front_len, front_of}
+use Rattle.fs_chain.specs.declared.answering.Replied.{Replied}
+use Rattle.fs_chain.specs.declared.chain_handle.ChainHandle.{ChainHandle}
+use Rattle.fs_chain.specs.declared.state.ChainReply.{ChainReply}
+use Rattle.fs_chain.specs.declared.state.ChainState as state
+use Rattle.fs_chain.specs.declared.state.ChainState.TheVariants as at
+use Rattle.fs_chain.specs.declared.state.InFlight.{InFlight}
+use Rattle.fs_chain.proofs.HoldsDecoded.{call_waits}
+use Rattle.fs_chain.proofs.WholeSteps.{by_calls, by_options, by_reply, data_is, isnt_cut, whole_len}
+
+-- the bytes of a reply, behind its front
+sent_bytes : (cs : List FileCall) (o n : ℕ) (x : Sent) (bytes : List ℕ) →
+    (behind : List ℕ) × ((served_by cs o x bytes).reply ≡ front_of (reply_of x n) ++ behind)
+sent_bytes cs o n (sent.Reply front) bytes = (bytes, refl)
+sent_bytes cs o n sent.NoRoom bytes = ([], refl)
+
+by_state : (st : state.ChainState) (was : Session) (new : ChainHandle) (a : made_answer.FileAnswer) (told : Replied)
+    → IfWaits st (λ out w. IsGiven (setting was.page_size was.options.0 w.room) w a out new.session.options.0 told new.state)
+    → IsWaiting st → IfWaits st (λ out w. CanBeGiven w a)
+    → (s : Machine) (before behind : List InFlightChain) (c : InFlightChain) (request bytes : List ℕ) (options : ℕ)
+    → s.chains ≡ before ++ c ∷ behind → c.phase ≡ Asked request options []
+    → IsHeldIn s.page_size c (Asked request options []) st was → TellsBytes bytes a
+    → (call : FileCall) × AnsweringIs s before behind c request options call (answer_of bytes a) told new
+by_state (at.Waits out w) was new a told given waits can s before behind c request bytes options is asked held data_told =
+    let is_out : IsOutAs c out = held.0 in
+    let call = call_of (drop 80 request) held.3 in
+    let asks = held.4 in
+    let command : FileCommand = asks.0 in
+    let left = new.session.options.0 in
+    let r = out.room_len in
+    let set = setting s.page_size options r in
+    let m = meaning options request r in
+    let in_room : Gives (setting was.page_size was.options.0 r) command bytes a given.0 left =
+    subst (λ (n : ℕ). Gives (setting was.page_size was.options.0 n) command bytes a given.0 left) asks.5
+    (given.3 command bytes asks.4 data_told) in
+    let gives : Gives set command bytes a given.0 left =
+    subst (λ (o : ℕ). Gives (setting s.page_size o r) command bytes a given.0 left) held.2.1
+    (subst (λ (p : ℕ). Gives (setting p was.options.0 r) command bytes a given.0 left) held.2.0 in_room) in
+    let cs : List FileCall = first_call command ∷ forget_calls given.0.forget in
+    let g : ServedMessage = served_by cs left given.0.sent bytes in
+    let serving : served set m (answer_of bytes a ∷ []) ≡ g =
+    ap (λ (k : Meaning). served set k (answer_of bytes a ∷ [])) asks.1 ∙ gives in
+    let n = data_len a in
+    let kept : ChainReply = reply_of given.0.sent n in
+    let len_is : front_len kept + kept.behind ≡ length g.reply =
+    whole_len given.0.sent n bytes (data_is bytes a data_told) ∙ sym (ap length (by_reply cs left n given.0.sent bytes)) in
+    let fits : length g.reply ≤ r =
+    subst (λ (x : ServedMessage). length x.reply ≤ r) serving (served_fits set m (answer_of bytes a ∷ [])) in
+    let b = sent_bytes cs left n given.0.sent bytes in
+    let keeps : KeepsReplyOf g.reply out kept =
+    record { behind = b.0; bytes = b.1; len = isnt_cut out kept (length g.reply) len_is fits is_out.small } in
+    let room : length (room_of c) ≡ r = ap (λ (p : Phase). length (room_of_phase p c.descriptors)) asked ∙ is_out.room_len in
+    let waiting : (served set m []).calls ≡ call ∷ [] = sym (call_waits set m command call asks.1 asks.2) in
+    let calls : Calls = (call, answer_of bytes a) ∷ [] in
+    let in_buffer : served_so s.page_size options request (length (addresses_of (writable c.descriptors))) calls ≡ g =
+    ap (λ (k : ℕ). served_so s.page_size options request k calls) is_out.room_len ∙ serving in
+    let P : state.ChainState → Type 0 =
+    λ st. IsHeldIn s.page_size (asked_chain c request options calls) (Asked request options calls) st new.session in (
+      call,
+      (
+        record {
+          before = before;
+          behind = behind;
+          out = is;
+          request = request;
+          options = options;
+          calls = [];
+          asked = asked;
+          pending = ap (λ (k : ℕ). (served (setting s.page_size options k) (meaning options request k) []).calls) room ∙ waiting;
+          is_one = subst (λ (k : FileCall). IsTrue (suits k (answer_of bytes a))) (sym asks.2) (can command bytes asks.4 data_told).0;
+          files = tt;
+          may_so = tt;
+          state = refl;
+        },
+        subst P (sym given.2) (
+          record {
+            taken = is_out.taken;
+            head = is_out.head;
+            request_len = is_out.request_len;
+            room_len = is_out.room_len;
+            small = is_out.small;
+          },
+          subst (λ (x : ServedMessage). KeepsReplyOf x.reply out kept) (sym serving) keeps,
+        ),
+        ap (λ (x : ServedMessage). x.calls) in_buffer ∙ by_calls cs left given.0.sent bytes
+            ∙ ap (λ (k : FileCall). k ∷ forget_calls given.0.forget) (sym asks.2)
+            ∙ sym (ap (λ (t : Replied). call ∷ forget_calls t.forget) given.1),
+        sym (ap (λ (x : ServedMessage). x.options) in_buffer ∙ by_options cs left given.0.sent bytes),
+      ),
+    )
+by_state st was new a told given waits can s before behind c request bytes options is asked held data_told = absurd waits
+
+pub answers : (old new : ChainHandle) (a : made_answer.FileAnswer) (told : Replied)
+    → IfWaits old.state (λ out w. IsGiven (setting old.session.page_size old.session.options.0 w.room) w a out new.session.options.0 told
+    new.state)
+    → IsWaiting old.state × IfWaits old.state (λ out w. CanBeGiven w a)
+    → Answers old new a told
+unfolding Answers
+answers old new a told given taken s before behind c request bytes options is asked held data_told =
+    let here : IsHeldIn s.page_size c (Asked request options []) old.state old.session =
+    subst (λ (p : Phase). IsHeldIn s.page_size c p old.state old.session) asked held in
+    by_state old.state old.session new a told given taken.0 taken.1 s before behind c request bytes options is asked here data_told
+
+-- by its result
+pub answers_from : (old new : ChainHandle) (a : made_answer.FileAnswer) (r : Result Replied ChainError)
+    → IfOk r (λ told. IfWaits old.state (λ out w. IsGiven (setting old.session.page_size old.session.options.0 w.room) w a out
+    new.session.options.0 told new.state))
+    → OnOk r (IsWaiting old.state × IfWaits old.state (λ out w. CanBeGiven w a))
+    → IfOk r (λ told. Answers old new a told)
+answers_from old new a (Ok told) given taken = answers old new a told given taken
+answers_from old new a (Err e) given taken = tt

@@ -1,0 +1,261 @@
+-- The decoding of a chain that the handle holds.
+use Rattle.std.proofs.Common.{arith, append-nil, ◌≡◌, ◌+◌, ◌≤◌, ◌^◌, ℕ, Bool, List, [], ◌∷◌, ◌++◌, length, Option, Some, None, refl, subst}
+use Rattle.std.proofs.Common.{sym, ap, ◌∙◌}
+use Rattle.std.specs.Prelude.{drop, IfOk, OnOk, Result, Ok, Err}
+use Rattle.fs_queue.specs.Taking.{addresses_of, readable, total_len, writable}
+use Rattle.fuse_fs.specs.Calls.{FileCall}
+use Rattle.fuse_values.specs.Values.{call_of}
+use Rattle.fuse_values.specs.declared.call.FileCall as made_call
+use Rattle.virtiofsd_fuse.specs.Grammar.{Asks, FileCommand, Lists, Meaning, One, Starts, meaning}
+use Rattle.virtiofsd_fuse.specs.Serving.{ServedMessage, Setting, served, setting}
+use Rattle.virtiofsd_fuse.specs.Serving as serving_words
+use Rattle.virtiofsd_fuse.proofs.Serve.{served_fits}
+use Rattle.server_phases.specs.Asking.{IsDecoded, IsRequestFront}
+use Rattle.server_phases.specs.Waiting.{first_call}
+use Rattle.server_phases.specs.declared.session.Session.{Session}
+use Rattle.live_machine.specs.Live.{DecodesRequest, Fetched, Happens, InFlightChain, Phase, after_decoding, asked_chain, room_of}
+use Rattle.live_machine.specs.Live.{room_of_phase}
+use Rattle.live_machine.proofs.Queues.{none_some}
+use Rattle.fs_chain.specs.Decoding.{IfUndecoded, KeepsCall, KeepsReply, TellsMeaning, asked_of}
+use Rattle.fs_chain.specs.Holds.{any_files, Decodes, DecodingIs, HoldsChain, IsDecodedIn, IsHeldIn, IsOutAs, KeepsReplyOf, Machine}
+use Rattle.fs_chain.specs.Holds.{calls_decoded}
+use Rattle.fs_chain.specs.Orders.{ask_error, front_in, front_len, front_of, reply_len}
+use Rattle.fs_chain.specs.Walks.{no_reply}
+use Rattle.fs_chain.specs.declared.chain_handle.ChainHandle.{ChainHandle}
+use Rattle.fs_chain.specs.declared.decoding.Decoded.{Decoded}
+use Rattle.fs_chain.specs.declared.decoding.Decoded.TheVariants as asks
+use Rattle.fs_chain.specs.declared.error.ChainError.{ChainError}
+use Rattle.fs_chain.specs.declared.error.ChainError.TheVariants as error
+use Rattle.fs_chain.specs.declared.state.ChainReply.{ChainReply}
+use Rattle.fs_chain.specs.declared.state.ChainState as state
+use Rattle.fs_chain.specs.declared.state.ChainState.TheVariants as at
+use Rattle.fs_chain.specs.declared.state.InFlight.{InFlight}
+use Rattle.fs_chain.proofs.WholeSteps.{isnt_cut}
+
+-- ---- the pending call
+
+first_waits : (s : Setting) (command : FileCommand) → (served s (Asks command) []).calls ≡ first_call command ∷ []
+first_waits s (One unique call) = refl
+first_waits s (Starts unique capable readahead) = refl
+first_waits s (Lists unique l) = refl
+
+pub call_waits : (s : Setting) (m : Meaning) (command : FileCommand) (c : FileCall) → m ≡ Asks command → c ≡ first_call command →
+    c ∷ [] ≡ (served s m []).calls
+call_waits s m command c is made =
+    ap (λ (k : FileCall). k ∷ []) made ∙ sym (ap (λ (k : Meaning). (served s k []).calls) is ∙ first_waits s command)
+
+-- ---- a reply without a call
+
+-- a reply that is a front alone, and fits
+pub keeps_front : (s : Setting) (m : Meaning) (calls : List FileCall) (given : ServedMessage) (out kept_out : InFlight) (kept : ChainReply)
+    → kept_out ≡ out → kept.behind ≡ 0 → given.reply ≡ front_of kept → length given.reply ≤ out.room_len → out.room_len ≤ 2 ^ 31
+    → KeepsReplyOf given.reply out kept
+keeps_front s m calls given out kept_out kept same none is fits small =
+    let zero : front_len kept + 0 ≡ front_len kept = omega arith in
+    let len_is : front_len kept + kept.behind ≡ length given.reply =
+    ap (λ (n : ℕ). front_len kept + n) none ∙ zero ∙ sym (ap length is) in
+    record {
+      behind = [];
+      bytes = is ∙ sym (append-nil (front_of kept));
+      len = isnt_cut out kept (length given.reply) len_is fits small;
+    }
+
+-- ---- what is kept
+
+-- the result is the server's, and the handle holds the decoded chain
+abbrev DecodedSo : (page_size options : ℕ) → (request : List ℕ) → InFlightChain → InFlight → Decoded → state.ChainState → Session → Type 0
+DecodedSo page_size options request c out made st session =
+    (calls_decoded (drop 80 request) made ≡ (served (setting page_size options out.room_len) (meaning options request out.room_len)
+    []).calls)
+    × IsHeldIn page_size (asked_chain c request options []) (asked_chain c request options []).phase st session
+
+by_call : (page_size options : ℕ) (request : List ℕ) (c : InFlightChain) (out : InFlight) (made : made_call.FileCall)
+    (st : state.ChainState) (session : Session) → IsOutAs c out → IsDecodedIn page_size options session
+    → KeepsCall (setting page_size options out.room_len) (meaning options request out.room_len) (drop 80 request) made out st
+    → DecodedSo page_size options request c out (asks.Call made) st session
+by_call page_size options request c out made (at.Waits kept w) session is_out decoded keeps =
+    let a = keeps.1 in
+    let P : InFlight → Type 0 = λ o. IsHeldIn page_size (asked_chain c request options []) (asked_chain c request options []).phase
+    (at.Waits o w) session in (
+      call_waits (setting page_size options out.room_len) (meaning options request out.room_len) a.0 (call_of (drop 80 request) made) a.1
+          a.2,
+      subst P (sym keeps.0) (
+        record {
+          taken = is_out.taken;
+          head = is_out.head;
+          request_len = is_out.request_len;
+          room_len = is_out.room_len;
+          small = is_out.small;
+        },
+        refl,
+        decoded,
+        made,
+        a,
+        keeps.2,
+      ),
+    )
+by_call page_size options request c out made (at.Lists kept l) session is_out decoded keeps =
+    let a = keeps.1 in
+    let P : InFlight → Type 0 = λ o. IsHeldIn page_size (asked_chain c request options []) (asked_chain c request options []).phase
+    (at.Lists o l) session in (
+      call_waits (setting page_size options out.room_len) (meaning options request out.room_len) a.0 (call_of (drop 80 request) made) a.1
+          a.2,
+      subst P (sym keeps.0) (
+        record {
+          taken = is_out.taken;
+          head = is_out.head;
+          request_len = is_out.request_len;
+          room_len = is_out.room_len;
+          small = is_out.small;
+        },
+        refl,
+        decoded,
+        made,
+        a,
+      ),
+    )
+by_call page_size options request c out made st session is_out decoded keeps = absurd keeps
+
+-- by a reply that is known
+known : (page_size options : ℕ) (request : List ℕ) (c : InFlightChain) (out kept : InFlight) (reply : ChainReply) (session : Session)
+    (given : ServedMessage) → IsOutAs c out → kept ≡ out → reply.behind ≡ 0
+    → served (setting page_size options out.room_len) (meaning options request out.room_len) [] ≡ given → given.calls ≡ []
+    → given.reply ≡ front_of reply
+    → ([] ≡ (served (setting page_size options out.room_len) (meaning options request out.room_len) []).calls)
+    × IsHeldIn page_size (asked_chain c request options []) (asked_chain c request options []).phase (at.HasReply kept reply) session
+known page_size options request c out kept reply session given is_out same none serving no_calls is =
+    let s = setting page_size options out.room_len in
+    let m = meaning options request out.room_len in
+    let fits : length given.reply ≤ out.room_len =
+    subst (λ (x : ServedMessage). length x.reply ≤ out.room_len) serving (served_fits s m []) in
+    let keeps : KeepsReplyOf given.reply out reply = keeps_front s m [] given out kept reply same none is fits is_out.small in
+    let P : InFlight → Type 0 = λ o. IsHeldIn page_size (asked_chain c request options []) (asked_chain c request options []).phase
+    (at.HasReply o reply) session in (
+      sym (ap (λ (k : ServedMessage). k.calls) serving ∙ no_calls),
+      subst P (sym same) (
+        record {
+          taken = is_out.taken;
+          head = is_out.head;
+          request_len = is_out.request_len;
+          room_len = is_out.room_len;
+          small = is_out.small;
+        },
+        subst (λ (x : ServedMessage). KeepsReplyOf x.reply out reply) (sym serving) keeps,
+      ),
+    )
+
+by_front : (page_size options : ℕ) (request : List ℕ) (c : InFlightChain) (out kept : InFlight) (reply : ChainReply) (session : Session)
+    (f : Option (List ℕ)) → IsOutAs c out → kept ≡ out → reply.behind ≡ 0 → reply.front ≡ f
+    → IsDecoded (setting page_size options out.room_len) (meaning options request out.room_len) (drop 80 request) (asked_of f)
+    → ([] ≡ (served (setting page_size options out.room_len) (meaning options request out.room_len) []).calls)
+    × IsHeldIn page_size (asked_chain c request options []) (asked_chain c request options []).phase (at.HasReply kept reply) session
+by_front page_size options request c out kept reply session None is_out same none front told =
+    known page_size options request c out kept reply session
+    (record { calls = []; options = options; reply = []; fault = None }) is_out same none told refl (sym (ap front_in front))
+by_front page_size options request c out kept reply session (Some bytes) is_out same none front told =
+    known page_size options request c out kept reply session
+    (record { calls = []; options = options; reply = bytes; fault = None }) is_out same none told.0 refl (sym (ap front_in front))
+
+by_reply : (page_size options : ℕ) (request : List ℕ) (c : InFlightChain) (out : InFlight) (st : state.ChainState) (session : Session)
+    → IsOutAs c out
+    → KeepsReply (setting page_size options out.room_len) (meaning options request out.room_len) (drop 80 request) out st
+    → DecodedSo page_size options request c out asks.Nothing st session
+by_reply page_size options request c out (at.HasReply kept reply) session is_out keeps =
+    by_front page_size options request c out kept reply session reply.front is_out keeps.0 keeps.1 refl keeps.2
+by_reply page_size options request c out st session is_out keeps = absurd keeps
+
+-- ---- the result
+
+-- a decoding with these calls is an event
+decoded_event : (s : Machine) (before behind : List InFlightChain) (c : InFlightChain) (request : List ℕ) (out : InFlight) (told : Decoded)
+    → s.chains ≡ before ++ c ∷ behind → c.phase ≡ Fetched → IsOutAs c out → length request ≡ total_len (readable c.descriptors)
+    → calls_decoded (drop 80 request) told
+    ≡ (served (setting s.page_size s.options out.room_len) (meaning s.options request out.room_len) []).calls
+    → Happens any_files s (DecodesRequest c request (calls_decoded (drop 80 request) told)) (after_decoding s before behind c request)
+decoded_event s before behind c request out told is fresh is_out len calls =
+    let room : length (room_of c) ≡ out.room_len =
+    ap (λ (p : Phase). length (room_of_phase p c.descriptors)) fresh ∙ is_out.room_len in
+    record {
+      before = before;
+      behind = behind;
+      out = is;
+      fresh = fresh;
+      whole = len;
+      tells = calls ∙ ap (λ (n : ℕ). (served (setting s.page_size s.options n) (meaning s.options request n) []).calls) (sym room);
+      state = refl;
+    }
+
+by_told : (s : Machine) (before behind : List InFlightChain) (c : InFlightChain) (request : List ℕ) (out : InFlight) (new : ChainHandle)
+    (told : Decoded)
+    → s.chains ≡ before ++ c ∷ behind → c.phase ≡ Fetched → IsOutAs c out → IsDecodedIn s.page_size s.options new.session
+    → length request ≡ total_len (readable c.descriptors)
+    → TellsMeaning (setting s.page_size s.options out.room_len) (meaning s.options request out.room_len) (drop 80 request) out told
+    new.state
+    → DecodingIs s before behind c request new told
+by_told s before behind c request out new (asks.More n) is fresh is_out session len tells =
+    let P : state.ChainState → Type 0 = λ st. IsHeldIn s.page_size c c.phase st new.session in
+    let Q : Phase → Type 0 = λ p. IsHeldIn s.page_size c p (at.Taken out) new.session in
+    subst P (sym tells) (subst Q (sym fresh) is_out)
+by_told s before behind c request out new (asks.Call made) is fresh is_out session len tells =
+    let so = by_call s.page_size s.options request c out made new.state new.session is_out session tells in
+    (decoded_event s before behind c request out (asks.Call made) is fresh is_out len so.0, so.1)
+by_told s before behind c request out new asks.Nothing is fresh is_out session len tells =
+    let so = by_reply s.page_size s.options request c out new.state new.session is_out tells in
+    (decoded_event s before behind c request out asks.Nothing is fresh is_out len so.0, so.1)
+by_told s before behind c request out new (asks.Fault e) is fresh is_out session len tells =
+    let so = known s.page_size s.options request c out out no_reply new.session
+    (serving_words.no_reply [] s.options (Some e)) is_out refl refl tells.1 refl refl in (
+      decoded_event s before behind c request out (asks.Fault e) is fresh is_out len so.0,
+      subst (λ (st : state.ChainState). IsHeldIn s.page_size (asked_chain c request s.options [])
+          (asked_chain c request s.options []).phase st new.session) (sym tells.0) so.1,
+    )
+
+taken_phase : (page_size : ℕ) (c : InFlightChain) (p : Phase) (out : InFlight) (session : Session) →
+    IsHeldIn page_size c p (at.Taken out) session → (p ≡ Fetched) × IsOutAs c out
+taken_phase page_size c Fetched out session held = (refl, held)
+taken_phase page_size c p out session held = absurd held
+
+-- what a decoding from this state says
+abbrev Says : state.ChainState → Session → (front : List ℕ) → Decoded → (new : ChainHandle) → Type 0
+Says st session front told new = IfUndecoded st (λ out. (whole : List ℕ) → out.request_len ≡ length whole → IsRequestFront front whole →
+    TellsMeaning (setting session.page_size session.options.0 out.room_len) (meaning session.options.0 whole out.room_len) (drop 80 whole)
+    out told new.state)
+
+by_state : (st : state.ChainState) (was : Session) (new : ChainHandle) (session : Session) (front : List ℕ) (told : Decoded)
+    → ask_error st (length front) ≡ None → Says st session front told new → new.session ≡ session
+    → (s : Machine) (before behind : List InFlightChain) (c : InFlightChain) (request : List ℕ)
+    → s.chains ≡ before ++ c ∷ behind → IsHeldIn s.page_size c c.phase st was → IsDecodedIn s.page_size s.options session
+    → length request ≡ total_len (readable c.descriptors) → IsRequestFront front request
+    → DecodingIs s before behind c request new told
+by_state (at.Taken out) was new session front told clear says kept s before behind c request is held decoded len begins =
+    let so = taken_phase s.page_size c c.phase out was held in
+    let is_out : IsOutAs c out = so.1 in
+    let by = says request (is_out.request_len ∙ sym len) begins in
+    let tells : TellsMeaning (setting s.page_size s.options out.room_len) (meaning s.options request out.room_len) (drop 80 request) out
+    told
+    new.state =
+    subst (λ (p : ℕ). TellsMeaning (setting p s.options out.room_len) (meaning s.options request out.room_len) (drop 80 request) out told
+    new.state) decoded.0
+    (subst (λ (a : ℕ). TellsMeaning (setting session.page_size a out.room_len) (meaning a request out.room_len) (drop 80 request) out told
+    new.state) decoded.1 by) in
+    let there : IsDecodedIn s.page_size s.options new.session = subst (IsDecodedIn s.page_size s.options) (sym kept) decoded in
+    by_told s before behind c request out new told is so.0 is_out there len tells
+by_state st was new session front told clear says kept s before behind c request is held decoded len begins =
+    absurd (none_some error.WrongOrder (sym clear))
+
+pub decodes : (old new : ChainHandle) (session : Session) (front : List ℕ) (told : Decoded)
+    → ask_error old.state (length front) ≡ None → Says old.state session front told new → new.session ≡ session
+    → Decodes old new session front told
+unfolding Decodes
+decodes old new session front told clear says kept s before behind c request is held decoded len begins =
+    by_state old.state old.session new session front told clear says kept s before behind c request is held decoded len begins
+
+-- by its state, and its result
+pub decodes_from : (old new : ChainHandle) (session : Session) (front : List ℕ) (r : Result Decoded ChainError) (out : InFlight)
+    → old.state ≡ at.Taken out → OnOk r (ask_error (at.Taken out) (length front) ≡ None)
+    → IfOk r (λ told. Says (at.Taken out) session front told new) → OnOk r (new.session ≡ session)
+    → IfOk r (λ told. Decodes old new session front told)
+decodes_from old new session front (Ok told) out is clear says kept =
+    decodes old new session front told (subst (λ (st : state.ChainState). ask_error st (length front) ≡ None) (sym is) clear)
+    (subst (λ (st : state.ChainState). Says st session front told new) (sym is) says) kept
+decodes_from old new session front (Err e) out is clear says kept = tt

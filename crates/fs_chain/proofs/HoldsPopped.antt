@@ -1,0 +1,433 @@
+-- The calls of a pop, each as it finds its queue.
+use Rattle.std.proofs.Common.{arith, inl, inr, ◌≡◌, ◌+◌, ◌≤◌, ◌<◌, ◌^◌, ℕ, Bool, true, List, [], ◌∷◌, length, Option, Some, None, slice_get}
+use Rattle.std.proofs.Common.{refl, subst, sym, ap, ◌∙◌}
+use Rattle.fs_chain.specs.declared.error.ChainError.{ChainError}
+use Rattle.std.specs.Prelude.{IfOk, Result, Ok, Err}
+use Rattle.std.specs.Prelude.{◌⊎◌, false, is_some, if◌then◌else◌, not, IsTrue, unwrap_or}
+use Rattle.std.proofs.lemmas.Bool.{true≢false}
+use Rattle.vm_iotlb.specs.declared.iova.IovaRange.{IovaRange}
+use Rattle.vm_iotlb.specs.declared.permissions.Permissions.{Permissions}
+use Rattle.vm_iotlb.specs.declared.permissions.Permissions.TheVariants.{Read, Write}
+use Rattle.vm_memory.specs.Memory.{Memory, reach}
+use Rattle.fs_queue.specs.Chain.{Descriptor}
+use Rattle.fs_queue.specs.Queue.{Queue, with_stop}
+use Rattle.fs_queue.specs.Taking.{Refuses, addresses_of, after_refusal, readable, stops_queue, total_len, writable}
+use Rattle.fs_queue.specs.WalkingView.{at_position}
+use Rattle.fs_queue.specs.declared.fault.ChainFault.{ChainFault}
+use Rattle.fs_queue.specs.declared.fault.QueueError.{QueueError}
+use Rattle.fs_queue.specs.declared.fault.QueueError.TheVariants as stop
+use Rattle.fs_regions.specs.Places.{Mapped, places_in}
+use Rattle.fs_regions.specs.Walks.{ComesBy, IsCourseStep, IsThere, IsWalkAt, Loaded, OffersBy, asked_len, nothing, queue_of}
+use Rattle.fs_regions.specs.declared.course.Course.{Course}
+use Rattle.fs_regions.specs.declared.step.CourseStep as comes
+use Rattle.fs_regions.specs.declared.step.CourseStep.TheVariants as step
+use Rattle.fs_regions.specs.declared.walk.QueueWalk.{QueueWalk}
+use Rattle.live_machine.specs.Several.{LiveQueue}
+use Rattle.live_machine.specs.Several as several
+use Rattle.live_machine.specs.Live.{EndsPop, EndsPopIn, EndsPopSo, Happens, LoadsAreMapped, after_pop, event_miss_of, new_chain}
+use Rattle.live_machine.specs.Live.{pop_refusal}
+use Rattle.live_machine.specs.Live.{with_live}
+use Rattle.live_machine.proofs.MappedLoads.{more_mapped, none_mapped}
+use Rattle.live_machine.proofs.Queues.{none_some, there_same}
+use Rattle.live_machine.proofs.Refusals.{refusal_stops}
+use Rattle.fs_chain.specs.Events.{event_fault, event_miss}
+use Rattle.fs_chain.specs.Events as chain_events
+use Rattle.fs_chain.specs.Holds.{BeginsAPop, ContinuesAPop, EndsBy, HasPopped, HoldsPop, IsOutAs, IsQueue, KeepsReplyOf, Machine, Pop}
+use Rattle.fs_chain.specs.Holds.{PopIs}
+use Rattle.fs_chain.specs.Holds.{IsHeldIn, PopGoesOn, PopsBy, RefusedBy, any_files, live_of, queue_with}
+use Rattle.fs_chain.specs.Loads.{GoesSo, whole}
+use Rattle.fs_chain.specs.Orders.{begin_error, give_error, load_len, walk_error}
+use Rattle.fs_chain.specs.Queues.{may_take, pop_id_of}
+use Rattle.fs_chain.specs.Walks.{BeginsOn, BeginsPop, BeginsUnless, BeginsWhere, GoesOnUnless, KeepsStep, LacksEvents, WalksFrom}
+use Rattle.fs_chain.specs.Walks.{course_of, faulty_out, no_reply, out_of, told_of}
+use Rattle.fs_chain.specs.Whole.{AddsSo}
+use Rattle.fs_chain.specs.declared.chain_handle.ChainHandle.{ChainHandle}
+use Rattle.fs_chain.specs.declared.loads.LoadOutcome as went
+use Rattle.fs_chain.specs.declared.loads.LoadOutcome.TheVariants as wents
+use Rattle.fs_chain.specs.declared.popping.PopOutcome as walked
+use Rattle.fs_chain.specs.declared.popping.PopOutcome.TheVariants as says
+use Rattle.fs_chain.specs.declared.queue.QueueState.{QueueState}
+use Rattle.fs_chain.specs.declared.state.ChainState as state
+use Rattle.fs_chain.specs.declared.state.ChainState.TheVariants as at
+use Rattle.fs_chain.specs.declared.state.InFlight.{InFlight}
+use Rattle.fs_chain.specs.declared.state.PopId.{PopId}
+use Rattle.fs_chain.proofs.HoldsQueues.{begun_room, goes_at}
+use Rattle.fs_chain.proofs.WholeOffers.{fits_limit}
+
+-- ---- refusals
+
+stopped_by : (q after : QueueState) (e : QueueError) → stops_queue e ≡ true → after ≡ record q { stopped = Some e }
+    → Some (record (live_of q) { queue = after_refusal (live_of q).queue e }) ≡ Some (live_of after)
+stopped_by q after e stops left =
+    ap (λ (b : Bool). Some (record (live_of q) { queue = if b then with_stop (live_of q).queue else (live_of q).queue })) stops
+    ∙ ap (λ (k : QueueState). Some (live_of k)) (sym left)
+
+-- the queue is stopped
+refused_stopped : (s : Machine) (i : ℕ) (q q' : QueueState) (p : Pop) (new : ChainHandle) (told : walked.PopOutcome) (why : QueueError)
+    → IsQueue s i q → may_take q ≡ true → q.stopped ≡ Some why → told ≡ says.Refused stop.Stopped → new.state ≡ at.Free → q' ≡ q
+    → PopIs s i q q' p new told
+refused_stopped s i q q' p new told why there may stopped told_is free left =
+    let v : LiveQueue = record (live_of q) { queue = after_refusal (live_of q).queue stop.Stopped } in
+    let declined : pop_refusal s.places (live_of q) ≡ Some stop.Stopped =
+    ap (λ (x : Option QueueError). if is_some x then Some stop.Stopped else event_fault s.places q) stopped in
+    let by : RefusedBy s i q q' new (says.Refused stop.Stopped) = record {
+      error = stop.Stopped;
+      told_is = refl;
+      after = with_live s i v;
+      happens = record {
+        w = live_of q;
+        there = there;
+        room = may;
+        why = declined;
+        no_miss = λ goes. absurd (true≢false (sym (ap (λ (x : Option QueueError). is_some x) stopped) ∙ goes));
+        state = refl;
+      };
+      queue = there_same s.queues i i (λ _. v) (live_of q) refl there ∙ ap (λ (k : QueueState). Some (live_of k)) (sym left);
+      free = free;
+    } in
+    subst (λ (t : walked.PopOutcome). PopIs s i q q' p new t) (sym told_is) (inr by)
+
+-- its event index isn't mapped
+lacks_stop : (index used avail : Bool) (e : QueueError)
+    → (if not index then None else if not used then Some stop.AvailFlagsUnreachable else if not avail then Some stop.UsedUnreachable
+    else None) ≡ Some e → stops_queue e ≡ true
+lacks_stop false used avail e is = absurd (none_some e is)
+lacks_stop true false avail e is = ap (λ (x : Option QueueError). stops_queue (unwrap_or x stop.UsedUnreachable)) (sym is)
+lacks_stop true true false e is = ap (λ (x : Option QueueError). stops_queue (unwrap_or x stop.UsedUnreachable)) (sym is)
+lacks_stop true true true e is = absurd (none_some e is)
+
+refused_event : (s : Machine) (i : ℕ) (q q' : QueueState) (p : Pop) (old new : ChainHandle) (told : walked.PopOutcome) (e : QueueError)
+    → IsQueue s i q → may_take q ≡ true → q.stopped ≡ None → s.places ≡ places_in old.regions
+    → event_fault (places_in old.regions) q ≡ Some e → event_miss (places_in old.regions) q ≡ None
+    → told ≡ says.Refused e → new.state ≡ at.Free → q' ≡ record q { stopped = Some e }
+    → PopIs s i q q' p new told
+refused_event s i q q' p old new told e there may goes places fault none told_is free left =
+    let m = places_in old.regions in
+    let v : LiveQueue = record (live_of q) { queue = after_refusal (live_of q).queue e } in
+    let stops = lacks_stop q.event_index (reach m Read (chain_events.used_event_at q.layout) 2)
+    (reach m Write (chain_events.avail_event_at q.layout) 2) e fault in
+    let declined : pop_refusal s.places (live_of q) ≡ Some e =
+    ap (λ (x : Option QueueError). if is_some x then Some stop.Stopped else event_fault s.places q) goes
+    ∙ ap (λ (k : Memory). event_fault k q) places ∙ fault in
+    let by : RefusedBy s i q q' new (says.Refused e) = record {
+      error = e;
+      told_is = refl;
+      after = with_live s i v;
+      happens = record {
+        w = live_of q;
+        there = there;
+        room = may;
+        why = declined;
+        no_miss = λ goes. ap (λ (k : Memory). event_miss_of k (live_of q)) places ∙ none;
+        state = refl;
+      };
+      queue = there_same s.queues i i (λ _. v) (live_of q) refl there ∙ stopped_by q q' e stops left;
+      free = free;
+    } in
+    subst (λ (t : walked.PopOutcome). PopIs s i q q' p new t) (sym told_is) (inr by)
+
+-- ---- where a call came to
+
+low : 0 ≤ 2 ^ 31
+low = omega arith
+
+-- a pop of a queue in a run, and the step that it came to
+record CameTo (s : Machine) (i : ℕ) (q q' : QueueState) (course : Course) (pop_id : PopId) (p : Pop) (came : comes.CourseStep)
+    (new : ChainHandle) (told : walked.PopOutcome) : Type 0 where
+  there : IsQueue s i q
+  places : s.places ≡ places_in new.regions
+  limit : s.limit ≡ course.limit
+  small : s.limit ≤ 2 ^ 31
+  laid : (live_of q).queue ≡ queue_of course
+  room : may_take q ≡ true
+  index : p.event_index ≡ q.event_index
+  events : pop_refusal (places_in new.regions) (queue_with (queue_of course) p.event_index) ≡ None
+  keeps : KeepsStep course pop_id came new new q q' told
+  is : IsCourseStep (places_in new.regions) course.limit (queue_of course) p.loaded new.descriptors.items came
+  mapped : LoadsAreMapped (places_in new.regions) (queue_of course) p.loaded
+
+-- how the machine's pop ends, and its queue
+abbrev EndsHere : (s : Machine) (i : ℕ) (q q' : QueueState) (loaded : Loaded) (new : ChainHandle) → comes.CourseStep → Type 0
+EndsHere s i q q' loaded new came =
+    let ds = new.descriptors.items in
+    EndsPopIn s i (live_of q) loaded ds came (after_pop s i (live_of q) loaded ds came)
+    × IsQueue (after_pop s i (live_of q) loaded ds came) i q'
+    × HasPopped s i (live_of q) loaded came new
+
+-- the event of a pop that ended
+ends_by : (s : Machine) (i : ℕ) (q q' : QueueState) (course : Course) (pop_id : PopId) (p : Pop) (came : comes.CourseStep)
+    (new : ChainHandle) (told : walked.PopOutcome) (c : CameTo s i q q' course pop_id p came new told)
+    → EndsHere s i q q' p.loaded new came → EndsBy s i q q' p.loaded new (told_of new.descriptors.items came)
+ends_by s i q q' course pop_id p came new told c ends =
+    let m = places_in new.regions in
+    let f : Memory → Queue → Bool → Option QueueError = λ m k b. pop_refusal m (queue_with k b) in
+    let goes : pop_refusal s.places (live_of q) ≡ None =
+    ap (λ (k : Memory). f k (live_of q).queue q.event_index) c.places ∙ ap (λ (k : Queue). f m k q.event_index) c.laid
+    ∙ ap (λ (b : Bool). f m (queue_of course) b) (sym c.index) ∙ c.events in
+    let mapped : LoadsAreMapped s.places (live_of q).queue p.loaded =
+    subst (λ (k : Memory). LoadsAreMapped k (live_of q).queue p.loaded) (sym c.places)
+    (subst (λ (k : Queue). LoadsAreMapped m k p.loaded) (sym c.laid) c.mapped) in
+    record {
+      came = came;
+      told_is = refl;
+      happens = record { w = live_of q; there = c.there; room = c.room; goes = goes; mapped = mapped; ends = ends.0 };
+      queue = ends.1;
+      has = ends.2;
+    }
+
+-- its step, in the run
+run_step : (s : Machine) (i : ℕ) (q q' : QueueState) (course : Course) (pop_id : PopId) (p : Pop) (came : comes.CourseStep)
+    (new : ChainHandle) (told : walked.PopOutcome) → CameTo s i q q' course pop_id p came new told
+    → IsCourseStep s.places s.limit (live_of q).queue p.loaded new.descriptors.items came
+run_step s i q q' course pop_id p came new told c =
+    let ds = new.descriptors.items in
+    subst (λ (k : Memory). IsCourseStep k s.limit (live_of q).queue p.loaded ds came) (sym c.places)
+    (subst (λ (n : ℕ). IsCourseStep (places_in new.regions) n (live_of q).queue p.loaded ds came) (sym c.limit)
+    (subst (λ (k : Queue). IsCourseStep (places_in new.regions) course.limit k p.loaded ds came) (sym c.laid) c.is))
+
+comes_to : (s : Machine) (i : ℕ) (q q' : QueueState) (course : Course) (pop_id : PopId) (p : Pop) (came : comes.CourseStep)
+    (new : ChainHandle) (told : walked.PopOutcome) → CameTo s i q q' course pop_id p came new told
+    → PopIs s i q q' p new (told_of new.descriptors.items came)
+comes_to s i q q' course pop_id p (step.Load walk) new told c = (
+  record {
+    course = course;
+    pop_id = pop_id;
+    walk = walk;
+    state = c.keeps.1;
+    limit_is = sym c.limit;
+    comes = c.is.0;
+    there = c.is.1;
+    mapped = c.mapped;
+    events = c.events;
+  },
+  c.keeps.2,
+)
+comes_to s i q q' course pop_id p (step.Missing range access) new told c = (c.keeps.1, c.keeps.2)
+comes_to s i q q' course pop_id p step.Idle new told c =
+    let here : EndsHere s i q q' p.loaded new step.Idle = (
+      (run_step s i q q' course pop_id p step.Idle new told c, refl),
+      c.there ∙ ap (λ (k : QueueState). Some (live_of k)) (sym c.keeps.2),
+      c.keeps.1,
+    ) in inl (ends_by s i q q' course pop_id p step.Idle new told c here)
+comes_to s i q q' course pop_id p (step.Refused e) new told c =
+    let by = run_step s i q q' course pop_id p (step.Refused e) new told c in
+    let v : LiveQueue = record (live_of q) { queue = after_refusal (live_of q).queue e } in
+    let stops = refusal_stops s.places s.limit course p.loaded e
+    (subst (λ (k : Queue). OffersBy s.places s.limit k p.loaded [] (Refuses e)) c.laid by.0) in
+    let here : EndsHere s i q q' p.loaded new (step.Refused e) = (
+      (by.0, refl, by.1),
+      there_same s.queues i i (λ _. v) (live_of q) refl c.there ∙ stopped_by q q' e stops c.keeps.2,
+      c.keeps.1,
+    ) in inl (ends_by s i q q' course pop_id p (step.Refused e) new told c here)
+comes_to s i q q' course pop_id p (step.Chain head None) new told c =
+    let ds = new.descriptors.items in
+    let by = run_step s i q q' course pop_id p (step.Chain head None) new told c in
+    let chain = new_chain s i (live_of q) p.loaded ds head None in
+    let fits = fits_limit s.places s.limit (live_of q).queue p.loaded ds head c.small by.0.1 in
+    let is_out : IsOutAs chain (out_of course pop_id head ds) =
+    record { taken = c.laid; head = refl; request_len = fits.0; room_len = fits.1; small = fits.2 } in
+    let here : EndsHere s i q q' p.loaded new (step.Chain head None) = (
+      (by.0, refl, by.1),
+      there_same s.queues i i (λ _. several.took (live_of q)) (live_of q) refl c.there
+          ∙ ap (λ (k : QueueState). Some (live_of k)) (sym c.keeps.2),
+      subst (λ (st : state.ChainState). IsHeldIn s.page_size chain chain.phase st new.session) (sym c.keeps.1) is_out,
+    ) in inl (ends_by s i q q' course pop_id p (step.Chain head None) new told c here)
+comes_to s i q q' course pop_id p (step.Chain head (Some fault)) new told c =
+    let ds = new.descriptors.items in
+    let by = run_step s i q q' course pop_id p (step.Chain head (Some fault)) new told c in
+    let chain = new_chain s i (live_of q) p.loaded ds head (Some fault) in
+    let out : InFlight = faulty_out course pop_id head in
+    let is_out : IsOutAs chain out = record {
+      taken = c.laid;
+      head = refl;
+      request_len = sym (ap (λ (l : List Descriptor). total_len (readable l)) c.keeps.3);
+      room_len = ap (λ (l : List Descriptor). length (addresses_of (writable l))) c.keeps.3;
+      small = low;
+    } in
+    let keeps : KeepsReplyOf [] out no_reply = record { behind = []; bytes = refl; len = refl } in
+    let here : EndsHere s i q q' p.loaded new (step.Chain head (Some fault)) = (
+      (by.0, refl, by.1),
+      there_same s.queues i i (λ _. several.took (live_of q)) (live_of q) refl c.there
+          ∙ ap (λ (k : QueueState). Some (live_of k)) (sym c.keeps.2),
+      subst (λ (st : state.ChainState). IsHeldIn s.page_size chain chain.phase st new.session) (sym c.keeps.1) (is_out, keeps),
+    ) in inl (ends_by s i q q' course pop_id p (step.Chain head (Some fault)) new told c here)
+
+-- as it is told
+is_told : (s : Machine) (i : ℕ) (q q' : QueueState) (course : Course) (pop_id : PopId) (p : Pop) (came : comes.CourseStep)
+    (new : ChainHandle) (told : walked.PopOutcome) → CameTo s i q q' course pop_id p came new told → PopIs s i q q' p new told
+is_told s i q q' course pop_id p came new told c =
+    subst (λ (t : walked.PopOutcome). PopIs s i q q' p new t) (sym c.keeps.0) (comes_to s i q q' course pop_id p came new told c)
+
+-- of the handle before the call, whose regions are the same
+in_new : (old new : ChainHandle) (course : Course) (pop_id : PopId) (came : comes.CourseStep) (q q' : QueueState) (told : walked.PopOutcome)
+    → KeepsStep course pop_id came old new q q' told → KeepsStep course pop_id came new new q q' told
+in_new old new course pop_id came q q' told k = (k.0, k.1, k.2, k.3, (refl, refl, refl, refl))
+
+-- ---- a pop that begins
+
+begins_none : (old : ChainHandle) (q : QueueState) (bytes : List ℕ) (new : ChainHandle) (q' : QueueState) → old.state ≡ at.Free →
+    GoesSo old q bytes wents.Part new q' → ⊥
+begins_none old q bytes new q' free call =
+    let none : load_len old.state ≡ 0 = ap load_len free in
+    let few = call.1 in
+    omega (arith, none, few)
+
+begun_on : (s : Machine) (i : ℕ) (old new : ChainHandle) (q q' : QueueState) (told : walked.PopOutcome)
+    → IsQueue s i q → s.places ≡ places_in old.regions → s.limit ≡ old.limit → s.limit ≤ 2 ^ 31 → may_take q ≡ true → q.stopped ≡ None
+    → event_fault (places_in old.regions) q ≡ None
+    → BeginsOn (course_of q old.limit) (pop_id_of q) old new q q' told
+    → PopIs s i q q' (record { loaded = nothing; event_index = q.event_index }) new told
+begun_on s i old new q q' told there places limit small may goes events by =
+    let course = course_of q old.limit in
+    let same : new.regions ≡ old.regions = by.1.4.0 in
+    let R : Mapped → Type 0 = λ r. IsCourseStep (places_in r) course.limit (queue_of course) nothing new.descriptors.items by.0 in
+    let E : Mapped → Type 0 = λ r. pop_refusal (places_in r) (queue_with (queue_of course) q.event_index) ≡ None in
+    is_told s i q q' course (pop_id_of q) (record { loaded = nothing; event_index = q.event_index }) by.0 new told (record {
+      there = there;
+      places = places ∙ sym (ap places_in same);
+      limit = limit;
+      small = small;
+      laid = ap (λ (x : Option QueueError). record (at_position q.layout q.next_avail) { stopped = is_some x }) goes;
+      room = may;
+      index = refl;
+      events = subst E (sym same) events;
+      keeps = in_new old new course (pop_id_of q) by.0 q q' told by.1;
+      is = subst R (sym same) by.2;
+      mapped = none_mapped (places_in new.regions) (queue_of course);
+    })
+
+begun_where : (s : Machine) (i : ℕ) (old new : ChainHandle) (q q' : QueueState) (told : walked.PopOutcome) (fault : Option QueueError)
+    → IsQueue s i q → s.places ≡ places_in old.regions → s.limit ≡ old.limit → s.limit ≤ 2 ^ 31 → may_take q ≡ true → q.stopped ≡ None
+    → old.state ≡ at.Free → event_fault (places_in old.regions) q ≡ fault → BeginsWhere fault old new q q' told
+    → PopIs s i q q' (record { loaded = nothing; event_index = q.event_index }) new told
+begun_where s i old new q q' told None there places limit small may goes free is by =
+    begun_on s i old new q q' told there places limit small may goes is by
+begun_where s i old new q q' told (Some e) there places limit small may goes free is by =
+    by_miss (event_miss (places_in old.regions) q) refl by
+  where
+    by_miss : (miss : Option (IovaRange × Permissions)) → event_miss (places_in old.regions) q ≡ miss →
+        LacksEvents e miss old new q q' told → PopIs s i q q' (record { loaded = nothing; event_index = q.event_index }) new told
+    by_miss None none lacks =
+        refused_event s i q q' (record { loaded = nothing; event_index = q.event_index }) old new told e there may goes places is none
+        lacks.0 (lacks.1.0.3 ∙ free) lacks.2
+    by_miss (Some r) some lacks =
+        subst (λ (t : walked.PopOutcome). PopIs s i q q' (record { loaded = nothing; event_index = q.event_index }) new t) (sym lacks.0)
+        (lacks.1.0.3 ∙ free, lacks.2)
+
+begun_unless : (s : Machine) (i : ℕ) (old new : ChainHandle) (q q' : QueueState) (told : walked.PopOutcome) (stopped : Option QueueError)
+    → IsQueue s i q → s.places ≡ places_in old.regions → s.limit ≡ old.limit → s.limit ≤ 2 ^ 31 → may_take q ≡ true → q.stopped ≡ stopped
+    → old.state ≡ at.Free → BeginsUnless stopped old new q q' told
+    → PopIs s i q q' (record { loaded = nothing; event_index = q.event_index }) new told
+begun_unless s i old new q q' told (Some why) there places limit small may is free by =
+    refused_stopped s i q q' (record { loaded = nothing; event_index = q.event_index }) new told why there may is by.0 (by.1.3 ∙ free) by.2
+begun_unless s i old new q q' told None there places limit small may is free by =
+    begun_where s i old new q q' told (event_fault (places_in old.regions) q) there places limit small may is free refl by
+
+begins : (old new : ChainHandle) (q q' : QueueState) (bytes : List ℕ) (told : went.LoadOutcome) → old.state ≡ at.Free
+    → GoesSo old q bytes told new q' → BeginsAPop old new q q' told
+unfolding BeginsAPop
+begins old new q q' bytes wents.Part free call = begins_none old q bytes new q' free call
+begins old new q q' bytes (wents.On told) free call = λ s i there places limit small.
+    let clear : begin_error q (length (whole old bytes)) ≡ None =
+    subst (λ (st : state.ChainState). walk_error st q (length (whole old bytes)) ≡ None) free call.3 in
+    let by : BeginsPop old new q q' told =
+    subst (λ (st : state.ChainState). WalksFrom st (whole old bytes) old new q q' told) free call.4 in
+    begun_unless s i old new q q' told q.stopped there places limit small (begun_room q (length (whole old bytes)) clear) refl free by
+
+-- ---- a pop that continues
+
+kept_items : (w new : ChainHandle) → new.descriptors ≡ w.descriptors → w.descriptors.items ≡ new.descriptors.items
+kept_items w new same = cc
+
+some_none : (x : Option QueueError) (why : QueueError) → x ≡ Some why → x ≡ None → ⊥
+some_none x why is none = none_some why (sym none ∙ is)
+
+on_unless : (s : Machine) (i : ℕ) (p : Pop) (bytes : List ℕ) (old new : ChainHandle) (q q' : QueueState) (told : walked.PopOutcome)
+    (stopped : Option QueueError) (from : HoldsPop s.limit p old)
+    → IsQueue s i q → s.places ≡ places_in old.regions → p.event_index ≡ q.event_index → s.limit ≤ 2 ^ 31 → q.stopped ≡ stopped
+    → (at_position q.layout q.next_avail ≡ queue_of from.course) × (may_take q ≡ true) × (length (whole old bytes) ≡ asked_len from.walk)
+    → GoesOnUnless stopped from.course from.pop_id from.walk (whole old bytes) old new q q' told
+    → PopGoesOn s i q q' p old new bytes (wents.On told)
+on_unless s i p bytes old new q q' told (Some why) from there places index small is finds on = (
+  p.loaded,
+  λ none. absurd (some_none q.stopped why is none),
+  refused_stopped s i q q' p new told why there finds.1 is on.0 on.1.3 on.2,
+)
+on_unless s i p bytes old new q q' told None from there places index small is finds on =
+    let course = from.course in
+    let all = whole old bytes in
+    let by : ComesBy (places_in old.regions) course.limit (queue_of course) p.loaded from.walk all new.descriptors.items on.0 =
+    on.2 p.loaded from.comes in
+    let same : new.regions ≡ old.regions = on.1.4.0 in
+    let next : Pop = record p { loaded = by.after } in
+    let adds : AddsSo old.state (wents.On told) new.descriptors.items p.loaded all by.after =
+    subst (λ (st : state.ChainState). AddsSo st (wents.On told) new.descriptors.items p.loaded all by.after) (sym from.state)
+    (on.0, on.1.0, by.adds) in
+    let mapped : LoadsAreMapped (places_in old.regions) (queue_of course) by.after =
+    more_mapped (places_in old.regions) (queue_of course) p.loaded by.after old.descriptors.items from.walk all on.0 from.comes from.there
+    finds.2 by.adds from.mapped in
+    let M : Mapped → Type 0 = λ r. LoadsAreMapped (places_in r) (queue_of course) by.after in
+    let R : Mapped → Type 0 = λ r. IsCourseStep (places_in r) course.limit (queue_of course) by.after new.descriptors.items on.0 in
+    let E : Mapped → Type 0 = λ r. pop_refusal (places_in r) (queue_with (queue_of course) p.event_index) ≡ None in (
+      by.after,
+      λ none. adds,
+      is_told s i q q' course from.pop_id next on.0 new told (record {
+        there = there;
+        places = places ∙ sym (ap places_in same);
+        limit = sym from.limit_is;
+        small = small;
+        laid = ap (λ (x : Option QueueError). record (at_position q.layout q.next_avail) { stopped = is_some x }) is ∙ finds.0;
+        room = finds.1;
+        index = index;
+        events = subst E (sym same) from.events;
+        keeps = in_new old new course from.pop_id on.0 q q' told on.1;
+        is = subst R (sym same) by.comes;
+        mapped = subst M (sym same) mapped;
+      }),
+    )
+
+continues : (old new : ChainHandle) (q q' : QueueState) (bytes : List ℕ) (told : went.LoadOutcome)
+    → GoesSo old q bytes told new q' → ContinuesAPop old new q q' bytes told
+unfolding ContinuesAPop
+continues old new q q' bytes wents.Part call s i p from there places index small =
+    let same : new.regions ≡ old.regions = call.3.0.0 in
+    let C : Mapped → Type 0 = λ r. IsWalkAt (places_in r) (queue_of from.course) p.loaded new.descriptors.items from.walk in
+    let T : Mapped → Type 0 = λ r. IsThere (places_in r) from.walk in
+    let M : Mapped → Type 0 = λ r. LoadsAreMapped (places_in r) (queue_of from.course) p.loaded in
+    let E : Mapped → Type 0 = λ r. pop_refusal (places_in r) (queue_with (queue_of from.course) p.event_index) ≡ None in
+    let D : List Descriptor → Type 0 = λ ds. IsWalkAt (places_in old.regions) (queue_of from.course) p.loaded ds from.walk in (
+      record {
+        course = from.course;
+        pop_id = from.pop_id;
+        walk = from.walk;
+        state = call.3.3 ∙ from.state;
+        limit_is = from.limit_is;
+        comes = subst C (sym same) (subst D (kept_items old new call.3.2) from.comes);
+        there = subst T (sym same) from.there;
+        mapped = subst M (sym same) from.mapped;
+        events = subst E (sym same) from.events;
+      },
+      call.5,
+    )
+continues old new q q' bytes (wents.On told) call s i p from there places index small =
+    let unless : GoesOnUnless q.stopped from.course from.pop_id from.walk (whole old bytes) old new q q' told =
+    subst (λ (st : state.ChainState). WalksFrom st (whole old bytes) old new q q' told) from.state call.4 in
+    let clear : give_error q from.course from.pop_id (asked_len from.walk) (length (whole old bytes)) ≡ None =
+    subst (λ (st : state.ChainState). walk_error st q (length (whole old bytes)) ≡ None) from.state call.3 in
+    on_unless s i p bytes old new q q' told q.stopped from there places index small refl
+    (goes_at q from.course from.pop_id (asked_len from.walk) (length (whole old bytes)) clear) unless
+
+by_state : (st : state.ChainState) (old new : ChainHandle) (q q' : QueueState) (bytes : List ℕ) (told : went.LoadOutcome) → old.state ≡ st
+    → GoesSo old q bytes told new q' → PopsBy st old new q q' bytes told
+by_state at.Free old new q q' bytes told is call = begins old new q q' bytes told is call
+by_state st old new q q' bytes told is call = continues old new q q' bytes told call
+
+pub pops : (old new : ChainHandle) (q q' : QueueState) (bytes : List ℕ) (told : went.LoadOutcome)
+    → GoesSo old q bytes told new q' → PopsBy old.state old new q q' bytes told
+pops old new q q' bytes told call = by_state old.state old new q q' bytes told refl call
+
+-- by its result
+pub pops_from : (old new : ChainHandle) (q q' : QueueState) (bytes : List ℕ) (r : Result went.LoadOutcome ChainError)
+    → IfOk r (λ told. GoesSo old q bytes told new q') → IfOk r (λ told. PopsBy old.state old new q q' bytes told)
+pops_from old new q q' bytes (Ok told) call = pops old new q q' bytes told call
+pops_from old new q q' bytes (Err e) call = tt

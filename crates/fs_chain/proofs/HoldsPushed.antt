@@ -1,0 +1,135 @@
+-- A push of a chain that the handle holds, and its end.
+use Rattle.std.proofs.Common.{◌≡◌, ℕ, Bool, List, [], ◌∷◌, ◌++◌, length, Option, Some, None, refl, subst, sym, ap, ◌∙◌}
+use Rattle.std.specs.Prelude.{drop, take, slice_get}
+use Rattle.std.proofs.Math.Seq.{take-append_seam}
+use Rattle.fs_queue.specs.Queue.{Queue}
+use Rattle.fs_queue.specs.Returning.{stores_after_reply}
+use Rattle.fs_queue.specs.ReturningView.{stores_of}
+use Rattle.fs_queue.specs.Taking.{addresses_of, writable}
+use Rattle.fs_queue.specs.WalkingView.{at_position}
+use Rattle.plain_machine.specs.Step.{Exchange}
+use Rattle.live_machine.specs.Several.{returning, seen_at}
+use Rattle.live_machine.specs.Several as several
+use Rattle.live_machine.specs.Live.{Abandoned, Asked, Fetched, InFlightChain, Own, Phase, PoppedFaulty, PushedWith, room_of}
+use Rattle.live_machine.specs.Live.{room_of_phase}
+use Rattle.live_machine.proofs.Queues.{none_some, there_same}
+use Rattle.server_phases.specs.declared.session.Session.{Session}
+use Rattle.fs_chain.specs.Events.{tells_of}
+use Rattle.fs_chain.specs.Holds.{EndsPush, HoldsChain, IsHeldIn, IsOutAs, KeepsReplyOf, Pushes, live_of, served_so}
+use Rattle.fs_chain.specs.Orders.{front_len, front_of, reply_len, return_error}
+use Rattle.fs_chain.specs.Pushes.{IfHasReply, PushesBy, put_front}
+use Rattle.fs_chain.specs.Queues.{at_return, gave}
+use Rattle.fs_chain.specs.declared.chain_handle.ChainHandle.{ChainHandle}
+use Rattle.fs_chain.specs.declared.error.ChainError.TheVariants as error
+use Rattle.fs_chain.specs.declared.pushing.PushStores.{PushStores}
+use Rattle.fs_chain.specs.declared.queue.QueueState.{QueueState}
+use Rattle.fs_chain.specs.declared.state.ChainReply.{ChainReply}
+use Rattle.fs_chain.specs.declared.state.ChainState as state
+use Rattle.fs_chain.specs.declared.state.ChainState.TheVariants as at
+use Rattle.fs_chain.specs.declared.state.InFlight.{InFlight}
+use Rattle.fs_chain.proofs.HoldsQueues.{pushed_there}
+
+-- ---- the exchange
+
+-- a chain that is pushed has the exchange's reply, and its handle holds it while it is pushed
+replies : (page_size : ℕ) (c : InFlightChain) (p : Phase) (x : Exchange) (out : InFlight) (kept : ChainReply) (session : Session)
+    → c.phase ≡ p → IsHeldIn page_size c p (at.HasReply out kept) session → PushedWith page_size c p x
+    → IsOutAs c out × KeepsReplyOf x.reply out kept × IsHeldIn page_size c p (at.Pushing out) session
+replies page_size c (PoppedFaulty why) x out kept session is held goes =
+    (held.0, subst (λ (r : List ℕ). KeepsReplyOf r out kept) (sym (ap (λ (k : Exchange). k.reply) goes)) held.1, held.0)
+replies page_size c (Own request reply) x out kept session is held goes =
+    (held.0, subst (λ (r : List ℕ). KeepsReplyOf r out kept) (sym (ap (λ (k : Exchange). k.reply) goes)) held.1, held.0)
+replies page_size c (Asked request options calls) x out kept session is held goes =
+    let room : length (room_of c) ≡ out.room_len =
+    ap (λ (k : Phase). length (room_of_phase k c.descriptors)) is ∙ held.0.room_len in
+    let same : x.reply ≡ (served_so page_size options request out.room_len calls).reply =
+    ap (λ (k : Exchange). k.reply) goes.1 ∙ ap (λ (n : ℕ). (served_so page_size options request n calls).reply) room in
+    (held.0, subst (λ (r : List ℕ). KeepsReplyOf r out kept) (sym same) held.1, held.0)
+replies page_size c p x out kept session is held goes = absurd held
+
+-- where the two bytes stand that are seen
+abbrev seen_of : (event_index : Bool) → Queue → ℕ
+seen_of event_index q = seen_at (record { queue = q; next_used = 0; max_in_flight = 0; event_index = event_index })
+
+-- ---- a push
+
+-- from its state
+abbrev PushedFrom : (page_size : ℕ) → InFlightChain → Exchange → (new : ChainHandle) → QueueState → (front : List ℕ) → PushStores → Type 0
+PushedFrom page_size c x new q front stores =
+    HoldsChain page_size c new
+    × (stores_of stores.used ≡ stores_after_reply (returning (live_of q)) c.head (length x.reply))
+    × (stores.seen_at ≡ seen_at (live_of q))
+    × (behind : List ℕ)
+    × (x.reply ≡ take stores.front_len front ++ behind)
+
+by_state : (page_size : ℕ) (c : InFlightChain) (x : Exchange) (st : state.ChainState) (old new : ChainHandle) (q : QueueState)
+    (front front' : List ℕ) (stores : PushStores)
+    → IsHeldIn page_size c c.phase st old.session → PushedWith page_size c c.phase x → return_error st q (length front) ≡ None
+    → IfHasReply st (λ out reply. new ≡ record old { state = at.Pushing out }) → IfHasReply st (λ out reply. PushesBy q out reply stores)
+    → IfHasReply st (λ out reply. front' ≡ put_front reply front)
+    → PushedFrom page_size c x new q front' stores
+by_state page_size c x (at.HasReply out kept) old new q front front' stores held goes clear pushing by put =
+    let all = replies page_size c c.phase x out kept old.session refl held goes in
+    let is_out : IsOutAs c out = all.0 in
+    let keeps : KeepsReplyOf x.reply out kept = all.1 in
+    let n = length x.reply in
+    let used : stores_of stores.used ≡ stores_after_reply (returning (live_of q)) c.head n =
+    by.1
+    ∙ ap (λ (k : ℕ). stores_after_reply (at_return q out) out.head k) keeps.len
+    ∙ ap (λ (h : ℕ). stores_after_reply (at_return q out) h n) is_out.head
+    ∙ ap (λ (k : Queue). stores_after_reply k c.head n) (sym (pushed_there q out kept (length front) q.next_used clear)) in
+    let seen : stores.seen_at ≡ seen_at (live_of q) =
+    by.2 ∙ ap (λ (k : Queue). seen_of q.event_index k) (sym (pushed_there q out kept (length front) 0 clear)) in
+    let begins : take stores.front_len front' ≡ front_of kept =
+    ap (λ (k : ℕ). take k front') by.0 ∙ ap (λ (bs : List ℕ). take (front_len kept) bs) put
+    ∙ take-append_seam (front_of kept) (drop (front_len kept) front) in (
+      subst (λ (w : ChainHandle). HoldsChain page_size c w) (sym pushing) all.2,
+      used,
+      seen,
+      keeps.behind,
+      keeps.bytes ∙ ap (λ (bs : List ℕ). bs ++ keeps.behind) (sym begins),
+    )
+by_state page_size c x st old new q front front' stores held goes clear pushing by put = absurd (none_some error.WrongOrder (sym clear))
+
+pub pushes : (old new : ChainHandle) (q : QueueState) (front front' : List ℕ) (stores : PushStores)
+    → return_error old.state q (length front) ≡ None
+    → IfHasReply old.state (λ out reply. new ≡ record old { state = at.Pushing out })
+    → IfHasReply old.state (λ out reply. PushesBy q out reply stores)
+    → IfHasReply old.state (λ out reply. front' ≡ put_front reply front)
+    → Pushes old new q front' stores
+unfolding Pushes
+pushes old new q front front' stores clear pushing by put page_size c x held goes =
+    by_state page_size c x old.state old new q front front' stores held goes clear pushing by put
+
+-- by its state
+pub pushes_from : (old new : ChainHandle) (q : QueueState) (front front' : List ℕ) (stores : PushStores) (out : InFlight)
+    (kept : ChainReply)
+    → old.state ≡ at.HasReply out kept → return_error (at.HasReply out kept) q (length front) ≡ None
+    → new ≡ record old { state = at.Pushing out } → PushesBy q out kept stores → front' ≡ put_front kept front
+    → Pushes old new q front' stores
+unfolding Pushes
+pushes_from old new q front front' stores out kept is clear pushing by put page_size c x held goes =
+    by_state page_size c x (at.HasReply out kept) old new q front front' stores
+    (subst (λ (st : state.ChainState). IsHeldIn page_size c c.phase st old.session) is held) goes clear pushing by put
+
+-- ---- its end
+
+pub ends_push : (old : ChainHandle) (q q' : QueueState) (seen : List ℕ) (notice : Bool) → length seen ≡ 2 → notice ≡ tells_of q seen
+    → q' ≡ gave q → EndsPush old q q' seen notice
+unfolding EndsPush
+ends_push old q q' seen notice two told left s before behind c x last out there held goes = (
+  record {
+    before = before;
+    behind = behind;
+    out = out;
+    w = live_of q;
+    there = there;
+    goes = goes;
+    used_is = refl;
+    two = two;
+    told = told;
+    state = refl;
+  },
+  there_same s.queues c.queue c.queue (λ _. several.gave (live_of q)) (live_of q) refl there
+      ∙ ap (λ (k : QueueState). Some (live_of k)) (sym left),
+)

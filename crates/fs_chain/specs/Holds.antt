@@ -1,0 +1,403 @@
+-- What a handle holds of a live run, and what each of its calls does there. A call's contract ensures: for
+-- each state of the live machine in which the handle holds a chain, or none, the call is an event of that
+-- machine, or none; and afterwards the handle holds what the event left.
+use Rattle.std.specs.Prelude.{◌≡◌, ◌⊎◌, ◌≤◌, ◌^◌, ℕ, Bool, true, false, List, [], ◌∷◌, ◌++◌, length, take}
+use Rattle.std.specs.Prelude.{drop, is_some}
+use Rattle.std.specs.Prelude.{IsTrue, Option, Some, None, slice_get}
+use Rattle.vm_memory.specs.Memory.{Memory}
+use Rattle.fs_queue.specs.declared.fault.QueueError.{QueueError}
+use Rattle.fs_queue.specs.declared.fault.ChainFault.{ChainFault}
+use Rattle.fs_queue.specs.Chain.{Descriptor}
+use Rattle.fs_queue.specs.Queue.{Queue}
+use Rattle.fs_queue.specs.Returning.{stores_after_reply}
+use Rattle.fs_queue.specs.ReturningView.{stores_of}
+use Rattle.fs_queue.specs.Taking.{addresses_of, readable, total_len, writable}
+use Rattle.fs_queue.specs.WalkingView.{at_position}
+use Rattle.fs_regions.specs.declared.course.Course.{Course}
+use Rattle.fs_regions.specs.declared.step.CourseStep as comes
+use Rattle.fs_regions.specs.declared.step.CourseStep.TheVariants as step
+use Rattle.fs_regions.specs.declared.walk.QueueWalk.{QueueWalk}
+use Rattle.fs_regions.specs.Places.{places_in}
+use Rattle.fs_regions.specs.Walks.{IsThere, IsWalkAt, Loaded, nothing, queue_of}
+use Rattle.fuse_fs.specs.Calls.{Entries, FileAnswer, FileCall, HasEntry, Listed, Lookup, suits}
+use Rattle.fuse_values.specs.Answers.{answer_of}
+use Rattle.fuse_values.specs.Values.{call_of}
+use Rattle.fuse_values.specs.declared.answer.FileAnswer as made_answer
+use Rattle.fuse_values.specs.declared.call.FileCall as made_call
+use Rattle.virtiofsd_fuse.specs.Grammar.{Lists, meaning}
+use Rattle.virtiofsd_fuse.specs.Grammar as grammar
+use Rattle.virtiofsd_fuse.specs.Listings.{ListRequest, readdir_call}
+use Rattle.virtiofsd_fuse.specs.Serving.{ServedMessage, served, setting}
+use Rattle.server_phases.specs.Answering.{TellsBytes, forget_calls}
+use Rattle.server_phases.specs.Asking.{AsksCall, IsRequestFront}
+use Rattle.server_phases.specs.Gathering.{Brought, IsListingFor, entries_of, is_looked_up}
+use Rattle.server_phases.specs.Gathering as gathering
+use Rattle.server_phases.specs.declared.listing.Listing.{Listing}
+use Rattle.server_phases.specs.declared.session.Session.{Session}
+use Rattle.plain_machine.specs.Step.{Calls, Exchange, answers_alone, calls_alone}
+pub use Rattle.live_machine.specs.Files.{any_files}
+use Rattle.live_machine.specs.Several.{LiveQueue, returning, seen_at}
+use Rattle.live_machine.specs.Live.{Asked, DecodesRequest, EndsPop, Fetched, GivesUpChain, Happens}
+use Rattle.live_machine.specs.Live.{InFlightChain}
+use Rattle.live_machine.specs.Live.{IsUnreplied, RepliesOwnBytes, after_giving_up, after_own}
+use Rattle.live_machine.specs.Live.{LiveState, LoadsAreMapped, Own, Phase, PoppedFaulty, PushedWith}
+use Rattle.live_machine.specs.Live.{PushesChain}
+use Rattle.live_machine.specs.Live.{ReceivesAnswer, RefusesPop, after_answer, after_decoding, after_pop}
+use Rattle.live_machine.specs.Live.{after_push}
+use Rattle.live_machine.specs.Live.{asked_chain, new_chain, pop_refusal}
+use Rattle.fs_chain.specs.Decoding.{AsksListing, WaitsForNoListing}
+use Rattle.fs_chain.specs.Loads.{whole}
+use Rattle.fs_chain.specs.Orders.{front_of, reply_len}
+use Rattle.fs_chain.specs.Walks.{told_of}
+use Rattle.fs_chain.specs.Whole.{AddsSo}
+use Rattle.fs_chain.specs.WholeListings.{all_looked_up}
+use Rattle.fs_chain.specs.declared.answering.Replied.{Replied}
+use Rattle.fs_chain.specs.declared.chain_handle.ChainHandle.{ChainHandle}
+use Rattle.fs_chain.specs.declared.decoding.Decoded.{Decoded}
+use Rattle.fs_chain.specs.declared.decoding.Decoded.TheVariants as asks
+use Rattle.fs_chain.specs.declared.loads.LoadOutcome as went
+use Rattle.fs_chain.specs.declared.loads.LoadOutcome.TheVariants as wents
+use Rattle.fs_chain.specs.declared.popping.PopOutcome as walked
+use Rattle.fs_chain.specs.declared.popping.PopOutcome.TheVariants as says
+use Rattle.fs_chain.specs.declared.pushing.PushStores.{PushStores}
+use Rattle.fs_chain.specs.declared.queue.QueueState.{QueueState}
+use Rattle.fs_chain.specs.declared.state.ChainReply.{ChainReply}
+use Rattle.fs_chain.specs.declared.state.ChainState as state
+use Rattle.fs_chain.specs.declared.state.ChainState.TheVariants as at
+use Rattle.fs_chain.specs.declared.state.InFlight.{InFlight}
+use Rattle.fs_chain.specs.declared.state.PopId.{PopId}
+
+-- ---- the run
+
+-- the live machine. Its files may answer anything: by `law_files` a run is one over any files of which its
+-- calls are a run
+abbrev pub Machine : Type 0
+Machine = LiveState (Unit {0})
+
+-- a `QueueState` as a queue of a run
+abbrev pub live_of : QueueState → LiveQueue
+live_of q = record {
+  queue = record (at_position q.layout q.next_avail) { stopped = is_some q.stopped };
+  next_used = q.next_used;
+  max_in_flight = q.max_in_flight;
+  event_index = q.event_index;
+}
+
+-- queue i of the run is this one
+abbrev pub IsQueue : Machine → ℕ → QueueState → Type 0
+IsQueue s i q = slice_get s.queues i ≡ Some (live_of q)
+
+-- ---- a chain in a handle
+
+-- the handle's record of a chain of a run
+pub record IsOutAs (c : InFlightChain) (out : InFlight) : Type 0 where
+  pub taken : c.taken ≡ queue_of out.course
+  pub head : out.head ≡ c.head
+  pub request_len : out.request_len ≡ total_len (readable c.descriptors)
+  pub room_len : length (addresses_of (writable c.descriptors)) ≡ out.room_len
+  pub small : out.room_len ≤ 2 ^ 31
+
+-- what the server does with a request, by these answered calls
+abbrev pub served_so : (page_size options : ℕ) → (request : List ℕ) → (room : ℕ) → Calls → ServedMessage
+served_so page_size options request room calls =
+    served (setting page_size options room) (meaning options request room) (answers_alone calls)
+
+-- the handle keeps this reply: its front, and how many bytes are behind it
+pub record KeepsReplyOf (reply : List ℕ) (out : InFlight) (kept : ChainReply) : Type 0 where
+  pub behind : List ℕ
+  pub bytes : reply ≡ front_of kept ++ behind
+  pub len : reply_len out kept ≡ length reply
+
+-- the session in which a request was decoded
+abbrev pub IsDecodedIn : (page_size options : ℕ) → Session → Type 0
+IsDecodedIn page_size options session = (session.page_size ≡ page_size) × (session.options.0 ≡ options)
+
+-- a chain in this phase is in a handle in this state, with this session. Its reply is a part of what the
+-- phase says: by its answered calls, or its caller's own bytes
+abbrev pub IsHeldIn : (page_size : ℕ) → InFlightChain → Phase → state.ChainState → Session → Type 0
+IsHeldIn page_size c Fetched (at.Taken out) session = IsOutAs c out
+IsHeldIn page_size c (PoppedFaulty why) (at.HasReply out kept) session =
+    IsOutAs c out × KeepsReplyOf [] out kept
+IsHeldIn page_size c (PoppedFaulty why) (at.Pushing out) session = IsOutAs c out
+IsHeldIn page_size c (Own request reply) (at.HasReply out kept) session =
+    IsOutAs c out × KeepsReplyOf reply out kept
+IsHeldIn page_size c (Own request reply) (at.Pushing out) session = IsOutAs c out
+IsHeldIn page_size c (Asked request options calls) (at.Waits out waiting) session =
+    IsOutAs c out
+    × (calls ≡ [])
+    × IsDecodedIn page_size options session
+    × (made : made_call.FileCall)
+    × AsksCall (setting page_size options out.room_len) (meaning options request out.room_len)
+    (drop 80 request) made
+    waiting
+    × WaitsForNoListing waiting
+IsHeldIn page_size c (Asked request options calls) (at.Lists out listing) session =
+    IsOutAs c out
+    × (calls ≡ [])
+    × IsDecodedIn page_size options session
+    × (made : made_call.FileCall)
+    × AsksListing (setting page_size options out.room_len) (meaning options request out.room_len)
+    (drop 80 request) made
+    listing
+IsHeldIn page_size c (Asked request options calls) (at.HasReply out kept) session =
+    IsOutAs c out × KeepsReplyOf (served_so page_size options request out.room_len calls).reply out kept
+IsHeldIn page_size c (Asked request options calls) (at.Pushing out) session = IsOutAs c out
+IsHeldIn page_size c phase st session = ⊥
+
+abbrev pub HoldsChain : (page_size : ℕ) → InFlightChain → ChainHandle → Type 0
+HoldsChain page_size c w = IsHeldIn page_size c c.phase w.state w.session
+
+-- ---- a pop in a handle
+
+-- a pop that hasn't ended: its loads so far, and whether its queue had the event index when it began
+pub record Pop : Type 0 where
+  pub loaded : Loaded
+  pub event_index : Bool
+
+-- a queue as far as the mappings of its event index tell
+abbrev pub queue_with : Queue → (event_index : Bool) → LiveQueue
+queue_with q event_index = record { queue = q; next_used = 0; max_in_flight = 0; event_index = event_index }
+
+-- a handle makes this pop: the loads so far lead to the one that it asks for, and are of mapped addresses
+pub record HoldsPop (limit : ℕ) (p : Pop) (w : ChainHandle) : Type 0 where
+  pub course : Course
+  pub pop_id : PopId
+  pub walk : QueueWalk
+  pub state : w.state ≡ at.Walking course pop_id walk
+  pub limit_is : course.limit ≡ limit
+  pub comes : IsWalkAt (places_in w.regions) (queue_of course) p.loaded w.descriptors.items walk
+  pub there : IsThere (places_in w.regions) walk
+  pub mapped : LoadsAreMapped (places_in w.regions) (queue_of course) p.loaded
+  pub events : pop_refusal (places_in w.regions) (queue_with (queue_of course) p.event_index) ≡ None
+
+-- ---- what the calls do
+
+-- the calls that a decoding returns: none, or the one that is pending
+abbrev pub calls_decoded : (behind : List ℕ) → Decoded → List FileCall
+calls_decoded behind (asks.Call made) = call_of behind made ∷ []
+calls_decoded behind _ = []
+
+-- a decoding with this result: it needs more bytes, and nothing happens; or it is the event `DecodesRequest`
+abbrev pub DecodingIs : (s : Machine) (before behind : List InFlightChain) (c : InFlightChain)
+    (request : List ℕ) (new : ChainHandle) → Decoded → Type 0
+DecodingIs s before behind c request new (asks.More n) = HoldsChain s.page_size c new
+DecodingIs s before behind c request new told =
+    Happens any_files s (DecodesRequest c request (calls_decoded (drop 80 request) told))
+    (after_decoding s before behind c request)
+    × HoldsChain s.page_size (asked_chain c request s.options []) new
+
+-- so it is in each state of a run in which the handle has the chain, if the session is the run's
+unfoldable pub Decodes : (old new : ChainHandle) → Session → (front : List ℕ) → Decoded → Type 0
+Decodes old new session front told =
+    (s : Machine) (before behind : List InFlightChain) (c : InFlightChain) (request : List ℕ) →
+    s.chains ≡ before ++ c ∷ behind →
+    HoldsChain s.page_size c old →
+    IsDecodedIn s.page_size s.options session →
+    length request ≡ total_len (readable c.descriptors) →
+    IsRequestFront front request →
+    DecodingIs s before behind c request new told
+
+-- this call was pending, and is answered: the event `ReceivesAnswer`. `told.forget` is the FORGET that the
+-- caller owes then, and the handle's session has the options that the chain leaves
+abbrev pub AnsweringIs : (s : Machine) (before behind : List InFlightChain) (c : InFlightChain)
+    (request : List ℕ) (options : ℕ) (call : FileCall) (answer : FileAnswer) (told : Replied)
+    (new : ChainHandle) → Type 0
+AnsweringIs s before behind c request options call answer told new =
+    let calls : Calls = (call, answer) ∷ [] in
+    let room = length (addresses_of (writable c.descriptors)) in
+    Happens any_files s (ReceivesAnswer c call answer)
+    (after_answer s before behind c request options calls tt)
+    × HoldsChain s.page_size (asked_chain c request options calls) new
+    × ((served_so s.page_size options request room calls).calls ≡ call ∷ forget_calls told.forget)
+    × (new.session.options.0 ≡ (served_so s.page_size options request room calls).options)
+
+-- so it is for an answer to a decoded chain, with these bytes of data in the reply buffer
+unfoldable pub Answers : (old new : ChainHandle) → made_answer.FileAnswer → Replied → Type 0
+Answers old new answer told =
+    (s : Machine) (before behind : List InFlightChain) (c : InFlightChain) (request bytes : List ℕ)
+    (options : ℕ) →
+    s.chains ≡ before ++ c ∷ behind →
+    c.phase ≡ Asked request options [] →
+    HoldsChain s.page_size c old →
+    TellsBytes bytes answer →
+    (call : FileCall) × AnsweringIs s before behind c request options call (answer_of bytes answer) told new
+
+-- a push returns the stores of the chain's exchange at the queue's next used position, and the reply's front
+unfoldable pub Pushes : (old new : ChainHandle) → QueueState → (front : List ℕ) → PushStores → Type 0
+Pushes old new q front stores =
+    (page_size : ℕ) (c : InFlightChain) (x : Exchange) →
+    HoldsChain page_size c old →
+    PushedWith page_size c c.phase x →
+    HoldsChain page_size c new
+    × (stores_of stores.used ≡ stores_after_reply (returning (live_of q)) c.head (length x.reply))
+    × (stores.seen_at ≡ seen_at (live_of q))
+    × (behind : List ℕ)
+    × (x.reply ≡ take stores.front_len front ++ behind)
+
+-- the end of a push is the event `PushesChain`, with the stores that the push returned
+unfoldable pub EndsPush : (old : ChainHandle) → (q q' : QueueState) → (seen : List ℕ) → (notice : Bool) →
+    Type 0
+EndsPush old q q' seen notice =
+    (s : Machine) (before behind : List InFlightChain) (c : InFlightChain) (x : Exchange) (last : ℕ) →
+    s.chains ≡ before ++ c ∷ behind →
+    IsQueue s c.queue q →
+    HoldsChain s.page_size c old →
+    PushedWith s.page_size c c.phase x →
+    let after = after_push s before behind c (live_of q) in
+    Happens any_files s
+    (PushesChain c x notice last (stores_after_reply (returning (live_of q)) c.head (length x.reply)) seen)
+    after
+    × IsQueue after c.queue q'
+
+-- ---- the other ends of a chain
+
+-- giving up a chain is the event `GivesUpChain`. A handle that has none is freed, and its queue stays
+unfoldable pub GivesUp : (old new : ChainHandle) → (q q' : QueueState) → Type 0
+GivesUp old new q q' =
+    (s : Machine) (before behind : List InFlightChain) (c : InFlightChain) →
+    s.chains ≡ before ++ c ∷ behind →
+    IsQueue s c.queue q →
+    HoldsChain s.page_size c old →
+    let after = after_giving_up s before behind c (live_of q) in
+    Happens any_files s (GivesUpChain c) after × IsQueue after c.queue q' × (new.state ≡ at.Free)
+
+-- a reply of the caller's own bytes is the event `RepliesOwnBytes`, with any options of the session then
+unfoldable pub RepliesOwn : (old new : ChainHandle) → (len : ℕ) → Type 0
+RepliesOwn old new len =
+    (s : Machine) (before behind : List InFlightChain) (c : InFlightChain) (request reply : List ℕ)
+    (options : ℕ) →
+    s.chains ≡ before ++ c ∷ behind →
+    HoldsChain s.page_size c old →
+    IsUnreplied c c.phase request →
+    length reply ≡ len →
+    Happens any_files s (RepliesOwnBytes c request reply options)
+    (after_own s before behind c request reply options)
+    × HoldsChain s.page_size (record c { phase = Own request reply }) new
+
+-- ---- a pop's calls
+
+-- the chain that a pop ended with is in the handle
+abbrev pub HasPopped :
+    (s : Machine) → (i : ℕ) → LiveQueue → Loaded → comes.CourseStep → ChainHandle → Type 0
+HasPopped s i q loaded (step.Chain head fault) w =
+    HoldsChain s.page_size (new_chain s i q loaded w.descriptors.items head fault) w
+HasPopped s i q loaded _ w = w.state ≡ at.Free
+
+-- a pop ended by itself: the event `EndsPop`
+pub record EndsBy (s : Machine) (i : ℕ) (q q' : QueueState) (loaded : Loaded) (new : ChainHandle)
+    (told : walked.PopOutcome) : Type 0 where
+  pub came : comes.CourseStep
+  pub told_is : told ≡ told_of new.descriptors.items came
+  pub happens : Happens any_files s (EndsPop i loaded new.descriptors.items came)
+      (after_pop s i (live_of q) loaded new.descriptors.items came)
+  pub queue : IsQueue (after_pop s i (live_of q) loaded new.descriptors.items came) i q'
+  pub has : HasPopped s i (live_of q) loaded came new
+
+-- the queue refused it without looking: the event `RefusesPop`
+pub record RefusedBy (s : Machine) (i : ℕ) (q q' : QueueState) (new : ChainHandle)
+    (told : walked.PopOutcome) : Type 0 where
+  pub error : QueueError
+  pub told_is : told ≡ says.Refused error
+  pub after : Machine
+  pub happens : Happens any_files s (RefusesPop i error) after
+  pub queue : IsQueue after i q'
+  pub free : new.state ≡ at.Free
+
+-- a call of a pop came to this after these loads: it asks for more, and nothing happens; it misses addresses,
+-- and nothing happened; it ended; or the queue refused it
+abbrev pub PopIs : (s : Machine) (i : ℕ) (q q' : QueueState) (p : Pop) (new : ChainHandle) →
+    walked.PopOutcome → Type 0
+PopIs s i q q' p new (says.Load n) = HoldsPop s.limit p new × (q' ≡ q)
+PopIs s i q q' p new (says.Missing range access) = (new.state ≡ at.Free) × (q' ≡ q)
+PopIs s i q q' p new told = EndsBy s i q q' p.loaded new told ⊎ RefusedBy s i q q' new told
+
+-- a pop that begins
+unfoldable pub BeginsAPop : (old new : ChainHandle) → (q q' : QueueState) → went.LoadOutcome → Type 0
+BeginsAPop old new q q' wents.Part = ⊥
+BeginsAPop old new q q' (wents.On told) =
+    (s : Machine) (i : ℕ) →
+    IsQueue s i q →
+    s.places ≡ places_in old.regions →
+    s.limit ≡ old.limit →
+    s.limit ≤ 2 ^ 31 →
+    PopIs s i q q' (record { loaded = nothing; event_index = q.event_index }) new told
+
+-- a pop that continues, in a run whose mappings are those of its beginning. A part of a load adds nothing; a
+-- whole load adds its bytes
+abbrev pub PopGoesOn : (s : Machine) (i : ℕ) (q q' : QueueState) (p : Pop) (old new : ChainHandle)
+    (bytes : List ℕ) →
+    went.LoadOutcome → Type 0
+PopGoesOn s i q q' p old new bytes wents.Part = HoldsPop s.limit p new × (q' ≡ q)
+PopGoesOn s i q q' p old new bytes (wents.On told) =
+    (loaded : Loaded)
+    × (q.stopped ≡ None → AddsSo old.state (wents.On told) new.descriptors.items p.loaded (whole old bytes)
+    loaded)
+    × PopIs s i q q' (record p { loaded = loaded }) new told
+
+unfoldable pub ContinuesAPop :
+    (old new : ChainHandle) → (q q' : QueueState) → (bytes : List ℕ) → went.LoadOutcome → Type 0
+ContinuesAPop old new q q' bytes told =
+    (s : Machine) (i : ℕ) (p : Pop) →
+    HoldsPop s.limit p old →
+    IsQueue s i q →
+    s.places ≡ places_in old.regions →
+    p.event_index ≡ q.event_index →
+    s.limit ≤ 2 ^ 31 →
+    PopGoesOn s i q q' p old new bytes told
+
+-- a call of a pop: of a free handle it begins one, of another it continues the one that is under way
+abbrev pub PopsBy : state.ChainState → (old new : ChainHandle) → (q q' : QueueState) → (bytes : List ℕ) →
+    went.LoadOutcome → Type 0
+PopsBy at.Free old new q q' bytes told = BeginsAPop old new q q' told
+PopsBy st old new q q' bytes told = ContinuesAPop old new q q' bytes told
+
+-- ---- a listing
+
+-- the file calls of a listing so far: the directory was read, and the entries that were added were looked up.
+-- It has other entries behind them
+abbrev pub listed_calls : FileCall → (with_nodes : Bool) → List Brought → (others : List Listed) → Calls
+listed_calls call with_nodes es others =
+    (call, Entries (entries_of es ++ others)) ∷ all_looked_up call with_nodes es
+
+-- a handle gathers the entries of a directory that was read. These are added, and are at the front of the
+-- caller's list; the others are to come
+pub record HoldsListing (page_size : ℕ) (c : InFlightChain) (es : List Brought) (others : List Listed)
+    (list : List ℕ) (w : ChainHandle) : Type 0 where
+  pub out : InFlight
+  pub listing : Listing
+  pub state : w.state ≡ at.Lists out listing
+  pub is_out : IsOutAs c out
+  pub request : List ℕ
+  pub options : ℕ
+  pub session : IsDecodedIn page_size options w.session
+  pub unique : ℕ
+  pub asked : ListRequest
+  pub means : meaning options request out.room_len ≡ grammar.Asks (Lists unique asked)
+  pub is_for : IsListingFor listing out.room_len (Lists unique asked)
+  pub holds : gathering.Holds listing list es
+  pub phase : c.phase ≡ Asked request options (listed_calls (readdir_call asked) asked.with_nodes es others)
+
+-- an entry is added: with a look-up that is the event `ReceivesAnswer`; without one nothing happens
+abbrev pub AddingIs : (s : Machine) (before behind : List InFlightChain) (c : InFlightChain)
+    (es : List Brought) (e : Brought) (others : List Listed) (list' : List ℕ) (new : ChainHandle)
+    (request : List ℕ) (options : ℕ)
+    (asked : ListRequest) (looked : Bool) → Type 0
+AddingIs s before behind c es e others list' new request options asked false =
+    HoldsListing s.page_size c (es ++ e ∷ []) others list' new
+AddingIs s before behind c es e others list' new request options asked true =
+    let call = Lookup asked.context asked.node e.0.name in
+    let calls = listed_calls (readdir_call asked) asked.with_nodes es
+    (e.0 ∷ others) ++ (call, HasEntry e.1) ∷ [] in
+    Happens any_files s (ReceivesAnswer c call (HasEntry e.1))
+    (after_answer s before behind c request options calls tt)
+    × HoldsListing s.page_size (asked_chain c request options calls) (es ++ e ∷ []) others list' new
+
+unfoldable pub AddsEntry : (old new : ChainHandle) → (list list' : List ℕ) → Brought → Type 0
+AddsEntry old new list list' e =
+    (s : Machine) (before behind : List InFlightChain) (c : InFlightChain) (es : List Brought)
+    (others : List Listed) →
+    s.chains ≡ before ++ c ∷ behind →
+    (held : HoldsListing s.page_size c es (e.0 ∷ others) list old) →
+    IsTrue (suits (Lookup held.asked.context held.asked.node e.0.name) (HasEntry e.1)) →
+    AddingIs s before behind c es e others list' new held.request held.options held.asked
+    (is_looked_up held.asked.with_nodes e.0)

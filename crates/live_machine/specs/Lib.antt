@@ -1,0 +1,10 @@
+pub mod Files
+pub mod Guest
+pub mod InitBeside
+pub mod Live
+pub mod Options
+pub mod Overlap
+pub mod Rewritten
+pub mod Runs
+pub mod Serial
+pub mod Several

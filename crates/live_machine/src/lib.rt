@@ -1,0 +1,82 @@
+//! A device beside a guest that runs: the states and events of several chains on several queues, and the
+//! theorems on runs of them. Each theorem is the contract of a function that does nothing.
+#![tactic(auto)]
+
+ghost use Rattle.live_machine.specs.Files.{RunsOverFiles};
+ghost use Rattle.live_machine.specs.Guest.{PagesOfRun};
+ghost use Rattle.live_machine.specs.InitBeside.{InitBeside};
+ghost use Rattle.live_machine.specs.Overlap.{Overlap};
+ghost use Rattle.live_machine.specs.Rewritten.{Rewritten};
+ghost use Rattle.live_machine.specs.Runs.{CallsAreARun, LiveUsedInOrder, MovedGoesOn, OncePerLiveChain};
+ghost use Rattle.live_machine.specs.Runs.{OwnIsReturned, PagesAreReported, ReturnedIsStepBy};
+ghost use Rattle.live_machine.specs.Runs.{ReturnsAreMapped};
+ghost use Rattle.live_machine.specs.Runs.{ReturnsReport, RunsOnQueue, PositionsAgree, StoresStayThere};
+ghost use Rattle.live_machine.specs.Serial.{SingleIsStep, SerialIsKick};
+ghost use Rattle.live_machine.specs.Several.{ByEvent, KeepsOrder, OncePerChain, OneAtATime, UsedInOrder};
+ghost use Rattle.live_machine.specs.Options.{OptionsStay};
+
+use fuse_fs::FileSystem;
+
+/// The theorems on the pops and returns of one queue. Each popped chain ends once, and the used ring is
+/// filled in order. If chains are popped one at a time, or returned oldest first, each is returned at the
+/// position of its pop. With the event index, `used_event` enables the notification of a return exactly if
+/// the used index passes it.
+pub fn law_queues()
+    ensures once { OncePerChain }
+    ensures used { UsedInOrder }
+    ensures one { OneAtATime }
+    ensures order { KeepsOrder }
+    ensures event { ByEvent }
+{}
+
+/// The theorems on a run of several chains. The guest may write meanwhile, chains may be given up or
+/// abandoned, and the memory may get other mappings.
+/// - The calls are a run of the file system.
+/// - Each returned chain is by itself the plain machine's step by its loads. A chain with its caller's own
+///   bytes is stored as a step's reply is.
+/// - Stores stay where they may be, and those of a return are mapped. The pages that an event reports are
+///   those that its stores mark.
+/// - On each queue, chains are popped and returned as on that queue alone.
+/// - A queue without chains in flight has one position.
+/// - A device that moves then goes on as one that didn't.
+pub fn law_runs<F: FileSystem, G: FileSystem>()
+    ensures calls { CallsAreARun F.may }
+    ensures step { ReturnedIsStepBy F.may G.may }
+    ensures own { OwnIsReturned G F.may }
+    ensures stores { StoresStayThere F.may }
+    ensures pages { PagesAreReported F.may }
+    ensures tell { ReturnsReport F.may }
+    ensures log { PagesOfRun F.may }
+    ensures positions { PositionsAgree F.may }
+    ensures moves { MovedGoesOn F.may }
+    ensures places { ReturnsAreMapped F.may }
+    ensures queue { RunsOnQueue F.may }
+    ensures once { OncePerLiveChain F.may }
+    ensures used { LiveUsedInOrder F.may }
+{}
+
+/// One chain after another on one queue, over a memory that has the loaded bytes: the plain machine's steps,
+/// and its run for one available buffer notification.
+pub fn law_serial<F: FileSystem>()
+    ensures single { SingleIsStep F.may }
+    ensures kick { SerialIsKick F.may }
+{}
+
+/// Worked examples: two chains in flight that are returned in the other order; an available ring's entry that
+/// the driver rewrites after its load; INIT beside a chain whose call is pending.
+pub fn law_examples<F: FileSystem>()
+    ensures overlap { Overlap F.may }
+    ensures rewritten { Rewritten F.may }
+    ensures init { InitBeside F.may }
+{}
+
+/// The options of a session that an answer leaves.
+pub fn law_options()
+    ensures { OptionsStay }
+{}
+
+/// A run whose files may answer anything is a run over any files of which its calls are a run. So the
+/// contracts of the handle speak of no file system.
+pub fn law_files<F: FileSystem>()
+    ensures { RunsOverFiles F.may }
+{}
