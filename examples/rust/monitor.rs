@@ -257,8 +257,8 @@ impl FileSystem for Files {
 
     fn readdir(
         &self,
-        _context: &Context,
-        _node: Node,
+        context: &Context,
+        node: Node,
         read: ReadDirectory,
         list: &mut Listing<'_>,
     ) -> Answer<()> {
@@ -269,13 +269,10 @@ impl FileSystem for Files {
             .skip(read.offset as usize)
             .filter_map(|(k, name)| Some((k, name.as_ref()?)));
         for (k, name) in named {
-            // With READDIRPLUS it looks the name up by itself.
-            if !list.add(DirectoryEntry {
-                name,
-                inode: k + 2,
-                next_offset: k + 1,
-                kind: FileKind::REGULAR,
-            })? {
+            let (inode, next_offset, kind) = (k + 2, k + 1, FileKind::REGULAR);
+            let entry = DirectoryEntry { name, inode, next_offset, kind };
+            // READDIRPLUS has the file's node too.
+            if !list.add_with(entry, || self.lookup(context, node, name))? {
                 break;
             }
         }

@@ -17,7 +17,7 @@ use crate::in_flight::Doing;
 use crate::iommu::Cancel;
 use crate::memory::Table;
 use log::warn;
-use pitskhomu::{Queue, QueueLayout, Status, Taken};
+use pitskhomu::{Popped as Taken, Queue, QueueLayout, Status};
 use std::fs::File;
 use std::io::{self, ErrorKind, Write};
 use std::os::fd::AsRawFd;

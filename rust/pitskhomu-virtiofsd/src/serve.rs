@@ -8,7 +8,7 @@ use crate::memory::Table;
 use crate::open_flags::{Descriptors, OpenFlags};
 use crate::ring::{Answered, Ring, Server, LAST_CHAINS};
 use log::{debug, error};
-use pitskhomu::{Queue, Status, Taken};
+use pitskhomu::{Popped as Taken, Queue, Status};
 use std::collections::BTreeSet;
 use std::io;
 use std::panic::{catch_unwind, AssertUnwindSafe};
@@ -184,7 +184,7 @@ impl<F: ServedFs> Server for QueueWorker<F> {
         self.work_over(memory)?;
         let taken = if memory.iommu().is_on() {
             self.take_translated(queue, memory)?
-        } else if self.worker.take(queue, &**memory)? {
+        } else if self.worker.pop(queue, &**memory)? {
             Taken::Chain
         } else {
             Taken::Idle
@@ -221,9 +221,14 @@ impl<F: ServedFs> Server for QueueWorker<F> {
         let served = if self.is_translated {
             self.give_back_translated(queue, &memory)
         } else {
-            self.worker.give_back(queue, &*memory)
+            self.worker.push(queue, &*memory)
         };
-        self.worker.abandon(); // it still has a chain only if this was refused
+        if let Some(cancelled) = self.worker.abandon() {
+            // this was refused, so the guest gets no answer
+            let (core, doing) = (&self.core, &Doing::default());
+            let adapter = Adapter { fs: &core.fs, memory: &memory, doing, flags: core.flags };
+            cancelled.undo(&adapter);
+        }
         served.map(|served| {
             self.log(&served);
             served.notify

@@ -30,7 +30,7 @@ pub(crate) enum Progress {
 }
 
 /// The result of a call of `pop`.
-pub(crate) enum Popped {
+pub(crate) enum PopStep {
     /// The pop needs a load.
     Load,
     /// No chain is available.
@@ -69,8 +69,6 @@ pub(crate) enum Replied {
     /// The listing failed, but the guest already holds nodes of its entries: the reply has the
     /// entries so far.
     Entries,
-    /// The file system has no answer yet: the library wasn't called.
-    Later,
 }
 
 /// The result of an entry of a listing.
@@ -134,18 +132,18 @@ impl Chain {
         queue: &mut Queue,
         loaded: &[u8],
         pop: &mut sys::Pop,
-    ) -> Result<Popped, Status> {
+    ) -> Result<PopStep, Status> {
         // SAFETY: as the module says.
         match unsafe {
             sys::pk_pop(&mut self.handle, queue.numbers_mut(), loaded.as_ptr(), loaded.len(), pop)
         } {
             status::DONE => {
                 self.ticket = pop.ticket;
-                Ok(Popped::InFlight)
+                Ok(PopStep::InFlight)
             }
-            status::IDLE => Ok(Popped::Idle),
-            status::MISS => Ok(Popped::Missed),
-            status::LOAD => Ok(Popped::Load),
+            status::IDLE => Ok(PopStep::Idle),
+            status::MISS => Ok(PopStep::Missed),
+            status::LOAD => Ok(PopStep::Load),
             number => Err(Status::of(number)),
         }
     }

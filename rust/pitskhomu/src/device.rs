@@ -1,5 +1,6 @@
 //! The state that all queues share, and the record that moves it to another host.
 use crate::chain;
+use crate::data::zeros;
 use crate::flags::Options;
 use crate::queue::{self, Queue};
 use crate::status::Status;
@@ -146,12 +147,4 @@ impl Device {
     pub(crate) fn numbers(&self) -> sys::Device {
         sys::Device { page_size: self.page_size, limit: self.limit, options: self.options().bits() }
     }
-}
-
-/// Zero bytes.
-fn zeros(len: usize) -> Result<Vec<u8>, Status> {
-    let mut bytes = Vec::new();
-    bytes.try_reserve_exact(len).map_err(|_| Status::OutOfMemory)?;
-    bytes.resize(len, 0);
-    Ok(bytes)
 }

@@ -24,14 +24,6 @@ impl Errno {
     /// The greatest number that a reply can have (linux/err.h, `MAX_ERRNO`).
     pub const MAX: u32 = 4095;
 
-    /// Not an errno, and never sent to the guest: the file system will answer later. The worker
-    /// keeps the chain, and [`Worker::answer`](crate::Worker::answer) makes the same call again. A
-    /// file system returns it while another thread works on the request.
-    pub const LATER: Errno = match NonZeroU32::new(Errno::MAX + 1) {
-        Some(number) => Errno(number),
-        None => panic!("not a number"),
-    };
-
     /// The errno of a number; `None` if it is 0 or above `MAX`.
     #[must_use]
     pub const fn new(number: u32) -> Option<Errno> {
@@ -47,7 +39,7 @@ impl Errno {
         u32::try_from(number).ok().and_then(Errno::new).unwrap_or(Errno::EIO)
     }
 
-    /// Its number, from 1 to 4095. That of `LATER` is 4096.
+    /// Its number, from 1 to 4095.
     #[must_use]
     pub const fn number(self) -> u32 {
         self.0.get()
@@ -100,7 +92,7 @@ impl From<std::io::Error> for Errno {
 
 #[cfg(feature = "std")]
 impl From<Errno> for std::io::Error {
-    #[allow(clippy::cast_possible_wrap)] // at most 4096
+    #[allow(clippy::cast_possible_wrap)] // at most 4095
     fn from(errno: Errno) -> std::io::Error {
         std::io::Error::from_raw_os_error(errno.number() as i32)
     }

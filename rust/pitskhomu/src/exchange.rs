@@ -1,6 +1,6 @@
 //! A chain by its bytes, for a file system that is itself a FUSE server.
 use crate::chain::Chain;
-use crate::data::{at_most, load_request, store_room, Written};
+use crate::data::{at_most, load_request, store_room, Counts};
 use crate::errno::Errno;
 use crate::memory::{GuestMemory, Window};
 use core::fmt;
@@ -17,7 +17,7 @@ pub struct Exchange<'a> {
     front: &'a [u8],
     request_len: u64,
     room_len: u64,
-    written: Written<'a>,
+    counts: &'a mut Counts,
 }
 
 impl fmt::Debug for Exchange<'_> {
@@ -37,9 +37,9 @@ impl<'a> Exchange<'a> {
         front: &'a [u8],
         request_len: u64,
         room_len: u64,
-        written: &'a mut u64,
+        counts: &'a mut Counts,
     ) -> Exchange<'a> {
-        Exchange { chain, memory, front, request_len, room_len, written: Written::new(written) }
+        Exchange { chain, memory, front, request_len, room_len, counts }
     }
 
     /// The length of the request, in bytes.
@@ -97,14 +97,14 @@ impl<'a> Exchange<'a> {
     /// the bytes that you store by them with `written_up_to`.
     pub fn reply_windows<'w>(&mut self, from: u64, windows: &'w mut [Window]) -> &'w [Window] {
         let windows = self.chain.reply_windows(from, u64::MAX - from, windows);
-        self.written.lend(from, windows);
+        self.counts.lend(from, windows);
         windows
     }
 
     /// Reports that the bytes of the reply buffer before `end` may have been written by its
     /// windows. A migration's log needs this for bytes after the reply's end.
     pub fn written_up_to(&mut self, end: u64) {
-        self.written.reach(end.min(self.room_len));
+        self.counts.reach(end.min(self.room_len));
     }
 
     /// Stores the reply of an error, and returns its length in bytes: 0 if the request has no
@@ -116,7 +116,6 @@ impl<'a> Exchange<'a> {
         }
         let mut header = [0; HEADER_LEN];
         header[..4].copy_from_slice(&(HEADER_LEN as u32).to_le_bytes());
-        let error = if error == Errno::LATER { Errno::EIO } else { error };
         header[4..8].copy_from_slice(&error.number().wrapping_neg().to_le_bytes());
         header[8..].copy_from_slice(&self.unique().to_le_bytes());
         self.store(0, &header) as u64
@@ -124,7 +123,7 @@ impl<'a> Exchange<'a> {
 
     /// The file system has returned: what it reported is all that was written.
     pub(crate) fn settle(&mut self) {
-        self.written.settle();
+        self.counts.settle();
     }
 }
 

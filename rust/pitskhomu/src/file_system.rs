@@ -1,4 +1,5 @@
 //! The trait that a file system implements.
+use crate::cancelled::Cancelled;
 use crate::data::{ReadData, WriteData};
 use crate::errno::{Answer, Errno};
 use crate::exchange::Exchange;
@@ -17,18 +18,12 @@ use core::time::Duration;
 /// It chooses the numbers of nodes and open files. A name is any bytes but zero. A file system that
 /// serves a host directory must refuse each name for which [`is_name`](crate::is_name) is false. A
 /// method that isn't implemented answers ENOSYS, or "done" where that is harmless. If the reply
-/// buffer is too small for an answer, the worker undoes the answer: an entry by `forget`, an open
-/// file by `release`.
+/// buffer is too small for an answer, the answer is undone ([`FileSystem::cancelled`]): an entry by
+/// `forget`, an open file by `release`.
 ///
-/// A method that has no answer yet returns [`Errno::LATER`]. The next call of
-/// [`Worker::answer`](crate::Worker::answer) calls it again, with the same arguments and fresh
-/// data. So a file system may pass a request to another thread, and a thread may have several
-/// workers with unanswered chains, as in the example `later`. Keep what belongs to the request by
-/// [`Context::id`], which is the same at each of its calls, and never another request's. By
-/// `Context::unique`, the guest's number, one request could get another's answer: a guest may use a
-/// number twice at a time, and does so after each start. WRITE's data may have changed when the
-/// method is called again. So take it at the first call, and report it with [`WriteData::advance`]
-/// at the last.
+/// These methods answer before they return. A file system that answers later, on another thread or
+/// in an async task, takes each call as a value, with an object for its answer
+/// ([`Worker::take`](crate::Worker::take)), as in the examples `later` and `tasks`.
 ///
 /// # Errors
 /// Each method returns the errno with which the guest's system call fails.
@@ -101,6 +96,12 @@ pub trait FileSystem {
 
     /// DESTROY: the session ends.
     fn destroy(&self) {}
+
+    /// An answer of this file system that the guest doesn't get: its queue was reset, or the reply
+    /// buffer was too small. The default undoes it, by `forget`, `release` and `releasedir`.
+    fn cancelled(&self, cancelled: &Cancelled) {
+        cancelled.undo(self);
+    }
 
     /// LOOKUP of a name in a directory: the guest then holds the node once more. ENOENT, or an
     /// entry with node 0, if the name doesn't exist.
@@ -280,7 +281,8 @@ pub trait FileSystem {
     }
 
     /// READDIR and READDIRPLUS: adds entries until none is left or the next one doesn't fit. No
-    /// entry at all is the directory's end.
+    /// entry at all is the directory's end. READDIRPLUS takes entries with their nodes too
+    /// ([`Listing::add_plus`]).
     fn readdir(
         &self,
         context: &Context,

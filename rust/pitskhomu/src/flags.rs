@@ -261,6 +261,11 @@ impl FileKind {
     /// `DT_SOCK`, a socket.
     pub const SOCKET: FileKind = FileKind(12);
 
+    /// Whether dirent.h has it.
+    pub(crate) fn is_known(self) -> bool {
+        matches!(self.0, 0 | 1 | 2 | 4 | 6 | 8 | 10 | 12)
+    }
+
     /// The kind that a mode has (`S_IFMT` of sys/stat.h).
     #[must_use]
     pub const fn of_mode(mode: u32) -> FileKind {

@@ -7,9 +7,10 @@
 //! - [`GuestMemory`] finds the guest's memory. The worker copies it, since the guest runs at the
 //!   same time. Only [`GuestSlice::new`], which makes a slice of a pointer, is `unsafe`.
 //! - [`FileSystem`] is the file system that the guest mounts: a method for each call, with a
-//!   default for all but two.
+//!   default for all but two. Or each call is a value, a [`Request`], with a [`Reply`] object that
+//!   takes its answer later, on any thread ([`Worker::take`]).
 //! - A [`Worker`] on each thread serves a [`Queue`] of its own, or one that several workers serve
-//!   ([`Worker::take`]); all share a [`Device`].
+//!   ([`Worker::pop`]); all share a [`Device`].
 //!
 //! # Examples
 //! ```no_run
@@ -53,6 +54,7 @@ extern crate alloc;
 #[cfg(feature = "std")]
 extern crate std;
 
+mod cancelled;
 mod chain;
 mod data;
 mod device;
@@ -63,8 +65,11 @@ mod flags;
 mod iotlb;
 mod kept;
 mod listing;
+mod lock;
 mod memory;
+mod operation;
 mod queue;
+mod reply;
 mod requests;
 mod slice;
 mod status;
@@ -73,10 +78,15 @@ mod values;
 mod worker;
 
 #[cfg(not(feature = "std"))]
+use alloc::ffi::CString;
+#[cfg(not(feature = "std"))]
 pub use core::ffi::CStr;
 #[cfg(feature = "std")]
 pub use std::ffi::CStr;
+#[cfg(feature = "std")]
+use std::ffi::CString;
 
+pub use cancelled::{Cancelled, Undo};
 pub use data::{ReadData, WriteData};
 pub use device::Device;
 pub use errno::{Answer, Errno};
@@ -84,9 +94,11 @@ pub use exchange::Exchange;
 pub use file_system::FileSystem;
 pub use flags::{AccessMask, FileKind, OpenOptions, Options, RenameFlags, SetAttributesValid};
 pub use iotlb::{Access, Iotlb, Miss};
-pub use listing::Listing;
+pub use listing::{Entries, Listing};
 pub use memory::{GuestMemory, GuestRange, Region, Window};
+pub use operation::{Operation, OwnedCall, OwnedRequest, Request};
 pub use queue::{Queue, QueueLayout};
+pub use reply::{Reply, Response, Unsent};
 pub use requests::{
     Allocate, Child, CopyFileRange, Create, FilePlace, Forgets, Init, Label, MakeDirectory,
     MakeNode, Open, Read, ReadDirectory, Release, Seek, SetAttributes, SetTime, SetXattr, Write,
@@ -96,7 +108,7 @@ pub use status::{Fault, RequestFault, Status};
 pub use values::{
     Attributes, Context, DirectoryEntry, Entry, Handle, Node, Opened, RequestId, Statistics, Time,
 };
-pub use worker::{Lent, Served, Taken, Worker};
+pub use worker::{Lent, Popped, Served, Worker};
 
 /// The version of pitskhomu.h that this crate follows (`PK_VERSION`).
 pub const VERSION: u32 = sys::VERSION;

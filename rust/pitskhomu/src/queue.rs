@@ -2,6 +2,7 @@
 use crate::chain;
 use crate::status::Status;
 use crate::sys;
+use alloc::sync::Arc;
 
 /// The size of a split virtqueue and the guest addresses of its parts (VIRTIO 1.2, 2.7), as the
 /// driver set them.
@@ -28,8 +29,8 @@ struct Seen {
 
 /// A virtqueue.
 ///
-/// [`Worker::take`](crate::Worker::take) advances `next_avail`, and
-/// [`Worker::give_back`](crate::Worker::give_back) advances `next_used`. Each of several workers
+/// [`Worker::pop`](crate::Worker::pop) advances `next_avail`, and
+/// [`Worker::push`](crate::Worker::push) advances `next_used`. Each of several workers
 /// has at most one chain of the queue in flight. A worker loads the available index again once all
 /// chains before it were taken, after [`Queue::begin`], and after it got new regions.
 ///
@@ -58,6 +59,8 @@ struct Seen {
 pub struct Queue {
     numbers: sys::Queue,
     seen: Option<Seen>,
+    /// It lives until the queue is reset or dropped.
+    session: Arc<()>,
 }
 
 impl Default for Queue {
@@ -87,8 +90,13 @@ impl Queue {
     }
 
     /// A queue whose index wasn't loaded yet.
-    pub(crate) const fn of_numbers(numbers: sys::Queue) -> Queue {
-        Queue { numbers, seen: None }
+    pub(crate) fn of_numbers(numbers: sys::Queue) -> Queue {
+        Queue { numbers, seen: None, session: Arc::new(()) }
+    }
+
+    /// The session of the chains that are popped now.
+    pub(crate) fn session(&self) -> &Arc<()> {
+        &self.session
     }
 
     pub(crate) const fn numbers(&self) -> &sys::Queue {
@@ -129,14 +137,14 @@ impl Queue {
     /// The queue of a driver that accepted `VIRTIO_F_EVENT_IDX`, or didn't. With it driver and
     /// device ask for the next notification by a chain's position, and without it by flags (VIRTIO
     /// 1.2, 2.7.7 and 2.7.10).
-    pub const fn with_event_index(mut self, is_accepted: bool) -> Queue {
-        self.numbers.event_index = is_accepted as u8;
+    pub fn with_event_index(mut self, is_accepted: bool) -> Queue {
+        self.numbers.event_index = is_accepted.into();
         self
     }
 
     /// Resets the queue: it becomes `queue`. Its chains in flight are then refused
-    /// (`Status::OtherQueue`), so first each worker must [`abandon`](crate::Worker::abandon) its
-    /// own.
+    /// (`Status::OtherQueue`), and answers to them too ([`Reply::send`](crate::Reply::send)). So
+    /// first each worker must [`abandon`](crate::Worker::abandon) its own.
     ///
     /// # Errors
     /// `BadArgument`: `queue` isn't set up. This one stays as it was.
@@ -182,7 +190,7 @@ impl Queue {
     }
 
     /// Whether a chain is available by the index that was loaded last. If `false`, a chain may be
-    /// available all the same: [`Worker::take`](crate::Worker::take) loads the index then.
+    /// available all the same: [`Worker::pop`](crate::Worker::pop) loads the index then.
     #[must_use]
     pub fn knows_more(&self) -> bool {
         self.seen.map_or(false, |seen| seen.index != self.next_avail())

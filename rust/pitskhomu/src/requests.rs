@@ -1,11 +1,11 @@
-//! The arguments of the longer calls, one structure for each. Only this crate makes them, so a
-//! later version may add fields.
+//! The arguments of the longer calls, one structure for each. A later version may add fields: so
+//! code of others begins with `default()`.
 use crate::flags::{Options, SetAttributesValid};
 use crate::values::{Attributes, Handle, Node, Time};
 use crate::CStr;
 
 /// The arguments of MKNOD (struct `fuse_mknod_in`).
-#[derive(Clone, Copy, Debug)]
+#[derive(Clone, Copy, Debug, Default, PartialEq, Eq)]
 #[non_exhaustive]
 pub struct MakeNode {
     /// Kind and permissions.
@@ -18,7 +18,7 @@ pub struct MakeNode {
 }
 
 /// The arguments of MKDIR (struct `fuse_mkdir_in`).
-#[derive(Clone, Copy, Debug)]
+#[derive(Clone, Copy, Debug, Default, PartialEq, Eq)]
 #[non_exhaustive]
 pub struct MakeDirectory {
     /// Permissions.
@@ -28,7 +28,7 @@ pub struct MakeDirectory {
 }
 
 /// The arguments of OPEN (struct `fuse_open_in`).
-#[derive(Clone, Copy, Debug)]
+#[derive(Clone, Copy, Debug, Default, PartialEq, Eq)]
 #[non_exhaustive]
 pub struct Open {
     /// O_ flags of Linux x86 (fcntl.h).
@@ -39,7 +39,7 @@ pub struct Open {
 }
 
 /// The arguments of CREATE (struct `fuse_create_in`).
-#[derive(Clone, Copy, Debug)]
+#[derive(Clone, Copy, Debug, Default, PartialEq, Eq)]
 #[non_exhaustive]
 pub struct Create {
     /// O_ flags of Linux x86 (fcntl.h).
@@ -53,7 +53,7 @@ pub struct Create {
 }
 
 /// The arguments of READ (struct `fuse_read_in`).
-#[derive(Clone, Copy, Debug)]
+#[derive(Clone, Copy, Debug, Default, PartialEq, Eq)]
 #[non_exhaustive]
 pub struct Read {
     /// The open file.
@@ -69,7 +69,7 @@ pub struct Read {
 }
 
 /// The arguments of WRITE (struct `fuse_write_in`).
-#[derive(Clone, Copy, Debug)]
+#[derive(Clone, Copy, Debug, Default, PartialEq, Eq)]
 #[non_exhaustive]
 pub struct Write {
     /// The open file.
@@ -90,7 +90,7 @@ pub struct Write {
 }
 
 /// The arguments of RELEASE (struct `fuse_release_in`).
-#[derive(Clone, Copy, Debug, Default)]
+#[derive(Clone, Copy, Debug, Default, PartialEq, Eq)]
 #[non_exhaustive]
 pub struct Release {
     /// The open file.
@@ -106,7 +106,7 @@ pub struct Release {
 }
 
 /// The arguments of READDIR and READDIRPLUS (struct `fuse_read_in`).
-#[derive(Clone, Copy, Debug)]
+#[derive(Clone, Copy, Debug, Default, PartialEq, Eq)]
 #[non_exhaustive]
 pub struct ReadDirectory {
     /// The open directory.
@@ -119,7 +119,7 @@ pub struct ReadDirectory {
 }
 
 /// The arguments of FALLOCATE (struct `fuse_fallocate_in`).
-#[derive(Clone, Copy, Debug)]
+#[derive(Clone, Copy, Debug, Default, PartialEq, Eq)]
 #[non_exhaustive]
 pub struct Allocate {
     /// The open file.
@@ -133,7 +133,7 @@ pub struct Allocate {
 }
 
 /// The arguments of LSEEK (struct `fuse_lseek_in`).
-#[derive(Clone, Copy, Debug)]
+#[derive(Clone, Copy, Debug, Default, PartialEq, Eq)]
 #[non_exhaustive]
 pub struct Seek {
     /// The open file.
@@ -145,7 +145,7 @@ pub struct Seek {
 }
 
 /// An open file, and a place in it.
-#[derive(Clone, Copy, Debug, PartialEq, Eq)]
+#[derive(Clone, Copy, Debug, Default, PartialEq, Eq)]
 pub struct FilePlace {
     /// The node.
     pub node: Node,
@@ -157,7 +157,7 @@ pub struct FilePlace {
 
 /// The arguments of `COPY_FILE_RANGE` (struct `fuse_copy_file_range_in`), without its flags, which
 /// are 0 in Linux.
-#[derive(Clone, Copy, Debug)]
+#[derive(Clone, Copy, Debug, Default, PartialEq, Eq)]
 #[non_exhaustive]
 pub struct CopyFileRange {
     /// The source.
@@ -169,7 +169,7 @@ pub struct CopyFileRange {
 }
 
 /// The arguments of INIT (struct `fuse_init_in`).
-#[derive(Clone, Copy, Debug)]
+#[derive(Clone, Copy, Debug, Default, PartialEq, Eq)]
 #[non_exhaustive]
 pub struct Init {
     /// The guest's options.
@@ -177,7 +177,7 @@ pub struct Init {
 }
 
 /// The security label of a new node (struct `fuse_secctx`).
-#[derive(Clone, Copy, Debug, PartialEq, Eq)]
+#[derive(Clone, Copy, Debug, Default, PartialEq, Eq)]
 pub struct Label<'n> {
     /// The extended attribute that holds it, such as `security.selinux`.
     pub name: &'n CStr,
@@ -186,7 +186,7 @@ pub struct Label<'n> {
 }
 
 /// A name in a directory.
-#[derive(Clone, Copy, Debug)]
+#[derive(Clone, Copy, Debug, Default, PartialEq, Eq)]
 pub struct Child<'n> {
     /// The directory.
     pub parent: Node,
@@ -197,7 +197,7 @@ pub struct Child<'n> {
 }
 
 /// How SETXATTR sets an attribute (struct `fuse_setxattr_in`).
-#[derive(Clone, Copy, Debug)]
+#[derive(Clone, Copy, Debug, Default, PartialEq, Eq)]
 #[non_exhaustive]
 pub struct SetXattr {
     /// As of setxattr: `XATTR_CREATE` is 1, `XATTR_REPLACE` 2.
@@ -217,7 +217,7 @@ pub enum SetTime {
 }
 
 /// The arguments of SETATTR (struct `fuse_setattr_in`).
-#[derive(Clone, Copy, Debug)]
+#[derive(Clone, Copy, Debug, Default, PartialEq, Eq)]
 #[non_exhaustive]
 pub struct SetAttributes {
     /// Which attributes are set.

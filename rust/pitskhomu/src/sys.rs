@@ -111,9 +111,21 @@ pub mod access {
     pub const READ_WRITE: u32 = 3;
 }
 
-/// enum `pk_answer_kind`: the kind that the wrapper distinguishes.
+/// enum `pk_answer_kind`.
 pub mod answer {
+    pub const NONE: u32 = 0;
+    pub const DONE: u32 = 1;
+    pub const ENTRY: u32 = 2;
+    pub const ATTR: u32 = 3;
+    pub const OPEN: u32 = 4;
+    pub const CREATE: u32 = 5;
+    pub const DATA: u32 = 6;
     pub const XATTR: u32 = 7;
+    pub const STATFS: u32 = 8;
+    pub const WRITE: u32 = 9;
+    pub const LSEEK: u32 = 10;
+    pub const ENTRIES: u32 = 11;
+    pub const INIT: u32 = 12;
 }
 
 #[repr(C)]

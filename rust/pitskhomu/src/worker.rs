@@ -1,25 +1,31 @@
 //! The worker: from a chain's pop to its push.
 mod answering;
+mod decoding;
+mod dispatching;
 mod lent;
 mod pushing;
+mod responding;
 
-use crate::chain::{Chain, Decoded, Popped, Progress, Replied};
-use crate::data::{at_most, load_request};
+use crate::cancelled::{Cancelled, Given};
+use crate::chain::{Chain, PopStep, Progress, Replied};
+use crate::data::Counts;
 use crate::device::Device;
-use crate::errno::Errno;
-use crate::exchange::{self, Exchange};
 use crate::file_system::FileSystem;
 use crate::iotlb::Miss;
 use crate::memory::{self, GuestMemory, Region};
+use crate::operation::Request;
 use crate::queue::Queue;
+use crate::reply::Slot;
 use crate::status::{Fault, RequestFault, Status};
 use crate::sys;
-use crate::values::RequestId;
+use crate::values::{Node, RequestId};
+use alloc::sync::{Arc, Weak};
 use alloc::vec::Vec;
 use core::fmt;
 use core::mem;
 use core::sync::atomic::{fence, Ordering};
-pub use lent::{Lent, Taken};
+use core::task::Waker;
+pub use lent::{Lent, Popped};
 
 /// A chain that was returned to the driver, with its reply's length, its fault and its notice.
 #[derive(Clone, Copy, Debug, PartialEq, Eq)]
@@ -126,17 +132,31 @@ pub struct Worker {
     loaded: Vec<u8>,
     /// The request, as far as it was loaded.
     request: Vec<u8>,
+    /// How much of it was decoded.
+    decoded: usize,
     /// The data of the reply to a listing, READLINK, GETXATTR or LISTXATTR.
     list: Vec<u8>,
+    /// The bytes of entries in `list`, and their nodes.
+    used: usize,
+    nodes: Vec<Node>,
     front: [u8; sys::FRONT_MAX],
     /// The number of the chain that it has, or had last.
     id: RequestId,
     pop: sys::Pop,
     call: sys::Call,
     replied: Replied,
-    /// The number of bytes of the reply buffer, from its front on, that the file system may have
-    /// written.
-    written: u64,
+    /// The bytes of the reply buffer.
+    counts: Counts,
+    /// The place of an answer that comes by a reply object.
+    slot: Arc<Slot>,
+    /// The session of the chain's queue.
+    session: Weak<()>,
+    /// Whether the file system has a call of the chain, which isn't returned.
+    is_called: bool,
+    /// What the answer gives the guest.
+    given: Given,
+    /// What is to be undone.
+    cancelled: Option<Cancelled>,
 }
 
 impl fmt::Debug for Worker {
@@ -174,14 +194,35 @@ impl Worker {
             misses: Vec::new(),
             loaded: Vec::new(),
             request: Vec::new(),
+            decoded: 0,
             list: Vec::new(),
+            used: 0,
+            nodes: Vec::new(),
             front: [0; sys::FRONT_MAX],
             id: RequestId::default(),
             pop: sys::Pop::default(),
             call: sys::Call::default(),
             replied: Replied::Whole,
-            written: 0,
+            counts: Counts::default(),
+            slot: Arc::default(),
+            session: Weak::new(),
+            is_called: false,
+            given: Given::default(),
+            cancelled: None,
         }
+    }
+
+    /// Sets what is woken when an answer comes by a reply object ([`Reply`](crate::Reply)), on the
+    /// thread that answers. Then call `finish`.
+    ///
+    /// # Errors
+    /// `ChainInFlight`: the worker has a chain.
+    pub fn set_waker(&mut self, waker: Option<Waker>) -> Result<(), Status> {
+        if self.has_chain() {
+            return Err(Status::ChainInFlight);
+        }
+        self.slot = Arc::new(Slot::new(waker));
+        Ok(())
     }
 
     /// Sets the regions of the guest's memory for the next chains, and copies them: at most
@@ -202,10 +243,9 @@ impl Worker {
         Ok(())
     }
 
-    /// Serves the next chain of a queue, if one is available: takes it, calls the file system, and
-    /// returns it to the driver with the reply. If the worker already has a chain, it serves that
-    /// one first. `None` if no chain is available, and if the file system answers later. Then the
-    /// worker keeps the chain.
+    /// Serves the next chain of a queue, if one is available: pops it, calls the file system, and
+    /// pushes it with the reply. If the worker already has a chain, it serves that one first.
+    /// `None` if no chain is available.
     ///
     /// After a panic of the file system, pass the same queue again: the call is answered EIO, and
     /// its chain is returned. A panic of the memory between the stores of a push may lose the chain
@@ -217,7 +257,8 @@ impl Worker {
     /// - `OutOfMemory`: an allocation failed. The chain is still available, and the driver doesn't
     ///   notify again.
     /// - `BadArgument`: the queue isn't set up.
-    /// - `WrongOrder`: no memory was set.
+    /// - `WrongOrder`: no memory was set. The worker keeps a chain whose reply object isn't
+    ///   answered.
     /// - `ChainInFlight`: other workers have `Queue::max_in_flight` chains of the queue.
     /// - `OtherQueue`: the queue was reset while the worker had a chain of it.
     pub fn serve(
@@ -227,152 +268,127 @@ impl Worker {
         file_system: &dyn FileSystem,
         memory: &dyn GuestMemory,
     ) -> Result<Option<Served>, Status> {
-        if !self.has_chain() && !self.take(queue, memory)? {
+        if !self.has_chain() && !self.pop(queue, memory)? {
             return Ok(None);
         }
         self.answer(device, file_system, memory)?;
-        if !self.is_answered() {
-            return Ok(None);
-        }
-        self.give_back(queue, memory).map(Some)
+        let pushed = self.push(queue, memory);
+        self.tell_cancelled(file_system);
+        pushed.map(Some)
     }
 
-    /// Takes the next chain of a queue, and returns `true` if one is available. Then call `answer`
-    /// and `give_back`, in this order. Several workers may each have a chain of one queue, up to
-    /// `Queue::max_in_flight`. Keep the queue behind a lock, and hold the lock for `take` and for
-    /// `give_back`, but not for `answer`. Chains may be returned in any order.
+    /// Pops the next chain of a queue, and decodes its request. `None` if no chain is available.
+    /// Answer by the request's reply object, at once or later, on any thread. Then call `finish`
+    /// and `push`.
+    ///
+    /// # Examples
+    /// ```
+    /// # use pitskhomu::*;
+    /// # fn serve_all(
+    /// #     worker: &mut Worker,
+    /// #     queue: &mut Queue,
+    /// #     device: &Device,
+    /// #     memory: &dyn GuestMemory,
+    /// #     call: &dyn Fn(Request<'_>),
+    /// # ) -> Result<(), Status> {
+    /// while let Some(request) = worker.take(queue, device, memory)? {
+    ///     call(request); // it may move `request.reply` to another thread
+    ///     if !worker.finish(device, memory)? {
+    ///         break; // no answer yet: the worker's waker is woken when one comes
+    ///     }
+    ///     worker.push(queue, memory)?;
+    /// }
+    /// # Ok(())
+    /// # }
+    /// ```
+    ///
+    /// # Errors
+    /// Those of `pop` and `decode`.
+    pub fn take<'w>(
+        &'w mut self,
+        queue: &mut Queue,
+        device: &Device,
+        memory: &'w dyn GuestMemory,
+    ) -> Result<Option<Request<'w>>, Status> {
+        if !self.pop(queue, memory)? {
+            return Ok(None);
+        }
+        self.decode(device, memory).map(Some)
+    }
+
+    /// Pops the next chain of a queue, and returns `true` if one is available. Then call `answer`,
+    /// or `decode` and `finish`, and then `push`. Several workers may each have a chain of one
+    /// queue, up to `Queue::max_in_flight`. Keep the queue behind a lock, and hold the lock for
+    /// `pop` and for `push`, but not for the others. Chains may be pushed in any order.
     ///
     /// # Errors
     /// Those of `serve`, and `WrongOrder`: the worker already has a chain, and keeps it.
-    pub fn take(&mut self, queue: &mut Queue, memory: &dyn GuestMemory) -> Result<bool, Status> {
-        self.take_next(queue, memory, false).map(|taken| taken == Taken::Chain)
+    pub fn pop(&mut self, queue: &mut Queue, memory: &dyn GuestMemory) -> Result<bool, Status> {
+        self.pop_next(queue, memory, false).map(|popped| popped == Popped::Chain)
     }
 
     /// The same, with a table that is lent, or without one.
-    fn take_next(
+    fn pop_next(
         &mut self,
         queue: &mut Queue,
         memory: &dyn GuestMemory,
         is_lent: bool,
-    ) -> Result<Taken, Status> {
+    ) -> Result<Popped, Status> {
         if self.has_chain() {
             return Err(Status::WrongOrder);
         }
         grow(&mut self.request, sys::FIRST)?;
-        self.call = sys::Call::default();
-        self.is_asked = false;
-        self.replied = Replied::Whole;
-        self.written = 0;
+        self.forget_last();
         let popping = Popping(self);
-        match popping.0.pop(queue, memory)? {
-            Popped::InFlight if is_lent => popping.0.keep_windows(queue)?,
-            Popped::InFlight => {}
-            Popped::Missed => return popping.0.gather_misses().map(|()| Taken::Missing),
-            Popped::Idle | Popped::Load => return Ok(Taken::Idle),
+        match popping.0.pop_steps(queue, memory)? {
+            PopStep::InFlight if is_lent => popping.0.keep_windows(queue)?,
+            PopStep::InFlight => {}
+            PopStep::Missed => return popping.0.gather_misses().map(|()| Popped::Missing),
+            PopStep::Idle | PopStep::Load => return Ok(Popped::Idle),
         }
         mem::forget(popping);
         self.id = RequestId::next();
-        Ok(Taken::Chain)
-    }
-
-    /// Calls the file system for the chain that was taken, and makes the reply. It does nothing for
-    /// a chain that has a reply, or gets none. If the file system answers later ([`Errno::LATER`]),
-    /// the chain isn't answered: call this again when the answer is known. Call it again also after
-    /// a panic of the file system: then the answer is EIO.
-    ///
-    /// # Errors
-    /// `WrongOrder`: the worker has no chain.
-    pub fn answer(
-        &mut self,
-        device: &Device,
-        file_system: &dyn FileSystem,
-        memory: &dyn GuestMemory,
-    ) -> Result<(), Status> {
-        let progress = self.chain.progress();
-        let answered = match progress {
-            Progress::Free => return Err(Status::WrongOrder),
-            Progress::Replied => return Ok(()),
-            _ if mem::replace(&mut self.is_asked, true) => self.answer_error(memory),
-            Progress::Popped => self.exchange(device, file_system, memory),
-            Progress::Decoded => self.call(device, file_system, memory),
-        };
-        // If the library refuses the answer, the reply is EIO. Files may have changed, so the call
-        // isn't made again.
-        let answered = answered.or_else(|_| self.answer_error(memory));
-        self.is_asked = false;
-        if answered.is_err() {
-            self.abandon(); // can't happen: the library never refuses EIO
+        if !core::ptr::eq(self.session.as_ptr(), Arc::as_ptr(queue.session())) {
+            self.session = Arc::downgrade(queue.session());
         }
-        answered
+        Ok(Popped::Chain)
     }
 
-    /// Whether this worker has a chain that it took and hasn't returned.
+    /// Forgets what belongs to the chain before.
+    fn forget_last(&mut self) {
+        self.call = sys::Call::default();
+        self.is_asked = false;
+        self.replied = Replied::Whole;
+        (self.counts, self.used, self.decoded) = (Counts::default(), 0, 0);
+        self.nodes.clear();
+        (self.given, self.cancelled) = (Given::default(), None);
+    }
+
+    /// Whether this worker has a chain that it popped and hasn't pushed.
     #[must_use]
     pub fn has_chain(&self) -> bool {
         self.chain.progress() != Progress::Free
     }
 
-    /// Whether `give_back` may be called: the chain is answered, or gets no reply.
+    /// Whether `push` may be called: the chain has its reply, or gets none.
     #[must_use]
     pub fn is_answered(&self) -> bool {
         self.chain.progress() == Progress::Replied
     }
 
-    /// Answers EIO to a call, or to a request that isn't decoded. DESTROY can't fail, so its answer
-    /// is "done".
-    fn answer_error(&mut self, memory: &dyn GuestMemory) -> Result<(), Status> {
-        self.replied = match self.chain.reply_error(Errno::EIO) {
-            Err(Status::OtherKind) => self.chain.reply_done()?,
-            Err(Status::WrongOrder) => {
-                self.reply_error(memory, Errno::EIO)?;
-                Replied::Whole
-            }
-            replied => replied?,
-        };
-        Ok(())
-    }
-
-    /// Forgets the worker's chain, whose queue is reset ([`Queue::begin`]) or dropped. In a queue
-    /// that isn't reset the chain stays in flight.
-    pub fn abandon(&mut self) {
-        self.chain.abandon();
-    }
-
-    /// Makes the reply to a popped chain: loads and decodes the request, and calls the file system.
-    fn exchange(
-        &mut self,
-        device: &Device,
-        file_system: &dyn FileSystem,
-        memory: &dyn GuestMemory,
-    ) -> Result<(), Status> {
-        let front = self.load_front(memory);
-        if self.reply_by_bytes(front, file_system, memory)? {
-            return Ok(());
-        }
-        self.decode(front, device, memory)?;
-        self.call(device, file_system, memory)
-    }
-
-    /// Calls the file system for a decoded request, and makes the reply.
-    fn call(
-        &mut self,
-        device: &Device,
-        file_system: &dyn FileSystem,
-        memory: &dyn GuestMemory,
-    ) -> Result<(), Status> {
-        self.replied = self.answer_call(device, file_system, memory)?;
-        Ok(())
-    }
-
     /// Pops a chain, and returns the end of the pop.
-    fn pop(&mut self, queue: &mut Queue, memory: &dyn GuestMemory) -> Result<Popped, Status> {
+    fn pop_steps(
+        &mut self,
+        queue: &mut Queue,
+        memory: &dyn GuestMemory,
+    ) -> Result<PopStep, Status> {
         self.pop = sys::Pop::default();
         let mut is_first = true;
         loop {
             let loaded = &self.loaded[..self.pop.load_len];
             match self.chain.pop(queue, loaded, &mut self.pop)? {
-                Popped::Load if is_first => self.load_index(queue, memory)?,
-                Popped::Load => self.load(memory)?,
+                PopStep::Load if is_first => self.load_index(queue, memory)?,
+                PopStep::Load => self.load(memory)?,
                 ended => return Ok(ended),
             }
             is_first = false;
@@ -404,76 +420,12 @@ impl Worker {
         fence(Ordering::Acquire);
         Ok(())
     }
+}
 
-    /// The length of the request's first bytes, which are loaded before it is decoded.
-    fn front_len(&self) -> usize {
-        at_most(self.pop.request_len, sys::FIRST)
-    }
-
-    /// Loads the request's first bytes, and returns their number.
-    fn load_front(&mut self, memory: &dyn GuestMemory) -> usize {
-        let len = self.front_len();
-        load_request(&mut self.chain, memory, 0, &mut self.request[..len]);
-        len
-    }
-
-    /// The chain by its bytes. The first `front` bytes of the request are loaded.
-    fn by_bytes<'a>(&'a mut self, front: usize, memory: &'a dyn GuestMemory) -> Exchange<'a> {
-        let sys::Pop { request_len, reply_len: room_len, .. } = self.pop;
-        self.call.opcode = exchange::opcode(&self.request[..front]);
-        self.call.unique = exchange::unique(&self.request[..front]);
-        let (chain, front) = (&mut self.chain, &self.request[..front]);
-        Exchange::new(chain, memory, front, request_len, room_len, &mut self.written)
-    }
-
-    /// Whether the file system replies by bytes (`FileSystem::reply_by_bytes`).
-    fn reply_by_bytes(
-        &mut self,
-        front: usize,
-        file_system: &dyn FileSystem,
-        memory: &dyn GuestMemory,
-    ) -> Result<bool, Status> {
-        let mut exchange = self.by_bytes(front, memory);
-        let reply = file_system.reply_by_bytes(&mut exchange);
-        exchange.settle();
-        drop(exchange);
-        match reply.map(|len| self.chain.reply_bytes(len)) {
-            None => Ok(false),
-            Some(Err(Status::LongReply)) => self.reply_error(memory, Errno::EIO).map(|()| true),
-            Some(replied) => replied.map(|()| true),
-        }
-    }
-
-    /// Replies an error by bytes, to a request that isn't decoded.
-    fn reply_error(&mut self, memory: &dyn GuestMemory, error: Errno) -> Result<(), Status> {
-        let front = self.front_len();
-        let len = self.by_bytes(front, memory).store_error(error);
-        self.chain.reply_bytes(len)
-    }
-
-    /// Decodes the request from as many of its bytes as the library needs. The answer is ENOMEM if
-    /// the request is longer than any driver makes (a limit above the least allows it), or its
-    /// buffer can't be allocated. If the chain stayed available, it would block its queue.
-    fn decode(
-        &mut self,
-        front: usize,
-        device: &Device,
-        memory: &dyn GuestMemory,
-    ) -> Result<(), Status> {
-        let numbers = device.numbers();
-        let mut have = front;
-        loop {
-            let needed = match self.chain.decode(&numbers, &self.request[..have], &mut self.call)? {
-                Decoded::Call => return Ok(()),
-                Decoded::More(needed) if needed > have => needed,
-                Decoded::More(_) => return Err(Status::ShortBuffer),
-            };
-            if needed > sys::REQUEST_MAX || grow(&mut self.request, needed).is_err() {
-                return self.reply_error(memory, Errno::ENOMEM);
-            }
-            load_request(&mut self.chain, memory, have as u64, &mut self.request[have..needed]);
-            have = needed;
-        }
+impl Drop for Worker {
+    /// A reply object is refused from now on.
+    fn drop(&mut self) {
+        let _ = self.slot.close();
     }
 }
 

@@ -74,7 +74,7 @@ fn data_beyond_the_first_bytes() {
         Recorder::default(),
     );
     let bytes: Vec<u8> = (0..100).collect();
-    assert_eq!(guest.ask(&polls, POLL, 5, args().bytes(&bytes), 24), Reply::None);
+    assert_eq!(guest.ask(&polls, POLL, 5, args().bytes(&bytes), 24), Replied::None);
 }
 
 #[test]
@@ -93,7 +93,7 @@ fn a_reply_by_windows() {
         Recorder::default(),
     );
     guest.memory.is_logging.set(true);
-    assert_eq!(guest.ask(&polls, POLL, 5, poll(), 24), Reply::Error(11));
+    assert_eq!(guest.ask(&polls, POLL, 5, poll(), 24), Replied::Error(11));
     let marks = guest.memory.marks.take();
     let range = |guest, len| GuestRange { guest, len };
     assert_eq!(marks[..2], [range(ROOM, 16), range(ROOM + 0x1000, 4)]);
@@ -103,11 +103,11 @@ fn a_reply_by_windows() {
 fn replies_that_have_no_room() {
     let mut guest = Guest::new();
     let longer = Polls(|exchange| exchange.room_len() + 1, Recorder::default());
-    assert_eq!(guest.ask(&longer, POLL, 5, poll(), 24), Reply::Error(5));
-    assert_eq!(guest.ask(&longer, POLL, 5, poll(), 15), Reply::None);
+    assert_eq!(guest.ask(&longer, POLL, 5, poll(), 24), Replied::Error(5));
+    assert_eq!(guest.ask(&longer, POLL, 5, poll(), 15), Replied::None);
     let fails = Polls(|exchange| exchange.store_error(Errno::EAGAIN), Recorder::default());
-    assert_eq!(guest.ask(&fails, POLL, 5, poll(), 16), Reply::Error(11));
-    assert_eq!(guest.ask(&fails, POLL, 5, poll(), 15), Reply::None);
+    assert_eq!(guest.ask(&fails, POLL, 5, poll(), 16), Replied::Error(11));
+    assert_eq!(guest.ask(&fails, POLL, 5, poll(), 15), Replied::None);
 }
 
 #[test]
@@ -119,7 +119,7 @@ fn a_server_that_panics_is_answered_eio() {
         guest.worker.serve(&mut guest.queue, &guest.device, &panics, &guest.memory)
     }));
     assert!(served.is_err());
-    assert_eq!(guest.serve(&recorder).1, Reply::Error(5));
+    assert_eq!(guest.serve(&recorder).1, Replied::Error(5));
     assert!(guest.is_idle(&recorder));
 }
 
@@ -147,5 +147,5 @@ fn short_requests() {
     let mut guest = Guest::new();
     guest.offer_request(&[1; 7], 24);
     let (served, reply) = guest.serve(&Short);
-    assert_eq!((served.request_len, served.opcode, served.unique, reply), (7, 0, 0, Reply::None));
+    assert_eq!((served.request_len, served.opcode, served.unique, reply), (7, 0, 0, Replied::None));
 }

@@ -3,26 +3,32 @@
 mod guest;
 
 use guest::recorder::{opened, Recorder};
-use guest::{args, number, Bytes, Guest, Reply};
+use guest::{args, number, Bytes, Guest, Replied, WAYS};
 use pitskhomu::*;
 
 /// How a name in a directory is printed.
 const NAME: &str = "Child { parent: Node(5), name: \"name\", label: None }";
 
 /// Asks one call, and returns what the file system was called with, and the reply.
-fn called(opcode: u32, args: Bytes, room: u32) -> (String, Reply) {
+fn called(opcode: u32, args: Bytes, room: u32) -> (String, Replied) {
     called_with(Options::empty(), opcode, args, room)
 }
 
 /// The same in a session that agreed on these options.
-fn called_with(wanted: Options, opcode: u32, args: Bytes, room: u32) -> (String, Reply) {
-    let (mut guest, recorder) = (Guest::new(), Recorder { wanted, ..Recorder::default() });
-    guest.init(&recorder);
-    recorder.taken();
-    let reply = guest.ask(&recorder, opcode, 5, args, room);
-    let calls = recorder.taken();
-    assert_eq!(calls.len(), 1, "{calls:?}");
-    (calls[0].clone(), reply)
+fn called_with(wanted: Options, opcode: u32, args: Bytes, room: u32) -> (String, Replied) {
+    let ways = WAYS.map(|way| {
+        let (mut guest, recorder) = (Guest::new(), Recorder { wanted, ..Recorder::default() });
+        guest.way = way;
+        guest.init(&recorder);
+        recorder.taken();
+        let reply = guest.ask(&recorder, opcode, 5, args.clone(), room);
+        let calls = recorder.taken();
+        assert_eq!(calls.len(), 1, "{calls:?}, {way:?}");
+        (calls[0].clone(), reply)
+    });
+    assert!(ways[1..].iter().all(|way| *way == ways[0]), "{ways:?}");
+    let [first, ..] = ways;
+    first
 }
 
 fn numbers(bytes: &[u8], len: usize) -> Vec<u64> {
@@ -64,7 +70,7 @@ fn init_agrees_on_what_is_wanted() {
     assert_eq!(number(&reply, 12, 4) | number(&reply, 32, 4) << 32, agreed.bits());
     assert_eq!(number(&reply, 20, 4), 1 << 20, "max_write");
     // DESTROY: the session ends.
-    assert_eq!(guest.ask(&recorder, 38, 0, args(), 16), Reply::None);
+    assert_eq!(guest.ask(&recorder, 38, 0, args(), 16), Replied::None);
     assert_eq!(recorder.taken(), ["destroy ()"]);
     assert!(guest.device.options().is_empty());
 }
@@ -73,7 +79,7 @@ fn init_agrees_on_what_is_wanted() {
 fn init_fails() {
     let (mut guest, recorder) = (Guest::new(), Recorder::failing(Errno::EPROTO));
     let args = args().d(7).d(38).d(0).d(1).bytes(&[0; 48]);
-    assert_eq!(guest.ask(&recorder, 26, 0, args, 80), Reply::Error(71));
+    assert_eq!(guest.ask(&recorder, 26, 0, args, 80), Replied::Error(71));
     assert!(guest.device.options().is_empty());
 }
 
@@ -174,7 +180,10 @@ fn names_go_and_change() {
     let names = "Child { parent: Node(5), name: \"old\", label: None }, \
                  Child { parent: Node(9), name: \"new\", label: None }";
     let (call, reply) = called(12, args().q(9).bytes(b"old\0new\0"), 16);
-    assert_eq!((call, reply), (format!("rename ({names}, RenameFlags(0x0))"), Reply::Data(vec![])));
+    assert_eq!(
+        (call, reply),
+        (format!("rename ({names}, RenameFlags(0x0))"), Replied::Data(vec![]))
+    );
     let (call, _) = called(45, args().q(9).d(3).d(0).bytes(b"old\0new\0"), 16);
     assert_eq!(call, format!("rename ({names}, RenameFlags(NOREPLACE | EXCHANGE | 0x0))"));
 }
@@ -241,12 +250,12 @@ fn data_is_read_and_written() {
     let read =
         "Read { handle: Handle(3), offset: 4096, size: 100, flags: 32768, lock_owner: Some(77) }";
     assert_eq!(call, format!("read (Node(5), {read}, 100, (5, 4), 9)"));
-    assert_eq!(reply, Reply::Data(b"some data".to_vec()));
+    assert_eq!(reply, Replied::Data(b"some data".to_vec()));
     // A room for less than is asked for.
     let (call, reply) = called(15, args().q(3).q(0).d(100).d(0).q(77).d(0).d(0), 22);
     let read = "Read { handle: Handle(3), offset: 0, size: 100, flags: 0, lock_owner: None }";
     assert_eq!(call, format!("read (Node(5), {read}, 6, (5, 1), 6)"));
-    assert_eq!(reply, Reply::Data(b"some d".to_vec()));
+    assert_eq!(reply, Replied::Data(b"some d".to_vec()));
     // FUSE_WRITE_CACHE, LOCKOWNER and KILL_SUIDGID.
     let (call, reply) =
         called(16, args().q(3).q(4096).d(5).d(7).q(77).d(0x8001).d(0).bytes(b"hello"), 24);
@@ -261,12 +270,12 @@ fn values_are_told_and_set() {
     let (call, reply) = called(5, args(), 16 + 4096);
     assert_eq!(
         (call.as_str(), reply),
-        ("readlink (Node(5), 4096)", Reply::Data(b"where/it/leads".to_vec()))
+        ("readlink (Node(5), 4096)", Replied::Data(b"where/it/leads".to_vec()))
     );
     let (call, reply) = called(22, args().d(64).d(0).bytes(b"user.a\0"), 80);
     assert_eq!(
         (call.as_str(), reply),
-        (r#"getxattr (Node(5), "user.a", 64)"#, Reply::Data(b"value".to_vec()))
+        (r#"getxattr (Node(5), "user.a", 64)"#, Replied::Data(b"value".to_vec()))
     );
     let (call, reply) = called(22, args().d(0).d(0).bytes(b"user.a\0"), 80);
     assert_eq!(
@@ -274,11 +283,11 @@ fn values_are_told_and_set() {
         (r#"getxattr (Node(5), "user.a", 0)"#, vec![5, 0])
     );
     let (call, reply) = called(22, args().d(4).d(0).bytes(b"user.a\0"), 80);
-    assert_eq!((call.as_str(), reply), (r#"getxattr (Node(5), "user.a", 4)"#, Reply::Error(34)));
+    assert_eq!((call.as_str(), reply), (r#"getxattr (Node(5), "user.a", 4)"#, Replied::Error(34)));
     let (call, reply) = called(23, args().d(64).d(0), 80);
     assert_eq!(
         (call.as_str(), reply),
-        ("listxattr (Node(5), 64)", Reply::Data(b"user.a\0user.b\0".to_vec()))
+        ("listxattr (Node(5), 64)", Replied::Data(b"user.a\0user.b\0".to_vec()))
     );
     let (call, reply) = called(23, args().d(0).d(0), 80);
     assert_eq!((call.as_str(), numbers(&reply.data(), 4)), ("listxattr (Node(5), 0)", vec![14, 0]));
@@ -321,10 +330,10 @@ fn other_calls() {
 #[test]
 fn nodes_are_forgotten() {
     let (call, reply) = called(2, args().q(3), 0);
-    assert_eq!((call.as_str(), reply), ("forget (Node(5), 3)", Reply::None));
+    assert_eq!((call.as_str(), reply), ("forget (Node(5), 3)", Replied::None));
     let (mut guest, recorder) = (Guest::new(), Recorder::default());
     let batch = args().d(3).d(0).q(8).q(1).q(9).q(2).q(u64::MAX).q(u64::MAX);
-    assert_eq!(guest.ask(&recorder, 42, 0, batch, 0), Reply::None);
+    assert_eq!(guest.ask(&recorder, 42, 0, batch, 0), Replied::None);
     let last = format!("forget (Node({}), {})", u64::MAX, u64::MAX);
     assert_eq!(recorder.taken(), ["forget (Node(8), 1)", "forget (Node(9), 2)", last.as_str()]);
 }
@@ -350,7 +359,7 @@ fn errors_are_told() {
     for (opcode, args) in requests {
         assert_eq!(
             guest.ask(&recorder, opcode, 5, args, 256),
-            Reply::Error(122),
+            Replied::Error(122),
             "opcode {opcode}"
         );
         assert_eq!(recorder.taken().len(), 1);
@@ -379,12 +388,15 @@ fn defaults() {
     let entry = guest.ask(&Nothing, 1, 1, args().bytes(b"name\0"), 144).data();
     assert_eq!(entry, [0; 128]);
     for opcode in [14, 27] {
-        assert_eq!(guest.ask(&Nothing, opcode, 1, args().d(0).d(0), 32), Reply::Data(vec![0; 16]));
+        assert_eq!(
+            guest.ask(&Nothing, opcode, 1, args().d(0).d(0), 32),
+            Replied::Data(vec![0; 16])
+        );
     }
     let statistics = guest.ask(&Nothing, 17, 1, args(), 96).data();
     assert_eq!(numbers(&statistics[40..52], 4), [512, 255, 0]);
-    assert_eq!(guest.ask(&Nothing, 18, 1, args().bytes(&[0; 24]), 16), Reply::Data(vec![]));
-    assert_eq!(guest.ask(&Nothing, 29, 1, args().bytes(&[0; 24]), 16), Reply::Data(vec![]));
+    assert_eq!(guest.ask(&Nothing, 18, 1, args().bytes(&[0; 24]), 16), Replied::Data(vec![]));
+    assert_eq!(guest.ask(&Nothing, 29, 1, args().bytes(&[0; 24]), 16), Replied::Data(vec![]));
     let name = || args().bytes(b"name\0");
     let behind = |len| args().bytes(&vec![0; len]);
     let missing = [
@@ -416,10 +428,14 @@ fn defaults() {
         (50, behind(8)),
     ];
     for (opcode, args) in missing {
-        assert_eq!(guest.ask(&Nothing, opcode, 1, args, 256), Reply::Error(38), "opcode {opcode}");
+        assert_eq!(
+            guest.ask(&Nothing, opcode, 1, args, 256),
+            Replied::Error(38),
+            "opcode {opcode}"
+        );
     }
-    assert_eq!(guest.ask(&Nothing, 2, 1, args().q(1), 0), Reply::None);
-    assert_eq!(guest.ask(&Nothing, 38, 1, args(), 16), Reply::None);
+    assert_eq!(guest.ask(&Nothing, 2, 1, args().q(1), 0), Replied::None);
+    assert_eq!(guest.ask(&Nothing, 38, 1, args(), 16), Replied::None);
 }
 
 /// Calls that the library answers by itself: locks, BMAP, IOCTL, POLL, mappings, TMPFILE, and an
@@ -430,7 +446,7 @@ fn calls_that_are_not_told() {
     for opcode in [31, 32, 33, 37, 39, 40, 48, 49, 51, 99] {
         assert_eq!(
             guest.ask(&recorder, opcode, 1, args().bytes(&[0; 64]), 256),
-            Reply::Error(38),
+            Replied::Error(38),
             "{opcode}"
         );
     }

@@ -17,8 +17,8 @@ fn write_index(guest: &Guest, index: u16) {
     guest.memory.write(AVAILABLE + 2, &index.to_le_bytes());
 }
 
-fn take(guest: &mut Guest) -> Result<bool, Status> {
-    guest.worker.take(&mut guest.queue, &guest.memory)
+fn pop(guest: &mut Guest) -> Result<bool, Status> {
+    guest.worker.pop(&mut guest.queue, &guest.memory)
 }
 
 /// How often the index was loaded since the last look.
@@ -43,12 +43,8 @@ fn what_is_offered_at_once_takes_one_load() {
         offer(&mut guest, count);
         assert_eq!(serve(&mut guest, count), 1, "{count}");
     }
-    assert_eq!(
-        (take(&mut guest), loads(&guest)),
-        (Ok(false), 1),
-        "none waits, by the guest's word"
-    );
-    assert_eq!((take(&mut guest), loads(&guest)), (Ok(false), 1));
+    assert_eq!((pop(&mut guest), loads(&guest)), (Ok(false), 1), "none waits, by the guest's word");
+    assert_eq!((pop(&mut guest), loads(&guest)), (Ok(false), 1));
 }
 
 #[test]
@@ -62,7 +58,7 @@ fn what_is_offered_later_is_found() {
     assert!(!guest.queue.knows_more());
     assert_eq!(serve(&mut guest, 1), 1);
     assert_eq!(serve(&mut guest, 1), 0);
-    assert_eq!((take(&mut guest), loads(&guest)), (Ok(false), 1));
+    assert_eq!((pop(&mut guest), loads(&guest)), (Ok(false), 1));
 }
 
 #[test]
@@ -73,8 +69,8 @@ fn an_index_that_is_wrong_is_refused_at_the_next_load() {
         assert_eq!(serve(&mut guest, 1), 1);
         write_index(&guest, guest.offered.wrapping_add(wrong));
         assert_eq!(serve(&mut guest, 2), 0, "{wrong}");
-        assert_eq!((take(&mut guest), loads(&guest)), (Err(Status::AvailTooFar), 1), "{wrong}");
-        assert_eq!((take(&mut guest), loads(&guest)), (Err(Status::Stopped), 0), "{wrong}");
+        assert_eq!((pop(&mut guest), loads(&guest)), (Err(Status::AvailTooFar), 1), "{wrong}");
+        assert_eq!((pop(&mut guest), loads(&guest)), (Err(Status::Stopped), 0), "{wrong}");
         guest.queue.begin(Queue::new(layout(), guest.offered).unwrap()).unwrap();
         offer(&mut guest, 2);
         assert_eq!(serve(&mut guest, 2), 1, "{wrong}");
@@ -98,12 +94,12 @@ fn a_queue_that_begins_anew_is_loaded_anew() {
     assert_eq!(guest.queue.begin(Queue::default()), Err(Status::BadArgument));
     assert!(guest.queue.knows_more(), "it is as it was");
     guest.queue.begin(Queue::new(layout(), position).unwrap()).unwrap();
-    assert_eq!((take(&mut guest), loads(&guest)), (Ok(false), 1));
+    assert_eq!((pop(&mut guest), loads(&guest)), (Ok(false), 1));
 
     let mut guest = one_of_three();
     let record = guest.device.save(&[std::mem::take(&mut guest.queue)]).unwrap();
     guest.queue = guest.device.restore(&record).unwrap().remove(0);
-    assert_eq!((take(&mut guest), loads(&guest)), (Ok(false), 1));
+    assert_eq!((pop(&mut guest), loads(&guest)), (Ok(false), 1));
 }
 
 #[test]
@@ -111,13 +107,13 @@ fn another_memory_is_loaded_anew() {
     let mut guest = one_of_three();
     let region = |len: usize, host| [Region { guest: 0, len: len as u64, host }];
     guest.worker.set_memory(&guest.device, &region(LEN - 0x1000, guest.memory.host)).unwrap();
-    assert_eq!((take(&mut guest), loads(&guest)), (Ok(false), 1));
+    assert_eq!((pop(&mut guest), loads(&guest)), (Ok(false), 1));
 
     for moves in [0, 0x1000] {
         let mut guest = one_of_three();
         guest.memory.host += moves;
         guest.worker.set_memory(&guest.device, &region(LEN, guest.memory.host)).unwrap();
-        assert_eq!((take(&mut guest), loads(&guest)), (Ok(false), 1), "{moves}");
+        assert_eq!((pop(&mut guest), loads(&guest)), (Ok(false), 1), "{moves}");
     }
 }
 
@@ -138,5 +134,5 @@ fn workers_of_a_queue_share_it() {
     assert_eq!(serve(&mut guest, 1), 1, "the one that got its regions first");
     guest.worker = other;
     assert_eq!(serve(&mut guest, 1), 0);
-    assert_eq!((take(&mut guest), loads(&guest)), (Ok(false), 1));
+    assert_eq!((pop(&mut guest), loads(&guest)), (Ok(false), 1));
 }

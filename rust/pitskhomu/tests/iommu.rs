@@ -41,12 +41,12 @@ fn offer(guest: &mut Guest) {
     guest.offer(0);
 }
 
-fn take(guest: &mut Guest, iotlb: &mut Iotlb) -> Result<Taken, Status> {
-    guest.worker.lend(iotlb)?.take(&mut guest.queue, &guest.memory)
+fn pop(guest: &mut Guest, iotlb: &mut Iotlb) -> Result<Popped, Status> {
+    guest.worker.lend(iotlb)?.pop(&mut guest.queue, &guest.memory)
 }
 
-fn give_back(guest: &mut Guest, iotlb: &mut Iotlb) -> Result<Served, Status> {
-    guest.worker.lend(iotlb)?.give_back(&mut guest.queue, &guest.memory)
+fn push(guest: &mut Guest, iotlb: &mut Iotlb) -> Result<Served, Status> {
+    guest.worker.lend(iotlb)?.push(&mut guest.queue, &guest.memory)
 }
 
 fn map(iotlb: &mut Iotlb, iova: u64, guest: u64) {
@@ -60,7 +60,7 @@ fn map_rings(iotlb: &mut Iotlb) {
 /// Maps what is missed until the pop comes to an end: each round's misses.
 fn take_by_misses(guest: &mut Guest, iotlb: &mut Iotlb) -> Vec<Vec<Miss>> {
     let mut rounds = Vec::new();
-    while take(guest, iotlb).unwrap() == Taken::Missing {
+    while pop(guest, iotlb).unwrap() == Popped::Missing {
         for miss in guest.worker.misses() {
             iotlb.map(miss.iova, miss.len, miss.iova - SHIFT, miss.access).unwrap();
         }
@@ -96,10 +96,10 @@ fn a_pop_names_all_that_it_misses() {
     ];
     assert_eq!(rounds[3..], [buffers]);
     answer(&mut guest);
-    let served = give_back(&mut guest, &mut iotlb).unwrap();
+    let served = push(&mut guest, &mut iotlb).unwrap();
     assert_eq!((served.opcode, served.reply_len, served.fault), (1, 144, None));
     assert_eq!(guest.reply(144).data().len(), 128);
-    assert_eq!(take(&mut guest, &mut iotlb), Ok(Taken::Idle));
+    assert_eq!(pop(&mut guest, &mut iotlb), Ok(Popped::Idle));
 }
 
 #[test]
@@ -110,9 +110,9 @@ fn a_missed_event_field_names_no_buffer_of_an_earlier_chain() {
     offer(&mut guest);
     take_by_misses(&mut guest, &mut iotlb);
     answer(&mut guest);
-    give_back(&mut guest, &mut iotlb).unwrap();
+    push(&mut guest, &mut iotlb).unwrap();
     iotlb.clear();
-    assert_eq!(take(&mut guest, &mut iotlb), Ok(Taken::Missing));
+    assert_eq!(pop(&mut guest, &mut iotlb), Ok(Popped::Missing));
     assert_eq!(guest.worker.misses(), [miss(AVAILABLE, Access::Read)]);
 }
 
@@ -128,7 +128,7 @@ fn a_chain_keeps_its_windows_whatever_becomes_of_the_table() {
     answer(&mut guest);
     iotlb.clear();
     map_rings(&mut iotlb);
-    assert_eq!(give_back(&mut guest, &mut iotlb).unwrap().reply_len, 144);
+    assert_eq!(push(&mut guest, &mut iotlb).unwrap().reply_len, 144);
     assert_eq!(guest.reply(144).data().len(), 128);
     assert_eq!(guest.memory.read(0x10_0000, 16), [0; 16]);
 }
@@ -147,9 +147,9 @@ fn a_buffer_may_lie_in_several_mappings() {
     guest.memory.write(0x2_0000, &request[42..]);
     guest.draw(DESCRIPTORS, 0, &[Buffer(first, 46, false), Buffer(room, 144, true)]);
     guest.offer(0);
-    assert_eq!(take(&mut guest, &mut iotlb), Ok(Taken::Chain));
+    assert_eq!(pop(&mut guest, &mut iotlb), Ok(Popped::Chain));
     answer(&mut guest);
-    let served = give_back(&mut guest, &mut iotlb).unwrap();
+    let served = push(&mut guest, &mut iotlb).unwrap();
     assert_eq!((served.unique, served.reply_len), (UNIQUE, 144));
     let reply = [guest.memory.read(0x2_1000 - 8, 8), guest.memory.read(0x3_0000, 136)].concat();
     assert_eq!((number(&reply, 0, 4), number(&reply, 8, 8)), (144, UNIQUE));
@@ -165,11 +165,11 @@ fn what_is_refused_is_no_miss() {
         offer(&mut guest);
         [REQUEST, ROOM, ROOM + 0x1000].iter().for_each(|at| map(&mut iotlb, SHIFT + at, *at));
         iotlb.map(SHIFT + at, PAGE, 0, Access::None).unwrap();
-        assert_eq!(take(&mut guest, &mut iotlb), Ok(Taken::Chain));
-        assert_eq!(give_back(&mut guest, &mut iotlb).unwrap().fault, Some(fault));
+        assert_eq!(pop(&mut guest, &mut iotlb), Ok(Popped::Chain));
+        assert_eq!(push(&mut guest, &mut iotlb).unwrap().fault, Some(fault));
     }
     iotlb.map(SHIFT + AVAILABLE, PAGE, 0, Access::None).unwrap();
-    assert_eq!(take(&mut guest, &mut iotlb), Err(Status::AvailIndexUnreachable));
+    assert_eq!(pop(&mut guest, &mut iotlb), Err(Status::AvailIndexUnreachable));
     assert_eq!(guest.queue.stopped(), Some(Status::AvailIndexUnreachable));
 }
 
@@ -179,11 +179,11 @@ fn a_chain_of_a_table_goes_back_with_one() {
     offer(&mut guest);
     take_by_misses(&mut guest, &mut iotlb);
     answer(&mut guest);
-    assert_eq!(guest.worker.give_back(&mut guest.queue, &guest.memory), Err(Status::WrongOrder));
+    assert_eq!(guest.worker.push(&mut guest.queue, &guest.memory), Err(Status::WrongOrder));
     assert!(guest.worker.is_answered());
     assert!(guest.worker.lend(&mut iotlb).unwrap().uses(SHIFT + ROOM + 15, 1));
     assert!(!guest.worker.lend(&mut iotlb).unwrap().uses(SHIFT + ROOM + 16, 1));
-    assert_eq!(give_back(&mut guest, &mut iotlb).unwrap().reply_len, 144);
+    assert_eq!(push(&mut guest, &mut iotlb).unwrap().reply_len, 144);
     assert_eq!(Worker::new().lend(&mut iotlb).err(), Some(Status::WrongOrder), "no memory");
 }
 
@@ -195,7 +195,7 @@ fn marks_are_by_guest_addresses() {
     take_by_misses(&mut guest, &mut iotlb);
     answer(&mut guest);
     let element = USED + 4 + 8 * u64::from(guest.queue.next_used() % SIZE);
-    give_back(&mut guest, &mut iotlb).unwrap();
+    push(&mut guest, &mut iotlb).unwrap();
     let mark = |guest, len| GuestRange { guest, len };
     assert_eq!(
         guest.memory.marks.take(),
@@ -234,7 +234,7 @@ fn the_table_is_in_its_place_after_a_panic() {
     map_rings(&mut iotlb);
     offer(&mut guest);
     guest.memory.panics_after.set(Some(0));
-    let taken = catch_unwind(AssertUnwindSafe(|| take(&mut guest, &mut iotlb)));
+    let taken = catch_unwind(AssertUnwindSafe(|| pop(&mut guest, &mut iotlb)));
     assert!(taken.is_err());
     guest.memory.panics_after.set(None);
     map(&mut iotlb, SHIFT + 0x10_0000, 0x10_0000);

@@ -69,12 +69,12 @@ fn while_a_chain_is_out() {
     let (mut guest, recorder) = (Guest::new(), Recorder::default());
     guest.queue = Queue::new(layout(), guest.offered).unwrap().with_event_index(true);
     guest.offer_request(&request(1, 1, HELLO), 144);
-    assert_eq!(guest.worker.take(&mut guest.queue, &guest.memory), Ok(true));
+    assert_eq!(guest.worker.pop(&mut guest.queue, &guest.memory), Ok(true));
     assert_eq!(ask(&mut guest, true), Ok(true));
     assert_eq!(number_at(&guest, AVAIL_EVENT), guest.offered);
     guest.worker.answer(&guest.device, &recorder, &guest.memory).unwrap();
     assert_eq!(
-        guest.worker.give_back(&mut guest.queue, &guest.memory).map(|served| served.reply_len),
+        guest.worker.push(&mut guest.queue, &guest.memory).map(|served| served.reply_len),
         Ok(144)
     );
 }

@@ -2,7 +2,7 @@
 mod guest;
 
 use guest::recorder::{entry, Recorder};
-use guest::{args, number, request, Bytes, Guest, Reply, ROOM};
+use guest::{args, number, request, Bytes, Guest, Replied, Way, ROOM, WAYS};
 use pitskhomu::*;
 use std::panic::{catch_unwind, AssertUnwindSafe};
 
@@ -42,8 +42,12 @@ fn found(k: u64, name: &str) -> (u64, u64, u64, String) {
 
 #[test]
 fn names_are_listed() {
+    WAYS.into_iter().for_each(names_are_listed_by);
+}
+
+fn names_are_listed_by(way: Way) {
     let (mut guest, recorder) =
-        (Guest::new(), listing(vec![c(b".\0"), c(b"of eight\0"), c(b"longer name\0")]));
+        (Guest::by(way), listing(vec![c(b".\0"), c(b"of eight\0"), c(b"longer name\0")]));
     let data = guest.ask(&recorder, READDIR, 5, read(4096), 16 + 4096).data();
     // A name of 8 bytes has no zeros behind.
     assert_eq!(entries(&data, 0), [found(1, "."), found(2, "of eight"), found(3, "longer name")]);
@@ -54,18 +58,26 @@ fn names_are_listed() {
 
 #[test]
 fn a_list_ends_where_no_more_fits() {
-    let (mut guest, recorder) = (Guest::new(), listing(vec![c(b"a\0"), c(b"b\0"), c(b"c\0")]));
+    WAYS.into_iter().for_each(a_list_ends_where_no_more_fits_by);
+}
+
+fn a_list_ends_where_no_more_fits_by(way: Way) {
+    let (mut guest, recorder) = (Guest::by(way), listing(vec![c(b"a\0"), c(b"b\0"), c(b"c\0")]));
     let data = guest.ask(&recorder, READDIR, 5, read(95), 16 + 95).data();
     assert_eq!(entries(&data, 0), [found(1, "a"), found(2, "b")]);
     // None at all would end the directory.
-    assert_eq!(guest.ask(&recorder, READDIR, 5, read(31), 16 + 31), Reply::Error(22));
+    assert_eq!(guest.ask(&recorder, READDIR, 5, read(31), 16 + 31), Replied::Error(22));
     // The directory ends.
-    assert_eq!(guest.ask(&listing(vec![]), READDIR, 5, read(31), 16 + 31), Reply::Data(vec![]));
+    assert_eq!(guest.ask(&listing(vec![]), READDIR, 5, read(31), 16 + 31), Replied::Data(vec![]));
 }
 
 #[test]
 fn nodes_are_listed() {
-    let (mut guest, recorder) = (Guest::new(), listing(vec![c(b".\0"), c(b"..\0"), c(b"a\0")]));
+    WAYS.into_iter().for_each(nodes_are_listed_by);
+}
+
+fn nodes_are_listed_by(way: Way) {
+    let (mut guest, recorder) = (Guest::by(way), listing(vec![c(b".\0"), c(b"..\0"), c(b"a\0")]));
     let data = guest.ask(&recorder, READDIRPLUS, 5, read(4096), 16 + 4096).data();
     assert_eq!(entries(&data[..160], 128), [found(1, ".")]);
     assert_eq!(number(&data, 0, 8), 0, "no node is held of .");
@@ -82,7 +94,11 @@ fn nodes_are_listed() {
 
 #[test]
 fn a_node_that_is_not_told_is_not_looked_up() {
-    let (mut guest, recorder) = (Guest::new(), listing(vec![c(b"a\0"), c(b"b\0")]));
+    WAYS.into_iter().for_each(a_node_that_is_not_told_is_not_looked_up_by);
+}
+
+fn a_node_that_is_not_told_is_not_looked_up_by(way: Way) {
+    let (mut guest, recorder) = (Guest::by(way), listing(vec![c(b"a\0"), c(b"b\0")]));
     let data = guest.ask(&recorder, READDIRPLUS, 5, read(319), 16 + 319).data();
     assert_eq!(entries(&data, 128).len(), 1);
     assert_eq!(recorder.taken()[1..], [r#"lookup (Node(5), "a")"#]);
@@ -90,13 +106,17 @@ fn a_node_that_is_not_told_is_not_looked_up() {
 
 #[test]
 fn an_entry_that_was_asked_for_and_has_no_room() {
-    let (mut guest, recorder) = (Guest::new(), listing(vec![c(b"a\0"), c(b"b\0")]));
+    WAYS.into_iter().for_each(an_entry_that_was_asked_for_and_has_no_room_by);
+}
+
+fn an_entry_that_was_asked_for_and_has_no_room_by(way: Way) {
+    let (mut guest, recorder) = (Guest::by(way), listing(vec![c(b"a\0"), c(b"b\0")]));
     // The first entry fits the size, and the room is shorter. virtiofsd answers EIO, too.
     for (opcode, len) in [(READDIR, 32), (READDIRPLUS, 160)] {
-        assert_eq!(guest.ask(&recorder, opcode, 5, read(len), 16 + len - 1), Reply::Error(5));
+        assert_eq!(guest.ask(&recorder, opcode, 5, read(len), 16 + len - 1), Replied::Error(5));
     }
     // The second: READDIR fails; by READDIRPLUS the guest gets the entries whose nodes it holds.
-    assert_eq!(guest.ask(&recorder, READDIR, 5, read(64), 64), Reply::Error(5));
+    assert_eq!(guest.ask(&recorder, READDIR, 5, read(64), 64), Replied::Error(5));
     let data = guest.ask(&recorder, READDIRPLUS, 5, read(320), 320).data();
     assert_eq!(entries(&data, 128).len(), 1);
 }
@@ -111,8 +131,10 @@ fn a_memory_that_panics_at_the_list_gets_a_reply() {
         guest.memory.panics_at.set(None);
         // By READDIRPLUS the guest gets the entries whose nodes it holds.
         match guest.serve(&recorder).1 {
-            Reply::Data(data) => assert_eq!((opcode, entries(&data, 128).len()), (READDIRPLUS, 1)),
-            reply => assert_eq!((opcode, reply), (READDIR, Reply::Error(5))),
+            Replied::Data(data) => {
+                assert_eq!((opcode, entries(&data, 128).len()), (READDIRPLUS, 1))
+            }
+            reply => assert_eq!((opcode, reply), (READDIR, Replied::Error(5))),
         }
         assert!(guest.is_idle(&recorder));
         assert_eq!(recorder.taken().len(), calls, "nothing is asked twice");
@@ -141,18 +163,15 @@ impl FileSystem for Fails {
     }
     fn readdir(
         &self,
-        _: &Context,
-        _: Node,
+        context: &Context,
+        node: Node,
         _: ReadDirectory,
         list: &mut Listing<'_>,
     ) -> Answer<()> {
         for (name, k) in [c(b"a\0"), c(b"b\0")].into_iter().zip(1..) {
-            list.add(DirectoryEntry {
-                name,
-                inode: 0x600 + k,
-                next_offset: k,
-                kind: FileKind::REGULAR,
-            })?;
+            let kind = FileKind::REGULAR;
+            let entry = DirectoryEntry { name, inode: 0x600 + k, next_offset: k, kind };
+            list.add_with(entry, || self.lookup(context, node, name))?;
         }
         Err(Errno::EIO)
     }
@@ -160,10 +179,14 @@ impl FileSystem for Fails {
 
 #[test]
 fn a_listing_that_fails() {
-    let mut guest = Guest::new();
+    WAYS.into_iter().for_each(a_listing_that_fails_by);
+}
+
+fn a_listing_that_fails_by(way: Way) {
+    let mut guest = Guest::by(way);
     let fails = |fails_look_up| Fails { fails_look_up };
     // No node is held: the error is the reply.
-    assert_eq!(guest.ask(&fails(false), READDIR, 5, read(4096), 16 + 4096), Reply::Error(5));
+    assert_eq!(guest.ask(&fails(false), READDIR, 5, read(4096), 16 + 4096), Replied::Error(5));
     // The guest holds the nodes so far: it gets them, and the error when it reads on.
     let data = guest.ask(&fails(false), READDIRPLUS, 5, read(4096), 16 + 4096).data();
     assert_eq!(entries(&data, 128).len(), 2);
@@ -174,6 +197,10 @@ fn a_listing_that_fails() {
 
 #[test]
 fn names_that_no_directory_has() {
+    WAYS.into_iter().for_each(names_that_no_directory_has_by);
+}
+
+fn names_that_no_directory_has_by(way: Way) {
     struct Named(&'static CStr, Errno);
     impl FileSystem for Named {
         fn lookup(&self, _: &Context, _: Node, _: &CStr) -> Answer<Entry> {
@@ -205,17 +232,17 @@ fn names_that_no_directory_has() {
         long[256] = 0;
         long
     };
-    let mut guest = Guest::new();
+    let mut guest = Guest::by(way);
     for name in [c(b"\0"), c(&LONG)] {
         assert_eq!(
             guest.ask(&Named(name, Errno::ENAMETOOLONG), READDIR, 5, read(4096), 16 + 4096),
-            Reply::Error(36)
+            Replied::Error(36)
         );
     }
     // A Linux guest answers EIO to a listing that has such a name (parse_dirfile of
     // fs/fuse/readdir.c).
     assert_eq!(
         guest.ask(&Named(c(b"a/b\0"), Errno::EIO), READDIR, 5, read(4096), 16 + 4096),
-        Reply::Error(5)
+        Replied::Error(5)
     );
 }

@@ -42,7 +42,7 @@ fn with_most<T>(most: usize, f: impl FnOnce() -> T) -> T {
 }
 
 /// Offers a request, and has it served with no allocation of more than 16 KiB.
-fn asked(guest: &mut Guest, opcode: u32, args: Bytes, room: u32) -> (u32, Reply) {
+fn asked(guest: &mut Guest, opcode: u32, args: Bytes, room: u32) -> (u32, Replied) {
     let recorder = Recorder::default();
     guest.offer_request(&request(opcode, 5, &args.0), room);
     let Guest { worker, queue, device, memory, .. } = guest;
@@ -59,19 +59,19 @@ fn long_requests_and_replies_are_answered_enomem() {
     // A short one, so that the worker has its first buffers.
     assert_eq!(guest.ask(&recorder, 1, 5, args().bytes(b"name\0"), 144).data().len(), 128);
     let setxattr = args().d(0x1_0000).d(0).bytes(b"name\0").bytes(&[7; 0x1_0000]);
-    assert_eq!(asked(&mut guest, 21, setxattr.clone(), 16), (21, Reply::Error(12)));
+    assert_eq!(asked(&mut guest, 21, setxattr.clone(), 16), (21, Replied::Error(12)));
     let getxattr = args().d(0x1_0000).d(0).bytes(b"name\0");
-    assert_eq!(asked(&mut guest, 22, getxattr.clone(), 16 + 0x1_0000), (22, Reply::Error(12)));
+    assert_eq!(asked(&mut guest, 22, getxattr.clone(), 16 + 0x1_0000), (22, Replied::Error(12)));
     let readdir = args().q(3).q(0).d(0x2_0000).bytes(&[0; 20]);
-    assert_eq!(asked(&mut guest, 28, readdir.clone(), 16 + 0x2_0000), (28, Reply::Error(12)));
+    assert_eq!(asked(&mut guest, 28, readdir.clone(), 16 + 0x2_0000), (28, Replied::Error(12)));
     // With memory each is served.
     recorder.taken();
-    assert_eq!(guest.ask(&recorder, 21, 5, setxattr, 16), Reply::Data(vec![]));
+    assert_eq!(guest.ask(&recorder, 21, 5, setxattr, 16), Replied::Data(vec![]));
     assert_eq!(
         guest.ask(&recorder, 22, 5, getxattr, 16 + 0x1_0000),
-        Reply::Data(b"value".to_vec())
+        Replied::Data(b"value".to_vec())
     );
-    assert_eq!(guest.ask(&recorder, 28, 5, readdir, 16 + 0x2_0000), Reply::Data(vec![]));
+    assert_eq!(guest.ask(&recorder, 28, 5, readdir, 16 + 0x2_0000), Replied::Data(vec![]));
     assert_eq!(recorder.taken().len(), 3);
 }
 

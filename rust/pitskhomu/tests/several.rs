@@ -47,12 +47,12 @@ fn recorder() -> Recorder {
     Recorder { is_unchecked: true, ..Recorder::default() }
 }
 
-fn take(guest: &mut Guest, worker: &mut Worker) -> Result<bool, Status> {
-    worker.take(&mut guest.queue, &guest.memory)
+fn pop(guest: &mut Guest, worker: &mut Worker) -> Result<bool, Status> {
+    worker.pop(&mut guest.queue, &guest.memory)
 }
 
-fn give_back(guest: &mut Guest, worker: &mut Worker) -> Result<Served, Status> {
-    worker.give_back(&mut guest.queue, &guest.memory)
+fn push(guest: &mut Guest, worker: &mut Worker) -> Result<Served, Status> {
+    worker.push(&mut guest.queue, &guest.memory)
 }
 
 /// The used index, and the heads of the elements from a position on.
@@ -73,16 +73,16 @@ fn chains_go_back_in_any_order() {
         offer(&mut guest, k);
     }
     for (k, worker) in (1..).zip(&mut workers) {
-        assert_eq!(take(&mut guest, worker), Ok(true));
+        assert_eq!(pop(&mut guest, worker), Ok(true));
         assert_eq!((guest.queue.in_flight(), guest.queue.next_avail()), (k, first.wrapping_add(k)));
         assert!(worker.has_chain());
     }
     guest.memory.is_logging.set(true);
     for (turn, k) in (0..).zip([2, 0, 3, 1]) {
         let worker = &mut workers[k];
-        assert_eq!(give_back(&mut guest, worker), Err(Status::WrongOrder));
+        assert_eq!(push(&mut guest, worker), Err(Status::WrongOrder));
         worker.answer(&guest.device, &recorder, &guest.memory).unwrap();
-        let served = give_back(&mut guest, worker).unwrap();
+        let served = push(&mut guest, worker).unwrap();
         assert_eq!((served.head, served.unique, served.reply_len), (2 * k as u16, k as u64, 144));
         assert_eq!(
             (guest.queue.in_flight(), guest.queue.next_used()),
@@ -106,7 +106,7 @@ fn no_more_are_out_than_may_be() {
         }
         for (k, worker) in workers.iter_mut().enumerate() {
             let wanted = if k < usize::from(may) { Ok(true) } else { Err(Status::ChainInFlight) };
-            assert_eq!(take(&mut guest, worker), wanted, "{k} of {may}");
+            assert_eq!(pop(&mut guest, worker), wanted, "{k} of {may}");
         }
         assert_eq!(guest.queue.in_flight(), may);
         assert_eq!(guest.device.save(&[guest.queue]), Err(Status::ChainInFlight));
@@ -120,14 +120,14 @@ fn a_worker_has_one_chain_at_a_time() {
     offer(&mut guest, 0);
     offer(&mut guest, 1);
     let worker = &mut workers[0];
-    assert_eq!(give_back(&mut guest, worker), Err(Status::WrongOrder));
+    assert_eq!(push(&mut guest, worker), Err(Status::WrongOrder));
     assert_eq!(
         worker.answer(&guest.device, &recorder, &guest.memory),
         Err(Status::WrongOrder),
         "there is none to answer"
     );
-    assert_eq!(take(&mut guest, worker), Ok(true));
-    assert_eq!(take(&mut guest, worker), Err(Status::WrongOrder));
+    assert_eq!(pop(&mut guest, worker), Ok(true));
+    assert_eq!(pop(&mut guest, worker), Err(Status::WrongOrder));
     assert_eq!(worker.set_memory(&guest.device, &[]), Err(Status::ChainInFlight));
     worker.answer(&guest.device, &recorder, &guest.memory).unwrap();
     worker.answer(&guest.device, &recorder, &guest.memory).unwrap();
@@ -135,7 +135,7 @@ fn a_worker_has_one_chain_at_a_time() {
     // A worker that serves alone gets the next chain; one that has a chain finishes it.
     let next = workers[1].serve(&mut guest.queue, &guest.device, &recorder, &guest.memory).unwrap();
     assert_eq!(next.map(|served| served.head), Some(2));
-    assert_eq!(take(&mut guest, &mut workers[1]), Ok(false));
+    assert_eq!(pop(&mut guest, &mut workers[1]), Ok(false));
     let finished = workers[0].serve(&mut guest.queue, &guest.device, &recorder, &guest.memory);
     assert_eq!(finished.map(|served| served.map(|served| served.head)), Ok(Some(0)));
     assert_eq!((guest.queue.in_flight(), recorder.taken().len()), (0, 1));
@@ -147,7 +147,7 @@ fn a_queue_that_begins_anew_refuses_its_chains() {
     let recorder = recorder();
     offer(&mut guest, 0);
     let first = guest.queue.next_avail();
-    assert_eq!(take(&mut guest, &mut workers[0]), Ok(true));
+    assert_eq!(pop(&mut guest, &mut workers[0]), Ok(true));
     workers[0].answer(&guest.device, &recorder, &guest.memory).unwrap();
     assert_eq!(guest.queue.begin(Queue::default()), Err(Status::BadArgument));
     assert_eq!(guest.queue.in_flight(), 1);
@@ -157,12 +157,12 @@ fn a_queue_that_begins_anew_refuses_its_chains() {
         (guest.queue.in_flight(), guest.queue.next_avail(), guest.queue.max_in_flight()),
         (0, first, 2)
     );
-    assert_eq!(give_back(&mut guest, &mut workers[0]), Err(Status::OtherQueue));
+    assert_eq!(push(&mut guest, &mut workers[0]), Err(Status::OtherQueue));
     assert!(!workers[0].has_chain());
-    assert_eq!(take(&mut guest, &mut workers[0]), Ok(true));
+    assert_eq!(pop(&mut guest, &mut workers[0]), Ok(true));
     workers[0].abandon();
     assert_eq!((workers[0].has_chain(), guest.queue.in_flight()), (false, 1));
-    assert_eq!(take(&mut guest, &mut workers[1]), Ok(false), "nobody gives it back");
+    assert_eq!(pop(&mut guest, &mut workers[1]), Ok(false), "nobody gives it back");
     assert_eq!(recorder.taken().len(), 1);
 }
 
@@ -190,7 +190,7 @@ fn a_call_that_panics_is_answered_eio_behind_another() {
     offer(&mut guest, 0);
     offer(&mut guest, 1);
     assert_eq!(
-        (take(&mut guest, &mut workers[0]), take(&mut guest, &mut workers[1])),
+        (pop(&mut guest, &mut workers[0]), pop(&mut guest, &mut workers[1])),
         (Ok(true), Ok(true))
     );
     let answer = |worker: &mut Worker, files: &dyn FileSystem| {
@@ -200,8 +200,8 @@ fn a_call_that_panics_is_answered_eio_behind_another() {
     assert!(panicked.is_err());
     answer(&mut workers[0], &recorder).unwrap();
     answer(&mut workers[1], &recorder).unwrap();
-    assert_eq!(give_back(&mut guest, &mut workers[1]).map(|served| served.reply_len), Ok(144));
-    assert_eq!(give_back(&mut guest, &mut workers[0]).map(|served| served.reply_len), Ok(16));
+    assert_eq!(push(&mut guest, &mut workers[1]).map(|served| served.reply_len), Ok(144));
+    assert_eq!(push(&mut guest, &mut workers[0]).map(|served| served.reply_len), Ok(16));
     assert_eq!(number(&guest.memory.read(places(0).1, 16), 4, 4) as i32, -5);
     assert_eq!(recorder.taken().len(), 1, "nothing is asked twice");
 }
@@ -250,9 +250,9 @@ fn threads_serve_one_queue() {
         std::thread::scope(|scope| {
             for worker in &mut workers {
                 scope.spawn(|| {
-                    while worker.take(&mut queue.lock().unwrap(), &memory).unwrap() {
+                    while worker.pop(&mut queue.lock().unwrap(), &memory).unwrap() {
                         worker.answer(device, &Slow, &memory).unwrap();
-                        worker.give_back(&mut queue.lock().unwrap(), &memory).unwrap();
+                        worker.push(&mut queue.lock().unwrap(), &memory).unwrap();
                     }
                 });
             }

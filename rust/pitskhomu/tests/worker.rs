@@ -153,7 +153,7 @@ fn faulty_chains_go_back_with_no_reply() {
         guest.descriptor(DESCRIPTORS, 0, descriptor);
         guest.offer(0);
         let (served, reply) = guest.serve(&recorder);
-        assert_eq!((served.fault, reply, served.opcode), (Some(fault), Reply::None, 0));
+        assert_eq!((served.fault, reply, served.opcode), (Some(fault), Replied::None, 0));
         assert_eq!((served.request_len, served.room_len), (0, 0));
     }
     assert_eq!(recorder.taken(), [""; 0]);
@@ -175,7 +175,7 @@ fn faulty_requests_go_back_with_no_reply() {
     for (bytes, fault) in faults {
         guest.offer_request(&bytes, 144);
         let (served, reply) = guest.serve(&recorder);
-        assert_eq!((served.request_fault, served.fault, reply), (Some(fault), None, Reply::None));
+        assert_eq!((served.request_fault, served.fault, reply), (Some(fault), None, Replied::None));
     }
     // A room that is shorter than a header.
     guest.offer_request(&request(99, 1, b""), 8);
@@ -289,7 +289,7 @@ fn answers_without_room_are_taken_back() {
     for (opcode, args, room, after) in cases {
         guest.offer_request(&request(opcode, 5, &args.0), room);
         let (served, reply) = guest.serve(&recorder);
-        assert_eq!((reply, served.had_no_room), (Reply::None, true), "opcode {opcode}");
+        assert_eq!((reply, served.had_no_room), (Replied::None, true), "opcode {opcode}");
         assert_eq!(recorder.taken()[1..], after, "opcode {opcode}");
     }
 }
@@ -301,7 +301,7 @@ fn a_reply_without_a_call_that_has_no_room() {
     let (mut guest, recorder) = (Guest::new(), Recorder::default());
     for opcode in [31, 32, 33, 37, 39, 40, 41, 51] {
         let encode = Some(RequestFault::Encode);
-        for (room, found) in [(15, (Reply::None, encode)), (16, (Reply::Error(38), None))] {
+        for (room, found) in [(15, (Replied::None, encode)), (16, (Replied::Error(38), None))] {
             guest.offer_request(&request(opcode, 5, &[0; 80]), room);
             let (served, reply) = guest.serve(&recorder);
             assert_eq!((reply, served.request_fault), found, "opcode {opcode}, room {room}");
@@ -311,7 +311,7 @@ fn a_reply_without_a_call_that_has_no_room() {
     // INTERRUPT has no reply, and needs no room.
     guest.offer_request(&request(36, 5, &[0; 8]), 0);
     let (served, reply) = guest.serve(&recorder);
-    assert_eq!((reply, served.request_fault), (Reply::None, None));
+    assert_eq!((reply, served.request_fault), (Replied::None, None));
     assert!(recorder.taken().is_empty());
 }
 
@@ -347,9 +347,9 @@ fn panics(guest: &mut Guest, file_system: &dyn FileSystem) {
 fn a_call_that_panics_is_answered_eio() {
     let (mut guest, recorder) = (Guest::new(), Recorder::default());
     let cases = [
-        ("lookup", 1, args().bytes(HELLO), 144, Reply::Error(5)),
-        ("forget", 2, args().q(1), 0, Reply::None),
-        ("destroy", 38, args(), 16, Reply::None),
+        ("lookup", 1, args().bytes(HELLO), 144, Replied::Error(5)),
+        ("forget", 2, args().q(1), 0, Replied::None),
+        ("destroy", 38, args(), 16, Replied::None),
     ];
     for (call, opcode, args, room, wanted) in cases {
         guest.offer_request(&request(opcode, 5, &args.0), room);
@@ -403,7 +403,10 @@ fn a_request_that_is_too_long_is_refused() {
     );
     guest.offer(0);
     let (served, reply) = guest.serve(&recorder);
-    assert_eq!((served.request_len, served.opcode, reply), (u64::from(long), 1, Reply::Error(12)));
+    assert_eq!(
+        (served.request_len, served.opcode, reply),
+        (u64::from(long), 1, Replied::Error(12))
+    );
     assert!(guest.is_idle(&recorder));
     // One that is as long as a buffer here is served: the bytes behind the name are ignored.
     guest.draw(
@@ -496,7 +499,7 @@ fn a_log_hears_what_was_written_before_a_panic() {
         if panics {
             self::panics(&mut guest, &breaks);
         }
-        assert_eq!(guest.serve(&breaks).1, Reply::Error(5));
+        assert_eq!(guest.serve(&breaks).1, Replied::Error(5));
         let marks = guest.memory.marks.take();
         assert_eq!(marks[..2], [range(ROOM, 16), range(ROOM + 0x1000, len)], "{by_windows}");
     }
@@ -510,11 +513,11 @@ fn marks_come_between_the_stores_and_the_end_of_the_push() {
     guest.memory.is_logging.set(true);
     guest.offer_request(&request(1, 1, HELLO), 144);
     let element = USED + 4 + 8 * u64::from(guest.queue.next_used() % SIZE);
-    guest.worker.take(&mut guest.queue, &guest.memory).unwrap();
+    guest.worker.pop(&mut guest.queue, &guest.memory).unwrap();
     guest.worker.answer(&guest.device, &recorder, &guest.memory).unwrap();
     assert_eq!(guest.memory.marks.take(), []);
     guest.memory.slices.take();
-    guest.worker.give_back(&mut guest.queue, &guest.memory).unwrap();
+    guest.worker.push(&mut guest.queue, &guest.memory).unwrap();
     let marked = guest.memory.marked_at.take();
     let slices = guest.memory.slices.take();
     let (stores, load) = slices.split_at(slices.len() - 1);

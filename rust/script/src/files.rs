@@ -178,7 +178,8 @@ impl FileSystem for Files {
             if plus && entry_len(&name, plus) > list.left() {
                 self.give_back(context, node, &name)?;
             }
-            match list.add(DirectoryEntry { name: &name, inode: inode.0, next_offset, kind }) {
+            let entry = DirectoryEntry { name: &name, inode: inode.0, next_offset, kind };
+            match list.add_with(entry, || self.lookup(context, node, &name)) {
                 Ok(true) => {}
                 // The wrapper returns EINVAL for a first entry that doesn't fit. In the script
                 // language the listing ends there.

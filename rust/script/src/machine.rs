@@ -4,7 +4,7 @@ use crate::halt::{Missing, Stuck};
 use crate::iommu::Iommu;
 use crate::memory::{Memory, Refusal};
 use pitskhomu::{
-    Device, Fault, Miss, Queue, QueueLayout, RequestFault, Served, Status, Taken, Worker,
+    Device, Fault, Miss, Popped, Queue, QueueLayout, RequestFault, Served, Status, Worker,
 };
 
 /// The bytes of a reply's header (struct `fuse_out_header`).
@@ -139,16 +139,16 @@ impl Machine {
         Ok(self.worker.set_memory(&self.device, &regions)?)
     }
 
-    /// Takes a queue's next chain, whose addresses are I/O addresses. Addresses that the table
+    /// Pops a queue's next chain, whose addresses are I/O addresses. Addresses that the table
     /// doesn't map are refused for this pop: so the chain gets its fault, or the queue its refusal.
-    fn take_translated(&mut self, queue: usize) -> Result<Result<Taken, Status>, Stuck> {
+    fn pop_translated(&mut self, queue: usize) -> Result<Result<Popped, Status>, Stuck> {
         let mut refused: Vec<Miss> = Vec::new();
-        let taken = loop {
+        let popped = loop {
             let mut lent = self.worker.lend(&mut self.iommu.table)?;
-            let taken = lent.take(&mut self.queues[queue], &self.memory);
+            let popped = lent.pop(&mut self.queues[queue], &self.memory);
             drop(lent);
-            if taken != Ok(Taken::Missing) {
-                break taken;
+            if popped != Ok(Popped::Missing) {
+                break popped;
             }
             for miss in self.worker.misses() {
                 self.iommu.refuse(miss)?;
@@ -156,19 +156,19 @@ impl Machine {
             }
         };
         refused.iter().try_for_each(|miss| self.iommu.end_refusal(miss))?;
-        Ok(taken)
+        Ok(popped)
     }
 
     /// Serves a queue's next chain behind the IOMMU.
     fn serve_translated(&mut self, queue: usize) -> Result<Result<Option<Served>, Status>, Stuck> {
-        match self.take_translated(queue)? {
-            Ok(Taken::Chain) => {}
-            Ok(Taken::Idle | Taken::Missing) => return Ok(Ok(None)),
+        match self.pop_translated(queue)? {
+            Ok(Popped::Chain) => {}
+            Ok(Popped::Idle | Popped::Missing) => return Ok(Ok(None)),
             Err(status) => return Ok(Err(status)),
         }
         self.worker.answer(&self.device, &self.files, &self.memory)?;
         let mut lent = self.worker.lend(&mut self.iommu.table)?;
-        Ok(Ok(Some(lent.give_back(&mut self.queues[queue], &self.memory)?)))
+        Ok(Ok(Some(lent.push(&mut self.queues[queue], &self.memory)?)))
     }
 
     /// Serves a queue's next chain.

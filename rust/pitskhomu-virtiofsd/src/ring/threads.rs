@@ -3,7 +3,7 @@ use super::{send, Answered, Ring, Server, Source, State};
 use crate::in_flight::Doing;
 use crate::memory::Table;
 use log::{debug, error, warn};
-use pitskhomu::{Status, Taken};
+use pitskhomu::{Popped as Taken, Status};
 use std::fs::File;
 use std::io::{self, ErrorKind};
 use std::sync::Arc;

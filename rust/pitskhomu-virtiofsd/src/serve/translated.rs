@@ -4,7 +4,7 @@ use super::{QueueWorker, ServedFs};
 use crate::iommu::{Cancel, Mappings, LAST_PAGE};
 use crate::memory::Table;
 use crate::ring::Answered;
-use pitskhomu::{Miss, Queue, Served, Status, Taken};
+use pitskhomu::{Miss, Popped as Taken, Queue, Served, Status};
 use std::collections::BTreeSet;
 
 /// The first and the last address of a miss.
@@ -58,7 +58,7 @@ impl<F: ServedFs> QueueWorker<F> {
         entered: &mut Vec<Miss>,
     ) -> Result<Taken, Status> {
         loop {
-            let taken = self.worker.lend(table.iotlb()?)?.take(queue, memory)?;
+            let taken = self.worker.lend(table.iotlb()?)?.pop(queue, memory)?;
             if taken != Taken::Missing {
                 return Ok(taken);
             }
@@ -98,7 +98,7 @@ impl<F: ServedFs> QueueWorker<F> {
         let served = table
             .iotlb()
             .and_then(|iotlb| self.worker.lend(iotlb))
-            .and_then(|mut lent| lent.give_back(queue, memory));
+            .and_then(|mut lent| lent.push(queue, memory));
         table.release(self.index);
         self.is_translated = false;
         served

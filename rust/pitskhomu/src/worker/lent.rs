@@ -15,7 +15,7 @@ const WINDOWS: usize = 16;
 
 /// The result of a pop with a table.
 #[derive(Clone, Copy, Debug, PartialEq, Eq)]
-pub enum Taken {
+pub enum Popped {
     /// The worker has a chain.
     Chain,
     /// No chain is available.
@@ -42,42 +42,38 @@ impl Drop for Lent<'_> {
     fn drop(&mut self) {
         let (chain, place) = (&mut self.worker.chain, self.iotlb.place_mut());
         if chain.exchange_iotlb(place).is_err() {
-            self.worker.abandon(); // a pop whose loads panicked
+            self.worker.drop_chain(); // a pop whose loads panicked
             let _ = self.worker.chain.exchange_iotlb(place);
         }
     }
 }
 
 impl Lent<'_> {
-    /// Takes the next chain of a queue whose addresses are I/O addresses, as [`Worker::take`] does.
+    /// Pops the next chain of a queue whose addresses are I/O addresses, as [`Worker::pop`] does.
     ///
-    /// The windows of a chain that was taken are valid until it is given back, even if the table
+    /// The windows of a chain that was popped are valid until it is pushed, even if the table
     /// changes. Only the mappings of the queue's available and used ring must stay until then.
     ///
-    /// After [`Taken::Missing`] let go of the table, map the ranges of [`Worker::misses`], and take
+    /// After [`Popped::Missing`] let go of the table, map the ranges of [`Worker::misses`], and pop
     /// again. Map a range that the IOMMU refuses with [`Access::None`](crate::Access::None), for
     /// that pop alone: then the chain gets its fault, or the queue its refusal.
     ///
     /// # Errors
-    /// Those of [`Worker::take`].
-    pub fn take(&mut self, queue: &mut Queue, memory: &dyn GuestMemory) -> Result<Taken, Status> {
+    /// Those of [`Worker::pop`].
+    pub fn pop(&mut self, queue: &mut Queue, memory: &dyn GuestMemory) -> Result<Popped, Status> {
         self.worker.misses.clear();
-        self.worker.take_next(queue, memory, true)
+        self.worker.pop_next(queue, memory, true)
     }
 
-    /// Gives a chain that was taken with a table back to the driver, as [`Worker::give_back`] does.
+    /// Pushes a chain that was popped with a table, as [`Worker::push`] does.
     ///
     /// # Errors
-    /// Those of [`Worker::give_back`]. `NotMapped`: a part of the rings isn't mapped any more.
-    pub fn give_back(
-        &mut self,
-        queue: &mut Queue,
-        memory: &dyn GuestMemory,
-    ) -> Result<Served, Status> {
+    /// Those of [`Worker::push`]. `NotMapped`: a part of the rings isn't mapped any more.
+    pub fn push(&mut self, queue: &mut Queue, memory: &dyn GuestMemory) -> Result<Served, Status> {
         if !self.worker.chain.is_translated() {
             return Err(Status::WrongOrder);
         }
-        self.worker.push(queue, memory)
+        self.worker.push_next(queue, memory)
     }
 
     /// Enables or disables notifications of the driver, as [`Worker::set_notification`] does.
@@ -126,10 +122,10 @@ impl Worker {
     /// # ) -> Result<bool, Status> {
     /// loop {
     ///     let mut iotlb = table.lock().unwrap();
-    ///     let taken = worker.lend(&mut iotlb)?.take(queue, memory)?;
+    ///     let popped = worker.lend(&mut iotlb)?.pop(queue, memory)?;
     ///     drop(iotlb); // others may use it while the IOMMU is asked
-    ///     if taken != Taken::Missing {
-    ///         return Ok(taken == Taken::Chain);
+    ///     if popped != Popped::Missing {
+    ///         return Ok(popped == Popped::Chain);
     ///     }
     ///     for miss in worker.misses() {
     ///         let guest = ask(miss).ok_or(Status::NotMapped)?;
@@ -143,7 +139,7 @@ impl Worker {
         Ok(Lent { worker: self, iotlb })
     }
 
-    /// What the last call of [`Lent::take`] or [`Lent::set_notification`] missed: ranges of whole
+    /// What the last call of [`Lent::pop`] or [`Lent::set_notification`] missed: ranges of whole
     /// pages, by their addresses, which don't overlap. They are all that can be known before some
     /// of them are mapped, but at most 1,024. None if nothing was missed.
     #[must_use]

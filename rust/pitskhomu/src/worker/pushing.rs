@@ -16,33 +16,29 @@ struct Pushing<'w>(&'w mut Worker, &'w mut Queue);
 impl Drop for Pushing<'_> {
     fn drop(&mut self) {
         let _ = self.0.chain.pushed(self.1, 0);
-        self.0.abandon();
+        self.0.drop_chain();
     }
 }
 
 impl Worker {
-    /// Returns the chain to the driver: stores the reply, the used element and the used index, in
+    /// Pushes the chain: stores the reply, the used element and the used index, in
     /// this order (VIRTIO 1.2, 2.7.8). The result is a summary of the chain.
     ///
     /// # Errors
-    /// - `WrongOrder`: the worker has no chain, or one without an answer, or one that was popped
-    ///   with a table ([`Lent::give_back`](crate::Lent::give_back)), which it keeps. After other
-    ///   errors it has no chain.
+    /// - `WrongOrder`: the worker has no chain, or one without a reply (`answer`, `finish`), or one
+    ///   that was popped with a table ([`Lent::push`](crate::Lent::push)), which it keeps. After
+    ///   other errors it has no chain, and `cancelled` returns what is to be undone.
     /// - `OtherQueue`: the chain is of another queue, or its queue was reset.
     /// - `NotMapped`: the worker got regions without the queue's rings. Reset the queue.
-    pub fn give_back(
-        &mut self,
-        queue: &mut Queue,
-        memory: &dyn GuestMemory,
-    ) -> Result<Served, Status> {
+    pub fn push(&mut self, queue: &mut Queue, memory: &dyn GuestMemory) -> Result<Served, Status> {
         if self.chain.is_translated() {
             return Err(Status::WrongOrder);
         }
-        self.push(queue, memory)
+        self.push_next(queue, memory)
     }
 
     /// The same, with a table that is lent, or without one.
-    pub(super) fn push(
+    pub(super) fn push_next(
         &mut self,
         queue: &mut Queue,
         memory: &dyn GuestMemory,
@@ -52,6 +48,8 @@ impl Worker {
         }
         let pushing = Pushing(self, queue);
         let stores = pushing.0.chain.push(pushing.1, &mut pushing.0.front)?;
+        // From here on the guest may get the answer: it isn't undone if the memory panics.
+        pushing.0.is_called = false;
         let notify = pushing.0.store(pushing.1, memory, &stores)?;
         mem::forget(pushing);
         self.chain.forget_windows();
@@ -87,11 +85,11 @@ impl Worker {
     /// Enable them before you sleep. They may be disabled while a worker looks for chains. The
     /// worker may have a chain. Returns whether something was stored.
     ///
-    /// After enabling, call `take` once more, since the driver may have made a chain available
+    /// After enabling, call `pop` once more, since the driver may have made a chain available
     /// before it could see the store. If several workers serve the queue, hold its lock from here
-    /// to the end of that `take`.
+    /// to the end of that `pop`.
     ///
-    /// A worker that takes a chain while another worker of the queue sleeps must enable
+    /// A worker that pops a chain while another worker of the queue sleeps must enable
     /// notifications again before it releases the lock, with an event index and without one. Then
     /// it must load the available index again: an index that was loaded before may show that a
     /// chain is available, but never that none is. If one is available, it wakes a worker that
@@ -139,7 +137,7 @@ impl Worker {
     /// Reports the written bytes: the reply buffer up to the end of the reply and of the bytes that
     /// the file system may have written, the used element and the used index.
     fn mark_written(&mut self, memory: &dyn GuestMemory, stores: &sys::Stores) {
-        let written = u64::from(stores.len).max(self.written);
+        let written = u64::from(stores.len).max(self.counts.end());
         if self.chain.is_translated() {
             return self.mark_windows(memory, written, stores);
         }

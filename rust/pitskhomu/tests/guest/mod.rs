@@ -1,6 +1,7 @@
 //! A guest in memory that doesn't run while it is served: it draws a ring, asks by FUSE, and reads
 //! the replies. Numbers are those of VIRTIO 1.2 (2.7) and linux/fuse.h.
 #![allow(dead_code)]
+pub mod by_values;
 pub mod recorder;
 
 use pitskhomu::*;
@@ -150,16 +151,16 @@ pub const UNIQUE: u64 = 0x1122_3344_5566_7788;
 
 /// A reply: the number of the error, or the bytes behind the header (struct fuse_out_header).
 #[derive(Debug, PartialEq, Eq)]
-pub enum Reply {
+pub enum Replied {
     None,
     Error(i32),
     Data(Vec<u8>),
 }
 
-impl Reply {
+impl Replied {
     pub fn data(self) -> Vec<u8> {
         match self {
-            Reply::Data(data) => data,
+            Replied::Data(data) => data,
             other => panic!("no data: {other:?}"),
         }
     }
@@ -177,8 +178,23 @@ pub struct Guest {
     pub worker: Worker,
     pub queue: Queue,
     pub offered: u16,
+    /// How chains are served.
+    pub way: Way,
     next_descriptor: u16,
 }
+
+/// How a chain is served.
+#[derive(Clone, Copy, Debug, PartialEq, Eq)]
+pub enum Way {
+    /// By the methods of a file system.
+    Methods,
+    /// By the request as a value.
+    Values,
+    /// By an owned request.
+    Owned,
+}
+
+pub const WAYS: [Way; 3] = [Way::Methods, Way::Values, Way::Owned];
 
 pub fn layout() -> QueueLayout {
     QueueLayout { size: SIZE, descriptors: DESCRIPTORS, available: AVAILABLE, used: USED }
@@ -187,6 +203,11 @@ pub fn layout() -> QueueLayout {
 impl Guest {
     pub fn new() -> Guest {
         Guest::over(Device::default())
+    }
+
+    /// A guest whose chains are served so.
+    pub fn by(way: Way) -> Guest {
+        Guest { way, ..Guest::new() }
     }
 
     /// The queue begins near the end of the positions, so that they wrap.
@@ -203,6 +224,7 @@ impl Guest {
             worker,
             queue: Queue::new(layout(), first).unwrap(),
             offered: first,
+            way: Way::Methods,
             next_descriptor: 0,
         }
     }
@@ -249,11 +271,15 @@ impl Guest {
     }
 
     /// Serves one chain, and looks at what came back by the used ring.
-    pub fn serve(&mut self, file_system: &dyn FileSystem) -> (Served, Reply) {
+    pub fn serve(&mut self, file_system: &dyn FileSystem) -> (Served, Replied) {
         let position = self.queue.next_used();
-        let served =
-            self.worker.serve(&mut self.queue, &self.device, file_system, &self.memory).unwrap();
-        let served = served.expect("a chain waits");
+        let served = match self.way {
+            Way::Methods => {
+                self.worker.serve(&mut self.queue, &self.device, file_system, &self.memory)
+            }
+            Way::Values | Way::Owned => by_values::serve(self, file_system),
+        };
+        let served = served.unwrap().expect("a chain waits");
         assert_eq!(self.queue.next_used(), position.wrapping_add(1));
         let index = number(&self.memory.read(USED + 2, 2), 0, 2) as u16;
         assert_eq!(index, self.queue.next_used(), "the used index");
@@ -264,9 +290,9 @@ impl Guest {
     }
 
     /// What a reply of so many bytes says.
-    pub fn reply(&self, len: usize) -> Reply {
+    pub fn reply(&self, len: usize) -> Replied {
         if len == 0 {
-            return Reply::None;
+            return Replied::None;
         }
         let header = self.memory.read(ROOM, 16);
         assert_eq!(
@@ -275,10 +301,10 @@ impl Guest {
             "the reply's header"
         );
         match number(&header, 4, 4) as i32 {
-            0 => Reply::Data(self.memory.read(ROOM + 0x1000, len - 16)),
+            0 => Replied::Data(self.memory.read(ROOM + 0x1000, len - 16)),
             error => {
                 assert_eq!(len, 16);
-                Reply::Error(-error)
+                Replied::Error(-error)
             }
         }
     }
@@ -291,7 +317,7 @@ impl Guest {
         node: u64,
         args: Bytes,
         room: u32,
-    ) -> Reply {
+    ) -> Replied {
         self.offer_request(&request(opcode, node, &args.0), room);
         let (served, reply) = self.serve(file_system);
         assert_eq!((served.opcode, served.unique, served.fault), (opcode, UNIQUE, None));

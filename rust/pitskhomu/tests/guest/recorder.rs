@@ -243,7 +243,7 @@ impl FileSystem for Recorder {
         for (&name, k) in self.names.iter().zip(1..) {
             let entry =
                 DirectoryEntry { name, inode: 0x600 + k, next_offset: k, kind: FileKind::REGULAR };
-            if !list.add(entry)? {
+            if !list.add_with(entry, || self.lookup(context, node, name))? {
                 break;
             }
         }

@@ -344,7 +344,8 @@ impl FileSystem for Files {
         ];
         for (next_offset, (name, inode, kind)) in (1..).zip(entries).skip(read.offset as usize) {
             let name = CString::new(name).map_err(|_| Errno::EIO)?;
-            match list.add(DirectoryEntry { name: &name, inode, next_offset, kind }) {
+            let entry = DirectoryEntry { name: &name, inode, next_offset, kind };
+            match list.add_with(entry, || self.lookup(context, node, &name)) {
                 Ok(true) => {}
                 // A first entry that doesn't fit is the wrapper's own error.
                 Ok(false) | Err(Errno::EINVAL) => break,

@@ -1,0 +1,95 @@
+//! The method of the file system for each operation.
+use crate::errno::{Answer, Errno};
+use crate::file_system::FileSystem;
+use crate::operation::Operation;
+use crate::reply::Response;
+use crate::values::Context;
+
+/// An answer of the file system.
+pub(super) enum Made {
+    /// A value.
+    Response(Response),
+    /// So many bytes at the front of the buffer, or their number if the guest asked for it.
+    InBuffer(usize),
+}
+
+impl<R: Into<Response>> From<R> for Made {
+    fn from(response: R) -> Made {
+        Made::Response(response.into())
+    }
+}
+
+/// Makes the call. `buffer` takes the target of READLINK, and the value or list of GETXATTR and
+/// LISTXATTR.
+pub(super) fn dispatch(
+    file_system: &dyn FileSystem,
+    x: &Context,
+    operation: Operation<'_>,
+    buffer: &mut [u8],
+) -> Answer<Made> {
+    let fs = file_system;
+    Ok(match operation {
+        Operation::Init(init) => fs.init(init)?.into(),
+        Operation::Lookup { parent, name } => fs.lookup(x, parent, name)?.into(),
+        Operation::GetAttributes { node, handle } => fs.getattr(x, node, handle)?.into(),
+        Operation::SetAttributes { node, set } => fs.setattr(x, node, &set)?.into(),
+        Operation::SymbolicLink { link, target } => fs.symlink(x, link, target)?.into(),
+        Operation::MakeNode { child, make } => fs.mknod(x, child, make)?.into(),
+        Operation::MakeDirectory { child, make } => fs.mkdir(x, child, make)?.into(),
+        Operation::Link { node, child } => fs.link(x, node, child)?.into(),
+        Operation::Create { child, create } => fs.create(x, child, create)?.into(),
+        Operation::Open { node, open } => fs.open(x, node, open)?.into(),
+        Operation::OpenDirectory { node, flags } => fs.opendir(x, node, flags)?.into(),
+        Operation::Statistics { node } => fs.statfs(x, node)?.into(),
+        Operation::Seek { node, seek } => Response::Offset(fs.lseek(x, node, seek)?).into(),
+        Operation::CopyFileRange(copy) => Response::Written(fs.copy_file_range(x, copy)?).into(),
+        Operation::Read { node, read, mut data } => {
+            fs.read(x, node, read, &mut data)?;
+            data.into()
+        }
+        Operation::Write { node, write, mut data } => {
+            fs.write(x, node, write, &mut data)?;
+            Response::Written(data.done()).into()
+        }
+        Operation::ReadDirectory { node, read, mut list } => {
+            fs.readdir(x, node, read, &mut list)?;
+            list.into()
+        }
+        Operation::ReadLink { node, .. } => Made::InBuffer(fs.readlink(x, node, buffer)?),
+        Operation::GetXattr { node, name, .. } => {
+            Made::InBuffer(fs.getxattr(x, node, name, buffer)?)
+        }
+        Operation::ListXattr { node, .. } => Made::InBuffer(fs.listxattr(x, node, buffer)?),
+        other => done(fs, x, other)?.into(),
+    })
+}
+
+/// The calls whose answer is "done" or an error, and those that have none.
+fn done(fs: &dyn FileSystem, x: &Context, operation: Operation<'_>) -> Answer<()> {
+    match operation {
+        Operation::Forget { node, count } => fs.forget(node, count),
+        Operation::ForgetAll(forgets) => fs.forget_all(forgets),
+        Operation::Destroy => fs.destroy(),
+        Operation::Unlink(child) => fs.unlink(x, child)?,
+        Operation::RemoveDirectory(child) => fs.rmdir(x, child)?,
+        Operation::Rename { from, to, flags } => fs.rename(x, from, to, flags)?,
+        Operation::SetXattr { node, name, value, set } => {
+            fs.setxattr(x, node, name, value, set)?;
+        }
+        Operation::RemoveXattr { node, name } => fs.removexattr(x, node, name)?,
+        Operation::Access { node, mask } => fs.access(x, node, mask)?,
+        Operation::Sync { node, handle, data_only } => fs.fsync(x, node, handle, data_only)?,
+        Operation::SyncDirectory { node, handle, data_only } => {
+            fs.fsyncdir(x, node, handle, data_only)?;
+        }
+        Operation::Flush { node, handle, lock_owner } => fs.flush(x, node, handle, lock_owner)?,
+        Operation::Release { node, release } => fs.release(x, node, release)?,
+        Operation::ReleaseDirectory { node, handle, flags } => {
+            fs.releasedir(x, node, handle, flags)?;
+        }
+        Operation::Allocate { node, allocate } => fs.fallocate(x, node, allocate)?,
+        Operation::SyncFileSystem { node } => fs.syncfs(x, node)?,
+        _ => return Err(Errno::ENOSYS),
+    }
+    Ok(())
+}
