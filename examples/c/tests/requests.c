@@ -8,9 +8,11 @@
 #include <errno.h>
 #include <inttypes.h>
 #include <stdio.h>
+#include <stdlib.h>
 #include <string.h>
 
-enum { SIZE = 1024, DESC = 0, AVAIL = 0x4000, USED = 0x5000, REQUEST = 0x8000, REPLY = 0xa000 };
+enum { SIZE = 1024, DESC = 0, AVAIL = 0x4000, USED = 0x5000, REQUEST = 0x8000 };
+enum { REPLY = REQUEST + ROOM, WHOLE = 2 * ROOM, PIECES = 400, BEHIND = 0x1000 };
 
 /* ------------------------------------------------------------- a chain in memory */
 
@@ -21,9 +23,11 @@ static struct pk_queue queue;
 
 static void put(size_t at, uint64_t value, size_t len) { memcpy(memory + at, &value, len); }
 
-/* Writes descriptors of at most `cut` bytes each, from number `first` on. Returns their count. */
+/* Writes descriptors of at most `cut` bytes each, from number `first` on, longer ones for more than
+ * PIECES bytes. Returns their count. */
 static size_t draw(size_t first, size_t at, size_t len, size_t cut, bool is_written) {
     size_t count = 0;
+    if (len > PIECES) cut *= 1 + len / PIECES;
     for (size_t done = 0; done < len; done += cut, count++) {
         size_t d = DESC + 16 * (first + count), left = len - done;
         put(d, at + done, 8), put(d + 8, left < cut ? left : cut, 4);
@@ -66,7 +70,8 @@ static size_t serve(const struct row *row, size_t cut, size_t reply_cut) {
     size_t count = draw(0, REQUEST, row->request.len, cut, false);
     count += draw(count, REPLY, row->buffer, reply_cut, true);
     memory[DESC + 16 * (count - 1) + 12] &= 2; /* the last one has no next */
-    memset(memory + REQUEST, 0xff, MEMORY - REQUEST);
+    memset(memory + REQUEST, 0xff, row->request.len + BEHIND);
+    memset(memory + REPLY, 0xff, row->buffer + BEHIND);
     memcpy(memory + REQUEST, row->request.at, row->request.len);
     put(AVAIL + 4 + 2u * (queue.next_avail % SIZE), 0, 2);
     put(AVAIL + 2, queue.next_avail + 1u, 2);
@@ -93,10 +98,20 @@ static bool has_entry(const struct row *row) {
 }
 
 static void set_error(struct row *row, uint32_t error) {
+    static uint8_t reply[PK_HEADER];
     uint32_t head[] = {PK_HEADER, -error};
-    row->reply.len = 0;
-    append(&row->reply, (const uint8_t *)head, sizeof head);
-    append(&row->reply, row->request.at + 8, 8);
+    memcpy(reply, head, sizeof head), memcpy(reply + sizeof head, row->request.at + 8, 8);
+    row->reply = (struct bytes){.len = sizeof reply, .at = reply};
+}
+
+/* The call that forgets the node with which the reply begins. */
+static void add_forget(struct row *row) {
+    uint32_t who[3];
+    uint64_t node;
+    memcpy(who, row->request.at + 24, sizeof who);
+    memcpy(&node, row->reply.at + PK_HEADER, sizeof node);
+    sprintf(row->calls + strlen(row->calls), "forget %u %u %u %" PRIu64 " 1\n", who[0], who[1],
+            who[2], node);
 }
 
 static void set_fault(struct row *row, const char *name) {
@@ -110,10 +125,8 @@ static struct row with(const struct row *written, enum variant variant) {
     switch (variant) {
     case SHORT_REQUEST: row.request.len--, *row.calls = 0, set_fault(&row, "DecodeMessage"); break;
     case SHORT_BUFFER:
+        if (has_entry(written)) add_forget(&row);
         row.buffer--, set_fault(&row, "EncodeMessage");
-        if (has_entry(written))
-            sprintf(row.calls + strlen(row.calls), "forget 10 11 12 %u 1\n",
-                    written->reply.at[PK_HEADER]);
         break;
     case FAILS: row.mood = FAILING, set_error(&row, EIO); break;
     case LACKS: row.mood = DEFAULT, set_error(&row, ENOSYS); break;
@@ -154,7 +167,7 @@ static void play(const struct row *written, enum variant variant, size_t cut, si
     line = row.line;
     size_t len = serve(&row, cut, reply_cut);
     bool is_so = !strcmp(calls, wanted) && !strcmp(fault, row.fault) && len == row.reply.len &&
-                 !memcmp(memory + REPLY, row.reply.at, len) &&
+                 (len == 0 || !memcmp(memory + REPLY, row.reply.at, len)) &&
                  (!row.has_agreed || device.options == row.agreed);
     passed += is_so, failed += !is_so;
     if (is_so) return;
@@ -179,11 +192,11 @@ static void play_entry(const struct row *row) {
     for (size_t cut = 1; cut < row->buffer; cut++)
         play(row, SAME, 39, cut), play(row, SHORT_BUFFER, 39, cut);
     for (struct row shorter = *row; shorter.buffer > 1;)
-        shorter.buffer--, play(&shorter, SHORT_BUFFER, 39, BYTES);
+        shorter.buffer--, play(&shorter, SHORT_BUFFER, 39, WHOLE);
 }
 
 void play_group(void) {
-    static const size_t cuts[][2] = {{BYTES, BYTES}, {1, 7}, {7, 39}, {39, 1}};
+    static const size_t cuts[][2] = {{WHOLE, WHOLE}, {1, 7}, {7, 39}, {39, 1}};
     unsigned read = line;
     group.has[SAME] = true;
     for (size_t cut = 0; cut < 4; cut++)
@@ -194,6 +207,8 @@ void play_group(void) {
         }
     for (size_t k = 0; group.has[SHORT_BUFFER] && k < group.count; k++)
         if (has_entry(&group.rows[k])) play_entry(&group.rows[k]);
+    for (size_t k = 0; k < group.count; k++)
+        free(group.rows[k].request.at), free(group.rows[k].reply.at);
     memset(&group, 0, sizeof group);
     line = read;
 }

@@ -3,15 +3,15 @@
 #define REQUESTS_H
 #include "../access.h"
 
-enum { NAME = 32, ROWS = 64, BYTES = 0x400, TEXT = 0x400, MEMORY = 0xc000 };
+enum { NAME = 32, ROWS = 64, TEXT = 0x1000, ROOM = 0x102000, MEMORY = 0x8000 + 2 * ROOM };
 
 struct bytes {
-    size_t len;
-    uint8_t at[BYTES];
+    size_t len, capacity;
+    uint8_t *at;
 };
 
 /* The file system's answers. */
-enum mood { DEFAULT, GOOD, OTHER, NO_NODE, FAILING, MOODS };
+enum mood { DEFAULT, GOOD, OTHER, NO_NODE, WIDE, WIDE_FAILING, FAILING, MOODS };
 
 enum variant { SAME, SHORT_REQUEST, SHORT_BUFFER, FAILS, LACKS, VARIANTS };
 extern const char *const variants[VARIANTS];
@@ -43,6 +43,9 @@ extern unsigned line;
 _Noreturn void stop(const char *format, ...);
 
 void append(struct bytes *to, const uint8_t *bytes, size_t len);
+
+/* The byte of the large file at an offset. */
+uint8_t pattern(uint64_t offset);
 
 /* Reads a file, and plays its groups. */
 void play_file(const char *path);

@@ -7,7 +7,8 @@
 #include <string.h>
 
 enum { LETS = 32 };
-static const char *const moods[MOODS] = {"default", "good", "other", "no_node", "failing"};
+static const char *const moods[MOODS] = {"default", "good",         "other",  "no_node",
+                                         "wide",    "wide_failing", "failing"};
 const char *const variants[VARIANTS] = {"as it is written", "short_request", "short_buffer",
                                         "failing", "default"};
 
@@ -31,8 +32,34 @@ _Noreturn void stop(const char *format, ...) {
 }
 
 void append(struct bytes *to, const uint8_t *bytes, size_t len) {
-    if (len > BYTES - to->len) stop("%s:%u: too many bytes", file, line);
+    if (len > to->capacity - to->len) {
+        to->capacity = 2 * to->capacity + len;
+        to->at = realloc(to->at, to->capacity);
+        if (!to->at) stop("%s:%u: out of memory", file, line);
+    }
     memcpy(to->at + to->len, bytes, len), to->len += len;
+}
+
+uint8_t pattern(uint64_t offset) { return (uint8_t)((uint32_t)offset * 0x9e3779b1u >> 24); }
+
+/* `@OFFSET:COUNT`: bytes of the large file. */
+static void spell_pattern(struct bytes *to, const char *word) {
+    unsigned long long offset, count;
+    if (sscanf(word, "@%llu:%llu", &offset, &count) != 2)
+        stop("%s:%u: no offset and count: %s", file, line, word);
+    for (; count > 0; count--, offset++) append(to, &(uint8_t){pattern(offset)}, 1);
+}
+
+/* Digits, or digits and how often their bytes are repeated: `HEX*N`. */
+static void spell_digits(struct bytes *to, const char *word) {
+    const char *star = strchr(word, '*'), *end = star ? star : word + strlen(word);
+    for (unsigned long count = star ? strtoul(star + 1, NULL, 10) : 1; count > 0; count--)
+        for (const char *at = word; at < end; at += 2) {
+            unsigned byte;
+            if (strspn(at, "0123456789abcdef") < 2 || sscanf(at, "%2x", &byte) != 1)
+                stop("%s:%u: no digits: %s", file, line, word);
+            append(to, &(uint8_t){(uint8_t)byte}, 1);
+        }
 }
 
 static void spell_word(struct bytes *to, const char *word) {
@@ -41,12 +68,10 @@ static void spell_word(struct bytes *to, const char *word) {
             append(to, lets[k].bytes.at, lets[k].bytes.len);
             return;
         }
-    for (; *word; word += 2) {
-        unsigned byte;
-        if (strspn(word, "0123456789abcdef") < 2 || sscanf(word, "%2x", &byte) != 1)
-            stop("%s:%u: no digits: %s", file, line, word);
-        append(to, &(uint8_t){(uint8_t)byte}, 1);
-    }
+    if (*word == '@')
+        spell_pattern(to, word);
+    else
+        spell_digits(to, word);
 }
 
 static void spell(struct bytes *to, char *words) {
@@ -90,7 +115,7 @@ static void read_let(char *words) {
     char *name = strtok(words, " ");
     if (let_count == LETS || !name) stop("%s:%u: too many names", file, line);
     snprintf(lets[let_count].name, NAME, "%s", name);
-    lets[let_count].bytes.len = 0;
+    lets[let_count].bytes = (struct bytes){0};
     for (char *word; (word = strtok(NULL, " "));) spell_word(&lets[let_count].bytes, word);
     let_count++;
 }
@@ -123,10 +148,12 @@ static void read_line(char *text) {
 }
 
 void play_file(const char *path) {
-    char text[0x1000] = "", next[0x400];
+    static char text[0x10000];
+    char next[0x400];
     FILE *stream = fopen(path, "r");
     if (!stream) stop("%s: %s", path, strerror(errno));
-    file = path, line = 1, let_count = 0;
+    file = path, line = 1, *text = 0;
+    while (let_count > 0) free(lets[--let_count].bytes.at);
     for (unsigned number = 1; fgets(next, sizeof next, stream); number++) {
         next[strcspn(next, "\n")] = 0;
         if (strncmp(next, "  ", 2) == 0 && strlen(text) + strlen(next) < sizeof text) {

@@ -1,5 +1,5 @@
 //! The file system of the vectors: it records each call, and answers by its mood.
-use crate::read::Mood;
+use crate::read::{pattern, Mood};
 #[allow(clippy::wildcard_imports)] // the trait needs nearly all
 use pitskhomu::*;
 use std::cell::{Cell, RefCell};
@@ -9,6 +9,50 @@ use std::time::Duration;
 pub struct Files {
     pub mood: Cell<Mood>,
     calls: RefCell<Vec<String>>,
+}
+
+/// The number whose bytes are `first` and those that follow it.
+const fn numbered(first: u8) -> u64 {
+    let [a, b, c, d] = [first, first + 1, first + 2, first + 3];
+    u64::from_le_bytes([a, b, c, d, first + 4, first + 5, first + 6, first + 7])
+}
+
+/// The `wide` answers: of a field all bytes are different. The highest byte of a count of
+/// nanoseconds is another one, and the type of the mode.
+pub const WIDE_NODE: u64 = numbered(0x80);
+pub const WIDE_HANDLE: u64 = numbered(0x80);
+const WIDE_COUNT: u32 = numbered(0x80) as u32;
+const WIDE_OPTIONS: u32 = numbered(0x88) as u32;
+const WIDE_OFFSET: u64 = numbered(0x80);
+const WIDE_DOT: u64 = numbered(0x88);
+const WIDE_NEXT: u64 = numbered(0x90);
+const WIDE_INODE: u64 = numbered(0xa8);
+const WIDE_LINK: u64 = 300;
+const WIDE_ERROR: u32 = 0xabc;
+/// The lengths of names of the large directory, which has ten of each.
+const WIDE_LENGTHS: [usize; 5] = [7, 8, 9, 16, 255];
+/// A longer text is noted by its length and its sum.
+const TEXT_MAX: usize = 32;
+
+#[allow(clippy::cast_possible_wrap)] // times before 1970
+fn wide_attributes() -> Attributes {
+    let time = |first, nanos| Time { seconds: numbered(first) as i64, nanos };
+    let [links, uid, gid, rdev] = [0xe8, 0xec, 0xf0, 0xf4].map(|first| numbered(first) as u32);
+    Attributes {
+        inode: WIDE_INODE,
+        size: numbered(0xb0),
+        blocks: numbered(0xb8),
+        atime: time(0xc0, 0x2bda_d9d8),
+        mtime: time(0xc8, 0x2cde_dddc),
+        ctime: time(0xd0, 0x2de2_e1e0),
+        mode: 0xe7e6_c5e4,
+        links,
+        uid,
+        gid,
+        rdev,
+        block_size: numbered(0xf8) as u32,
+        flags: 0xfffe_fdfc,
+    }
 }
 
 fn attributes() -> Attributes {
@@ -30,16 +74,38 @@ fn attributes() -> Attributes {
     }
 }
 
-const ATTRIBUTES_FOR: Duration = Duration::new(22, 23);
+/// An entry of a directory: its name, inode, next offset and kind.
+type Item = (Vec<u8>, u64, u64, FileKind);
+
+fn directory() -> Vec<Item> {
+    vec![
+        (b".".to_vec(), 1, 1, FileKind::DIRECTORY),
+        (b"a".to_vec(), 2, 2, FileKind::REGULAR),
+        (b"..".to_vec(), 1, 3, FileKind::DIRECTORY),
+    ]
+}
+
+fn wide_directory() -> Vec<Item> {
+    let mut items = vec![(b".".to_vec(), WIDE_DOT, WIDE_NEXT + 1, FileKind::DIRECTORY)];
+    for (at, &len) in (1..=50).zip(WIDE_LENGTHS.iter().cycle()) {
+        let name = vec![0x40 + at; len];
+        items.push((name, WIDE_INODE, WIDE_NEXT + u64::from(at) + 1, FileKind::SOCKET));
+    }
+    items
+}
 
 /// A number, or `-`.
 fn or_dash(number: Option<u64>) -> String {
     number.map_or("-".into(), |number| number.to_string())
 }
 
-/// A text in quotes.
+/// A text in quotes, or the length and the sum of a long one: FNV-1a of 32 bits.
 fn quoted(text: &[u8]) -> String {
-    format!("\"{}\"", String::from_utf8_lossy(text))
+    if text.len() <= TEXT_MAX {
+        return format!("\"{}\"", String::from_utf8_lossy(text));
+    }
+    let add = |sum: u32, &byte: &u8| (sum ^ u32::from(byte)).wrapping_mul(0x0100_0193);
+    format!("#{} {}", text.len(), text.iter().fold(0x811c_9dc5, add))
 }
 
 /// Puts bytes at the front of a buffer. Returns how many they are.
@@ -69,10 +135,15 @@ impl Files {
         self.calls.borrow_mut().push(call.join(" "));
     }
 
+    fn is_wide(&self) -> bool {
+        self.mood.get() == Mood::Wide
+    }
+
     fn answer<T>(&self, value: T) -> Answer<T> {
         match self.mood.get() {
             Mood::Default => Err(Errno::ENOSYS),
             Mood::Failing => Err(Errno::EIO),
+            Mood::WideFailing => Err(Errno::new(WIDE_ERROR).unwrap_or(Errno::EIO)),
             _ => Ok(value),
         }
     }
@@ -91,18 +162,46 @@ impl Files {
     }
 
     fn entry(&self) -> Entry {
+        if self.is_wide() {
+            return Entry {
+                node: Node(WIDE_NODE),
+                generation: numbered(0x88),
+                attributes: wide_attributes(),
+                attributes_timeout: Duration::new(numbered(0x98), 0x2aa6_a5a4),
+                entry_timeout: Duration::new(numbered(0x90), 0x29a2_a1a0),
+            };
+        }
         Entry {
             node: Node(if self.mood.get() == Mood::NoNode { 0 } else { 2 }),
             generation: 3,
             attributes: attributes(),
-            attributes_timeout: ATTRIBUTES_FOR,
+            attributes_timeout: Duration::new(22, 23),
             entry_timeout: Duration::new(20, 21),
+        }
+    }
+
+    fn attributes(&self) -> (Attributes, Duration) {
+        let entry = self.entry();
+        (entry.attributes, entry.attributes_timeout)
+    }
+
+    /// The length of a text in a buffer: `good` bytes, or in `wide` as many as the buffer has.
+    fn text(&self, buffer: &mut [u8], good: &[u8]) -> usize {
+        match self.mood.get() {
+            Mood::Other => 9,
+            Mood::Wide if buffer.is_empty() => WIDE_COUNT as usize,
+            Mood::Wide => fill(buffer, &pattern(0, buffer.len() as u64).collect::<Vec<_>>()),
+            _ => fill(buffer, good),
         }
     }
 
     fn opened(&self) -> Opened {
         match self.mood.get() {
             Mood::Other => Opened { handle: Handle(0), options: OpenOptions::KEEP_CACHE },
+            Mood::Wide => {
+                let options = OpenOptions::from_bits(WIDE_OPTIONS);
+                Opened { handle: Handle(WIDE_HANDLE), options }
+            }
             _ => Opened { handle: Handle(0x66), options: OpenOptions::from_bits(5) },
         }
     }
@@ -132,7 +231,7 @@ impl FileSystem for Files {
         self.calls.borrow_mut().push(format!("init{number}"));
         match self.mood.get() {
             Mood::Default => Ok(Options::empty()),
-            Mood::Other => Ok(Options::from_bits(u64::MAX)),
+            Mood::Other | Mood::Wide => Ok(Options::from_bits(u64::MAX)),
             _ => self.answer(Options::empty()),
         }
     }
@@ -163,8 +262,9 @@ impl FileSystem for Files {
         handle: Option<Handle>,
     ) -> Answer<(Attributes, Duration)> {
         let handle = or_dash(handle.map(|handle| handle.0));
-        self.done(context, "getattr", &[node.0], &[handle], (attributes(), ATTRIBUTES_FOR))
+        self.done(context, "getattr", &[node.0], &[handle], self.attributes())
     }
+    #[allow(clippy::cast_sign_loss)] // the guest's numbers are printed as they are
     fn setattr(
         &self,
         context: &Context,
@@ -176,13 +276,15 @@ impl FileSystem for Files {
         words.push(set.valid.bits().to_string());
         words.extend(["?", "?"].map(String::from));
         words.extend([a.size, owner].map(|number| number.to_string()));
-        words.extend([a.atime, a.mtime, a.ctime].map(|time| time.seconds.to_string()));
+        words.extend([a.atime, a.mtime, a.ctime].map(|time| (time.seconds as u64).to_string()));
         words.extend([a.atime, a.mtime, a.ctime].map(|time| time.nanos.to_string()));
         words.extend([a.mode, a.uid, a.gid].map(|number| number.to_string()));
-        self.done(context, "setattr", &[node.0], &words, (attributes(), ATTRIBUTES_FOR))
+        self.done(context, "setattr", &[node.0], &words, self.attributes())
     }
     fn readlink(&self, context: &Context, node: Node, target: &mut [u8]) -> Answer<usize> {
-        self.done(context, "readlink", &[node.0], &[], fill(target, b"to"))
+        let wide = pattern(0, WIDE_LINK).collect::<Vec<_>>();
+        let len = fill(target, if self.is_wide() { &wide } else { b"to" });
+        self.done(context, "readlink", &[node.0], &[], len)
     }
     fn symlink(&self, context: &Context, link: Child<'_>, target: &CStr) -> Answer<Entry> {
         let words = [vec![quoted(target.to_bytes())], named(context, &link)].concat();
@@ -245,6 +347,11 @@ impl FileSystem for Files {
         let numbers = [node.0, read.handle.0, read.size, read.offset];
         let words = [or_dash(read.lock_owner), read.flags.to_string()];
         self.done(context, "read", &numbers, &words, ())?;
+        if self.is_wide() {
+            let count = read.size.min(data.left());
+            data.put(&pattern(read.offset, count).collect::<Vec<_>>());
+            return Ok(());
+        }
         data.put(b"hello".get(read.offset as usize..).unwrap_or_default());
         match self.mood.get() {
             Mood::Other => Err(Errno::EIO),
@@ -271,6 +378,22 @@ impl FileSystem for Files {
         self.note(context, "statfs", &[node.0], &[]);
         match self.mood.get() {
             Mood::Default => Ok(Statistics::default()),
+            Mood::Wide => {
+                let [blocks, blocks_free, blocks_available] = [0x80, 0x88, 0x90].map(numbered);
+                let [files, files_free] = [0x98, 0xa0].map(numbered);
+                let [block_size, name_len, fragment_size] =
+                    [0xa8, 0xac, 0xb0].map(|first| numbered(first) as u32);
+                Ok(Statistics {
+                    blocks,
+                    blocks_free,
+                    blocks_available,
+                    files,
+                    files_free,
+                    block_size,
+                    name_len,
+                    fragment_size,
+                })
+            }
             _ => self.answer(Statistics {
                 blocks: 1,
                 blocks_free: 2,
@@ -314,11 +437,11 @@ impl FileSystem for Files {
         value: &mut [u8],
     ) -> Answer<usize> {
         let words = ["?".into(), quoted(name.to_bytes())];
-        let len = if self.mood.get() == Mood::Other { 9 } else { fill(value, b"val") };
+        let len = self.text(value, b"val");
         self.done(context, "getxattr", &[node.0], &words, len)
     }
     fn listxattr(&self, context: &Context, node: Node, names: &mut [u8]) -> Answer<usize> {
-        let len = if self.mood.get() == Mood::Other { 9 } else { fill(names, b"a\0b\0") };
+        let len = self.text(names, b"a\0b\0");
         self.done(context, "listxattr", &[node.0], &["?".into()], len)
     }
     fn removexattr(&self, context: &Context, node: Node, name: &CStr) -> Answer<()> {
@@ -337,12 +460,12 @@ impl FileSystem for Files {
     ) -> Answer<()> {
         let numbers = [node.0, read.handle.0, read.size, read.offset];
         self.done(context, "readdir", &numbers, &[], ())?;
-        let entries = [
-            (".", 1, FileKind::DIRECTORY),
-            ("a", 2, FileKind::REGULAR),
-            ("..", 1, FileKind::DIRECTORY),
-        ];
-        for (next_offset, (name, inode, kind)) in (1..).zip(entries).skip(read.offset as usize) {
+        let entries = if self.is_wide() { wide_directory() } else { directory() };
+        let first = match read.offset {
+            offset if offset > 0 && self.is_wide() => offset.wrapping_sub(WIDE_NEXT),
+            offset => offset,
+        };
+        for (name, inode, next_offset, kind) in entries.into_iter().skip(first as usize) {
             let name = CString::new(name).map_err(|_| Errno::EIO)?;
             let entry = DirectoryEntry { name: &name, inode, next_offset, kind };
             match list.add_with(entry, || self.lookup(context, node, &name)) {
@@ -375,13 +498,15 @@ impl FileSystem for Files {
     }
     fn lseek(&self, context: &Context, node: Node, seek: Seek) -> Answer<u64> {
         let numbers = [node.0, seek.handle.0, seek.offset, seek.whence.into()];
-        self.done(context, "lseek", &numbers, &[], 0x0102_0304_0506_0708)
+        let offset = if self.is_wide() { WIDE_OFFSET } else { 0x0102_0304_0506_0708 };
+        self.done(context, "lseek", &numbers, &[], offset)
     }
     fn copy_file_range(&self, context: &Context, copy: CopyFileRange) -> Answer<u64> {
         let CopyFileRange { from, to, len, .. } = copy;
         let place = |place: FilePlace| [place.node.0, place.handle.0, place.offset];
         let numbers = [&place(from)[..], &place(to), &[len]].concat();
-        self.done(context, "copy_file_range", &numbers, &["?".into()], 0x77)
+        let count = if self.is_wide() { WIDE_COUNT.into() } else { 0x77 };
+        self.done(context, "copy_file_range", &numbers, &["?".into()], count)
     }
     fn syncfs(&self, context: &Context, node: Node) -> Answer<()> {
         self.done(context, "syncfs", &[node.0], &[], ())

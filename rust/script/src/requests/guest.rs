@@ -10,8 +10,13 @@ const SIZE: u16 = 1024;
 const LAYOUT: QueueLayout =
     QueueLayout { size: SIZE, descriptors: 0, available: 0x4000, used: 0x5000 };
 const REQUEST: usize = 0x8000;
-const REPLY: usize = 0xa000;
-const LEN: usize = 0xc000;
+const ROOM: usize = 0x10_2000;
+const REPLY: usize = REQUEST + ROOM;
+const LEN: usize = REPLY + ROOM;
+/// A request or a reply buffer of more bytes is cut into longer pieces.
+const SHORT: usize = 400;
+/// So many bytes behind a request and behind its reply buffer are known.
+const BEHIND: usize = 0x1000;
 
 struct Memory(Vec<AtomicU8>);
 
@@ -62,8 +67,10 @@ impl Guest {
         Ok(Guest { memory, device, queue: Queue::new(LAYOUT, 0)?, worker })
     }
 
-    /// Draws descriptors of at most `cut` bytes each from number `first` on. Returns the next one.
+    /// Draws descriptors of at most `cut` bytes each from number `first` on, longer ones for more
+    /// than `SHORT` bytes. Returns the next one.
     fn draw(&self, mut first: usize, at: usize, len: usize, cut: usize, flags: u16) -> usize {
+        let cut = if len > SHORT { cut * (1 + len / SHORT) } else { cut };
         for done in (0..len).step_by(cut) {
             let mut descriptor = ((at + done) as u64).to_le_bytes().to_vec();
             descriptor.extend((cut.min(len - done) as u32).to_le_bytes());
@@ -83,7 +90,8 @@ impl Guest {
         (cut, reply_cut): (usize, usize),
         files: &dyn FileSystem,
     ) -> Result<End, Status> {
-        self.memory.write(REQUEST, &[0xff; LEN - REQUEST]);
+        self.memory.write(REQUEST, &vec![0xff; request.len() + BEHIND]);
+        self.memory.write(REPLY, &vec![0xff; buffer + BEHIND]);
         self.memory.write(REQUEST, request);
         let count = self.draw(0, REQUEST, request.len(), cut, 0);
         let count = self.draw(count, REPLY, buffer, reply_cut, 2);

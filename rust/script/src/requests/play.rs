@@ -1,10 +1,10 @@
 //! Plays groups with their variants, in chains of several cuts.
-use crate::files::Files;
+use crate::files::{Files, WIDE_HANDLE, WIDE_NODE};
 use crate::guest::Guest;
 use crate::read::{End, Group, Mood, Row, Session, Variant};
 use pitskhomu::Status;
 
-const CUTS: [(usize, usize); 4] = [(0x400, 0x400), (1, 7), (7, 39), (39, 1)];
+const CUTS: [(usize, usize); 4] = [(1 << 21, 1 << 21), (1, 7), (7, 39), (39, 1)];
 
 /// LOOKUP, SYMLINK, MKNOD, MKDIR, LINK, CREATE: their replies begin with an entry.
 const WITH_ENTRY: [u8; 6] = [1, 6, 8, 9, 13, 35];
@@ -27,6 +27,12 @@ pub struct Counts {
     pub failed: usize,
 }
 
+/// The number of so many bytes, or 0.
+fn number(bytes: &[u8], at: usize, len: usize) -> u64 {
+    let bytes = bytes.get(at..at + len).unwrap_or_default();
+    bytes.iter().rev().fold(0, |number, &byte| number << 8 | u64::from(byte))
+}
+
 fn fault(name: &str) -> End {
     End::Fault(name.into())
 }
@@ -36,11 +42,12 @@ impl Row {
         self.request.get(4).copied().unwrap_or_default()
     }
 
-    /// The node with which the reply begins, if it does.
-    fn entry(&self) -> Option<u8> {
+    /// The call that forgets the node with which the reply begins, if it does.
+    fn entry(&self) -> Option<String> {
         match &self.end {
             End::Reply(reply) if reply[4..8] == [0; 4] && WITH_ENTRY.contains(&self.opcode()) => {
-                reply.get(16).copied()
+                let [uid, gid, pid] = [24, 28, 32].map(|at| number(&self.request, at, 4));
+                Some(format!("forget {uid} {gid} {pid} {} 1", number(reply, 16, 8)))
             }
             _ => None,
         }
@@ -67,7 +74,7 @@ impl Row {
             Variant::ShortBuffer => {
                 row.buffer -= 1;
                 row.agreed = self.agreed;
-                row.calls.extend(self.entry().map(|node| format!("forget 10 11 12 {node} 1")));
+                row.calls.extend(self.entry());
                 row.end = fault("EncodeMessage");
             }
             Variant::Failing => {
@@ -105,7 +112,8 @@ impl Row {
         if let (COPY_FILE_RANGE, End::Reply(reply)) = (opcode, &mut self.end) {
             // At most as many bytes as were asked for.
             if reply.len() == 24 {
-                reply[16] = reply[16].min(self.request[80]);
+                let count = number(reply, 16, 4).min(number(&self.request, 80, 8)) as u32;
+                reply[16..20].copy_from_slice(&count.to_le_bytes());
             }
         }
         self
@@ -113,11 +121,17 @@ impl Row {
 
     /// A file or directory that was opened is closed if its reply has no room.
     fn closes(&mut self, opcode: u8) {
-        let flags = self.request.get(40).copied().unwrap_or_default();
-        let node = if opcode == CREATE { 2 } else { 5 };
+        let [uid, gid, pid, flags] = [24, 28, 32, 40].map(|at| number(&self.request, at, 4));
+        let is_wide = self.mood == Mood::Wide;
+        let handle = if is_wide { WIDE_HANDLE } else { 0x66 };
+        let node = match opcode {
+            CREATE if is_wide => WIDE_NODE,
+            CREATE => 2,
+            _ => number(&self.request, 16, 8),
+        };
         let call = match opcode {
-            OPEN | CREATE => format!("release 10 11 12 {node} {flags} 102 0 0 -"),
-            OPENDIR => format!("releasedir 10 11 12 {node} {flags} 102"),
+            OPEN | CREATE => format!("release {uid} {gid} {pid} {node} {flags} {handle} 0 0 -"),
+            OPENDIR => format!("releasedir {uid} {gid} {pid} {node} {flags} {handle}"),
             _ => return,
         };
         let at = self.calls.len() - usize::from(opcode == CREATE);
@@ -126,7 +140,8 @@ impl Row {
 
     /// A name that doesn't fit isn't looked up, and so isn't forgotten.
     fn looks_up_what_fits(&mut self) {
-        if self.calls.last().map_or(false, |call| call == "forget 10 11 12 2 1") {
+        let is_forgotten = |call: &String| call.starts_with("forget ") && !call.ends_with(" 0 1");
+        if self.calls.last().map_or(false, is_forgotten) {
             self.calls.truncate(self.calls.len() - 2);
         }
     }

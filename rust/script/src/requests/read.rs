@@ -8,6 +8,8 @@ pub enum Mood {
     Good,
     Other,
     NoNode,
+    Wide,
+    WideFailing,
     Failing,
 }
 
@@ -61,16 +63,28 @@ fn number(text: &str) -> Option<u64> {
     }
 }
 
+/// `count` bytes of the large file from an offset on.
+pub fn pattern(offset: u64, count: u64) -> impl Iterator<Item = u8> {
+    let byte = |offset: u64| ((offset as u32).wrapping_mul(0x9e37_79b1) >> 24) as u8;
+    (0..count).map(move |at| byte(offset.wrapping_add(at)))
+}
+
+fn digits(word: &str) -> Option<Vec<u8>> {
+    let pairs = (0..word.len()).step_by(2).map(|at| word.get(at..at + 2));
+    pairs.map(|pair| u8::from_str_radix(pair?, 16).ok()).collect()
+}
+
 fn spell(lets: &HashMap<String, Vec<u8>>, words: &str) -> Option<Vec<u8>> {
     let mut bytes = Vec::new();
     for word in words.split_whitespace() {
-        match lets.get(word) {
-            Some(named) => bytes.extend(named),
-            None => {
-                for at in (0..word.len()).step_by(2) {
-                    bytes.push(u8::from_str_radix(word.get(at..at + 2)?, 16).ok()?);
-                }
-            }
+        if let Some(named) = lets.get(word) {
+            bytes.extend(named);
+        } else if let Some(numbers) = word.strip_prefix('@') {
+            let (offset, count) = numbers.split_once(':')?;
+            bytes.extend(pattern(number(offset)?, number(count)?));
+        } else {
+            let (word, count) = word.split_once('*').unwrap_or((word, "1"));
+            bytes.extend(digits(word)?.repeat(number(count)? as usize));
         }
     }
     Some(bytes)
@@ -82,6 +96,8 @@ fn mood(word: &str) -> Option<Mood> {
         "good" => Mood::Good,
         "other" => Mood::Other,
         "no_node" => Mood::NoNode,
+        "wide" => Mood::Wide,
+        "wide_failing" => Mood::WideFailing,
         _ => return None,
     })
 }

@@ -1,0 +1,507 @@
+"""A FUSE server for the vectors' file system, after virtiofsd's grammar. It shares nothing with
+those that it is compared with. It can read or write one field wrongly, or leave out one check."""
+
+from files import Errno, quoted as text
+from reading import ALL, OPCODES, Fault, Reading, name_of
+from records import RECORDS
+
+LARGEST_LENGTH, LARGEST_BUFFER = 0x101000, 1 << 20
+EIO, ENOMEM, ENOSYS, EPROTO = 5, 12, 38, 71
+# Options by their bits, and those that a server wants by itself.
+KNOWN = sum(1 << bit for bit in [*range(0, 26), *range(27, 35), 36, 40])
+WANTED = sum(1 << bit for bit in [0, 3, 5, 11, 12, 15, 18, 22, 27, 30, 34, 40])
+INIT_EXT, SETXATTR_EXT, SECURITY_CTX, CREATE_SUPP_GROUP = (1 << bit for bit in (30, 29, 32, 34))
+SETATTR_BITS = sum(1 << bit for bit in [0, 1, 2, 3, 4, 5, 7, 8, 10, 11])
+FATTR_FH = 1 << 6
+
+class Server:
+    """Answers one request after another."""
+
+    def __init__(self, files, options=0, page_size=4096, wrong=None):
+        self.files = files
+        self.options = options
+        self.page_size = page_size
+        self.wrong = wrong
+        # The fields and the checks that were met, by the request's name.
+        self.met = set()
+
+    def serve(self, request, room):
+        """The reply's bytes, none for silence. A fault is raised."""
+        return Request(self, request, room).serve()
+
+
+class Request(Reading):
+    """Serves one request."""
+
+    def serve(self):
+        """The reply."""
+        self.name = name_of(self.rest)
+        head = RECORDS["in_header"]
+        self.head = head.values(self.take(head.size, "in_header"))
+        try:
+            length, opcode = self.asked("len", ALL), self.asked("opcode")
+            self.check(length <= LARGEST_LENGTH, Errno(ENOMEM), "the greatest length")
+            if opcode not in OPCODES:
+                raise Errno(ENOSYS)
+            body, number = getattr(self, "do_" + OPCODES[opcode])(), 0
+        except Errno as error:
+            body, number = b"", -error.number
+        return b"" if body is None else self.reply(number, body)
+
+    def reply(self, number, body):
+        """A reply, which has to fit."""
+        values = {"len": 16 + len(body), "error": number, "unique": self.asked("unique")}
+        reply = self.packed("out_header", values) + body
+        self.check(len(reply) <= self.room, Fault("EncodeMessage"), "the reply's room")
+        return reply
+
+
+    # What replies have.
+
+    def entry(self, answer):
+        """An entry's bytes. Its node is forgotten if the reply doesn't fit."""
+        entry, attr = answer
+        return self.packed("entry_out", entry) + self.packed("attr", attr)
+
+    def new_entry(self, answer, behind=b""):
+        """A reply that begins with an entry."""
+        body = self.entry(answer) + behind
+        if 16 + len(body) > self.room and not self.is_wrong("check of the entry's room"):
+            self.forget_entry(answer[0])
+        return body
+
+    def forget_entry(self, entry):
+        """The node of an entry is forgotten."""
+        node = self.crooked("entry_out", {"nodeid": entry["nodeid"]})["nodeid"]
+        self.files.note("forget", *self.who(), node, 1)
+
+    def attributes(self, answer):
+        """Attributes' bytes."""
+        seconds, nanoseconds, attr = answer
+        valid = {"attr_valid": seconds, "attr_valid_nsec": nanoseconds}
+        return self.packed("attr_out", valid) + self.packed("attr", attr)
+
+    def opened(self, answer):
+        """A handle's bytes."""
+        return self.packed("open_out", dict(zip(("fh", "open_flags"), answer)))
+
+    # Names.
+
+    def do_lookup(self):
+        """LOOKUP"""
+        name = self.one_name(self.counted(0))
+        return self.new_entry(self.files.entry("lookup", *self.asker(), text(name)))
+
+    def named(self, call):
+        """A call with a name."""
+        name = self.one_name(self.counted(0))
+        self.files.done(call, *self.asker(), text(name))
+        return b""
+
+    def do_unlink(self):
+        """UNLINK"""
+        return self.named("unlink")
+
+    def do_rmdir(self):
+        """RMDIR"""
+        return self.named("rmdir")
+
+    def do_removexattr(self):
+        """REMOVEXATTR"""
+        return self.named("removexattr")
+
+    def do_link(self):
+        """LINK"""
+        old = self.read("link_in")["oldnodeid"]
+        name = self.one_name(self.counted(8))
+        words = [*self.who(), old, self.asked("nodeid"), text(name)]
+        return self.new_entry(self.files.entry("link", *words))
+
+    def renamed(self, record, known):
+        """RENAME and RENAME2"""
+        values = self.read(record)
+        old, rest = self.first_name(self.counted(RECORDS[record].size))
+        new = self.one_name(rest)
+        flags = values.get("flags", 0) & known
+        words = [*self.asker(), values["newdir"], flags, text(old), text(new)]
+        self.files.done("rename", *words)
+        return b""
+
+    def do_rename(self):
+        """RENAME"""
+        return self.renamed("rename_in", 0)
+
+    def do_rename2(self):
+        """RENAME2"""
+        return self.renamed("rename2_in", 7)
+
+    # New nodes.
+
+    def made(self, record, count):
+        """The record, the names behind it, and the words of the extensions."""
+        values = self.read(record) if record else {}
+        data = self.counted(RECORDS[record].size if record else 0)
+        names = []
+        for _ in range(count):
+            self.check(data, Fault("MissingParameter"), f"name {len(names) + 1}")
+            name, zero, data = data.partition(b"\0")
+            names.append(name + zero)
+        extensions = self.extensions(data)
+        for name in names:
+            self.check(name[-1:] == b"\0", Fault("InvalidCString"), "a name's zero byte")
+        return values, [name.rstrip(b"\0") for name in names], extensions
+
+    def do_symlink(self):
+        """SYMLINK"""
+        _, (name, link), extensions = self.made(None, 2)
+        words = [*self.asker(), text(link), text(name), *extensions]
+        return self.new_entry(self.files.entry("symlink", *words))
+
+    def do_mknod(self):
+        """MKNOD"""
+        values, (name,), extensions = self.made("mknod_in", 1)
+        numbers = [values[field] for field in ("mode", "rdev", "umask")]
+        words = [*self.asker(), *numbers, text(name), *extensions]
+        return self.new_entry(self.files.entry("mknod", *words))
+
+    def do_mkdir(self):
+        """MKDIR"""
+        values, (name,), extensions = self.made("mkdir_in", 1)
+        words = [*self.asker(), values["mode"], values["umask"], text(name), *extensions]
+        return self.new_entry(self.files.entry("mkdir", *words))
+
+    def do_create(self):
+        """CREATE"""
+        values, (name,), extensions = self.made("create_in", 1)
+        numbers = [values["mode"], values["open_flags"] & 1, values["flags"], values["umask"]]
+        answer = self.files.create(*self.asker(), *numbers, text(name), *extensions)
+        return self.new_entry(answer[0], self.opened(answer[1]))
+
+    def extensions(self, data):
+        """The group, and the name and the value of a label."""
+        if not self.server.options & (SECURITY_CTX | CREATE_SUPP_GROUP):
+            return ["-"]
+        group, label, has_label = None, [], False
+        before, self.rest = self.rest, data
+        while self.rest:
+            kind, body = self.extension()
+            if kind == 32:
+                self.agreed(CREATE_SUPP_GROUP, group is not None, "a group")
+                group = self.group(body)
+            else:
+                self.agreed(SECURITY_CTX, has_label, "a label")
+                label, has_label = self.label(kind, body), True
+        self.rest = before
+        is_lacking = self.server.options & SECURITY_CTX and not has_label
+        self.check(not is_lacking, Fault("MissingExtension"), "the label that has to be there")
+        return ["-" if group is None else group, *label]
+
+    def extension(self):
+        """The next extension's kind and body."""
+        head = self.read("ext_header")
+        self.check(head["size"] >= 8, Fault("InvalidHeaderLength"), "an extension's size")
+        body = self.take(max(0, head["size"] - 8), "an extension's body")
+        self.check(head["type"] <= 32, Fault("DecodeMessage"), "an extension's type")
+        return head["type"], body
+
+    def agreed(self, option, is_there, what):
+        """An extension has to be agreed on, and to be the first of its kind."""
+        self.check(self.server.options & option, Fault("DecodeMessage"), f"{what} without option")
+        self.check(not is_there, Fault("DecodeMessage"), f"{what} more")
+
+    def inside(self, body):
+        """A reader of an extension's body alone."""
+        part = Request(self.server, body, 0)
+        part.name = self.name
+        return part
+
+    def group(self, body):
+        """The group of an extension."""
+        part = self.inside(body)
+        count = part.read("supp_groups")["nr_groups"]
+        self.check(count == 1, Fault("DecodeMessage"), "the number of groups")
+        return part.read("group")["gid"]
+
+    def label(self, count, body):
+        """The name and the value of a label, or nothing for none."""
+        if count == 0:
+            return []
+        self.check(count == 1, Fault("DecodeMessage"), "the number of labels")
+        part = self.inside(body)
+        size = part.read("secctx")["size"]
+        self.check(size, Fault("DecodeMessage"), "a label's size")
+        self.check(part.rest, Fault("MissingParameter"), "a label's name")
+        self.check(b"\0" in part.rest, Fault("DecodeMessage"), "a label's zero byte")
+        name, _, part.rest = part.rest.partition(b"\0")
+        return [text(name), text(part.take(size, "a label"))]
+
+    # Attributes.
+
+    def do_getattr(self):
+        """GETATTR"""
+        values = self.read("getattr_in")
+        handle = values["fh"] if values["getattr_flags"] & 1 else "-"
+        return self.attributes(self.files.attributes("getattr", *self.asker(), handle))
+
+    def do_setattr(self):
+        """SETATTR"""
+        values = self.read("setattr_in")
+        valid = values["valid"]
+        handle = values["fh"] if valid & FATTR_FH else "-"
+        fields = [name for name in values if name not in ("padding", "unused4", "unused5")]
+        words = [handle, valid & SETATTR_BITS, *(values[name] for name in fields)]
+        return self.attributes(self.files.attributes("setattr", *self.asker(), *words))
+
+    def do_access(self):
+        """ACCESS"""
+        self.files.done("access", *self.asker(), self.read("access_in")["mask"])
+        return b""
+
+    # Extended attributes, links, the file system.
+
+    def do_setxattr(self):
+        """SETXATTR"""
+        is_long = self.server.options & SETXATTR_EXT
+        record = "setxattr_in" if is_long else "setxattr_in_compat"
+        values = self.read(record)
+        name, value = self.first_name(self.counted(RECORDS[record].size))
+        why = Fault(f"InvalidXattrSize {values['size']} {len(value)}")
+        self.check(len(value) == values["size"], why, "the value's size")
+        flags = [values["flags"], values.get("setxattr_flags", 0) & 1]
+        self.files.done("setxattr", *self.asker(), *flags, text(name), text(value))
+        return b""
+
+    def counted_text(self, name, size, *words):
+        """Bytes, or their count."""
+        answer = self.files.text(name, *self.asker(), size, *words, size=size)
+        if isinstance(answer, int):
+            return self.packed("getxattr_out", {"size": answer})
+        return answer
+
+    def do_getxattr(self):
+        """GETXATTR"""
+        size = self.read("getxattr_in")["size"]
+        data = self.counted(8)
+        self.check(size <= LARGEST_BUFFER, Errno(ENOMEM), "the size")
+        return self.counted_text("getxattr", size, text(self.one_name(data)))
+
+    def do_listxattr(self):
+        """LISTXATTR"""
+        size = self.read("getxattr_in")["size"]
+        self.check(size <= LARGEST_BUFFER, Errno(ENOMEM), "the size")
+        return self.counted_text("listxattr", size)
+
+    def do_readlink(self):
+        """READLINK"""
+        return self.files.text("readlink", *self.asker())
+
+    def do_statfs(self):
+        """STATFS"""
+        return self.packed("kstatfs", self.files.statfs(*self.asker()))
+
+    def do_syncfs(self):
+        """SYNCFS"""
+        self.files.done("syncfs", *self.asker())
+        return b""
+
+    # Open files.
+
+    def do_open(self):
+        """OPEN"""
+        values = self.read("open_in")
+        words = [*self.asker(), values["open_flags"] & 1, values["flags"]]
+        return self.opened(self.files.opened("open", *words))
+
+    def do_opendir(self):
+        """OPENDIR"""
+        flags = self.read("open_in")["flags"]
+        return self.opened(self.files.opened("opendir", *self.asker(), flags))
+
+    def do_release(self):
+        """RELEASE"""
+        values = self.read("release_in")
+        flags = values["release_flags"]
+        owner = values["lock_owner"] if flags & 3 else "-"
+        words = [values["flags"], values["fh"], flags & 1, flags >> 1 & 1, owner]
+        self.files.done("release", *self.asker(), *words)
+        return b""
+
+    def do_releasedir(self):
+        """RELEASEDIR"""
+        values = self.read("release_in")
+        self.files.done("releasedir", *self.asker(), values["flags"], values["fh"])
+        return b""
+
+    def synced(self, call):
+        """FSYNC and FSYNCDIR"""
+        values = self.read("fsync_in")
+        self.files.done(call, *self.asker(), values["fsync_flags"] & 1, values["fh"])
+        return b""
+
+    def do_fsync(self):
+        """FSYNC"""
+        return self.synced("fsync")
+
+    def do_fsyncdir(self):
+        """FSYNCDIR"""
+        return self.synced("fsyncdir")
+
+    def do_flush(self):
+        """FLUSH"""
+        values = self.read("flush_in")
+        self.files.done("flush", *self.asker(), values["fh"], values["lock_owner"])
+        return b""
+
+    def do_fallocate(self):
+        """FALLOCATE"""
+        values = self.read("fallocate_in")
+        words = [values[name] for name in ("fh", "mode", "offset", "length")]
+        self.files.done("fallocate", *self.asker(), *words)
+        return b""
+
+    def do_lseek(self):
+        """LSEEK"""
+        values = self.read("lseek_in")
+        words = [values[name] for name in ("fh", "offset", "whence")]
+        offset = self.files.count("lseek", *self.asker(), *words)
+        return self.packed("lseek_out", {"offset": offset})
+
+    def do_copy_file_range(self):
+        """COPY_FILE_RANGE"""
+        values = self.read("copy_file_range_in")
+        count = self.files.count("copy_file_range", *self.asker(), *values.values())
+        return self.packed("write_out", {"size": count})
+
+    # Data.
+
+    def do_read(self):
+        """READ"""
+        values = self.read("read_in")
+        self.check(self.room >= 16, Fault("EncodeMessage"), "the room for a header")
+        owner = values["lock_owner"] if values["read_flags"] & 2 else "-"
+        words = [values["fh"], values["size"], values["offset"], owner, values["flags"]]
+        return self.files.read(max(0, self.room - 16), values["size"], values["offset"],
+            *self.asker(), *words)
+
+    def do_write(self):
+        """WRITE"""
+        values = self.read("write_in")
+        flags = values["write_flags"]
+        owner = values["lock_owner"] if flags & 2 else "-"
+        words = [values["fh"], values["size"], values["offset"], owner, flags & 1, flags >> 2 & 1,
+            values["flags"]]
+        count = self.files.write(values["size"], self.rest, *self.asker(), *words)
+        return self.packed("write_out", {"size": count})
+
+    # Directories.
+
+    def do_readdir(self):
+        """READDIR"""
+        return self.listed(False)
+
+    def do_readdirplus(self):
+        """READDIRPLUS"""
+        return self.listed(True)
+
+    def listed(self, plus):
+        """The entries that fit, in order."""
+        values = self.read("read_in")
+        size = values["size"]
+        self.check(size <= LARGEST_BUFFER, Errno(ENOMEM), "the size")
+        self.check(self.room >= size, Errno(ENOMEM), "the room for the size")
+        self.check(self.room >= 16, Fault("EncodeMessage"), "the room for a header")
+        words = [values["fh"], size, values["offset"]]
+        body = b""
+        for entry in self.files.readdir(values["offset"], *self.asker(), *words):
+            try:
+                data = self.list_entry(entry, plus, size - len(body), self.room - 16 - len(body))
+            except Errno:
+                if not plus or not body:
+                    raise
+                break
+            if data is None:
+                break
+            body += data
+        return body
+
+    def list_entry(self, entry, plus, left, room):
+        """The bytes of an entry, or None if it ends the list. One that doesn't fit is forgotten."""
+        ino, offset, kind, name = entry
+        front, found = b"", {"nodeid": 0}
+        if plus and name in (b".", b".."):
+            front = self.entry(({"nodeid": 0}, {"ino": ino, "mode": kind * 4096}))
+        elif plus:
+            answer = self.files.entry("lookup", *self.asker(), text(name))
+            front, found = self.entry(answer), answer[0]
+        values = {"ino": ino, "off": offset, "namelen": len(name), "type": kind}
+        data = front + self.packed("dirent", values) + name
+        data += bytes(-len(data) % 8)
+        if len(data) <= min(left, room):
+            return data
+        if plus:
+            self.forget_entry(found)
+        self.check(len(data) > left, Errno(EIO), "the entry's room")
+        return None
+
+    # Sessions.
+
+    def do_init(self):
+        """INIT"""
+        values = self.read("init_in")
+        flags = values["flags"]
+        flags |= self.read("init_in_ext")["flags2"] << 32 if flags & INIT_EXT else 0
+        self.check(values["major"] >= 7, Errno(EPROTO), "the major version")
+        out = {"major": 7, "minor": 38}
+        if values["major"] > 7:
+            return self.packed("init_out", out)
+        self.check(values["minor"] >= 27, Errno(EPROTO), "the minor version")
+        capable = flags & KNOWN
+        agreed = capable & (self.files.init(capable) | WANTED)
+        self.server.options = agreed
+        out |= {"max_readahead": values["max_readahead"], "flags": agreed & 0xFFFFFFFF,
+            "max_background": 65535, "congestion_threshold": 49149, "max_write": LARGEST_BUFFER,
+            "time_gran": 1, "max_pages": (LARGEST_BUFFER - 1) // self.server.page_size + 1,
+            "flags2": agreed >> 32}
+        return self.packed("init_out", out)
+
+    def do_destroy(self):
+        """DESTROY"""
+        self.files.note("destroy")
+        self.server.options = 0
+
+    def do_interrupt(self):
+        """INTERRUPT"""
+
+    def do_forget(self):
+        """FORGET"""
+        self.files.note("forget", *self.asker(), self.read("forget_in")["nlookup"])
+
+    def do_batch_forget(self):
+        """BATCH_FORGET"""
+        count = self.read("batch_forget_in")["count"]
+        self.check(count * 16 <= LARGEST_BUFFER, Errno(ENOMEM), "the count")
+        ones = [self.read("forget_one") for _ in range(count)]
+        self.files.batch_forget(self.who(), [(one["nodeid"], one["nlookup"]) for one in ones])
+
+    # Calls without arguments.
+
+    def passed_on(self, call):
+        """A call that is passed nothing, and whose good answer is no reply."""
+        self.files.done(call)
+
+    def do_tmpfile(self):
+        """TMPFILE"""
+        self.files.done("tmpfile")
+        raise Errno(ENOSYS)
+
+    def do_setup_mapping(self):
+        """SETUPMAPPING and REMOVEMAPPING"""
+        raise Errno(ENOSYS)
+
+    do_remove_mapping = do_setup_mapping
+
+    def __getattr__(self, name):
+        calls = ("getlk", "setlk", "setlkw", "bmap", "ioctl", "poll", "notify_reply")
+        if name.removeprefix("do_") in calls:
+            return lambda: self.passed_on(name.removeprefix("do_"))
+        raise AttributeError(name)
