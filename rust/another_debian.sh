@@ -1,7 +1,7 @@
-# Read by `vendor` and `test`: packages of another Debian (trixie), unpacked to a folder and not
-# installed, by an apt with lists, packages and a state of its own. `folder` names the folder. By
-# the environment: DEBIAN, the archive's address (else where this machine's apt takes its packages
-# from); SUITE.
+# Read by `vendor`, `test` and `try_package`: packages of another Debian (trixie), unpacked to a
+# folder and not installed, by an apt with lists, packages and a state of its own. `folder` names
+# the folder. By the environment: DEBIAN, the archive's address (else where this machine's apt takes
+# packages from); SUITE.
 suite=${SUITE:-trixie}
 export LC_ALL=C
 
@@ -10,13 +10,20 @@ fail() {
     exit 1
 }
 
-# Makes that apt, which knows of no package that is installed.
-make_apt() {
+# The archive's address.
+archive_of_debian() {
     local debian=${DEBIAN:-}
     [ -n "$debian" ] || debian=$(grep -hoE '^[^#]*https?://[^ ]+/debian/?( |$)' \
         /etc/apt/sources.list /etc/apt/sources.list.d/* 2> "$folder/none" |
         grep -oE 'https?://[^ ]+' | head -n 1 || true)
     [ -n "$debian" ] || fail "no archive of Debian's is known: set DEBIAN to its address"
+    echo "$debian"
+}
+
+# Makes that apt, which knows of no package that is installed.
+make_apt() {
+    local debian
+    debian=$(archive_of_debian)
     mkdir -p "$folder"/apt/{lists/partial,cache/archives/partial}
     : > "$folder/apt/status"
     echo "deb [arch=amd64 signed-by=/usr/share/keyrings/debian-archive-keyring.gpg]" \

@@ -34,10 +34,10 @@
  * text of pk_build: names and values are offsets into the request (`struct pk_span`). A later
  * header may add fields at the end of a struct, so initialise structs with zeros.
  *
- * THREADS. Calls may run at the same time if they share only arguments that all of them take as
- * const. Otherwise calls on one chain, queue or device need an order: a lock, or a join. A chain
- * may move between threads. Threads with chains and queues of their own share only `device` and an
- * IOMMU's table. Use a reader-writer lock: only pk_reply_init and pk_restore write `device`.
+ * THREADS. Two calls may run at the same time if each object that both are passed is const in both.
+ * Otherwise calls on one chain, queue or device need an order: a lock, or a join. A chain may move
+ * between threads. Threads with chains and queues of their own share only `device` and an IOMMU's
+ * table. Use a reader-writer lock: only pk_reply_init and pk_restore write `device`.
  *
  * RULES for the caller. The library can't check them; it does refuse calls in a wrong order.
  *  1. A pointer is valid for its length, and never NULL, not even with length 0. An argument that
@@ -52,8 +52,9 @@
  *     - issue a full barrier (atomic_thread_fence(memory_order_seq_cst));
  *     - load the 2 bytes at `seen_at`.
  *  5. Use windows only until pk_pushed, pk_drop or pk_abandon. Store only into reply windows.
- *  6. A chain keeps the regions that it was popped with. During its pop and while it is in flight,
- *     leave that memory mapped, and map the queue's rings in new regions too.
+ *  6. A chain keeps the regions that its handle had at the pop. From its first pk_pop until it is
+ *     pushed, dropped or abandoned, leave their memory mapped in the VMM. Regions that other
+ *     handles get meanwhile must have the queue's rings, too.
  *  7. During a migration, log each page that you stored into, after the store and before pk_pushed.
  *     Also log data in the reply buffer that isn't part of the reply. Behind an IOMMU, log the
  *     pages of your regions by the host addresses of windows and stores.
@@ -77,11 +78,11 @@
  *     barrier, and one more pop. That pop must load the available index again (taker_waits, late).
  *     Sleep if it returns PK_IDLE, or if `max_in_flight` are in flight.
  *   - A thread that calls pk_pop or pk_set_notification while another thread of the queue sleeps
- *     also takes these steps before it releases the lock (rearms_again). Without EVENT_IDX
- *     it may omit the store, if the queue's last such store was the same. If its handle holds a
- *     chain, it can't pop: then it loads the available index again and compares it with
- *     `next_avail`. If a chain is available, it pops it or wakes a thread, since the driver doesn't
- *     notify again (wakes_another).
+ *     also takes these steps before it releases the lock (rearms_again). Without EVENT_IDX the
+ *     store may be omitted if the last store of pk_set_notification for this queue was the same. A
+ *     thread whose handle holds a chain can't pop: it loads the available index again instead, and
+ *     compares that with `next_avail`. If a chain is available, the thread pops it or wakes another
+ *     thread, since the driver doesn't notify again (wakes_another).
  *   - A thread that pushes or drops a chain pops again, or wakes a thread (walks_after). After
  *     PK_MISS a thread pops again once the table has the addresses.
  *   - A push has its full barrier before its load (giver_waits), and is ended before the queue's
@@ -95,8 +96,9 @@
  *   - IN_ORDER (35), if you push the chains of a queue in the order of their pops
  * Not RING_PACKED (34).
  *
- * STATUSES. 1 to 8: the queue can't be served; 2 to 8 stop it until its reset. 9: an allocation
- * failed. 32 to 63 say how to go on. 64 and more: the call changed no chain, queue or device, and
+ * STATUSES. 1 to 8: the queue can't be served; 2 to 8 stop it until its reset, so set
+ * DEVICE_NEEDS_RESET and notify the driver (VIRTIO 1.2, 2.1.2). 9: an allocation failed. 32 to 63
+ * say how to go on: enum pk_status. 64 and more: the call changed no chain, queue or device, and
  * zeroed its results, unless its comment says otherwise. Errors are listed in the order of checks.
  *
  * PROVED, for any arguments of these types: each function returns, never panics, and accesses only
@@ -177,7 +179,8 @@ enum pk_status {
                              another chain was popped or dropped since it began */
     PK_OTHER_KIND = 75,   /* the call has an answer of another kind (`answer`) */
     PK_CHAIN_IN_FLIGHT = 76, /* it is in flight, or `max_in_flight` are; of pk_save: any is */
-    PK_NOT_MAPPED = 77,   /* pk_set_notification: its 2 bytes aren't mapped; else: see rule 6 */
+    PK_NOT_MAPPED = 77,   /* a part of the queue's rings that the call needs isn't in the handle's
+                             regions (rule 6), or not in the table */
     PK_PUSHING = 78,      /* another chain of the queue is between pk_push and pk_pushed */
     PK_OTHER_CALL = 79,   /* the ticket isn't the chain's: a late answer */
     /* 81 to 90: pk_restore takes nothing of this record. 89: an allocation failed; call later.
@@ -361,8 +364,8 @@ struct pk_pop {
  * Two loads can be saved. For the first, the available index, you may pass the value that was
  * loaded last for this queue, by any thread, over the same memory and since the queue's reset, if
  * it isn't `next_avail`. Keep it with the queue, under its lock: an older value, such as a thread's
- * own, is refused and stops the queue (takes_newest). An entry of a table that crosses two regions
- * or mappings has two loads: pass the whole entry for the first.
+ * own, is refused and stops the queue (takes_newest). The second: a table's entry that lies in two
+ * regions or mappings has a load for each part. If you have the whole entry, pass it for the first.
  * Errors: PK_WRONG_ORDER (no memory was set); PK_BAD_ARGUMENT (the queue's fields are invalid, such
  * as zeros); PK_WRONG_ORDER (the chain is in flight); PK_BAD_ARGUMENT (`loaded_len` isn't the
  * load's); PK_OTHER_QUEUE (then drop or abandon the pop); PK_CHAIN_IN_FLIGHT; then, in no order,
@@ -370,8 +373,8 @@ struct pk_pop {
 uint32_t pk_pop(struct pk_chain *chain, struct pk_queue *queue, const uint8_t *loaded,
                 size_t loaded_len, struct pk_pop *pop) PK_CHECK PK_READS(3, 4) PK_FILLS(5);
 
-/* Undoes a pop whose chain wasn't decoded: the queue's next pop returns the chain again. Also ends
- * a pop that is under way, of any queue.
+/* Undoes a pop whose chain wasn't decoded: the queue's next pop returns the chain again. Or ends a
+ * pop that is under way in the handle; then `queue` may be another one.
  * Errors: PK_BAD_ARGUMENT (the queue's fields); PK_WRONG_ORDER (it was decoded, or has a fault);
  * PK_OTHER_QUEUE; PK_WRONG_ORDER (another chain was popped later: drop that one first). */
 uint32_t pk_drop(struct pk_chain *chain, struct pk_queue *queue) PK_NONNULL;
