@@ -60,7 +60,7 @@ compile() {
 alone() {
     local threads
     SECONDS_EACH=${SECONDS_EACH:-60}
-    compile checks checks.c escape.c held.c labels.c platform.c wild.c front.c
+    compile checks checks.c escape.c held.c labels.c platform.c stopped.c wild.c front.c
     compile hostile hostile.c front.c
     compile log log.c front.c
     compile state state.c moved.c front.c
@@ -88,9 +88,12 @@ alone() {
     THREADS=4 try checks pool
     for threads in 0 4; do
         THREADS=$threads try checks held 20
-        grep -q 'queue 1: GET_VRING_BASE waits for chains in flight: .*opcode 14' \
+        grep -q 'queue 1: GET_VRING_BASE is answered, and the host holds request .*opcode 14' \
             "$work/checks-held.errors" ||
-            failure "held: the log doesn't say what is waited for"
+            failure "held: the log doesn't say what the host holds"
+        grep -q "can't move now, .* holds a call of its: queue 1: request .* opcode 14" \
+            "$work/checks-held.errors" ||
+            failure "held: the log doesn't say why no state is saved"
     done
     THREADS=4 try checks two 5
     try checks sleeps "${SLEEPS:-500000}"

@@ -2,10 +2,10 @@
  * once. With THREADS of the environment other threads of the same ring go on too; without, other
  * rings do. */
 #define _GNU_SOURCE
+#include "held.h"
 #include "checks.h"
 #include <fcntl.h>
 #include <linux/fuse.h>
-#include <pthread.h>
 #include <stdio.h>
 #include <stdlib.h>
 #include <string.h>
@@ -29,24 +29,22 @@ enum {
 enum {
     LOG_LEN = 1 << 18,
     AT_ONCE = 100,
-    ELSEWHERE = 0x800,
-    SLOW_SLOT = 1,
-    QUICK_SLOT = 2
+    ELSEWHERE = 0x800
 };
 
 static bool has_threads;
-static int lease = -1;
+int lease = -1;
 static unsigned longest;     /* milliseconds of one of them beside the request that takes long */
 static unsigned asked, late; /* how many requests and messages there were, and how many were late */
 
-static uint64_t now(void) {
+uint64_t now(void) {
     struct timespec t;
     clock_gettime(CLOCK_MONOTONIC, &t);
     return (uint64_t)t.tv_sec * 1000 + (uint64_t)t.tv_nsec / 1000000;
 }
 
 /* A machine that is busy with other programs may be late with one of a hundred, never for long. */
-static void must_be_soon(const char *what, uint64_t before) {
+void must_be_soon(const char *what, uint64_t before) {
     unsigned took = (unsigned)(now() - before);
     longest = took > longest ? took : longest;
     asked++;
@@ -55,18 +53,18 @@ static void must_be_soon(const char *what, uint64_t before) {
         die("%s takes %u ms beside a request that takes long", what, took);
 }
 
-static uint16_t returned(size_t ring) { return atomic_load(index_at(&front, used_at(ring) + 2)); }
+uint16_t returned(size_t ring) { return atomic_load(index_at(&front, used_at(ring) + 2)); }
 
 /* ------------------------------------------------------------- other requests */
 
 /* Whether so many chains of a ring are returned in time. */
-static bool is_returned(size_t ring, uint16_t count) {
+bool is_returned(size_t ring, uint16_t count) {
     for (uint64_t end = now() + 20000; now() < end; usleep(50))
         if (returned(ring) == count) return true;
     return false;
 }
 
-static void ask_beside(size_t ring) {
+void ask_beside(size_t ring) {
     struct fuse_getattr_in in = {0};
     uint16_t count = (uint16_t)(returned(ring) + 1);
     uint64_t before = now();
@@ -79,11 +77,6 @@ static void ask_beside(size_t ring) {
 static void ask_all_beside(void) {
     ask_beside(2);
     if (has_threads) ask_beside(1);
-}
-
-static void *ask_until_over(void *none) {
-    for (; !over; usleep(2000)) ask_all_beside();
-    return none;
 }
 
 /* ------------------------------------------------------------- messages */
@@ -110,7 +103,7 @@ static void tell_addresses(const char *what, uint64_t elsewhere) {
     tell_at_once(what, SET_VRING_ADDR, &address, sizeof address, NULL, 0);
 }
 
-static void tell_memory(const uint64_t *regions, uint32_t count) {
+void tell_memory(const uint64_t *regions, uint32_t count) {
     struct {
         uint32_t count, padding;
         uint64_t regions[REGIONS][4];
@@ -149,7 +142,7 @@ static void tell_all(int call, int log) {
 
 /* ------------------------------------------------------------- the request that takes long */
 
-static void hold(const char *dir, uint64_t node) {
+void hold(const char *dir, uint64_t node) {
     struct fuse_open_in in = {.flags = O_RDONLY};
     uint16_t before = returned(1);
     lease = lease_slow(dir);
@@ -158,21 +151,13 @@ static void hold(const char *dir, uint64_t node) {
     if (returned(1) != before) die("the request takes no time");
 }
 
-static void *release_later(void *milliseconds) {
-    usleep(1000 * *(unsigned *)milliseconds);
-    over = true; /* before the ring ends */
-    usleep(100000);
-    close(lease);
-    return NULL;
-}
-
-static bool is_slow_one(uint64_t used) {
+bool is_slow_one(uint64_t used) {
     const uint8_t *element = front_at(&front, used) + 4 + 8 * ((returned(1) - 1u) % RING_SIZE);
     return element[0] == 4 * SLOW_SLOT;
 }
 
 /* Closes the file that the slow one opened: nobody has a lease on a file that is open. */
-static void close_slow(uint64_t node) {
+void close_slow(uint64_t node) {
     struct fuse_open_out out;
     struct fuse_release_in in = {.flags = O_RDONLY};
     uint16_t count = (uint16_t)(returned(1) + 1);
@@ -256,51 +241,6 @@ static void moved(const char *dir, uint64_t node) {
     close_slow(node);
 }
 
-/* What ends waits for the ring's own chains, while all others are served. */
-static void ended(const char *what, const char *dir, uint64_t node, bool stops) {
-    unsigned milliseconds = 3000;
-    uint32_t disable[2] = {1, 0};
-    pthread_t asker, closer;
-    hold(dir, node);
-    over = false;
-    longest = 0;
-    uint64_t before = now();
-    pthread_create(&asker, NULL, ask_until_over, NULL);
-    pthread_create(&closer, NULL, release_later, &milliseconds);
-    if (stops)
-        check("the position", front_stop_ring(&front, 1) == front.rings[1].offered);
-    else
-        check(what, front_tell(&front, SET_VRING_ENABLE, disable, sizeof disable, NULL, 0) == 0);
-    check("it waits for the request", now() - before >= milliseconds);
-    check("all are returned", returned(1) == front.rings[1].offered);
-    pthread_join(asker, NULL);
-    pthread_join(closer, NULL);
-    front_start_ring(&front, 1, front.rings[1].offered);
-    close_slow(node);
-    printf("%s waits for a slow one; the longest request beside it took %u ms\n", what, longest);
-}
-
-/* A memory without the ring's parts waits too, since the chain in flight is returned there. */
-static void lost(const char *dir, uint64_t node) {
-    uint64_t user = (uint64_t)(uintptr_t)front.memory, before = now();
-    uint64_t high[4] = {HIGH, REGION_LEN, user + REGION_LEN, REGION_LEN};
-    unsigned milliseconds = 1500;
-    pthread_t closer;
-    hold(dir, node);
-    pthread_create(&closer, NULL, release_later, &milliseconds);
-    tell_memory(high, 1);
-    check("it waits for the request", now() - before >= milliseconds);
-    check("the slow one is returned",
-          returned(1) == front.rings[1].offered && is_slow_one(used_at(1)));
-    pthread_join(closer, NULL);
-    front_set_memory(&front);
-    for (size_t ring = 1; ring < RINGS; ring++) {
-        check("the position", front_stop_ring(&front, ring) == front.rings[ring].offered);
-        front_start_ring(&front, ring, front.rings[ring].offered);
-    }
-    ask_all_beside();
-}
-
 void held(const char *dir, unsigned seconds) {
     const char *threads = getenv("THREADS");
     has_threads = threads && atoi(threads) > 1;
@@ -308,7 +248,5 @@ void held(const char *dir, unsigned seconds) {
     front_start_ring(&front, 2, 0);
     messages(dir, node, seconds);
     moved(dir, node);
-    ended("GET_VRING_BASE", dir, node, true);
-    ended("SET_VRING_ENABLE", dir, node, false);
-    lost(dir, node);
+    stopped(dir, node, has_threads);
 }

@@ -7,7 +7,7 @@
 use crate::marks::Log;
 use crate::memory::Table;
 use crate::migration::Migration;
-use crate::ring::{Ring, SIZE_MAX};
+use crate::ring::{Patience, Ring, SIZE_MAX};
 use crate::serve::{Core, QueueWorker, ServedFs};
 use log::{debug, error, info};
 use std::fs::File;
@@ -62,10 +62,17 @@ impl<F: ServedFs> FrontEnd<F> {
         self.core.rings.get(index.into() as usize).ok_or_else(no_queue)
     }
 
+    /// How long a message that came now waits for chains.
+    fn patience(&self) -> Patience {
+        Patience::new(self.logs())
+    }
+
     /// Enables or disables all rings.
-    fn enable_all(&mut self, enabled: bool) {
+    fn enable_all(&mut self, enabled: bool, patience: Patience) {
         let memory = self.core.memory();
-        self.core.rings.iter().for_each(|ring| ring.enable(enabled, &mut self.worker, &memory));
+        for ring in &self.core.rings {
+            ring.enable(enabled, &mut self.worker, &memory, patience);
+        }
     }
 
     fn logs(&self) -> bool {
@@ -79,7 +86,7 @@ impl<F: ServedFs> FrontEnd<F> {
     }
 
     fn set_memory(&mut self, table: io::Result<Table>) -> Result<()> {
-        self.core.set_memory(table.map_err(told)?);
+        self.core.set_memory(table.map_err(told)?, self.patience());
         Ok(())
     }
 
@@ -104,9 +111,10 @@ impl<F: ServedFs> VhostUserBackendReqHandlerMut for FrontEnd<F> {
     }
 
     fn reset_device(&mut self) -> Result<()> {
-        self.enable_all(false);
-        self.core.rings.iter().for_each(|ring| ring.lock().reset());
-        self.core.end_session();
+        let patience = Patience::new(false);
+        self.enable_all(false, patience);
+        self.core.rings.iter().for_each(Ring::reset);
+        self.core.end_session(patience);
         Ok(())
     }
 
@@ -132,7 +140,7 @@ impl<F: ServedFs> VhostUserBackendReqHandlerMut for FrontEnd<F> {
             .iter()
             .for_each(|ring| ring.tell(|numbers| numbers.has_event_index = has_event_index));
         if features & VhostUserVirtioFeatures::PROTOCOL_FEATURES.bits() == 0 {
-            self.enable_all(true);
+            self.enable_all(true, self.patience());
         }
         if self.logs() {
             self.migration.prepare();
@@ -202,16 +210,17 @@ impl<F: ServedFs> VhostUserBackendReqHandlerMut for FrontEnd<F> {
     }
 
     fn get_vring_base(&mut self, index: u32) -> Result<VhostUserVringState> {
+        let patience = self.patience();
         // The reply has only the base, so it can't report an error.
         let ring = self.core.rings.get(index as usize).ok_or(Error::InvalidParam)?;
-        let next_avail = ring.stop(&mut self.worker, &self.core.memory());
+        let next_avail = ring.stop(&mut self.worker, &self.core.memory(), patience);
         Ok(VhostUserVringState::new(index, next_avail.into()))
     }
 
     fn set_vring_kick(&mut self, index: u8, kick: Option<File>) -> Result<()> {
         let ring = self.ring(index)?;
         if let Some(kick) = kick {
-            ring.start(kick).map_err(told)
+            ring.start(kick, &self.core.memory()).map_err(told)
         } else {
             ring.stop_kicks();
             Err(unsupported("a ring without kicks"))
@@ -260,8 +269,9 @@ impl<F: ServedFs> VhostUserBackendReqHandlerMut for FrontEnd<F> {
         if self.features & VhostUserVirtioFeatures::PROTOCOL_FEATURES.bits() == 0 {
             return Err(unsupported("SET_VRING_ENABLE without the protocol's features"));
         }
+        let patience = self.patience();
         let ring = self.core.rings.get(index as usize).ok_or_else(no_queue)?;
-        ring.enable(enable, &mut self.worker, &self.core.memory());
+        ring.enable(enable, &mut self.worker, &self.core.memory(), patience);
         Ok(())
     }
 

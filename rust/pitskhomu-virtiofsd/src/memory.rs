@@ -8,6 +8,7 @@ use pitskhomu::{GuestRange, GuestSlice, QueueLayout};
 use pitskhomu_vm_memory::MappedMemory;
 use std::fs::File;
 use std::io;
+use std::os::unix::fs::MetadataExt;
 use std::sync::atomic::{AtomicU64, Ordering};
 use std::sync::Arc;
 use vhost::vhost_user::message::VhostUserMemoryRegion;
@@ -21,14 +22,20 @@ const PAGE: u64 = 4096;
 /// Consecutive bytes of one region. Writes to them mark the log.
 pub type Slice<'m> = VolatileSlice<'m, MarksFrom<'m>>;
 
-/// A region's place in the front-end's own address space. The front-end sets rings with these
-/// addresses.
+/// A region's place in the front-end's own address space, and its file. The front-end sets rings
+/// with these addresses.
 #[derive(Debug, Clone, Copy)]
 struct Place {
     front_end: u64,
     guest: u64,
     len: u64,
+    /// The file's device and number there.
+    file: (u64, u64),
+    offset: u64,
 }
+
+/// A page's place in a file: the file's device and number there, and the page's offset.
+type FilePage = ((u64, u64), u64);
 
 /// The guest's memory. A copy has the same mappings, and the same number.
 #[derive(Debug, Clone, Default)]
@@ -50,10 +57,13 @@ fn invalid(why: &str) -> io::Error {
 type Mapped = (Arc<GuestRegionMmap<Marks>>, Place);
 
 fn map(region: &VhostUserMemoryRegion, file: File, logging: &Arc<Logging>) -> io::Result<Mapped> {
+    let data = file.metadata()?;
     let place = Place {
         front_end: region.user_addr,
         guest: region.guest_phys_addr,
         len: region.memory_size,
+        file: (data.dev(), data.ino()),
+        offset: region.mmap_offset,
     };
     if (place.guest | place.len) % PAGE != 0 || place.len == 0 {
         return Err(invalid("a region that isn't of whole pages"));
@@ -63,6 +73,20 @@ fn map(region: &VhostUserMemoryRegion, file: File, logging: &Arc<Logging>) -> io
         GuestRegionMmap::new(mapped, GuestAddress(place.guest)).map_err(io::Error::other)?;
     region.bitmap().tie(logging, place.guest);
     Ok((Arc::new(region), place))
+}
+
+/// The numbers of the pages of a queue's parts (VIRTIO 1.2, 2.7).
+fn pages(layout: &QueueLayout) -> impl Iterator<Item = u64> {
+    let size = u64::from(layout.size);
+    let parts = [
+        (layout.descriptors, 16 * size),
+        (layout.available, 6 + 2 * size),
+        (layout.used, 6 + 8 * size),
+    ];
+    parts
+        .into_iter()
+        .filter(move |_| size > 0)
+        .flat_map(|(at, len)| at / PAGE..=at.saturating_add(len - 1) / PAGE)
 }
 
 impl Table {
@@ -161,25 +185,28 @@ impl Table {
         self.mapped.guest_slice(guest, len)
     }
 
-    /// Whether each page of the queue's parts that a return loads and stores is mapped in both
-    /// tables or in neither.
+    /// Whether each page of a queue's parts is the same page of the same file in both tables, or is
+    /// mapped in neither.
     pub fn agrees(&self, other: &Table, layout: &QueueLayout) -> bool {
-        let size = u64::from(layout.size);
-        let parts = [(layout.available, 6 + 2 * size), (layout.used, 6 + 8 * size)];
-        parts.iter().filter(|_| size > 0).all(|(at, len)| {
-            let pages = at / PAGE..=at.saturating_add(*len) / PAGE;
-            pages.into_iter().all(|page| self.has_page(page) == other.has_page(page))
-        })
+        pages(layout).all(|page| self.file_page(page) == other.file_page(page))
     }
 
-    fn has_page(&self, page: u64) -> bool {
-        let at = self.iommu.guest_address(page.wrapping_mul(PAGE));
-        at.is_some_and(|at| self.guest_slice(at, 1).is_some())
+    /// Whether each page of a queue's parts is mapped. One whose I/O address the IOMMU's table
+    /// doesn't have may be.
+    pub fn has_parts(&self, layout: &QueueLayout) -> bool {
+        let is_unknown = |page: u64| self.iommu.guest_address(page.wrapping_mul(PAGE)).is_none();
+        pages(layout).all(|page| is_unknown(page) || self.file_page(page).is_some())
     }
 
-    /// The index of an available ring (VIRTIO 1.2, 2.7.6), if it is mapped.
-    pub fn available_index(&self, available: u64) -> Option<u16> {
-        let at = self.iommu.guest_address(available.checked_add(2)?)?;
+    fn file_page(&self, page: u64) -> Option<FilePage> {
+        let at = self.iommu.guest_address(page.wrapping_mul(PAGE))?;
+        let place = self.places.iter().find(|place| at.wrapping_sub(place.guest) < place.len)?;
+        Some((place.file, place.offset + (at - place.guest)))
+    }
+
+    /// The index of an available or a used ring (VIRTIO 1.2, 2.7.6 and 2.7.8), if it is mapped.
+    pub fn ring_index(&self, ring: u64) -> Option<u16> {
+        let at = self.iommu.guest_address(ring.checked_add(2)?)?;
         let index = self.guest_slice(at, 2)?;
         index.load(0, Ordering::Acquire).ok().map(u16::from_le)
     }
@@ -245,8 +272,17 @@ mod tests {
         );
         assert!(!table.agrees(&less, &at(0x4000, HIGH)) && !less.agrees(&table, &at(HIGH, 0x4000)));
         assert!(!table.agrees(&less, &at(0x4000, HIGH - 4))); // its end alone
+        assert!(table.has_parts(&QueueLayout { descriptors: HIGH, ..at(0x4000, 0x5000) }));
+        assert!(!less.has_parts(&QueueLayout { descriptors: HIGH, ..at(0x4000, 0x5000) }));
         assert!(table.agrees(&less, &QueueLayout { size: 0, ..at(HIGH, HIGH) }));
         assert!(table.agrees(&less, &at(u64::MAX - 1, u64::MAX)));
+    }
+
+    #[test]
+    fn the_same_addresses_of_another_file_are_another_memory() {
+        let layout = QueueLayout { size: 64, descriptors: 0x4000, available: 0x4400, used: 0x5000 };
+        let (first, second) = (table(), table());
+        assert!(first.agrees(&first.clone(), &layout) && !first.agrees(&second, &layout));
     }
 
     #[test]
@@ -264,10 +300,7 @@ mod tests {
         bytes_at(0x5ffd, 3).expect("bytes").load(&mut bytes);
         assert_eq!(bytes, [1, 2, 3]);
         assert!(bytes_at(0x5ffe, 3).is_none() && bytes_at(0x6000, 1).is_none());
-        assert_eq!(
-            (table.available_index(HIGH), table.available_index(u64::MAX)),
-            (Some(0x1234), None)
-        );
+        assert_eq!((table.ring_index(HIGH), table.ring_index(u64::MAX)), (Some(0x1234), None));
         assert_eq!(table.guest_address(0x7000_2008).ok(), Some(HIGH + 8));
     }
 

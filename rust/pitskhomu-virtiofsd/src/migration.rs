@@ -20,6 +20,8 @@ pub struct Migration<F> {
     core: Arc<Core<F>>,
     scratch: Arc<File>,
     preparation: Option<Preparation>,
+    /// A preparation that was cancelled. The host may hold it.
+    cancelled: Option<JoinHandle<()>>,
     transfer: Option<JoinHandle<io::Result<()>>>,
 }
 
@@ -27,37 +29,62 @@ fn joined<T>(thread: JoinHandle<T>) -> io::Result<T> {
     thread.join().map_err(|_| io::Error::other("a thread of the migration panicked"))
 }
 
+/// Waits for the end of a preparation that was cancelled.
+fn end_preparation(cancelled: Option<JoinHandle<()>>) {
+    if let Some(Err(e)) = cancelled.map(joined) {
+        warn!("{e}");
+    }
+}
+
 impl<F: ServedFs> Migration<F> {
     /// No migration.
     pub fn new(core: Arc<Core<F>>, scratch: File) -> Migration<F> {
-        Migration { core, scratch: Arc::new(scratch), preparation: None, transfer: None }
+        Migration {
+            core,
+            scratch: Arc::new(scratch),
+            preparation: None,
+            cancelled: None,
+            transfer: None,
+        }
     }
 
     /// Begins to prepare the state. The guest will move, and still runs.
     pub fn prepare(&mut self) {
         if self.preparation.is_none() {
             let is_cancelled = Arc::new(AtomicBool::new(false));
-            let (core, cancelled) = (self.core.clone(), is_cancelled.clone());
-            let thread = thread::spawn(move || core.fs.prepare_serialization(cancelled));
+            let (core, is_over) = (self.core.clone(), is_cancelled.clone());
+            let before = self.cancelled.take();
+            let thread = thread::spawn(move || {
+                end_preparation(before);
+                core.fs.prepare_serialization(is_over);
+            });
             self.preparation = Some(Preparation { thread, is_cancelled });
         }
     }
 
-    /// Cancels the preparation, since the guest stays. Returns whether there was one.
+    /// Cancels the preparation, since the guest stays. Nobody waits for its end, but the next
+    /// preparation and the next transfer. Returns whether there was one.
     pub fn cancel(&mut self) -> bool {
         let Some(preparation) = self.preparation.take() else { return false };
         preparation.is_cancelled.store(true, Ordering::Relaxed);
-        if let Err(e) = joined(preparation.thread) {
-            warn!("{e}");
-        }
+        self.cancelled = Some(preparation.thread);
         true
     }
 
-    /// Sends the state by this pipe.
+    /// Sends the state by this pipe, unless the host holds a call of the guest's.
     pub fn save(&mut self, pipe: File) {
-        let (core, scratch, preparation) =
-            (self.core.clone(), self.scratch.clone(), self.preparation.take());
+        if let Err(e) = state::must_be_quiet(&self.core) {
+            self.cancel();
+            self.transfer = Some(thread::spawn(move || {
+                drop(pipe);
+                Err(e)
+            }));
+            return;
+        }
+        let (core, scratch) = (self.core.clone(), self.scratch.clone());
+        let (preparation, cancelled) = (self.preparation.take(), self.cancelled.take());
         self.transfer = Some(thread::spawn(move || {
+            end_preparation(cancelled);
             match preparation {
                 Some(preparation) => joined(preparation.thread)?,
                 None => core.fs.prepare_serialization(Arc::new(AtomicBool::new(false))),
@@ -71,8 +98,12 @@ impl<F: ServedFs> Migration<F> {
         if self.cancel() {
             warn!("a state comes in, so what was prepared to go out is given up");
         }
-        let (core, scratch) = (self.core.clone(), self.scratch.clone());
-        self.transfer = Some(thread::spawn(move || state::load(&core, &scratch, pipe)));
+        let (core, scratch, cancelled) =
+            (self.core.clone(), self.scratch.clone(), self.cancelled.take());
+        self.transfer = Some(thread::spawn(move || {
+            end_preparation(cancelled);
+            state::load(&core, &scratch, pipe)
+        }));
     }
 
     /// Waits for the transfer, and returns its result.

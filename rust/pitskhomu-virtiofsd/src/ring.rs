@@ -1,15 +1,17 @@
 //! A queue: its numbers, its descriptors, and the threads that serve it. A thread takes and returns
 //! chains under the queue's lock, and answers them without it. Each thread has one chain at a time.
 //! A message that changes a ring only takes the lock: chains in flight continue over the memory
-//! that they were taken from, and new ones use the new numbers. Only a message that ends something
-//! waits until none of the ring's chains is in flight, so that its answer is true:
-//! `GET_VRING_BASE`, a ring that is disabled, and memory that maps or unmaps the ring's parts.
+//! that they were taken from, and new ones use the new numbers. A message that ends something waits
+//! a while until none of the ring's chains is in flight (`waits`), and then closes the ring
+//! (`held`): `GET_VRING_BASE`, a ring that is disabled, and memory that maps or unmaps the ring's
+//! parts.
 //!
 //! Comments in brackets name the steps of the notification model (crate notify). For the available
 //! ring, whose giver is the driver, they are those of `specs/Threads.antt`; for the used ring,
 //! whose giver is this device, those of `specs/Kicks.antt`. The threads' own event is `wake`: a
 //! write to it is `Signals`. The calls of `Server` make the loads and stores, with their barriers
 //! (`Worker` in crate pitskhomu).
+mod held;
 mod threads;
 mod waits;
 
@@ -21,10 +23,11 @@ use pitskhomu::{Popped as Taken, Queue, QueueLayout, Status};
 use std::fs::File;
 use std::io::{self, ErrorKind, Write};
 use std::os::fd::AsRawFd;
+use std::sync::atomic::{AtomicBool, AtomicUsize};
 use std::sync::{Arc, Condvar, Mutex, MutexGuard, PoisonError};
 use vmm_sys_util::epoll::{ControlOperation, Epoll, EpollEvent, EventSet};
 use vmm_sys_util::eventfd::EventFd;
-pub use waits::LAST_CHAINS;
+pub use waits::{Patience, LAST_CHAINS};
 
 /// The greatest queue size that the library allows.
 pub const SIZE_MAX: u16 = 32768;
@@ -64,6 +67,8 @@ pub struct State {
     is_started: bool,
     /// Set by `SET_VRING_ENABLE`.
     is_enabled: bool,
+    /// The memory has its parts, as far as that is known.
+    is_mapped: bool,
     /// The library refused it. It isn't served until it is reset.
     is_refused: bool,
     /// Whether kicks are enabled in the driver, and with an event index at which position. Unknown
@@ -73,12 +78,15 @@ pub struct State {
     sleeping: u16,
     /// A sleeping thread was woken to take a chain, and doesn't have the lock yet.
     is_woken: bool,
-    /// The number of chains taken since the daemon began.
+    /// The number of chains taken, and of those returned, since the daemon began.
     taken: u64,
+    returned: u64,
     /// The number of threads that serve the ring.
     served_by: usize,
-    /// No chain is taken while the front-end's thread waits for a moment without chains in flight.
-    is_held: bool,
+    /// While a message waits for the ring's chains, none from this position on is taken.
+    until: Option<u16>,
+    /// The memory over which chains were in flight when the ring was closed.
+    over: Option<Arc<Table>>,
     /// The front-end's thread waits until chains are taken or returned.
     is_awaited: bool,
     /// The next chain has addresses that the IOMMU's table doesn't map.
@@ -147,8 +155,19 @@ impl State {
         (self.begun + u64::from(self.is_new), self.numbers.next_avail)
     }
 
+    /// Whether chains may be returned.
+    fn runs(&self) -> bool {
+        self.is_started && self.is_enabled && self.is_mapped
+    }
+
+    /// Whether chains may be taken, too.
     fn is_live(&self) -> bool {
-        self.is_started && self.is_enabled && !self.is_refused
+        self.runs() && !self.is_refused
+    }
+
+    /// A number that changes when a chain is taken or returned.
+    fn moved(&self) -> u64 {
+        self.taken + self.returned
     }
 
     /// Whether a chain is available, as a hint: the driver may write to the ring at any time. The
@@ -156,8 +175,7 @@ impl State {
     fn has_more(&self, memory: &Table) -> bool {
         // the look once more of [GoesBusy] and [CallsOne]: a load of the available index
         self.queue.knows_more()
-            || memory.available_index(self.numbers.layout.available)
-                != Some(self.numbers.next_avail)
+            || memory.ring_index(self.numbers.layout.available) != Some(self.numbers.next_avail)
     }
 
     /// The event that interrupts the driver. Without a call descriptor the driver is interrupted
@@ -222,6 +240,17 @@ pub trait Server {
     /// Returns the chain to the driver. The result is whether to notify the driver.
     fn give_back(&mut self, queue: &mut Queue) -> Result<bool, Status>;
 
+    /// Forgets the chain, which was dropped.
+    fn abandon(&mut self) {}
+
+    /// Whether a call is to be undone, since the guest doesn't get its answer.
+    fn must_undo(&self) -> bool {
+        false
+    }
+
+    /// Undoes it. The ring isn't locked.
+    fn undo(&mut self) {}
+
     /// Enables or disables the driver's kicks. Returns whether something was stored for that.
     fn set_notification(
         &mut self,
@@ -238,7 +267,13 @@ pub struct Ring {
     /// The number of threads that serve it.
     pub threads: u16,
     state: Mutex<State>,
-    /// Notified when a chain is taken or returned, or `is_held` ends.
+    /// Whether threads that return from the host wait: the ring doesn't run. It changes under the
+    /// ring's lock.
+    is_closed: AtomicBool,
+    /// The number of calls of an earlier session that may change the next one, of all rings. While
+    /// there is one no chain is taken.
+    late: Arc<AtomicUsize>,
+    /// Notified when a chain is taken, returned or dropped, and when the ring is opened.
     changed: Condvar,
     events: Epoll,
     wake: EventFd,
@@ -249,13 +284,15 @@ pub struct Ring {
 
 impl Ring {
     /// A ring that isn't started, for `threads` threads.
-    pub fn new(index: usize, threads: u16) -> io::Result<Ring> {
+    pub fn new(index: usize, threads: u16, late: Arc<AtomicUsize>) -> io::Result<Ring> {
         let (events, wake) = (Epoll::new()?, EventFd::new(libc::EFD_NONBLOCK | libc::EFD_CLOEXEC)?);
         let doing = (0..threads).map(|_| Doing::default()).collect();
         let ring = Ring {
             index,
             threads,
-            state: Mutex::default(),
+            state: Mutex::new(State { is_mapped: true, ..State::default() }),
+            is_closed: AtomicBool::new(true),
+            late,
             changed: Condvar::new(),
             events,
             wake,
@@ -295,12 +332,6 @@ impl Ring {
         }
     }
 
-    /// Whether both memories have the ring's parts, or neither has. Then a chain may be in flight
-    /// while one replaces the other.
-    pub fn agrees_on(&self, old: &Table, new: &Table) -> bool {
-        old.agrees(new, &self.lock().queue.layout())
-    }
-
     /// Has a thread look for chains.
     pub fn look(&self) {
         let _ = self.wake.write(1); // [Signals]; a full counter wakes too
@@ -314,14 +345,20 @@ impl Ring {
         }
     }
 
-    /// Sets the kick descriptor. A ring that wasn't started begins.
-    pub fn start(&self, kick: File) -> io::Result<()> {
+    /// Sets the kick descriptor. A ring that wasn't started begins, or continues with its chains in
+    /// flight.
+    pub fn start(&self, kick: File, memory: &Table) -> io::Result<()> {
         let mut state = self.lock();
         self.forget_kick(&mut state);
         self.listen(kick.as_raw_fd(), Source::Kick)?;
         state.kick = Some(kick);
         if !state.is_started {
-            (state.is_started, state.is_refused, state.is_new) = (true, false, true);
+            if !Ring::continues(&state, memory) {
+                self.drop_chains(&mut state);
+                state.is_new = true;
+            }
+            (state.is_started, state.is_refused, state.is_mapped) = (true, false, true);
+            self.open(&mut state, memory);
         }
         self.look(); // chains may be available already
         Ok(())
@@ -329,14 +366,17 @@ impl Ring {
 
     /// Ends the ring, and returns its position. Kicks are enabled first: the back-end that
     /// continues the ring may not do so.
-    pub fn stop(&self, server: &mut impl Server, memory: &Arc<Table>) -> u16 {
-        self.take_last(memory, "GET_VRING_BASE");
-        let mut state = self.quiet("GET_VRING_BASE");
+    pub fn stop(&self, server: &mut impl Server, memory: &Arc<Table>, patience: Patience) -> u16 {
+        let state = self.settle(memory, patience);
+        let mut state = self.close(state, memory, "GET_VRING_BASE is answered");
         if let Err(status) = state.want_kicks(true, server, memory) {
             warn!(
                 "queue {}: it ends, and the driver may not kick who goes on with it: {status}",
                 self.index
             );
+        }
+        if state.is_refused {
+            self.drop_chains(&mut state);
         }
         self.forget_kick(&mut state);
         state.call = None;
@@ -364,16 +404,23 @@ impl Ring {
         self.lock().err = err;
     }
 
-    /// Enables or disables the ring: while it is disabled no chain is taken.
-    pub fn enable(&self, enabled: bool, server: &mut impl Server, memory: &Arc<Table>) {
+    /// Enables or disables the ring: while it is disabled no chain is taken or returned.
+    pub fn enable(
+        &self,
+        enabled: bool,
+        server: &mut impl Server,
+        memory: &Arc<Table>,
+        patience: Patience,
+    ) {
         let mut state = if enabled {
             self.lock()
         } else {
-            self.take_last(memory, "SET_VRING_ENABLE");
-            self.quiet("SET_VRING_ENABLE")
+            let state = self.settle(memory, patience);
+            self.close(state, memory, "the ring is disabled")
         };
         let _ = state.want_kicks(true, server, memory); // a thread repeats it before it sleeps
         state.is_enabled = enabled;
+        self.open(&mut state, memory);
         self.asking.resume();
         drop(state);
         self.look();
@@ -401,7 +448,7 @@ mod tests {
 
     #[test]
     fn an_interrupt_waits_for_its_place() {
-        let (ring, event) = (Ring::new(0, 1).expect("a ring"), event());
+        let (ring, event) = (Ring::new(0, 1, Arc::default()).expect("a ring"), event());
         let call = || Some(event.try_clone().expect("a descriptor"));
         ring.lock().notify();
         ring.set_call(None);

@@ -6,13 +6,16 @@ use crate::in_flight::Doing;
 use crate::iommu::Cancel;
 use crate::memory::Table;
 use crate::open_flags::{Descriptors, OpenFlags};
-use crate::ring::{Answered, Ring, Server, LAST_CHAINS};
+use crate::ring::{Answered, Patience, Ring, Server, LAST_CHAINS};
 use log::{debug, error};
-use pitskhomu::{Popped as Taken, Queue, Status};
+use pitskhomu::{Cancelled, Popped as Taken, Queue, Status};
 use std::collections::BTreeSet;
 use std::io;
 use std::panic::{catch_unwind, AssertUnwindSafe};
+use std::sync::atomic::{AtomicUsize, Ordering};
+use std::sync::mpsc::sync_channel;
 use std::sync::{Arc, PoisonError, RwLock};
+use std::thread;
 use std::time::Instant;
 use virtiofsd::filesystem::{FileSystem, SerializableFileSystem};
 
@@ -34,6 +37,8 @@ pub struct Core<F> {
     pub descriptors: Descriptors,
     /// What each session agrees on.
     pub always_agreed: pitskhomu::Options,
+    /// The number of calls of an earlier session that may change the next one.
+    late: Arc<AtomicUsize>,
     memory: RwLock<Arc<Table>>,
     /// The same memory for each ring, so that threads of different rings share no lock and no
     /// count.
@@ -64,7 +69,8 @@ impl<F: ServedFs> Core<F> {
         if pitskhomu::version() != pitskhomu::VERSION {
             return Err(io::Error::other("the archive is of another version than the wrapper"));
         }
-        let ring = |index| Ring::new(index, if index == 0 { 1 } else { threads });
+        let late: Arc<AtomicUsize> = Arc::default();
+        let ring = |index| Ring::new(index, if index == 0 { 1 } else { threads }, late.clone());
         let rings = (0..=request_queues).map(ring).collect::<io::Result<_>>()?;
         // All have the same log and the same IOMMU.
         let memory = Table::default();
@@ -77,6 +83,7 @@ impl<F: ServedFs> Core<F> {
             flags,
             descriptors,
             always_agreed,
+            late,
             memory: RwLock::new(Arc::new(memory)),
             of_rings,
         })
@@ -93,37 +100,58 @@ impl<F: ServedFs> Core<F> {
     }
 
     /// Replaces the memory. Chains in flight are served and returned over the memory that they were
-    /// taken from. If only one of the two memories has a ring's parts, this waits until none of the
-    /// ring's chains is in flight.
-    pub fn set_memory(&self, table: Table) {
+    /// taken from. A ring whose parts the two memories don't have alike is closed first, and runs
+    /// again once the memory has them.
+    pub fn set_memory(&self, table: Table, patience: Patience) {
         let (old, new) = (self.memory(), Arc::new(table));
-        let (agree, differ): (Vec<&Ring>, Vec<&Ring>) =
-            self.rings.iter().partition(|ring| ring.agrees_on(&old, &new));
-        let quiet: Vec<_> =
-            differ.iter().map(|ring| ring.quiet("a memory without the queue's parts")).collect();
-        let locked: Vec<_> = agree.iter().map(|ring| ring.lock()).collect();
+        self.rings.iter().for_each(|ring| ring.leave_memory(&old, &new, patience));
+        let mut locked: Vec<_> = self.rings.iter().map(Ring::lock).collect();
         for memory in &self.of_rings {
             let own = Arc::new(Table::clone(&new));
             *memory.write().unwrap_or_else(PoisonError::into_inner) = own;
         }
-        *self.memory.write().unwrap_or_else(PoisonError::into_inner) = new;
-        drop((quiet, locked));
+        *self.memory.write().unwrap_or_else(PoisonError::into_inner) = new.clone();
+        for (ring, state) in self.rings.iter().zip(&mut locked) {
+            ring.enter_memory(state, &new);
+        }
     }
 
-    /// Waits until no chain is in flight, after the connection has ended. It waits at most
-    /// `LAST_CHAINS`, since a request may never end.
-    pub fn wait_for_chains(&self) {
+    /// Waits until the host has no call, after the connection has ended. It waits at most
+    /// `LAST_CHAINS`, since a call may never end.
+    pub fn wait_for_calls(&self) {
         let end = Instant::now() + LAST_CHAINS;
         for ring in &self.rings {
-            ring.wait_for_its_chains(end.saturating_duration_since(Instant::now()));
+            ring.wait_for_its_calls(end.saturating_duration_since(Instant::now()));
         }
     }
 
     /// Ends the session without DESTROY: then no node is held, no file is open, and no options are
-    /// agreed on.
-    pub fn end_session(&self) {
+    /// agreed on. A call that the host holds may have locked the file system. Then the session ends
+    /// when it does, and no chain is taken before.
+    pub fn end_session(self: &Arc<Self>, patience: Patience) {
+        if !self.rings.iter().any(Ring::is_at_the_host) {
+            return self.forget_session();
+        }
+        self.late.fetch_add(1, Ordering::SeqCst);
+        let (core, (done, is_done)) = (self.clone(), sync_channel(1));
+        thread::spawn(move || {
+            core.forget_session();
+            core.end_late();
+            let _ = done.try_send(());
+        });
+        let _ = is_done.recv_timeout(patience.left());
+    }
+
+    fn forget_session(&self) {
         self.fs.destroy();
         self.device.set_options(pitskhomu::Options::empty());
+    }
+
+    /// A late call has ended. After the last one chains are taken again.
+    fn end_late(&self) {
+        if self.late.fetch_sub(1, Ordering::SeqCst) == 1 {
+            self.rings.iter().for_each(Ring::look);
+        }
     }
 }
 
@@ -137,6 +165,8 @@ pub struct QueueWorker<F> {
     /// The memory of the chain in flight. It is dropped with the chain, so that memory which the
     /// front-end removes doesn't stay mapped.
     memory: Option<Arc<Table>>,
+    /// A call whose answer the guest doesn't get, until it is undone, and its memory.
+    cancelled: Option<(Cancelled, Arc<Table>)>,
     /// The chain was taken with an IOMMU's table.
     is_translated: bool,
     /// The pages that the front-end refuses to the next pop.
@@ -152,6 +182,7 @@ impl<F: ServedFs> QueueWorker<F> {
             worker: pitskhomu::Worker::new(),
             told: None,
             memory: None,
+            cancelled: None,
             is_translated: false,
             refused: BTreeSet::new(),
         }
@@ -204,15 +235,20 @@ impl<F: ServedFs> Server for QueueWorker<F> {
     /// A call at which the file system panics is answered EIO, and the thread continues.
     fn answer(&mut self, doing: &Doing) {
         let (core, Some(memory)) = (&self.core, &self.memory) else { return };
-        let adapter = Adapter { fs: &core.fs, memory, doing, flags: core.flags };
+        let ring = &core.rings[self.index];
+        let adapter = Adapter { fs: &core.fs, ring, memory, doing, flags: core.flags };
         let mut answer = || self.worker.answer(&core.device, &adapter, &**memory);
         let answered = catch_unwind(AssertUnwindSafe(&mut answer)).or_else(|_| {
             // the hook of start::log logs the panic
             debug!("queue {}: a call panicked, and is answered EIO", self.index);
+            ring.come_back(doing);
             catch_unwind(AssertUnwindSafe(&mut answer))
         });
         if let Ok(Err(status)) = answered {
             error!("queue {}: a chain is answered EIO: {status}", self.index);
+        }
+        if doing.take_late() {
+            core.end_late();
         }
     }
 
@@ -223,16 +259,32 @@ impl<F: ServedFs> Server for QueueWorker<F> {
         } else {
             self.worker.push(queue, &*memory)
         };
-        if let Some(cancelled) = self.worker.abandon() {
-            // this was refused, so the guest gets no answer
-            let (core, doing) = (&self.core, &Doing::default());
-            let adapter = Adapter { fs: &core.fs, memory: &memory, doing, flags: core.flags };
-            cancelled.undo(&adapter);
-        }
+        // there is one only if this was refused, so the guest gets no answer
+        self.cancelled = self.worker.abandon().map(|cancelled| (cancelled, memory));
         served.map(|served| {
             self.log(&served);
             served.notify
         })
+    }
+
+    fn abandon(&mut self) {
+        let Some(memory) = self.memory.take() else { return };
+        if self.is_translated {
+            self.forget_translated(&memory);
+        }
+        self.cancelled = self.worker.abandon().map(|cancelled| (cancelled, memory));
+    }
+
+    fn must_undo(&self) -> bool {
+        self.cancelled.is_some()
+    }
+
+    fn undo(&mut self) {
+        if let Some((cancelled, memory)) = self.cancelled.take() {
+            let (core, doing) = (&self.core, &Doing::dropped());
+            let (fs, ring) = (&core.fs, &core.rings[self.index]);
+            cancelled.undo(&Adapter { fs, ring, memory: &memory, doing, flags: core.flags });
+        }
     }
 
     fn set_notification(

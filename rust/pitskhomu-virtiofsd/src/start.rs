@@ -294,7 +294,7 @@ impl Serving {
         drop(listener); // a second front-end can't connect
         info!("Client connected, servicing requests");
         let ended = answer(handler, &core);
-        core.wait_for_chains();
+        core.wait_for_calls();
         info!("Client disconnected, shutting down");
         ended
     }

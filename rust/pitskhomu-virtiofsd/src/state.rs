@@ -16,6 +16,7 @@
 //! (`inner`).
 mod inner;
 
+use crate::ring::Ring;
 use crate::serve::{Core, ServedFs};
 use pitskhomu as p;
 use std::fs::File;
@@ -54,6 +55,18 @@ fn sum(bytes: &[u8]) -> [u8; 8] {
     let mut hasher = std::hash::SipHasher::new();
     hasher.write(bytes);
     hasher.finish().to_le_bytes()
+}
+
+/// Refuses to save a state while the host has a call of the guest's: its reply would be lost.
+pub fn must_be_quiet<F: ServedFs>(core: &Core<F>) -> io::Result<()> {
+    let held: Vec<String> = core.rings.iter().filter_map(Ring::held).collect();
+    if held.is_empty() {
+        return Ok(());
+    }
+    let held = held.join("; ");
+    Err(io::Error::other(format!(
+        "the guest can't move now, and goes on here, since the host holds a call of its: {held}"
+    )))
 }
 
 /// Sends the state of a core whose rings are stopped.

@@ -6,7 +6,8 @@ use log::{debug, error, warn};
 use pitskhomu::{Popped as Taken, Status};
 use std::fs::File;
 use std::io::{self, ErrorKind};
-use std::sync::Arc;
+use std::sync::atomic::Ordering;
+use std::sync::{Arc, MutexGuard};
 use vmm_sys_util::epoll::{EpollEvent, EventSet};
 
 /// The time until the next try after an allocation failed.
@@ -26,6 +27,17 @@ enum Looked {
     Missing,
     /// Try again later.
     Again,
+}
+
+/// What a thread keeps from one chain to the next, until it sleeps.
+#[derive(Debug, Default)]
+struct Turn {
+    /// The event by which the driver is to be interrupted.
+    owed: Option<Arc<File>>,
+    /// So often the IOMMU was asked for the next chain.
+    rounds: u32,
+    /// The chain that the IOMMU was asked for.
+    asked_for: Option<(u64, u16)>,
 }
 
 impl Ring {
@@ -56,7 +68,9 @@ impl Ring {
     /// Takes the next chain, if one is available. With new numbers none is taken until the chains
     /// in flight are returned with the old ones.
     fn take(&self, state: &mut State, server: &mut impl Server, memory: &Arc<Table>) -> Looked {
-        if !state.is_live() || (state.is_new && state.queue.in_flight() > 0) {
+        let is_at_the_end = state.until == Some(state.numbers.next_avail);
+        let waits = state.is_new && state.queue.in_flight() > 0;
+        if !state.is_live() || is_at_the_end || waits || self.late.load(Ordering::SeqCst) > 0 {
             return Looked::Idle;
         }
         let begun = if state.is_new { state.begin(self.threads) } else { Ok(()) };
@@ -107,19 +121,33 @@ impl Ring {
     }
 
     /// Returns the event that interrupts the driver, if it is to be interrupted.
-    fn give_back(&self, state: &mut State, server: &mut impl Server) -> Option<Arc<File>> {
+    fn give_back(
+        &self,
+        state: &mut State,
+        server: &mut impl Server,
+        doing: &Doing,
+    ) -> Option<Arc<File>> {
         let mut owed = None;
-        // [ReturnsChains]; of the used ring [Publishes], a full barrier, [ChecksWish]
-        match server.give_back(&mut state.queue) {
-            Ok(true) => owed = state.interrupt(),
-            Ok(false) => {}
-            Err(status) => {
-                error!("queue {} is refused, since a chain can't go back: {status}", self.index);
-                state.refuse();
-                let _ = state.begin(self.threads); // so no chain is in flight
+        if doing.is_dropped() {
+            server.abandon();
+        } else {
+            // [ReturnsChains]; of the used ring [Publishes], a full barrier, [ChecksWish]
+            match server.give_back(&mut state.queue) {
+                Ok(true) => owed = state.interrupt(),
+                Ok(false) => {}
+                Err(status) => {
+                    error!(
+                        "queue {} is refused, since a chain can't go back: {status}",
+                        self.index
+                    );
+                    state.refuse();
+                    let _ = state.begin(self.threads); // so no chain is in flight
+                }
             }
         }
-        if state.is_held || state.is_awaited {
+        doing.end();
+        state.returned += 1;
+        if state.is_awaited {
             self.changed.notify_all();
         }
         owed
@@ -135,16 +163,12 @@ impl Ring {
         memory: &impl Fn() -> Arc<Table>,
         doing: &Doing,
     ) -> Looked {
-        let (mut state, mut owed) = (self.lock(), None); // [Enters]
+        let mut turn = Turn::default();
+        let mut state = self.lock(); // [Enters]
         state.sleeping -= 1;
         state.is_woken = false; // [Hears]
-        let (mut rounds, mut asked_for) = (0, None);
         loop {
-            if state.is_held {
-                send(&mut owed);
-            }
-            state = self.wait_while(state, |state| state.is_held);
-            if asked_for.take() != Some(state.next_chain()) {
+            if turn.asked_for.take() != Some(state.next_chain()) {
                 server.forget_refusals();
             }
             // Get the memory under the lock: the front-end's thread has the lock while it changes
@@ -152,62 +176,110 @@ impl Ring {
             let table = memory();
             let looked = self.take(&mut state, server, &table);
             if looked == Looked::Taken {
-                state.taken += 1;
-                doing.begin(state.taken);
-            }
-            if state.is_awaited {
-                self.changed.notify_all();
-            }
-            if looked == Looked::Taken {
-                let wakes = Ring::hand_on(&mut state, server, &table);
-                drop(state);
-                send(&mut owed);
-                if wakes {
-                    self.look();
-                }
-                server.answer(doing);
-                state = self.lock(); // [Comes, Enters]
-                doing.end();
-                owed = self.give_back(&mut state, server);
-                rounds = 0;
+                state = self.serve_one(state, server, &table, doing, &mut turn);
                 continue;
             }
-            send(&mut owed);
-            // [Wishes], and one more round, whose pop is the look once more: [SleepsNow] or
-            // [KeepsWalking]. Or [OmitsWish] before this round, whose pop was that look
-            let is_for_kicks = looked != Looked::Missing;
-            let looked = match looked {
-                Looked::Missing => looked,
-                _ => match state.want_kicks(true, server, &table) {
-                    Ok(true) => continue,
-                    Ok(false) => looked,
-                    Err(Status::NotMapped) if table.iommu().is_on() => Looked::Missing,
-                    Err(status) => {
-                        debug!("queue {}: the driver isn't told yet to kick: {status}", self.index);
-                        Looked::Again
-                    }
-                },
-            };
-            if looked == Looked::Missing && rounds < MOST_ROUNDS {
-                // It doesn't sleep: it pops again when this is answered, and else in a moment. A
-                // thread that is woken meanwhile misses the same.
-                rounds += 1;
-                let chain = state.next_chain();
-                asked_for = Some(chain);
-                drop(state);
-                let answered = server.ask(&table, &self.asking);
-                state = self.lock();
-                let is_same = state.is_live() && state.next_chain() == chain;
-                if is_for_kicks && answered == Answered::Refused && is_same {
-                    self.refuse(&mut state, Status::NotMapped); // else it would ask for ever
-                }
-                if answered != Answered::NotAll {
-                    continue;
-                }
+            send(&mut turn.owed);
+            let ended;
+            (state, ended) = self.end_turn(state, server, &table, looked, &mut turn);
+            if let Some(looked) = ended {
+                state.sleeping += 1; // [SleepsNow]
+                return looked;
             }
-            state.sleeping += 1; // [SleepsNow]
-            return if looked == Looked::Missing { Looked::Again } else { looked };
         }
+    }
+
+    /// Answers the chain that was taken, and returns it.
+    fn serve_one<'a>(
+        &'a self,
+        mut state: MutexGuard<'a, State>,
+        server: &mut impl Server,
+        memory: &Arc<Table>,
+        doing: &Doing,
+        turn: &mut Turn,
+    ) -> MutexGuard<'a, State> {
+        state.taken += 1;
+        doing.begin(state.taken);
+        if state.is_awaited {
+            self.changed.notify_all();
+        }
+        let wakes = Ring::hand_on(&mut state, server, memory);
+        drop(state);
+        send(&mut turn.owed);
+        if wakes {
+            self.look();
+        }
+        server.answer(doing);
+        state = self.lock(); // [Comes, Enters]
+        turn.owed = self.give_back(&mut state, server, doing);
+        turn.rounds = 0;
+        if server.must_undo() {
+            drop(state);
+            server.undo();
+            state = self.lock();
+        }
+        state
+    }
+
+    /// What a thread does that found no chain: it sleeps, with what it found, or looks once more.
+    fn end_turn<'a>(
+        &'a self,
+        mut state: MutexGuard<'a, State>,
+        server: &mut impl Server,
+        memory: &Arc<Table>,
+        looked: Looked,
+        turn: &mut Turn,
+    ) -> (MutexGuard<'a, State>, Option<Looked>) {
+        if state.is_awaited {
+            self.changed.notify_all();
+        }
+        // [Wishes], and one more round, whose pop is the look once more: [SleepsNow] or
+        // [KeepsWalking]. Or [OmitsWish] before this round, whose pop was that look
+        let is_for_kicks = looked != Looked::Missing;
+        let looked = match looked {
+            Looked::Missing => looked,
+            _ => match state.want_kicks(true, server, memory) {
+                Ok(true) => return (state, None),
+                Ok(false) => looked,
+                Err(Status::NotMapped) if memory.iommu().is_on() => Looked::Missing,
+                Err(status) => {
+                    debug!("queue {}: the driver isn't told yet to kick: {status}", self.index);
+                    Looked::Again
+                }
+            },
+        };
+        if looked == Looked::Missing && turn.rounds < MOST_ROUNDS {
+            turn.rounds += 1;
+            let answered;
+            (state, answered) = self.ask(state, server, memory, is_for_kicks, turn);
+            if answered != Answered::NotAll {
+                return (state, None);
+            }
+        }
+        (state, Some(if looked == Looked::Missing { Looked::Again } else { looked }))
+    }
+
+    /// Asks the IOMMU for what the thread missed, without the lock. The thread doesn't sleep: it
+    /// pops again when this is answered, and else in a moment. A thread that is woken meanwhile
+    /// misses the same.
+    fn ask<'a>(
+        &'a self,
+        mut state: MutexGuard<'a, State>,
+        server: &mut impl Server,
+        memory: &Arc<Table>,
+        is_for_kicks: bool,
+        turn: &mut Turn,
+    ) -> (MutexGuard<'a, State>, Answered) {
+        let chain = state.next_chain();
+        turn.asked_for = Some(chain);
+        drop(state);
+        let answered = server.ask(memory, &self.asking);
+        state = self.lock();
+        let is_same = state.is_live() && state.next_chain() == chain;
+        if is_for_kicks && answered == Answered::Refused && is_same {
+            self.refuse(&mut state, Status::NotMapped); // else it would ask for ever
+        }
+        (state, answered)
     }
 
     /// The loop of each of the ring's threads, until the process ends. It begins with a look for
@@ -240,6 +312,12 @@ mod tests {
     use std::sync::mpsc::{channel, Sender};
     use std::thread;
     use std::time::Duration;
+
+    /// The state of a ring that runs, with so many threads asleep.
+    fn running(sleeping: u16) -> State {
+        let (is_started, is_enabled, is_mapped) = (true, true, true);
+        State { is_started, is_enabled, is_mapped, sleeping, ..State::default() }
+    }
 
     /// Has no chain, and `set_notification` fails this many times.
     struct Failing(usize);
@@ -279,10 +357,12 @@ mod tests {
 
     #[test]
     fn what_could_not_be_said_of_kicks_is_said_again() {
-        let (ring, memory, mut server) =
-            (Ring::new(0, 1).expect("a ring"), Arc::new(Table::default()), Failing(1));
-        *ring.lock() =
-            State { is_started: true, is_enabled: true, sleeping: 1, ..State::default() };
+        let (ring, memory, mut server) = (
+            Ring::new(0, 1, Arc::default()).expect("a ring"),
+            Arc::new(Table::default()),
+            Failing(1),
+        );
+        *ring.lock() = running(1);
         assert_eq!(
             ring.serve_all(&mut server, &|| memory.clone(), &Doing::default()),
             Looked::Again
@@ -328,8 +408,9 @@ mod tests {
 
     #[test]
     fn a_thread_looks_before_it_sleeps() {
-        let (ring, (asked, answers)) = (Ring::new(0, 2).expect("a ring"), channel());
-        *ring.lock() = State { is_started: true, is_enabled: true, ..State::default() };
+        let (ring, (asked, answers)) =
+            (Ring::new(0, 2, Arc::default()).expect("a ring"), channel());
+        *ring.lock() = running(0);
         // it ends with the process
         thread::spawn(move || ring.run(&mut Asked(asked), Arc::default));
         assert_eq!(answers.recv_timeout(Duration::from_secs(20)), Ok(()));
@@ -379,9 +460,8 @@ mod tests {
     #[test]
     fn a_refusal_is_for_one_chain() {
         for (is_taken, forgotten) in [(false, vec![0]), (true, vec![0, 1])] {
-            let ring = Ring::new(0, 1).expect("a ring");
-            *ring.lock() =
-                State { is_started: true, is_enabled: true, sleeping: 1, ..State::default() };
+            let ring = Ring::new(0, 1, Arc::default()).expect("a ring");
+            *ring.lock() = running(1);
             let mut server = Missing { ring: &ring, is_taken, takes: 0, forgotten: Vec::new() };
             ring.serve_all(&mut server, &Arc::default, &Doing::default());
             assert_eq!((server.takes, server.forgotten), (2, forgotten));
@@ -390,10 +470,10 @@ mod tests {
 
     #[test]
     fn one_thread_at_a_time_is_woken() {
-        let (ring, memory) = (Ring::new(0, 3).expect("a ring"), Arc::new(Table::default()));
+        let (ring, memory) =
+            (Ring::new(0, 3, Arc::default()).expect("a ring"), Arc::new(Table::default()));
         let mut server = Failing(0);
-        *ring.lock() =
-            State { is_started: true, is_enabled: true, sleeping: 2, ..State::default() };
+        *ring.lock() = running(2);
         let hands_on = |server: &mut Failing| Ring::hand_on(&mut ring.lock(), server, &memory);
         assert!(hands_on(&mut server) && !hands_on(&mut server));
         ring.serve_all(&mut server, &|| memory.clone(), &Doing::default()); // it has come

@@ -1,20 +1,48 @@
-//! The waits of messages that end something for a ring's chains. The ring's threads and other rings
-//! continue meanwhile.
-use super::{Numbers, Ring, State};
+//! The waits of messages that end something for a ring's chains. Each is bounded: a message that
+//! waited for a call of the host would keep QEMU's monitor waiting. The ring's threads and other
+//! rings continue meanwhile.
+use super::{Ring, State};
 use crate::in_flight::Doing;
 use crate::memory::Table;
 use log::warn;
-use std::sync::{MutexGuard, PoisonError};
-use std::time::Duration;
+use std::sync::atomic::Ordering;
+use std::sync::{Arc, MutexGuard, PoisonError};
+use std::time::{Duration, Instant};
 
-/// The time that a ring which ends waits, without a chain in flight, for its threads to take the
-/// chains that are available.
+/// The time that the end of a session waits for its last chains.
 pub const LAST_CHAINS: Duration = Duration::from_secs(5);
-/// The time that a message waits for chains in flight before it logs that.
-const SILENT: Duration = Duration::from_secs(1);
-/// The first time for which no chain is taken meanwhile. If a chain is in flight for longer, the
-/// ring's other threads continue until it is returned.
-const HOLD: Duration = Duration::from_millis(20);
+/// The time that a message waits for chains in flight. The rest of 100 ms is for its answer.
+const LONGEST: Duration = Duration::from_millis(80);
+
+/// How long a message waits for chains.
+#[derive(Debug, Clone, Copy)]
+pub struct Patience {
+    end: Instant,
+    /// The time between two chains in which a ring of a guest that moves counts as alive.
+    last: Instant,
+}
+
+impl Patience {
+    /// For a message that came now. If the guest moves, chains are waited for longer, as long as
+    /// one is taken or returned now and then: the back-end that continues the ring may not look for
+    /// those that are left. (virtiofsd looks only after a kick, and drops QEMU's one kick at the
+    /// start if it reads that before the ring is enabled.)
+    pub fn new(is_moving: bool) -> Patience {
+        let now = Instant::now();
+        let last = now + if is_moving { LAST_CHAINS } else { LONGEST };
+        Patience { end: now + LONGEST, last }
+    }
+
+    /// The time that is left.
+    pub fn left(&self) -> Duration {
+        self.end.saturating_duration_since(Instant::now())
+    }
+
+    /// A chain was taken or returned.
+    fn go_on(&mut self) {
+        self.end = self.end.max(self.last.min(Instant::now() + LONGEST));
+    }
+}
 
 impl Ring {
     /// As `wait_while`, at most for this time. Returns whether the condition still holds.
@@ -29,101 +57,88 @@ impl Ring {
         (state, timeout.timed_out())
     }
 
-    /// Locks the ring with no chain in flight, for a message. Its threads are held only for a short
-    /// time: if a chain takes longer, they continue until it is returned. Each time is twice as
-    /// long as the one before, so that a series of long chains doesn't keep the message waiting.
-    pub fn quiet(&self, message: &str) -> MutexGuard<'_, State> {
-        let (mut state, mut hold) = (self.lock(), HOLD);
-        loop {
-            state.is_held = true;
-            let is_out = |state: &mut State| state.queue.in_flight() > 0;
-            let (quiet, is_long) = self.wait_a_while(state, hold, is_out);
-            hold = hold.saturating_mul(2);
-            state = quiet;
-            state.is_held = false;
-            self.changed.notify_all();
-            if !is_long {
-                return state;
-            }
-            state = self.wait_for_those_in_flight(state, message);
+    /// Waits until the chains that are available now are taken, and none is in flight, but only a
+    /// while. From here on no later chain is taken, until `go_on`.
+    pub(super) fn settle(&self, memory: &Table, mut patience: Patience) -> MutexGuard<'_, State> {
+        memory.iommu().cancel(self); // it answers nothing until this message is answered
+        let mut state = self.lock();
+        if !state.is_live() {
+            return state;
         }
-    }
-
-    fn wait_for_those_in_flight<'a>(
-        &'a self,
-        mut state: MutexGuard<'a, State>,
-        message: &str,
-    ) -> MutexGuard<'a, State> {
-        let last = state.taken;
-        let is_out = |state: &mut State| {
-            state.queue.in_flight() > 0 && self.doing.iter().any(|doing| doing.has_one_of(last))
+        let first = state.numbers.next_avail;
+        let end = memory.ring_index(state.numbers.layout.available).unwrap_or(first);
+        let end = if state.is_missing { first } else { end };
+        (state.is_awaited, state.until) = (true, Some(end));
+        self.look();
+        let is_wanting = |state: &State| {
+            let is_left = state.numbers.next_avail != end && !state.is_missing && state.is_live();
+            is_left || state.queue.in_flight() > 0
         };
-        state.is_awaited = true;
-        let (waited, is_long) = self.wait_a_while(state, SILENT, is_out);
-        state = waited;
-        if is_long {
-            self.say(&state, message);
-            state = self.wait_while(state, is_out);
+        loop {
+            let moved = state.moved();
+            let (waited, is_long) = self.wait_a_while(state, patience.left(), |state| {
+                is_wanting(state) && state.moved() == moved
+            });
+            state = waited;
+            if is_long || !is_wanting(&state) {
+                break;
+            }
+            patience.go_on();
         }
         state.is_awaited = false;
         state
     }
 
-    /// Waits until no chain is in flight, at most for this time. Then the log says which are. This
-    /// waits for a condition: virtiofsd's filter of system calls allows no sleep by the clock.
-    pub fn wait_for_its_chains(&self, time: Duration) {
+    /// Closes the ring: when this returns, no thread accesses the guest's memory for its chains,
+    /// until the ring is open again. The caller says why it doesn't run.
+    pub(super) fn close<'a>(
+        &'a self,
+        mut state: MutexGuard<'a, State>,
+        memory: &Arc<Table>,
+        message: &str,
+    ) -> MutexGuard<'a, State> {
+        let was_closed = self.is_closed.swap(true, Ordering::SeqCst);
+        state.is_awaited = true;
+        // each is a moment away from the host, or from the return of its chain
+        state = self.wait_while(state, |_| self.doing.iter().any(Doing::is_within));
+        (state.is_awaited, state.until) = (false, None);
+        if !was_closed && state.queue.in_flight() > 0 {
+            state.over = Some(memory.clone());
+            warn!("queue {}: {message}, and the host holds {}", self.index, self.held_calls());
+        }
+        state
+    }
+
+    fn held_calls(&self) -> String {
+        let held = self.doing.iter().filter(|doing| doing.is_in_flight());
+        held.map(Doing::to_string).collect::<Vec<_>>().join(", ")
+    }
+
+    /// The calls that chains in flight wait for, if there are any.
+    pub fn held(&self) -> Option<String> {
+        let state = self.lock();
+        (state.queue.in_flight() > 0)
+            .then(|| format!("queue {}: {}", self.index, self.held_calls()))
+    }
+
+    /// Whether the host has a call of one of the ring's threads.
+    pub fn is_at_the_host(&self) -> bool {
+        self.doing.iter().any(Doing::is_at_the_host)
+    }
+
+    /// Waits until the host has no call, at most for this time. Then the log says which it has.
+    /// This waits for a condition: virtiofsd's filter of system calls allows no sleep by the clock.
+    pub fn wait_for_its_calls(&self, time: Duration) {
         let mut state = self.lock();
         state.is_awaited = true;
-        let is_out = |state: &mut State| state.queue.in_flight() > 0;
-        let (mut state, is_long) = self.wait_a_while(state, time, is_out);
+        let (mut state, is_long) = self.wait_a_while(state, time, |_| self.is_at_the_host());
         state.is_awaited = false;
         if is_long {
-            self.say(&state, "the end of the daemon no longer");
+            warn!(
+                "queue {}: the end of the daemon no longer waits for chains in flight: {}",
+                self.index,
+                self.held_calls()
+            );
         }
-    }
-
-    fn say(&self, state: &State, message: &str) {
-        let out = self.doing.iter().filter(|doing| doing.has_one_of(state.taken));
-        let out: Vec<String> = out.map(Doing::to_string).collect();
-        warn!("queue {}: {message} waits for chains in flight: {}", self.index, out.join(", "));
-    }
-
-    /// Waits until the available chains of a ring that ends are taken, since their kicks came to
-    /// this daemon. The back-end that continues the ring may not look for them. virtiofsd looks
-    /// only after a kick, and drops QEMU's one kick at the start if it reads that before the ring
-    /// is enabled. Chains that no thread takes in time (`LAST_CHAINS`) stay in the ring. Time with
-    /// a chain in flight doesn't count: the message waits for that chain anyway.
-    pub(super) fn take_last(&self, memory: &Table, message: &str) {
-        memory.iommu().cancel(self); // it answers nothing until this message is answered
-        let mut state = self.lock();
-        let Numbers { layout, next_avail: first, .. } = state.numbers;
-        let Some(end) = memory.available_index(layout.available).filter(|_| state.is_live()) else {
-            return;
-        };
-        state.is_awaited = true;
-        self.look();
-        let is_wanting = |state: &mut State| {
-            state.is_live()
-                && !state.is_missing
-                && state.numbers.next_avail.wrapping_sub(first) < end.wrapping_sub(first)
-        };
-        let (mut idle, mut is_said) = (Duration::ZERO, false);
-        loop {
-            let (waited, is_long) = self.wait_a_while(state, SILENT, is_wanting);
-            state = waited;
-            if !is_long {
-                break;
-            } else if state.queue.in_flight() == 0 {
-                idle += SILENT;
-            } else if !is_said {
-                self.say(&state, message);
-                is_said = true;
-            }
-            if idle >= LAST_CHAINS {
-                warn!("queue {}: {message}, and chains stay in the ring", self.index);
-                break;
-            }
-        }
-        state.is_awaited = false;
     }
 }
