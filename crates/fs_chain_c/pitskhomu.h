@@ -373,6 +373,23 @@ struct pk_pop {
 uint32_t pk_pop(struct pk_chain *chain, struct pk_queue *queue, const uint8_t *loaded,
                 size_t loaded_len, struct pk_pop *pop) PK_CHECK PK_READS(3, 4) PK_FILLS(5);
 
+/* A load that was made ahead of a pop: its host address, and how many bytes it has. */
+struct pk_load_ahead { uintptr_t at; size_t len; };
+
+/* Pops the next available chain in one call, by loads that you made ahead in the order in which a
+ * pop asks for them; `bytes` has their bytes, one load's behind the other's. It is as if pk_pop
+ * were called without bytes, and then with each load. A load is taken only if its address and
+ * length are those that pk_pop would return next. At the first other one, at the end of the list,
+ * or without room for a load's descriptors, the result is PK_LOAD: go on by pk_pop. So any list is
+ * allowed, and a wrong one costs a call. pk_pop_ring makes the loads, too.
+ * Errors: PK_WRONG_ORDER (no memory was set); PK_BAD_ARGUMENT (the queue's fields are invalid);
+ * PK_WRONG_ORDER (a pop is under way, or the chain in flight); PK_CHAIN_IN_FLIGHT; 1 to 8,
+ * PK_NOT_MAPPED. */
+uint32_t pk_pop_ahead(struct pk_chain *chain, struct pk_queue *queue,
+                      const struct pk_load_ahead *ahead, size_t ahead_count, const uint8_t *bytes,
+                      size_t bytes_len, struct pk_pop *pop)
+    PK_CHECK PK_READS(3, 4) PK_READS(5, 6) PK_FILLS(7);
+
 /* Undoes a pop whose chain wasn't decoded: the queue's next pop returns the chain again. Or ends a
  * pop that is under way in the handle; then `queue` may be another one.
  * Errors: PK_BAD_ARGUMENT (the queue's fields); PK_WRONG_ORDER (it was decoded, or has a fault);
@@ -664,4 +681,7 @@ uint32_t pk_restore(struct pk_device *device, struct pk_queue *queues, size_t qu
 }
 #endif
 #include "pitskhomu_names.h" /* pk_pair, pk_direntry_len, names of numbers for logs */
+#if defined(__GNUC__)
+#include "pitskhomu_ring.h" /* pk_pop_ring: a pop with its loads, by one call */
+#endif
 #endif

@@ -108,6 +108,7 @@ PK_AT(pk_pop, load_at, 0); PK_AT(pk_pop, load_len, 8); PK_AT(pk_pop, request_len
 PK_AT(pk_pop, reply_len, 24); PK_AT(pk_pop, fault, 32); PK_AT(pk_pop, head, 36);
 PK_AT(pk_pop, ticket, 40); PK_AT(pk_pop, miss_at, 48); PK_AT(pk_pop, miss_len, 56);
 PK_AT(pk_pop, miss_access, 64); PK_SIZE(pk_pop, 72);
+PK_AT(pk_load_ahead, at, 0); PK_AT(pk_load_ahead, len, 8); PK_SIZE(pk_load_ahead, 16);
 PK_AT(pk_window, at, 0); PK_AT(pk_window, len, 8); PK_SIZE(pk_window, 16);
 PK_AT(pk_range, guest, 0); PK_AT(pk_range, len, 8); PK_SIZE(pk_range, 16);
 PK_AT(pk_iotlb, at, 0); PK_AT(pk_iotlb, full, 8); PK_SIZE(pk_iotlb, 16);

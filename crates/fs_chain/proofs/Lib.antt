@@ -13,6 +13,7 @@ pub mod HoldsQueues
 pub mod HoldsServed
 pub mod HoldsListed
 pub mod SoFar
+pub mod PoppingAhead
 pub mod LoadLemmas
 pub mod Offering
 pub mod Passing

@@ -1,3 +1,4 @@
+pub mod Ahead
 pub mod Answers
 pub mod Decoding
 pub mod Driving

@@ -1,6 +1,6 @@
 -- The result of a pop, and the state of handle and queue after it.
 use Rattle.std.specs.Prelude.{◌≡◌, ℕ, ◌-◌, ◌^◌, ◌<◌, min, [], List, Bool, true, false, Option, Some, None}
-use Rattle.smallvec.specs.SmallVec.{HasRoomFor}
+use Rattle.smallvec.specs.SmallVec.{SmallVec, HasRoomFor}
 use Rattle.memory_requests.specs.Refused.{RoomWasRefused}
 use Rattle.vm_iotlb.specs.declared.iova.IovaRange.{IovaRange}
 use Rattle.vm_iotlb.specs.declared.permissions.Permissions.{Permissions}
@@ -84,6 +84,11 @@ queue_after q _ = q
 abbrev pub left_of : comes.CourseStep → List Descriptor → List Descriptor
 left_of (step.Chain head (Some fault)) ds = []
 left_of _ ds = ds
+
+-- a pop that asks for a load keeps the list as it is
+abbrev pub StaysForLoad : comes.CourseStep → (old new : SmallVec Descriptor) → Type 0
+StaysForLoad (step.Load walk) old new = new ≡ old
+StaysForLoad _ old new = Unit {0}
 
 -- a faulty chain leaves no descriptors
 abbrev pub LeavesNone : comes.CourseStep → List Descriptor → Type 0

@@ -34,7 +34,11 @@ impl ChainHandle {
     // descriptors of an earlier pop are dropped, as by any pop that begins: `missing_at` is for this one.
     #[cold]
     #[inline(never)]
-    fn begin_without_events(&mut self, queue: &mut QueueState, error: QueueError) -> PopOutcome
+    pub(crate) fn begin_without_events(
+        &mut self,
+        queue: &mut QueueState,
+        error: QueueError,
+    ) -> PopOutcome
         ensures lacks { LacksEvents error (event_miss (places_in self.old.regions) queue.old) self.old
             self.new queue.old queue.new result }
         ensures apart { (self.new.part ≡ self.old.part) × (self.new.session ≡ self.old.session) }

@@ -1,6 +1,7 @@
 //! A chain of a queue from its pop to its push, by a handle that touches no memory, no file and no clock.
 #![tactic(auto)]
 
+mod ahead;
 mod answering;
 mod beginning;
 mod chain_handle;

@@ -86,7 +86,7 @@ impl ChainHandle {
     }
 
     // Drops the first bytes of the load.
-    fn clear_part(&mut self)
+    pub(crate) fn clear_part(&mut self)
         ensures cleared { self.new.part.items ≡ [] }
         ensures apart { self.new ≡ record self.old { part = self.new.part } }
         ensures stays { IsAllButPart self.old self.new }

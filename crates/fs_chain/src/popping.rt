@@ -2,7 +2,7 @@
 
 ghost use Rattle.std.specs.Prelude.{◌≡◌, [], Some, None};
 ghost use Rattle.fs_chain.specs.Queues.{took};
-ghost use Rattle.fs_chain.specs.Walks.{IsAllBut, left_of, queue_after, state_after, told_of};
+ghost use Rattle.fs_chain.specs.Walks.{IsAllBut, StaysForLoad, left_of, queue_after, state_after, told_of};
 ghost use Rattle.fs_chain.specs.declared.state.ChainState.TheVariants as at;
 
 use crate::chain_handle::ChainHandle;
@@ -135,6 +135,7 @@ impl ChainHandle {
         ensures told { result ≡ told_of self.new.descriptors.items step }
         ensures state { self.new.state ≡ state_after course pop_id self.new.descriptors.items step }
         ensures left { self.new.descriptors.items ≡ left_of step self.old.descriptors.items }
+        ensures stays { StaysForLoad step self.old.descriptors self.new.descriptors }
         ensures same { IsAllBut self.old self.new }
         ensures apart { (self.new.part ≡ self.old.part) × (self.new.session ≡ self.old.session) }
         ensures queue { queue.new ≡ queue_after queue.old step }

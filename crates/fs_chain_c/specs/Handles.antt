@@ -2,6 +2,7 @@
 use Rattle.std.specs.Prelude.{◌≡◌, ◌⊎◌, ◌-◌, ◌^◌, ℕ, Bool, true, false, List, [], min, Option, Some, None}
 use Rattle.memory_requests.specs.Refused.{RoomWasRefused}
 use Rattle.vm_memory.specs.Layout.{Region}
+use Rattle.fs_regions.specs.Ahead.{AheadBytes}
 use Rattle.fs_regions.specs.Places.{untranslated}
 use Rattle.fs_chain.specs.declared.error.ChainError.{ChainError}
 use Rattle.fs_chain.specs.declared.error.ChainError.TheVariants.{BadArgument, ChainInFlight, OutOfMemory}
@@ -21,7 +22,7 @@ use Rattle.fs_chain_c.specs.declared.windows.FsWindow.{FsWindow}
 use Rattle.fs_chain_c.specs.Memory.{IsDevice, IsMemory, IsNoMemory}
 use Rattle.fs_chain_c.specs.Owned.{null}
 use Rattle.fs_chain_c.specs.Pushing.{DropsHandleChain, EndsHandlePush, PushesHandle, no_stores}
-use Rattle.fs_chain_c.specs.Popping.{PopsHandle, no_step}
+use Rattle.fs_chain_c.specs.Popping.{PopsHandle, PopsHandleAhead, no_step}
 use Rattle.fs_chain_c.specs.Windows.{FillsWindows}
 
 -- a call has this effect on a handle's `ChainHandle`, or none if the handle has none. The handle
@@ -121,6 +122,14 @@ abbrev pub Pops : Option ChainHandle → FsQueue → (loaded : List ℕ) → (st
     Option ChainHandle → FsQueue → Type 0
 Pops before q loaded status step after q' =
     OnHandle (λ b b'. PopsHandle b q loaded step status b' q') ((status ≡ chain_error_number WrongOrder)
+    × (step ≡ no_step)
+    × (q' ≡ q)) before after
+
+-- the handle pops a chain by loads that were made ahead
+abbrev pub PopsAheadOf : Option ChainHandle → FsQueue → (ahead : List AheadBytes) → (status : ℕ) → FsPop →
+    Option ChainHandle → FsQueue → Type 0
+PopsAheadOf before q ahead status step after q' =
+    OnHandle (λ b b'. PopsHandleAhead b q ahead step status b' q') ((status ≡ chain_error_number WrongOrder)
     × (step ≡ no_step)
     × (q' ≡ q)) before after
 

@@ -1,12 +1,15 @@
 -- A pop by loads that C makes: in parts, if a load crosses the end of a region or of a mapping.
-use Rattle.std.specs.Prelude.{◌≡◌, ◌+◌, ◌%◌, ◌^◌, ◌⊎◌, ℕ, List}
+use Rattle.std.specs.Prelude.{◌≡◌, ◌+◌, ◌%◌, ◌^◌, ◌⊎◌, ℕ, List, Some}
 use Rattle.vm_memory_core.specs.Window.{Window}
 use Rattle.fs_queue.specs.Numbers.{chain_fault_number, queue_number}
+use Rattle.fs_regions.specs.Ahead.{AheadBytes}
+use Rattle.fs_chain.specs.Ahead.{PopsAhead, ahead_error}
 use Rattle.fs_chain.specs.declared.error.ChainError.{ChainError}
 use Rattle.fs_chain.specs.declared.error.ChainError.TheVariants.{BadArgument}
 use Rattle.fs_chain.specs.declared.loads.LoadOutcome as went
 use Rattle.fs_chain.specs.declared.loads.LoadOutcome.TheVariants as goes
 use Rattle.fs_chain.specs.declared.queue.QueueState.{QueueState}
+use Rattle.fs_chain.specs.declared.popping.PopOutcome.{PopOutcome}
 use Rattle.fs_chain.specs.declared.popping.PopOutcome.TheVariants as comes
 use Rattle.fs_chain.specs.declared.chain_handle.ChainHandle.{ChainHandle}
 use Rattle.fs_chain.specs.Loads.{GoesSo, HasNoPlace, IsLoadWindow, IsSame, RefusesWalk, came}
@@ -98,3 +101,26 @@ abbrev pub PopsHandle :
 PopsHandle b q loaded step status b' q' =
     ((IsQueue q → ⊥) × (status ≡ chain_error_number BadArgument) × (step ≡ no_step) × (b' ≡ b) × (q' ≡ q))
     ⊎ (IsQueue q × (k : QueueState) × IsQueueState q k × WalksKept b q k loaded step status b' q')
+
+-- a pop over the core's queue by loads that were made ahead: calls of `pop` one after another. On an error
+-- nothing changes, and the result is the load that the pop still needs
+abbrev pub WalksKeptAhead : ChainHandle → FsQueue → QueueState → (ahead : List AheadBytes) → FsPop →
+    (status : ℕ) → ChainHandle → FsQueue → Type 0
+WalksKeptAhead b q k ahead step status b' q' =
+    ((told : PopOutcome) × (k' : QueueState)
+    × PopsAhead ahead b b' k k' (goes.On told)
+    × TellsWent b' (goes.On told) step status
+    × (q' ≡ put q k'))
+    ⊎ ((e : ChainError)
+    × (ahead_error b.state k ≡ Some e)
+    × (status ≡ chain_error_number e)
+    × TellsWanted b' step
+    × (b' ≡ b)
+    × (q' ≡ q))
+
+-- such a pop over a queue of C's; `BadArgument`, if the numbers aren't a queue's
+abbrev pub PopsHandleAhead : ChainHandle → FsQueue → (ahead : List AheadBytes) → FsPop → (status : ℕ) →
+    ChainHandle → FsQueue → Type 0
+PopsHandleAhead b q ahead step status b' q' =
+    ((IsQueue q → ⊥) × (status ≡ chain_error_number BadArgument) × (step ≡ no_step) × (b' ≡ b) × (q' ≡ q))
+    ⊎ (IsQueue q × (k : QueueState) × IsQueueState q k × WalksKeptAhead b q k ahead step status b' q')

@@ -2,19 +2,22 @@
 
 ghost use Rattle.std.specs.Prelude.{◌≡◌, ◌≤◌, false, true, None};
 ghost use Rattle.fs_chain_c.specs.Handles.{AbandonsChain, DropsChain, EndsPush, IsZeros, Numbers};
+ghost use Rattle.fs_regions.specs.Ahead.{loads_ahead};
 ghost use Rattle.fs_chain_c.specs.Handles.{NumbersHandle, Pushes, SetsMemory, TellsStretches, Pops};
+ghost use Rattle.fs_chain_c.specs.Handles.{PopsAheadOf};
 ghost use Rattle.fs_chain_c.specs.Queues.{BeginsQueue};
 ghost use Rattle.fs_chain_c.specs.States.{handle_state};
 
 use crate::device::FsDevice;
 use crate::handle::FsChain;
 use crate::memory::FsRegion;
-use crate::popping::{FsPop, pop_handle};
+use crate::popping::{FsPop, pop_handle, pop_handle_ahead};
 use crate::pushing::{FsStores, drop_handle_chain, end_handle_push, push_handle};
 use crate::queue::FsQueue;
 use crate::setting::{make_handle, set_handle};
 use crate::windows::{FsWindow, fill};
 use fs_chain::{ChainError, ChainHandle};
+use fs_regions::LoadAhead;
 use std::alloc::Global;
 
 /// The version of the header (PK_VERSION).
@@ -130,6 +133,31 @@ pub extern "C" fn pk_pop(
         return wrong_order();
     };
     let (told, status) = pop_handle(&mut handle, queue, loaded);
+    *pop = told;
+    *chain = FsChain::of_box(handle);
+    status
+}
+
+/// Pops the next chain of a queue in one call, by loads that were made ahead: each is taken only if it is
+/// just the one that the pop asks for. At the first other one it asks for its load, as `pk_pop` does.
+#[unsafe(no_mangle)]
+pub extern "C" fn pk_pop_ahead(
+    alloc: Global,
+    chain: &mut FsChain,
+    queue: &mut FsQueue,
+    ahead: &[LoadAhead],
+    bytes: &[u8],
+    pop: &mut FsPop,
+) -> u32
+    ensures pops { PopsAheadOf chain.old.held.value queue.old (loads_ahead ahead.now bytes.now) result pop.new
+        chain.new.held.value queue.new }
+    ensures few { pop.new.load_len ≤ 4096 }
+{
+    let Some(mut handle) = chain.take(alloc) else {
+        *pop = FsPop::nothing();
+        return wrong_order();
+    };
+    let (told, status) = pop_handle_ahead(&mut handle, queue, ahead, bytes);
     *pop = told;
     *chain = FsChain::of_box(handle);
     status

@@ -43,7 +43,7 @@ mod windows;
 
 pub use exports::{
     pk_abandon, pk_chain_free, pk_chain_set_memory_unnumbered, pk_chain_set_ticket, pk_chain_state,
-    pk_drop, pk_pop, pk_push, pk_pushed, pk_queue_begin_unnumbered, pk_reply_windows,
+    pk_drop, pk_pop, pk_pop_ahead, pk_push, pk_pushed, pk_queue_begin_unnumbered, pk_reply_windows,
     pk_request_windows, pk_version,
 };
 pub use iotlbs::{

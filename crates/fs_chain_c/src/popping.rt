@@ -1,11 +1,14 @@
 //! A pop by loads that C makes: in parts, if a load crosses the end of a region.
 
 ghost use Rattle.std.specs.Prelude.{◌≡◌, ◌≤◌};
-ghost use Rattle.fs_chain_c.specs.Popping.{TellsLoad, TellsWanted, TellsWent, PopsHandle, host_at, no_step};
+ghost use Rattle.fs_regions.specs.Ahead.{loads_ahead};
+ghost use Rattle.fs_chain_c.specs.Popping.{TellsLoad, TellsWanted, TellsWent, PopsHandle, PopsHandleAhead};
+ghost use Rattle.fs_chain_c.specs.Popping.{host_at, no_step};
 
 use crate::access::access_number;
 use crate::queue::FsQueue;
 use fs_chain::{ChainError, ChainHandle, LoadOutcome, PopOutcome};
+use fs_regions::LoadAhead;
 use vm_memory_core::VolatileSlice;
 
 /// Load these bytes, and call again with them.
@@ -157,6 +160,32 @@ pub fn pop_handle(handle: &mut ChainHandle, queue: &mut FsQueue, loaded: &[u8]) 
         Ok(went) => {
             queue.put(&kept);
             told(handle, went)
+        }
+        Err(error) => (still_wanted(handle), u32::from(error.number())),
+    }
+}
+
+/// Begins a pop, and goes on with loads that were made ahead, as long as each is the one that it asks for.
+pub fn pop_handle_ahead(
+    handle: &mut ChainHandle,
+    queue: &mut FsQueue,
+    ahead: &[LoadAhead],
+    bytes: &[u8],
+) -> (FsPop, u32)
+    ensures pops { PopsHandleAhead handle.old queue.old (loads_ahead ahead.now bytes.now) result.0 result.1
+        handle.new queue.new }
+    ensures few { result.0.load_len ≤ 4096 }
+{
+    let Some(mut kept) = queue.kept() else {
+        return (
+            FsPop::nothing(),
+            u32::from(ChainError::BadArgument.number()),
+        );
+    };
+    match handle.pop_ahead(&mut kept, ahead, bytes) {
+        Ok(went) => {
+            queue.put(&kept);
+            told(handle, LoadOutcome::On(went))
         }
         Err(error) => (still_wanted(handle), u32::from(error.number())),
     }

@@ -13,6 +13,7 @@ use crate::pushing::FsStores;
 use crate::queue::FsQueue;
 use crate::ranges::FsRange;
 use crate::windows::FsWindow;
+use fs_regions::LoadAhead;
 
 const _: () = prove!(size_of::<FsDevice>() == 16);
 
@@ -23,6 +24,8 @@ const _: () = prove!(size_of::<FsRegion>() == 24);
 const _: () = prove!(size_of::<FsChain>() == 16);
 
 const _: () = prove!(size_of::<FsPop>() == 72);
+
+const _: () = prove!(size_of::<LoadAhead>() == 16);
 
 const _: () = prove!(size_of::<FsWindow>() == 16);
 

@@ -11,3 +11,4 @@ pub mod Directions
 pub mod Memories
 pub mod Stretching
 pub mod ReadingOut
+pub mod Going

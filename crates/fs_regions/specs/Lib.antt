@@ -6,3 +6,4 @@ pub mod Windows
 pub mod Laws
 pub mod Stretches
 pub mod Using
+pub mod Ahead

@@ -1,6 +1,7 @@
 //! A guest's memory as regions of host memory, and pops by loads that the caller makes in them.
 #![tactic(auto)]
 
+mod ahead;
 mod chain;
 mod course;
 mod entries;
@@ -14,6 +15,7 @@ mod stretch;
 mod using;
 mod walk;
 
+pub use ahead::LoadAhead;
 pub use chain::{range_from, window_from};
 pub use course::Course;
 pub use entries::EntriesWalk;

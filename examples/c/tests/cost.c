@@ -36,7 +36,7 @@ enum {
 
 static _Alignas(4096) uint8_t memory[END];
 static uint8_t file[DATA];
-static struct offered offered; /* of the queue */
+static struct pk_ring ring; /* of the queue */
 static struct pk_iotlb iotlb;
 static unsigned long mappings; /* 0: no table */
 
@@ -172,7 +172,7 @@ static void serve_next(const struct row *row, struct pk_chain *chains, struct pk
     put(AVAIL + 2, (uint16_t)(queue->next_avail + row->out), 2);
     lend(chains);
     for (size_t k = 0; k < row->out; k++)
-        if (take_chain(&chains[k], queue, &offered, &steps[k])) abort();
+        if (pk_pop_ring(&chains[k], queue, &ring, &steps[k])) abort();
     for (size_t k = 0; k < row->out; k++)
         if (ask(&chains[k], device, request, load_front(&chains[k], &steps[k], request), &call) ||
             row->answer(&chains[k], &call))
@@ -216,6 +216,7 @@ int main(int argc, char **argv) {
         .size = SIZE, .desc = DESC, .avail = AVAIL, .used = USED, .max_in_flight = MOST_OUT};
     mappings = argc > 2 ? strtoul(argv[2], NULL, 10) : 0;
     make_table();
+    if (mappings == 0) pk_ring_find(&ring, &queue, &region, 1);
     for (size_t k = 0; k < MOST_OUT; k++)
         if (count < 1 || pk_chain_set_memory(&chains[k], &device, &region, 1)) return 1;
     for (long at = 0; at < (long)(sizeof rows / sizeof *rows); at++)

@@ -21,6 +21,7 @@ const _: () = {
     assert!(size_of::<Queue>() == 48);
     assert!(size_of::<Region>() == 24);
     assert!(size_of::<Chain>() == 16);
+    assert!(size_of::<LoadAhead>() == 16);
     assert!(size_of::<Pop>() == 72);
     assert!(size_of::<Window>() == 16);
     assert!(size_of::<Range>() == 16);
@@ -192,6 +193,13 @@ pub struct Pop {
 
 #[repr(C)]
 #[derive(Clone, Copy, Debug, Default)]
+pub struct LoadAhead {
+    pub at: usize,
+    pub len: usize,
+}
+
+#[repr(C)]
+#[derive(Clone, Copy, Debug, Default)]
 pub struct Span {
     pub at: u32,
     pub len: u32,
@@ -329,6 +337,8 @@ extern "C" {
     pub fn pk_chain_set_ticket(chain: &mut Chain, first: u32) -> u32;
     pub fn pk_pop(chain: &mut Chain, queue: &mut Queue, loaded: *const u8, loaded_len: usize,
         pop: &mut Pop) -> u32;
+    pub fn pk_pop_ahead(chain: &mut Chain, queue: &mut Queue, ahead: *const LoadAhead,
+        ahead_count: usize, bytes: *const u8, bytes_len: usize, pop: &mut Pop) -> u32;
     pub fn pk_queue_begin(queue: &mut Queue, next_avail: u16) -> u32;
     pub fn pk_abandon(chain: &mut Chain);
     pub fn pk_set_notification(chain: &mut Chain, queue: &Queue, enabled: u32,

@@ -1,0 +1,153 @@
+/* pitskhomu_ring.h: a pop in one call, over regions that are mapped in this process. pitskhomu.h
+ * includes it for GCC and Clang. Inline functions over pk_pop_ahead: tested, not proved. */
+#ifndef PITSKHOMU_RING_H
+#define PITSKHOMU_RING_H
+
+/* Where a queue's rings lie in host memory. Zero it before its first use, keep it with the queue
+ * under the same lock, and call pk_ring_find after each change of regions, addresses or size. With
+ * zeros, and with a table lent, a pop takes a call for each load. */
+struct pk_ring {
+    uintptr_t desc, avail;           /* host addresses, or 0 */
+    const struct pk_region *regions; /* yours: they have to live as long */
+    size_t count;
+    uint32_t reset_count; /* of the queue, as `index` was loaded */
+    uint16_t index;       /* the available index that was loaded last */
+    uint16_t has_index;   /* 0: load it. Set it to 0 after you loaded it otherwise (by pk_pop, or
+                             before a sleep), since an older index stops the queue */
+};
+
+/* The loads of a pop, made ahead. */
+struct pk_ring_loads {
+    struct pk_load_ahead ahead[5];
+    size_t count, len;
+    uint8_t bytes[4 + 64 + PK_LOAD_MAX];
+};
+
+/* The host address of bytes that lie in one region, or 0. */
+static inline uintptr_t pk_ring_host(const struct pk_region *regions, size_t count, uint64_t guest,
+                                     uint64_t len) {
+    for (size_t k = 0; k < count; k++) {
+        uint64_t at = guest - regions[k].guest;
+        if (guest >= regions[k].guest && at < regions[k].len && len <= regions[k].len - at)
+            return regions[k].host + (uintptr_t)at;
+    }
+    return 0;
+}
+
+/* Finds a queue's rings among these regions. */
+static inline void pk_ring_find(struct pk_ring *ring, const struct pk_queue *queue,
+                                const struct pk_region *regions, size_t count) {
+    ring->desc = pk_ring_host(regions, count, queue->desc, 16u * (uint64_t)queue->size);
+    ring->avail = pk_ring_host(regions, count, queue->avail, 6u + 2u * (uint64_t)queue->size);
+    ring->regions = regions;
+    ring->count = count;
+    ring->has_index = 0;
+}
+
+/* A load of a pop: two bytes are a number of the ring, and loaded at once; others are loaded once
+ * each: without the fence the compiler might load a guest's byte again. */
+static inline void pk_ring_load(void *to, uintptr_t at, size_t len) {
+    uint16_t two;
+    if (len == 2) {
+        two = __atomic_load_n((const uint16_t *)at, __ATOMIC_ACQUIRE);
+        __builtin_memcpy(to, &two, 2);
+    } else {
+        __builtin_memcpy(to, (const void *)at, len);
+        __atomic_signal_fence(__ATOMIC_SEQ_CST);
+    }
+}
+
+/* Adds a load, and returns its bytes; a null pointer if it has no room. */
+static inline uint8_t *pk_ring_add(struct pk_ring_loads *loads, uintptr_t at, size_t len) {
+    uint8_t *to = loads->bytes + loads->len;
+    if (loads->count == 5 || len > sizeof loads->bytes - loads->len) return 0;
+    loads->ahead[loads->count].at = at;
+    loads->ahead[loads->count++].len = len;
+    loads->len += len;
+    return to;
+}
+
+/* Follows a chain from entry `*k` of a stretch of `n`, which begins at `first` of its table.
+ * Returns how many of its entries the chain has; the last one is at `*k`. */
+static inline size_t pk_ring_follow(const uint8_t *bytes, size_t first, size_t n, size_t *k) {
+    uint16_t flags, next;
+    for (size_t walked = 1;; walked++) {
+        __builtin_memcpy(&flags, bytes + 16 * *k + 12, 2);
+        __builtin_memcpy(&next, bytes + 16 * *k + 14, 2);
+        if ((flags & 5) != 1 || next < first || next - first >= n || walked == n) return walked;
+        *k = next - first;
+    }
+}
+
+/* Adds the loads of a chain's descriptors, from its head on, as far as they can be told. */
+static inline void pk_ring_chain(const struct pk_ring *ring, uint16_t size, uint16_t head,
+                                 struct pk_ring_loads *loads) {
+    size_t index = head, end = size, left = size, most = 4;
+    uintptr_t table = ring->desc;
+    while (index < end) {
+        size_t n = end - index < most ? end - index : most, k = 0;
+        if (n > left) n = left;
+        uint8_t *bytes = pk_ring_add(loads, table + 16 * index, 16 * n);
+        if (!bytes) return;
+        if (n == 4)
+            pk_ring_load(bytes, table + 16 * index, 64);
+        else
+            pk_ring_load(bytes, table + 16 * index, 16 * n);
+        if (most == 256 && n == end) return; /* the whole table */
+        size_t walked = pk_ring_follow(bytes, index, n, &k);
+        uint64_t guest;
+        uint32_t len;
+        uint16_t flags, next;
+        __builtin_memcpy(&guest, bytes + 16 * k, 8);
+        __builtin_memcpy(&len, bytes + 16 * k + 8, 4);
+        __builtin_memcpy(&flags, bytes + 16 * k + 12, 2);
+        __builtin_memcpy(&next, bytes + 16 * k + 14, 2);
+        if ((flags & 5) == 4 && table == ring->desc && len % 16 == 0 && len <= PK_LOAD_MAX) {
+            table = pk_ring_host(ring->regions, ring->count, guest, len);
+            if (!table) return;
+            index = 0, end = len / 16, most = 256, left -= walked - 1;
+        } else if ((flags & 5) == 1 && left > walked) {
+            index = next, left -= walked;
+        } else {
+            return;
+        }
+    }
+}
+
+/* Makes the loads of the next pop ahead. An index that was loaded before is used again while a
+ * chain before it wasn't popped: the driver stored those chains before that load. */
+static inline void pk_ring_guess(const struct pk_queue *queue, struct pk_ring *ring,
+                                 struct pk_ring_loads *loads) {
+    uint16_t head;
+    uintptr_t entry = ring->avail + 4 + 2 * (queue->next_avail & (queue->size - 1u));
+    loads->count = loads->len = 0;
+    if (!ring->desc || !ring->avail) return;
+    if (!ring->has_index || ring->reset_count != queue->reset_count ||
+        ring->index == queue->next_avail) {
+        pk_ring_load(&ring->index, ring->avail + 2, 2);
+        ring->reset_count = queue->reset_count;
+        ring->has_index = 1;
+    }
+    __builtin_memcpy(pk_ring_add(loads, ring->avail + 2, 2), &ring->index, 2);
+    if (ring->index == queue->next_avail) return;
+    pk_ring_load(&head, entry, 2);
+    __builtin_memcpy(pk_ring_add(loads, entry, 2), &head, 2);
+    if (head < queue->size) pk_ring_chain(ring, queue->size, head, loads);
+}
+
+/* Pops the next available chain, with its loads: pk_pop_ahead, and pk_pop for what is left. Returns
+ * any status of pk_pop but PK_LOAD. */
+static inline uint32_t pk_pop_ring(struct pk_chain *chain, struct pk_queue *queue,
+                                   struct pk_ring *ring, struct pk_pop *pop) {
+    struct pk_ring_loads loads;
+    pk_ring_guess(queue, ring, &loads);
+    uint32_t status =
+        pk_pop_ahead(chain, queue, loads.ahead, loads.count, loads.bytes, loads.len, pop);
+    while (status == PK_LOAD) {
+        ring->has_index = 0; /* the pop may go by a later one */
+        pk_ring_load(loads.bytes, pop->load_at, pop->load_len);
+        status = pk_pop(chain, queue, loads.bytes, pop->load_len, pop);
+    }
+    return status;
+}
+#endif

@@ -1,0 +1,253 @@
+/* pk_pop_ahead and pk_pop_ring beside pk_pop. Two handles pop the same chain of two queues with the
+ * same numbers: one load by load, the other by loads ahead, which are right, cut short, wrong,
+ * repeated, exchanged or overlapping. Result, queue and windows have to be the same, and a list
+ * that is wrong from its n-th load on costs the calls of just the loads from there on. */
+#include "pitskhomu.h"
+#include "chance.h"
+#include <stdbool.h>
+#include <stdio.h>
+#include <stdlib.h>
+#include <string.h>
+
+enum {
+    SIZE = 8,
+    DESC = 0x1000,
+    AVAIL = 0x2000,
+    USED = 0x3000,
+    TABLE = 0x4000,
+    BUFFERS = 0x6000,
+    MEMORY = 0x10000,
+    ENTRIES = 300, /* more than a load of an indirect table has */
+    MOST_LOADS = 64
+};
+enum { NEXT = 1, WRITE = 2, INDIRECT = 4 };
+
+static _Alignas(4096) uint8_t memory[MEMORY];
+static struct pk_device device = PK_DEVICE;
+static struct pk_region regions[2];
+static size_t region_count;
+
+/* A chain's loads as pk_pop asked for them. */
+struct loads {
+    struct pk_load_ahead ahead[MOST_LOADS];
+    size_t count, len;
+    uint8_t bytes[MOST_LOADS * 64 + 2 * PK_LOAD_MAX];
+};
+
+static void expect(const char *what, uint64_t found, uint64_t wanted) {
+    if (found == wanted) return;
+    fprintf(stderr, "FAILED: %s: %llu, and not %llu\n", what, (unsigned long long)found,
+            (unsigned long long)wanted);
+    exit(1);
+}
+
+static void put(size_t at, uint64_t value, size_t len) { memcpy(memory + at, &value, len); }
+
+static void lay_entry(size_t at, uint64_t address, uint32_t len, uint16_t flags, uint16_t next) {
+    put(at, address, 8);
+    put(at + 8, len, 4);
+    put(at + 12, flags, 2);
+    put(at + 14, next, 2);
+}
+
+/* Memory as a hostile guest might have it, chosen so that most chains go some way. */
+static void lay_chance(void) {
+    size_t count = 1 + below(ENTRIES);
+    memset(memory, 0, sizeof memory);
+    for (size_t k = 0; k < SIZE; k++) {
+        bool ends = below(4) == 0, table = below(4) == 0;
+        uint16_t flags = (uint16_t)((ends ? 0 : NEXT) | (below(2) ? WRITE : 0));
+        uint16_t next = (uint16_t)(below(3) ? (k + 1) % SIZE : below(SIZE + 1));
+        if (table)
+            lay_entry(DESC + 16 * k, TABLE + 16 * below(4), (uint32_t)(16 * count),
+                      (uint16_t)(INDIRECT | (below(8) ? 0 : NEXT)), next);
+        else
+            lay_entry(DESC + 16 * k, BUFFERS + 64 * k, (uint32_t)(1 + below(64)), flags,
+                      next);
+    }
+    for (size_t k = 0; k < ENTRIES; k++)
+        lay_entry(TABLE + 16 * k, BUFFERS + k, 1,
+                  (uint16_t)(below(200) ? NEXT | (k > 20 ? WRITE : 0) : WRITE),
+                  (uint16_t)(below(50) ? k + 1 : below(ENTRIES)));
+    for (size_t k = 0; k < SIZE; k++)
+        put(AVAIL + 4 + 2 * k, below(40) ? below(SIZE) : SIZE, 2);
+    put(AVAIL + 2, below(30) ? 1 + below(SIZE) : SIZE + 1, 2);
+}
+
+static void make_handle(struct pk_chain *chain) {
+    *chain = (struct pk_chain){0};
+    expect("the memory", pk_chain_set_memory(chain, &device, regions, region_count), PK_DONE);
+    expect("the ticket", pk_chain_set_ticket(chain, 0x1234567), PK_DONE);
+}
+
+/* Pops load by load, and notes the loads. */
+static uint32_t pop_noting(struct pk_chain *chain, struct pk_queue *queue, struct loads *loads,
+                           struct pk_pop *pop) {
+    uint8_t *bytes = loads->bytes;
+    uint32_t status = pk_pop(chain, queue, bytes, 0, pop);
+    loads->count = loads->len = 0;
+    while (status == PK_LOAD) {
+        if (loads->count == MOST_LOADS || pop->load_len > sizeof loads->bytes - loads->len)
+            return PK_LOAD;
+        bytes = loads->bytes + loads->len;
+        memcpy(bytes, (const void *)pop->load_at, pop->load_len);
+        loads->ahead[loads->count++] = (struct pk_load_ahead){pop->load_at, pop->load_len};
+        loads->len += pop->load_len;
+        status = pk_pop(chain, queue, bytes, pop->load_len, pop);
+    }
+    return status;
+}
+
+/* Makes a list wrong from a load on, in one of several ways. */
+static void spoil(struct loads *loads, size_t from, uint64_t way) {
+    struct pk_load_ahead *one = &loads->ahead[from];
+    switch (way) {
+    case 0: loads->count = from; break;                     /* cut short */
+    case 1: one->at += 2; break;                            /* another place */
+    case 2: one->len -= 1; break;                           /* a part of it */
+    case 3: one->len += 1; break;                           /* and a byte behind it */
+    case 4: one->len = SIZE_MAX - 1; break;                 /* no bytes can be so many */
+    case 5: *one = loads->ahead[(from + 1) % loads->count]; /* another one, or it twice */
+            if (one->at == 0 || loads->count == 1) one->at += 2;
+            break;
+    default: one->at = 0, one->len = 0; break;
+    }
+}
+
+static void compare_windows(struct pk_chain *chain, struct pk_chain *other,
+                            const struct pk_pop *pop) {
+    struct pk_window mine[2][ENTRIES + SIZE], theirs[2][ENTRIES + SIZE];
+    for (int write = 0; write < 2; write++) {
+        size_t most = ENTRIES + SIZE, count, same;
+        count = (write ? pk_reply_windows : pk_request_windows)(
+            chain, 0, write ? pop->reply_len : pop->request_len, mine[write], most);
+        same = (write ? pk_reply_windows : pk_request_windows)(
+            other, 0, write ? pop->reply_len : pop->request_len, theirs[write], most);
+        expect("windows", same, count);
+        expect("each window",
+               memcmp(mine[write], theirs[write], count * sizeof mine[0][0]) != 0, 0);
+    }
+}
+
+static void compare(struct pk_chain *chain, struct pk_chain *other, const struct pk_queue *queue,
+                    const struct pk_queue *second, const struct pk_pop *pop,
+                    const struct pk_pop *step) {
+    expect("the head", step->head, pop->head);
+    expect("the fault", step->fault, pop->fault);
+    expect("the request", step->request_len, pop->request_len);
+    expect("the reply", step->reply_len, pop->reply_len);
+    expect("the ticket", step->ticket, pop->ticket);
+    expect("the next", second->next_avail, queue->next_avail);
+    expect("the pops", second->pop_count, queue->pop_count);
+    expect("the refusal", second->stopped, queue->stopped);
+    expect("the state", pk_chain_state(other), pk_chain_state(chain));
+    compare_windows(chain, other, pop);
+}
+
+/* Pops by a list, and goes on load by load. Returns by how many calls. */
+static size_t pop_by_list(struct pk_chain *chain, struct pk_queue *queue, const struct loads *loads,
+                          struct pk_pop *pop, uint32_t *status) {
+    uint8_t bytes[PK_LOAD_MAX];
+    size_t calls = 1;
+    *status = pk_pop_ahead(chain, queue, loads->ahead, loads->count, loads->bytes, loads->len, pop);
+    for (; *status == PK_LOAD; calls++) {
+        memcpy(bytes, (const void *)pop->load_at, pop->load_len);
+        *status = pk_pop(chain, queue, bytes, pop->load_len, pop);
+    }
+    return calls;
+}
+
+static const struct pk_queue fresh = {
+    .desc = DESC, .avail = AVAIL, .used = USED, .size = SIZE, .max_in_flight = SIZE};
+
+static void try_one(void) {
+    static struct loads loads, list;
+    struct pk_queue queue = fresh, second = fresh, third = fresh;
+    struct pk_chain chain, other, ringing;
+    struct pk_pop pop, step;
+    struct pk_ring ring = {0};
+    uint32_t status, found;
+    lay_chance();
+    make_handle(&chain);
+    make_handle(&other);
+    make_handle(&ringing);
+    status = pop_noting(&chain, &queue, &loads, &pop);
+    if (status != PK_LOAD) {
+        size_t from = loads.count, calls;
+        list = loads;
+        if (loads.count && below(4)) {
+            from = below(loads.count);
+            spoil(&list, from, below(7));
+        }
+        calls = pop_by_list(&other, &second, &list, &step, &found);
+        expect("the status", found, status);
+        compare(&chain, &other, &queue, &second, &pop, &step);
+        /* a long chain's descriptors may lack room: then it asks earlier */
+        if (loads.len < 2 * 2 + 64) expect("the calls", calls, 1 + loads.count - from);
+        pk_ring_find(&ring, &third, regions, region_count);
+        expect("by the ring", pk_pop_ring(&ringing, &third, &ring, &step), status);
+        compare(&chain, &ringing, &queue, &third, &pop, &step);
+    }
+    pk_chain_free(&chain);
+    pk_chain_free(&other);
+    pk_chain_free(&ringing);
+}
+
+/* A list for one chain is no list for the next, and a handle that isn't free takes none. */
+static void refuses(void) {
+    static struct loads loads;
+    struct pk_queue queue = fresh, second = fresh, before;
+    struct pk_chain chain, other, zeros = {0};
+    struct pk_pop pop;
+    memset(memory, 0, sizeof memory);
+    lay_entry(DESC, BUFFERS, 40, NEXT, 1);
+    lay_entry(DESC + 16, BUFFERS + 64, 16, WRITE, 0);
+    put(AVAIL + 2, 1, 2);
+    make_handle(&chain);
+    make_handle(&other);
+    expect("a pop", pop_noting(&chain, &queue, &loads, &pop), PK_DONE);
+    expect("its loads", loads.count, 3);
+    before = queue;
+    expect("in flight", pk_pop_ahead(&chain, &queue, loads.ahead, 3, loads.bytes, loads.len, &pop),
+           PK_WRONG_ORDER);
+    expect("the queue as before", memcmp(&queue, &before, sizeof queue) != 0, 0);
+    expect("no memory", pk_pop_ahead(&zeros, &queue, loads.ahead, 3, loads.bytes, loads.len, &pop),
+           PK_WRONG_ORDER);
+    expect("one at a time", pk_pop(&other, &second, loads.bytes, 0, &pop), PK_LOAD);
+    expect("under way", pk_pop_ahead(&other, &second, loads.ahead, 3, loads.bytes, loads.len, &pop),
+           PK_WRONG_ORDER);
+    expect("its load", pop.load_at, (uintptr_t)memory + AVAIL + 2);
+    expect("its length", pop.load_len, 2);
+    expect("dropped", pk_drop(&other, &second), PK_DONE);
+    second.max_in_flight = 0, second.next_avail = 1;
+    expect("full", pk_pop_ahead(&other, &second, loads.ahead, 3, loads.bytes, loads.len, &pop),
+           PK_CHAIN_IN_FLIGHT);
+    second = (struct pk_queue){0};
+    expect("zeros", pk_pop_ahead(&other, &second, loads.ahead, 3, loads.bytes, loads.len, &pop),
+           PK_BAD_ARGUMENT);
+    second = fresh, second.stopped = 3;
+    expect("stopped", pk_pop_ahead(&other, &second, loads.ahead, 3, loads.bytes, loads.len, &pop),
+           PK_STOPPED);
+    second = fresh;
+    expect("right", pk_pop_ahead(&other, &second, loads.ahead, 3, loads.bytes, loads.len, &pop),
+           PK_DONE);
+    expect("no request of its own", pop.request_len, 40);
+    pk_chain_free(&chain);
+    pk_chain_free(&other);
+}
+
+int main(int argc, char **argv) {
+    long tries = argc > 1 ? atol(argv[1]) : 20000;
+    chance_begin(0x9e3779b97f4a7c15u);
+    regions[0] = (struct pk_region){0, MEMORY, (uintptr_t)memory};
+    region_count = 1;
+    refuses();
+    for (long k = 0; k < tries; k++) try_one();
+    /* the indirect table crosses two regions */
+    regions[0].len = 0x5000;
+    regions[1] = (struct pk_region){0x5000, MEMORY - 0x5000, (uintptr_t)memory + 0x5000};
+    region_count = 2;
+    for (long k = 0; k < tries; k++) try_one();
+    printf("ahead: %ld chains\n", 2 * tries);
+    return 0;
+}
