@@ -41,6 +41,9 @@
 //! # }
 //! ```
 //!
+//! The module [`live`](live/index.html) has the loop beside a running guest: threads, event
+//! descriptors, and the rules by which no notification is lost.
+//!
 //! Each function of the library is proved, for any bytes that the guest writes (docs/PROVED.md of
 //! the repository). This crate is tested, not proved. The example `monitor` has a file system and a
 //! guest in memory.
@@ -65,6 +68,8 @@ mod flags;
 mod iotlb;
 mod kept;
 mod listing;
+#[cfg(all(feature = "std", target_os = "linux"))]
+pub mod live;
 mod lock;
 mod memory;
 mod operation;

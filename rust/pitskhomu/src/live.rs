@@ -1,0 +1,419 @@
+//! Serves a queue beside a running guest (feature `std`, Linux): threads that sleep until the
+//! driver notifies, over two event descriptors (eventfd), as KVM's ioeventfd and irqfd and
+//! vhost-user have them.
+//!
+//! A thread pops and pushes chains under the queue's lock, and answers them without it. It keeps
+//! the rules by which no notification is lost (pitskhomu.h, NOTIFICATIONS): with an event index or
+//! without, it enables the driver's notifications again before it sleeps and while another thread
+//! sleeps, looks for chains once more after that, and hands on a chain that it can't take itself.
+//!
+//! An answer may come later ([`Builder::start_by_values`]): then the chain waits with a worker of
+//! its own, and the thread goes on. So more chains may be in flight than there are threads
+//! ([`Builder::in_flight`]).
+//!
+//! The guest's addresses are physical. A queue behind an IOMMU needs a loop of its own, with
+//! [`Worker::lend`].
+//!
+//! # Examples
+//! ```no_run
+//! use pitskhomu::{live, Device, FileSystem, GuestMemory, Queue, Region, Status};
+//! use std::fs::File;
+//! use std::sync::Arc;
+//!
+//! /// `kick` is the queue's ioeventfd, and `call` its irqfd.
+//! fn start<M: GuestMemory + Send + Sync + 'static, F: FileSystem + Send + Sync + 'static>(
+//!     device: Arc<Device>,
+//!     memory: (Arc<M>, Vec<Region>),
+//!     file_system: Arc<F>,
+//!     (queue, kick, call): (Queue, File, File),
+//! ) -> Result<live::Serving, live::Error> {
+//!     let (memory, regions) = memory;
+//!     let builder = live::Builder::new(device, memory, &regions).threads(4);
+//!     builder.start(queue, kick, call, file_system)
+//! }
+//! ```
+mod events;
+mod threads;
+
+use crate::cancelled::Cancelled;
+use crate::device::Device;
+use crate::file_system::FileSystem;
+use crate::memory::{GuestMemory, Region};
+use crate::operation::Request;
+use crate::queue::Queue;
+use crate::status::Status;
+use crate::worker::Worker;
+use alloc::boxed::Box;
+use alloc::sync::Arc;
+use alloc::vec::Vec;
+use core::fmt;
+pub use events::new_event;
+use events::Waits;
+use std::fs::File;
+use std::io;
+use std::panic::{catch_unwind, AssertUnwindSafe};
+use std::sync::{Mutex, MutexGuard, PoisonError};
+use std::thread::JoinHandle;
+use threads::{Answered, Seat};
+
+/// Why a queue isn't served.
+#[derive(Debug)]
+#[non_exhaustive]
+pub enum Error {
+    /// A refusal of the library: of the regions, or of the number of chains in flight.
+    Status(Status),
+    /// An error of the system: of an event descriptor, or of a thread.
+    System(io::Error),
+}
+
+impl fmt::Display for Error {
+    fn fmt(&self, f: &mut fmt::Formatter<'_>) -> fmt::Result {
+        match self {
+            Error::Status(status) => status.fmt(f),
+            Error::System(error) => error.fmt(f),
+        }
+    }
+}
+
+impl std::error::Error for Error {
+    fn source(&self) -> Option<&(dyn std::error::Error + 'static)> {
+        match self {
+            Error::Status(status) => Some(status),
+            Error::System(error) => Some(error),
+        }
+    }
+}
+
+impl From<Status> for Error {
+    fn from(status: Status) -> Error {
+        Error::Status(status)
+    }
+}
+
+impl From<io::Error> for Error {
+    fn from(error: io::Error) -> Error {
+        Error::System(error)
+    }
+}
+
+/// Answers the requests of a queue by values, at once or later. A function of a [`Request`] is one.
+pub trait Handler: Send + Sync {
+    /// Answers a request, or hands its [`Reply`](crate::Reply) on. A panic answers EIO.
+    fn call(&self, request: Request<'_>);
+
+    /// An answer that the guest doesn't get is to be undone ([`FileSystem::cancelled`]).
+    fn cancelled(&self, _cancelled: &Cancelled) {}
+}
+
+impl<F: Fn(Request<'_>) + Send + Sync> Handler for F {
+    fn call(&self, request: Request<'_>) {
+        self(request);
+    }
+}
+
+/// Answers the chains of a queue.
+trait Service: Send + Sync {
+    /// Makes the call of a chain that was popped. Whether it has its reply.
+    fn answer(
+        &self,
+        worker: &mut Worker,
+        device: &Device,
+        memory: &dyn GuestMemory,
+    ) -> Result<bool, Status>;
+
+    fn cancelled(&self, cancelled: &Cancelled);
+}
+
+/// By the methods of a file system.
+struct Methods<F>(Arc<F>);
+
+impl<F: FileSystem + Send + Sync> Service for Methods<F> {
+    /// If the file system panics, this is called again, and the answer is EIO.
+    fn answer(
+        &self,
+        worker: &mut Worker,
+        device: &Device,
+        memory: &dyn GuestMemory,
+    ) -> Result<bool, Status> {
+        let mut answer = || worker.answer(device, &*self.0, memory);
+        catch_unwind(AssertUnwindSafe(&mut answer)).unwrap_or_else(|_| answer()).map(|()| true)
+    }
+
+    fn cancelled(&self, cancelled: &Cancelled) {
+        self.0.cancelled(cancelled);
+    }
+}
+
+/// By values.
+struct Values<H>(Arc<H>);
+
+impl<H: Handler> Service for Values<H> {
+    /// If the handler panics, the reply object is dropped.
+    fn answer(
+        &self,
+        worker: &mut Worker,
+        device: &Device,
+        memory: &dyn GuestMemory,
+    ) -> Result<bool, Status> {
+        let request = worker.decode(device, memory)?;
+        let _ = catch_unwind(AssertUnwindSafe(|| self.0.call(request)));
+        worker.finish(device, memory)
+    }
+
+    fn cancelled(&self, cancelled: &Cancelled) {
+        self.0.cancelled(cancelled);
+    }
+}
+
+/// The guest's memory, with the regions of it.
+struct Mapped {
+    memory: Arc<dyn GuestMemory + Send + Sync>,
+    regions: Vec<Region>,
+}
+
+impl Mapped {
+    /// The number of the byte at a guest address, for 2 bytes.
+    fn host(&self, guest: u64) -> Option<usize> {
+        self.regions.iter().find_map(|region| {
+            let offset = guest.checked_sub(region.guest)?;
+            (offset.checked_add(2)? <= region.len).then_some(())?;
+            region.host.checked_add(usize::try_from(offset).ok()?)
+        })
+    }
+}
+
+/// The state of a queue, under its lock.
+struct State {
+    queue: Queue,
+    mapped: Arc<Mapped>,
+    /// The workers that have no chain.
+    idle: Vec<Seat>,
+    /// Those whose chain waits for an answer, by their numbers.
+    waiting: Vec<Option<Seat>>,
+    /// Whether notifications of the driver are enabled, and with an event index at which position.
+    /// Unknown at first.
+    told: Option<(bool, u16)>,
+    /// The number of threads that sleep until an event.
+    sleeping: usize,
+    /// A sleeping thread was woken to pop a chain, and doesn't have the lock yet.
+    is_woken: bool,
+    refused: Option<Status>,
+    /// No chain is popped any more.
+    is_ending: bool,
+    /// Nor is one pushed.
+    is_reset: bool,
+}
+
+/// A queue, shared by its threads and the VMM's.
+struct Shared {
+    state: Mutex<State>,
+    waits: Waits,
+    call: File,
+    err: Option<File>,
+    device: Arc<Device>,
+    service: Box<dyn Service>,
+    /// The numbers of the workers whose answers have come.
+    answered: Arc<Answered>,
+}
+
+impl Shared {
+    fn lock(&self) -> MutexGuard<'_, State> {
+        self.state.lock().unwrap_or_else(PoisonError::into_inner)
+    }
+}
+
+/// How a queue is served.
+#[must_use]
+pub struct Builder {
+    device: Arc<Device>,
+    mapped: Mapped,
+    threads: u16,
+    in_flight: u16,
+    err: Option<File>,
+}
+
+impl fmt::Debug for Builder {
+    fn fmt(&self, f: &mut fmt::Formatter<'_>) -> fmt::Result {
+        f.debug_struct("Builder")
+            .field("threads", &self.threads)
+            .field("in_flight", &self.in_flight)
+            .finish_non_exhaustive()
+    }
+}
+
+impl Builder {
+    /// One thread, over the guest's memory and its regions ([`Worker::set_memory`]).
+    pub fn new<M: GuestMemory + Send + Sync + 'static>(
+        device: Arc<Device>,
+        memory: Arc<M>,
+        regions: &[Region],
+    ) -> Builder {
+        let mapped = Mapped { memory, regions: regions.to_vec() };
+        Builder { device, mapped, threads: 1, in_flight: 0, err: None }
+    }
+
+    /// Sets the number of threads, at least one.
+    pub fn threads(mut self, threads: u16) -> Builder {
+        self.threads = threads.max(1);
+        self
+    }
+
+    /// Sets the greatest number of chains in flight, if it is above the number of threads: the
+    /// others wait for answers that come later.
+    pub fn in_flight(mut self, in_flight: u16) -> Builder {
+        self.in_flight = in_flight;
+        self
+    }
+
+    /// Sets the event that is signalled when the queue is refused: set `DEVICE_NEEDS_RESET`
+    /// ([`Serving::refused`]).
+    pub fn err(mut self, err: File) -> Builder {
+        self.err = Some(err);
+        self
+    }
+
+    /// Serves a queue by the methods of a file system. `kick` is the event of the driver's
+    /// notifications, and `call` interrupts it. Set the queue's event index before.
+    ///
+    /// # Errors
+    /// Those of [`Worker::set_memory`] and of the system. No thread was started then.
+    pub fn start<F: FileSystem + Send + Sync + 'static>(
+        self,
+        queue: Queue,
+        kick: File,
+        call: File,
+        file_system: Arc<F>,
+    ) -> Result<Serving, Error> {
+        self.start_service(queue, kick, call, Box::new(Methods(file_system)))
+    }
+
+    /// Serves a queue by values.
+    ///
+    /// # Errors
+    /// Those of `start`.
+    pub fn start_by_values<H: Handler + 'static>(
+        self,
+        queue: Queue,
+        kick: File,
+        call: File,
+        handler: Arc<H>,
+    ) -> Result<Serving, Error> {
+        self.start_service(queue, kick, call, Box::new(Values(handler)))
+    }
+
+    fn start_service(
+        self,
+        queue: Queue,
+        kick: File,
+        call: File,
+        service: Box<dyn Service>,
+    ) -> Result<Serving, Error> {
+        let size = queue.layout().size;
+        let in_flight = self.in_flight.max(self.threads).min(size);
+        let queue = queue.with_max_in_flight(in_flight)?;
+        let (waits, mapped) = (Waits::new(kick)?, Arc::new(self.mapped));
+        let answered = Arc::new(Answered::new(waits.waker()?));
+        let seat = |number| Seat::new(number, &self.device, &mapped, &answered);
+        let idle = (0..usize::from(in_flight)).map(seat).collect::<Result<Vec<_>, _>>()?;
+        let state = State {
+            waiting: idle.iter().map(|_| None).collect(),
+            queue,
+            mapped,
+            idle,
+            told: None,
+            sleeping: usize::from(self.threads),
+            is_woken: false,
+            refused: None,
+            is_ending: false,
+            is_reset: false,
+        };
+        let (state, err) = (Mutex::new(state), self.err);
+        let shared =
+            Arc::new(Shared { state, waits, call, err, device: self.device, service, answered });
+        let mut serving = Serving { shared, threads: Vec::new() };
+        for _ in 0..self.threads {
+            let shared = serving.shared.clone();
+            let thread = std::thread::Builder::new().name("virtio-fs".into());
+            serving.threads.push(thread.spawn(move || shared.run())?); // else it is dropped: reset
+        }
+        Ok(serving)
+    }
+}
+
+/// A queue that is served. Dropped, it is reset.
+pub struct Serving {
+    shared: Arc<Shared>,
+    threads: Vec<JoinHandle<()>>,
+}
+
+impl fmt::Debug for Serving {
+    fn fmt(&self, f: &mut fmt::Formatter<'_>) -> fmt::Result {
+        f.debug_struct("Serving").field("threads", &self.threads.len()).finish_non_exhaustive()
+    }
+}
+
+impl Serving {
+    /// The refusal that stopped the queue, if any: set `DEVICE_NEEDS_RESET`, and reset it.
+    #[must_use]
+    pub fn refused(&self) -> Option<Status> {
+        self.shared.lock().refused
+    }
+
+    /// The number of chains in flight.
+    #[must_use]
+    pub fn in_flight(&self) -> u16 {
+        self.shared.lock().queue.in_flight()
+    }
+
+    /// Sets the guest's memory for the next chains. The queue's rings lie in the new regions too.
+    /// Chains in flight keep the memory that they were popped with, until they are pushed.
+    pub fn set_memory<M: GuestMemory + Send + Sync + 'static>(
+        &self,
+        memory: Arc<M>,
+        regions: &[Region],
+    ) {
+        let mapped = Mapped { memory, regions: regions.to_vec() };
+        self.shared.lock().mapped = Arc::new(mapped);
+        self.look();
+    }
+
+    /// Has a thread look for chains, as the driver's notification does.
+    pub fn look(&self) {
+        self.shared.waits.wake();
+    }
+
+    /// Takes no more chains, waits until all in flight are answered and pushed, and returns the
+    /// queue: [`Queue::next_avail`] is its position, and [`Device::save`] takes it. Notifications
+    /// of the driver are enabled then, unless the queue was refused.
+    pub fn stop(mut self) -> Queue {
+        self.end(false);
+        core::mem::take(&mut self.shared.lock().queue)
+    }
+
+    /// The driver reset the queue, or the device: nothing is stored into the guest's rings any
+    /// more. It waits for the calls that the threads are in. Answers that come later are refused.
+    pub fn reset(self) {}
+
+    fn end(&mut self, is_reset: bool) {
+        let mut state = self.shared.lock();
+        state.is_ending = true;
+        state.is_reset |= is_reset;
+        drop(state);
+        self.shared.waits.wake();
+        for thread in self.threads.drain(..) {
+            let _ = thread.join(); // it panics only if the memory does
+        }
+    }
+}
+
+impl Drop for Serving {
+    fn drop(&mut self) {
+        self.end(true);
+        let mut state = self.shared.lock();
+        let waiting = state.waiting.iter_mut().filter_map(Option::take).collect::<Vec<_>>();
+        drop(state);
+        for mut seat in waiting {
+            self.shared.abandon(&mut seat);
+        }
+    }
+}

@@ -1,0 +1,577 @@
+//! A queue that is served by threads while its guest runs: a driver on a thread of its own, which
+//! notifies only when it is asked to, and sleeps until it is interrupted.
+#![cfg(target_os = "linux")]
+mod guest;
+
+use guest::recorder::{entry, opened, Recorder};
+use guest::{args, number, request, Bytes};
+use pitskhomu::live::{new_event, Builder, Handler, Serving};
+use pitskhomu::*;
+use std::cell::UnsafeCell;
+use std::collections::HashMap;
+use std::fs::File;
+use std::io::{Read as _, Write as _};
+use std::sync::atomic::{fence, AtomicU16, AtomicUsize, Ordering};
+use std::sync::mpsc::{channel, Sender};
+use std::sync::{Arc, Mutex};
+use std::thread;
+use std::time::{Duration, Instant};
+
+const SIZE: u16 = 16;
+const LEN: usize = 0x2_0000;
+const DESCRIPTORS: u64 = 0x1000;
+const AVAILABLE: u64 = 0x2000;
+const USED: u64 = 0x3000;
+const REQUESTS: u64 = 0x1_0000;
+const REPLIES: u64 = 0x1_8000;
+/// A test waits for at most so long.
+const PATIENCE: Duration = Duration::from_secs(60);
+
+/// Memory that the guest and the device share, by words where that is possible.
+#[repr(align(4096))]
+struct Shared([UnsafeCell<u8>; LEN]);
+
+// SAFETY: all access it by `GuestSlice`, or by atomic numbers.
+unsafe impl Sync for Shared {}
+unsafe impl Send for Shared {}
+
+struct Memory(Box<Shared>);
+
+impl GuestMemory for Memory {
+    fn get_slice(&self, at: usize, len: usize) -> Option<GuestSlice<'_>> {
+        if at.checked_add(len)? > LEN {
+            return None;
+        }
+        // SAFETY: the bytes are in the memory, and nobody has a reference to them.
+        Some(unsafe { GuestSlice::new(self.0 .0[0].get().add(at), len) })
+    }
+}
+
+impl Memory {
+    fn new() -> Arc<Memory> {
+        // SAFETY: zeros are such bytes.
+        Arc::new(Memory(unsafe { Box::new(std::mem::zeroed()) }))
+    }
+
+    fn write(&self, at: u64, bytes: &[u8]) {
+        self.get_slice(at as usize, bytes.len()).unwrap().store(bytes);
+    }
+
+    fn read(&self, at: u64, len: usize) -> Vec<u8> {
+        let mut bytes = vec![0; len];
+        self.get_slice(at as usize, len).unwrap().load(&mut bytes);
+        bytes
+    }
+
+    /// A number of a ring.
+    fn half(&self, at: u64) -> &AtomicU16 {
+        // SAFETY: it is aligned, in the memory, and accessed as an atomic number alone.
+        unsafe { &*self.0 .0[at as usize].get().cast::<AtomicU16>() }
+    }
+}
+
+fn region() -> Region {
+    Region { guest: 0, len: LEN as u64, host: 0 }
+}
+
+fn layout() -> QueueLayout {
+    QueueLayout { size: SIZE, descriptors: DESCRIPTORS, available: AVAILABLE, used: USED }
+}
+
+/// The driver.
+struct Driver {
+    memory: Arc<Memory>,
+    has_event_index: bool,
+    kick: File,
+    call: File,
+    offered: u16,
+    seen: u16,
+    kicks: usize,
+}
+
+impl Driver {
+    fn new(memory: &Arc<Memory>, has_event_index: bool) -> (Driver, File, File) {
+        let (kick, call) = (new_event().unwrap(), new_event().unwrap());
+        let device = (kick.try_clone().unwrap(), call.try_clone().unwrap());
+        let memory = memory.clone();
+        let driver = Driver { memory, has_event_index, kick, call, offered: 0, seen: 0, kicks: 0 };
+        (driver, device.0, device.1)
+    }
+
+    /// Offers a request at a place of its own, and notifies the device if it asks for that (VIRTIO
+    /// 1.2, 2.7.13).
+    fn offer(&mut self, slot: u16, request: &[u8], room: u32) {
+        let (at, reply) = (REQUESTS + 0x100 * u64::from(slot), REPLIES + 0x100 * u64::from(slot));
+        self.memory.write(at, request);
+        for (index, at, len, flags) in
+            [(2 * slot, at, request.len() as u32, 1), (2 * slot + 1, reply, room, 2)]
+        {
+            let bytes = args().q(at).d(len).w(flags).w(index + 1).0;
+            self.memory.write(DESCRIPTORS + 16 * u64::from(index), &bytes);
+        }
+        let place = AVAILABLE + 4 + 2 * u64::from(self.offered % SIZE);
+        self.memory.half(place).store(2 * slot, Ordering::Relaxed);
+        let old = self.offered;
+        self.offered = old.wrapping_add(1);
+        self.memory.half(AVAILABLE + 2).store(self.offered, Ordering::Release);
+        fence(Ordering::SeqCst);
+        let is_asked = if self.has_event_index {
+            let event = USED + 4 + 8 * u64::from(SIZE);
+            self.memory.half(event).load(Ordering::Relaxed) == old
+        } else {
+            self.memory.half(USED).load(Ordering::Relaxed) & 1 == 0
+        };
+        if is_asked {
+            self.kicks += 1;
+            (&self.kick).write_all(&1u64.to_ne_bytes()).unwrap();
+        }
+    }
+
+    /// The next used element, if there is one: the slot, and the reply's length.
+    fn used(&mut self) -> Option<(u16, u32)> {
+        if self.memory.half(USED + 2).load(Ordering::Acquire) == self.seen {
+            return None;
+        }
+        let element = self.memory.read(USED + 4 + 8 * u64::from(self.seen % SIZE), 8);
+        self.seen = self.seen.wrapping_add(1);
+        Some((number(&element, 0, 4) as u16 / 2, number(&element, 4, 4) as u32))
+    }
+
+    /// Sleeps until the device interrupts (2.7.14).
+    fn wait(&mut self) -> (u16, u32) {
+        let end = Instant::now() + PATIENCE;
+        loop {
+            if let Some(used) = self.used() {
+                return used;
+            }
+            if self.has_event_index {
+                self.memory
+                    .half(AVAILABLE + 4 + 2 * u64::from(SIZE))
+                    .store(self.seen, Ordering::Relaxed);
+            }
+            fence(Ordering::SeqCst);
+            if let Some(used) = self.used() {
+                return used;
+            }
+            // The event doesn't block: a lost interrupt is seen as a test that fails.
+            while (&self.call).read(&mut [0; 8]).is_err() {
+                assert!(Instant::now() < end, "no interrupt came");
+                thread::yield_now();
+            }
+        }
+    }
+
+    fn reply(&self, slot: u16, len: u32) -> Vec<u8> {
+        self.memory.read(REPLIES + 0x100 * u64::from(slot), len as usize)
+    }
+}
+
+fn read_request(unique: u64, offset: u64) -> Vec<u8> {
+    let read = args().q(3).q(offset).d(100).bytes(&[0; 20]);
+    let mut bytes = request(15, 5, &read.0);
+    bytes[8..16].copy_from_slice(&unique.to_le_bytes());
+    bytes
+}
+
+/// The data of a READ from this offset on.
+fn data_at(offset: u64) -> Vec<u8> {
+    format!("the data at {offset}").into_bytes()
+}
+
+/// Reads by methods.
+struct Files;
+
+impl FileSystem for Files {
+    fn lookup(&self, _: &Context, _: Node, _: &CStr) -> Answer<Entry> {
+        panic!("the file system panics, as the test wants it");
+    }
+    fn getattr(&self, _: &Context, _: Node, _: Option<Handle>) -> Answer<(Attributes, Duration)> {
+        Err(Errno::EIO)
+    }
+    fn read(&self, _: &Context, _: Node, read: Read, data: &mut ReadData<'_>) -> Answer<()> {
+        if read.offset % 97 == 0 {
+            thread::sleep(Duration::from_micros(200)); // others overtake it
+        }
+        data.put(&data_at(read.offset));
+        Ok(())
+    }
+}
+
+/// Reads by values: some at once, some on other threads.
+struct Later(Mutex<Sender<(u64, Reply)>>);
+
+impl Handler for Later {
+    fn call(&self, request: Request<'_>) {
+        match request.operation {
+            Operation::Read { read, .. } if read.offset % 3 == 0 => {
+                request.reply.send(data_at(read.offset)).unwrap();
+            }
+            Operation::Read { read, .. } => {
+                self.0.lock().unwrap().send((read.offset, request.reply)).unwrap();
+            }
+            _ => panic!("the handler panics, as the test wants it"),
+        }
+    }
+}
+
+/// A handler whose other threads end with it.
+fn later() -> Arc<Later> {
+    let (send, receive) = channel::<(u64, Reply)>();
+    thread::spawn(move || {
+        let mut kept = Vec::new();
+        while let Ok((offset, reply)) = receive.recv() {
+            kept.push((offset, reply));
+            kept.extend(receive.try_iter());
+            while let Some((offset, reply)) = kept.pop() {
+                reply.send(data_at(offset)).unwrap();
+            }
+        }
+    });
+    Arc::new(Later(Mutex::new(send)))
+}
+
+/// Reads so often, with up to so many requests at a time; each gets its own data.
+fn run(driver: &mut Driver, count: u64, at_a_time: u16) {
+    let (mut asked, mut free): (HashMap<u16, u64>, Vec<u16>) =
+        (HashMap::new(), (0..at_a_time).collect());
+    let (mut next, mut done) = (0, 0);
+    while done < count {
+        while next < count {
+            let slot = match free.pop() {
+                Some(slot) => slot,
+                None => break,
+            };
+            asked.insert(slot, next);
+            driver.offer(slot, &read_request(next, next), 116);
+            next += 1;
+        }
+        let (slot, len) = driver.wait();
+        let offset = asked.remove(&slot).expect("it was asked");
+        let reply = driver.reply(slot, len);
+        assert_eq!((number(&reply, 8, 8), &reply[16..]), (offset, &data_at(offset)[..]));
+        free.push(slot);
+        done += 1;
+    }
+}
+
+fn start(
+    memory: &Arc<Memory>,
+    (threads, has_event_index, is_by_values): (u16, bool, bool),
+) -> (Driver, Serving) {
+    let (driver, kick, call) = Driver::new(memory, has_event_index);
+    let queue = Queue::new(layout(), 0).unwrap().with_event_index(has_event_index);
+    let builder = Builder::new(Arc::default(), memory.clone(), &[region()]).threads(threads);
+    let serving = if is_by_values {
+        builder.in_flight(8).start_by_values(queue, kick, call, later())
+    } else {
+        builder.start(queue, kick, call, Arc::new(Files))
+    };
+    (driver, serving.unwrap())
+}
+
+#[test]
+fn no_notification_is_lost() {
+    for threads in [1, 2, 4] {
+        for has_event_index in [false, true] {
+            for is_by_values in [false, true] {
+                let memory = Memory::new();
+                let (mut driver, serving) =
+                    start(&memory, (threads, has_event_index, is_by_values));
+                for at_a_time in [1, 3, 8] {
+                    run(&mut driver, 1000, at_a_time);
+                }
+                assert_eq!((serving.refused(), serving.in_flight()), (None, 0));
+                let queue = serving.stop();
+                let offered = driver.offered;
+                assert_eq!((queue.next_avail(), queue.next_used()), (offered, offered));
+                assert!(driver.kicks > 0 && driver.used().is_none());
+            }
+        }
+    }
+}
+
+/// Memory that does something before an access to two bytes.
+struct Hooked {
+    memory: Arc<Memory>,
+    at: usize,
+    hook: Mutex<Option<Box<dyn FnOnce() + Send>>>,
+}
+
+impl GuestMemory for Hooked {
+    fn get_slice(&self, at: usize, len: usize) -> Option<GuestSlice<'_>> {
+        if (at, len) == (self.at, 2) {
+            let hook = self.hook.lock().unwrap().take();
+            hook.into_iter().for_each(|hook| hook());
+        }
+        self.memory.get_slice(at, len)
+    }
+}
+
+/// Reads the first file once the second one is read.
+struct InOrder(Mutex<bool>, std::sync::Condvar);
+
+impl FileSystem for InOrder {
+    fn lookup(&self, _: &Context, _: Node, _: &CStr) -> Answer<Entry> {
+        Err(Errno::EIO)
+    }
+    fn getattr(&self, _: &Context, _: Node, _: Option<Handle>) -> Answer<(Attributes, Duration)> {
+        Err(Errno::EIO)
+    }
+    fn read(&self, _: &Context, _: Node, read: Read, data: &mut ReadData<'_>) -> Answer<()> {
+        let mut is_read = self.0.lock().unwrap();
+        if read.offset == 2 {
+            *is_read = true;
+            self.1.notify_all();
+        } else {
+            let waited = self.1.wait_timeout_while(is_read, PATIENCE, |is_read| !*is_read);
+            assert!(!waited.unwrap().1.timed_out(), "the second chain isn't served");
+        }
+        data.put(&data_at(read.offset));
+        Ok(())
+    }
+}
+
+/// The driver offers a chain after the loop's last look, and before it can see that it is to notify
+/// again: so it doesn't.
+#[test]
+fn a_chain_before_the_last_store_is_found() {
+    for (has_event_index, at) in [(false, USED), (true, USED + 4 + 8 * u64::from(SIZE))] {
+        let memory = Memory::new();
+        memory.half(at).store(if has_event_index { 0xffff } else { 1 }, Ordering::Relaxed);
+        let (driver, kick, call) = Driver::new(&memory, has_event_index);
+        let driver = Arc::new(Mutex::new(driver));
+        let hook: Box<dyn FnOnce() + Send> = Box::new({
+            let driver = driver.clone();
+            move || driver.lock().unwrap().offer(0, &read_request(7, 7), 116)
+        });
+        let hooked = Hooked { memory, at: at as usize, hook: Mutex::new(Some(hook)) };
+        let queue = Queue::new(layout(), 0).unwrap().with_event_index(has_event_index);
+        let _serving = Builder::new(Arc::default(), Arc::new(hooked), &[region()])
+            .start(queue, kick, call, Arc::new(Files))
+            .unwrap();
+        until(|| driver.lock().unwrap().offered == 1);
+        let mut driver = driver.lock().unwrap();
+        assert_eq!((driver.wait().0, driver.kicks), (0, 0));
+    }
+}
+
+/// A thread that has popped a chain can't take the next one, which the driver offers before it can
+/// see that it is to notify for it. Another thread is woken.
+#[test]
+fn a_chain_is_handed_on() {
+    let (memory, at) = (Memory::new(), USED + 4 + 8 * u64::from(SIZE));
+    memory.half(at).store(0xffff, Ordering::Relaxed);
+    let (driver, kick, call) = Driver::new(&memory, true);
+    let driver = Arc::new(Mutex::new(driver));
+    let hooked = Hooked { memory: memory.clone(), at: at as usize, hook: Mutex::default() };
+    let (hooked, files) =
+        (Arc::new(hooked), Arc::new(InOrder(Mutex::default(), Default::default())));
+    let queue = Queue::new(layout(), 0).unwrap().with_event_index(true);
+    let _serving = Builder::new(Arc::default(), hooked.clone(), &[region()])
+        .threads(2)
+        .start(queue, kick, call, files)
+        .unwrap();
+    until(|| memory.half(at).load(Ordering::Relaxed) == 0);
+    thread::sleep(Duration::from_millis(200)); // both threads sleep
+    let second = driver.clone();
+    *hooked.hook.lock().unwrap() =
+        Some(Box::new(move || second.lock().unwrap().offer(1, &read_request(2, 2), 116)));
+    driver.lock().unwrap().offer(0, &read_request(1, 1), 116);
+    until(|| driver.lock().unwrap().offered == 2);
+    let mut driver = driver.lock().unwrap();
+    assert_eq!((driver.wait().0 + driver.wait().0, driver.kicks), (1, 1));
+}
+
+/// After `stop` another loop goes on, without a kick: it looks at its start.
+#[test]
+fn a_queue_goes_on_where_it_stopped() {
+    let memory = Memory::new();
+    let (mut driver, serving) = start(&memory, (2, true, false));
+    run(&mut driver, 10, 4);
+    let queue = serving.stop();
+    driver.offer(0, &read_request(7, 7), 116);
+    let device = Arc::new(Device::default());
+    let record = device.save(&[queue]).unwrap();
+    let queue = device.restore(&record).unwrap().remove(0).with_event_index(true);
+    let (kick, call) = (driver.kick.try_clone().unwrap(), driver.call.try_clone().unwrap());
+    let serving = Builder::new(device, memory, &[region()])
+        .start(queue, kick, call, Arc::new(Files))
+        .unwrap();
+    assert_eq!(driver.wait(), (0, 16 + data_at(7).len() as u32));
+    run(&mut driver, 10, 4);
+    drop(serving);
+}
+
+#[test]
+fn a_panic_is_answered_eio() {
+    for is_by_values in [false, true] {
+        let memory = Memory::new();
+        let (mut driver, serving) = start(&memory, (1, false, is_by_values));
+        for _ in 0..3 {
+            driver.offer(0, &request(1, 1, b"hello\0"), 144);
+            let (slot, len) = driver.wait();
+            let reply = driver.reply(slot, len);
+            assert_eq!((len, number(&reply, 4, 4)), (16, u64::from(5u32.wrapping_neg())));
+        }
+        run(&mut driver, 10, 1);
+        serving.reset();
+    }
+}
+
+/// Keeps what it is asked, and counts what is undone.
+#[derive(Default)]
+struct Keeps {
+    replies: Mutex<Vec<Reply>>,
+    undone: Mutex<Vec<Undo>>,
+    cancelled: AtomicUsize,
+}
+
+impl Handler for Keeps {
+    fn call(&self, request: Request<'_>) {
+        self.replies.lock().unwrap().push(request.reply);
+    }
+    fn cancelled(&self, cancelled: &Cancelled) {
+        self.cancelled.fetch_add(1, Ordering::Relaxed);
+        self.undone.lock().unwrap().extend(&cancelled.undo);
+    }
+}
+
+/// Waits until something holds.
+fn until(what: impl Fn() -> bool) {
+    let end = Instant::now() + PATIENCE;
+    while !what() {
+        assert!(Instant::now() < end);
+        thread::yield_now();
+    }
+}
+
+#[test]
+fn a_reset_refuses_what_comes_later() {
+    let (memory, keeps) = (Memory::new(), Arc::new(Keeps::default()));
+    let (mut driver, kick, call) = Driver::new(&memory, false);
+    let serving = Builder::new(Arc::default(), memory.clone(), &[region()])
+        .in_flight(4)
+        .start_by_values(Queue::new(layout(), 0).unwrap(), kick, call, keeps.clone())
+        .unwrap();
+    let open = args().q(0);
+    for slot in 0..6 {
+        driver.offer(slot, &request(14, 5, &open.0), 32);
+    }
+    // Four are in flight, and the others wait in the ring.
+    until(|| keeps.replies.lock().unwrap().len() == 4);
+    assert_eq!(serving.in_flight(), 4);
+    let take = || keeps.replies.lock().unwrap().pop().unwrap();
+    take().send(opened()).unwrap();
+    driver.wait();
+    until(|| keeps.replies.lock().unwrap().len() == 4);
+    let before = memory.read(0, LEN);
+    let replies = std::mem::take(&mut *keeps.replies.lock().unwrap());
+    serving.reset();
+    assert_eq!(keeps.cancelled.load(Ordering::Relaxed), 4);
+    assert!(keeps.undone.lock().unwrap().is_empty());
+    for reply in replies {
+        let unsent = reply.send(opened()).expect_err("it is too late");
+        assert_eq!(unsent.status(), Status::OtherCall);
+        assert!(matches!(unsent.cancelled().undo[..], [Undo::Release(Node(5), _)]));
+    }
+    assert!(memory.read(0, LEN) == before, "nothing is stored after a reset");
+}
+
+/// A stop waits for the answers.
+#[test]
+fn a_stop_waits_for_answers() {
+    let (memory, keeps) = (Memory::new(), Arc::new(Keeps::default()));
+    let (mut driver, kick, call) = Driver::new(&memory, true);
+    let queue = Queue::new(layout(), 0).unwrap().with_event_index(true);
+    let serving = Builder::new(Arc::default(), memory.clone(), &[region()])
+        .threads(2)
+        .in_flight(4)
+        .start_by_values(queue, kick, call, keeps.clone())
+        .unwrap();
+    for slot in 0..3 {
+        driver.offer(slot, &request(1, 1, b"hello\0"), 144);
+    }
+    until(|| keeps.replies.lock().unwrap().len() == 3);
+    let stopping = thread::spawn(move || serving.stop());
+    thread::sleep(Duration::from_millis(20));
+    assert!(!stopping.is_finished());
+    for reply in std::mem::take(&mut *keeps.replies.lock().unwrap()) {
+        reply.send(entry()).unwrap();
+    }
+    let queue = stopping.join().unwrap();
+    assert_eq!((queue.in_flight(), queue.next_used()), (0, 3));
+    (0..3).for_each(|_| assert_eq!(driver.wait().1, 144));
+}
+
+/// An answer without room is undone.
+#[test]
+fn an_answer_without_room_is_undone() {
+    let (memory, keeps) = (Memory::new(), Arc::new(Keeps::default()));
+    let (mut driver, kick, call) = Driver::new(&memory, false);
+    let _serving = Builder::new(Arc::default(), memory, &[region()])
+        .start_by_values(Queue::new(layout(), 0).unwrap(), kick, call, keeps.clone())
+        .unwrap();
+    driver.offer(0, &request(1, 1, b"hello\0"), 100);
+    until(|| keeps.replies.lock().unwrap().len() == 1);
+    let reply = keeps.replies.lock().unwrap().pop().unwrap();
+    reply.send(entry()).unwrap();
+    assert_eq!(driver.wait().1, 0);
+    assert_eq!(*keeps.undone.lock().unwrap(), [Undo::Forget(entry().node)]);
+}
+
+#[test]
+fn a_bad_ring_is_refused() {
+    let memory = Memory::new();
+    let (driver, kick, call) = Driver::new(&memory, false);
+    let err = new_event().unwrap();
+    let serving = Builder::new(Arc::default(), memory.clone(), &[region()])
+        .threads(3)
+        .err(err.try_clone().unwrap())
+        .start(Queue::new(layout(), 0).unwrap(), kick, call, Arc::new(Recorder::default()))
+        .unwrap();
+    assert_eq!(serving.refused(), None);
+    memory.half(AVAILABLE + 2).store(SIZE + 1, Ordering::Release);
+    (&driver.kick).write_all(&1u64.to_ne_bytes()).unwrap();
+    until(|| (&err).read(&mut [0; 8]).is_ok());
+    assert_eq!(serving.refused(), Some(Status::AvailTooFar));
+    let queue = serving.stop();
+    assert_eq!(queue.stopped(), Some(Status::AvailTooFar));
+}
+
+/// The memory changes while requests are served: the same bytes at other numbers.
+#[test]
+fn memory_changes_meanwhile() {
+    struct Moved(Arc<Memory>, usize);
+    impl GuestMemory for Moved {
+        fn get_slice(&self, at: usize, len: usize) -> Option<GuestSlice<'_>> {
+            self.0.get_slice(at.checked_sub(self.1)?, len)
+        }
+    }
+    let memory = Memory::new();
+    let (mut driver, serving) = start(&memory, (2, true, true));
+    for k in 1..20 {
+        let host = k * 0x10_0000;
+        let moved = Arc::new(Moved(memory.clone(), host));
+        serving.set_memory(moved, &[Region { host, ..region() }]);
+        run(&mut driver, 50, 4);
+    }
+    assert_eq!(serving.refused(), None);
+}
+
+#[test]
+fn wrong_numbers_are_refused() {
+    let memory = Memory::new();
+    let (_, kick, call) = Driver::new(&memory, false);
+    let odd = Region { len: 100, ..region() };
+    let refused = Builder::new(Arc::default(), memory, &[odd]).start(
+        Queue::new(layout(), 0).unwrap(),
+        kick,
+        call,
+        Arc::new(Files),
+    );
+    match refused {
+        Err(live::Error::Status(Status::BadArgument)) => {}
+        other => panic!("{other:?}"),
+    }
+    let _: Bytes = args();
+}
