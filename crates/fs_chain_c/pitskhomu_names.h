@@ -87,10 +87,12 @@ static inline const char *pk_call_name(uint32_t kind) {
 /* ---------------------------------------------------------------- layout */
 /* Where each field lies, and each struct's size, in bytes. The library's source and the crate for
  * Rust have the same numbers (tools/layouts.py). */
-#ifdef __cplusplus
-#define PK_ASSERT static_assert
+#if defined(__cplusplus)
+#define PK_ASSERT(is, what) static_assert(is, what)
+#elif defined(__STDC_VERSION__) && __STDC_VERSION__ >= 201112L
+#define PK_ASSERT(is, what) _Static_assert(is, what)
 #else
-#define PK_ASSERT _Static_assert
+#define PK_ASSERT(is, what) struct pk_asserted
 #endif
 #define PK_AT(kind, field, at) PK_ASSERT(offsetof(struct kind, field) == at, #kind)
 #define PK_SIZE(kind, size) PK_ASSERT(sizeof(struct kind) == size, #kind)

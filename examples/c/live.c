@@ -30,9 +30,9 @@ static uint32_t serve_request(struct worker *worker, const struct pk_pop *pop) {
     if (status != PK_DONE) return status;
     status = live->answer(live->files, &worker->chain, &device, &call, worker->request);
     if (device.options != options) atomic_store(live->options, device.options);
-    return status == PK_DONE || status == PK_NO_ROOM
-               ? PK_DONE
-               : pk_reply_err(&worker->chain, call.ticket, EIO);
+    if (status != PK_DONE && status != PK_NO_ROOM)
+        status = pk_reply_err(&worker->chain, call.ticket, EIO);
+    return status == PK_NO_ROOM ? PK_DONE : status;
 }
 
 /* Pops the next chain. If `max_in_flight` are in flight, the thread that pushes one pops again. */
@@ -62,10 +62,11 @@ static void hand_on(struct worker *worker) {
     struct live *live = worker->live;
     bool is_for_another = live->sleeping > 0;
     set_kicks(worker, is_for_another);
-    /* the index that was loaded last may have one more chain */
+    /* the index that was loaded last may have one more chain. It lies where the library said: in
+       another region, perhaps, than the ring's flags */
     uint16_t position = live->queue.next_avail;
     if (is_for_another &&
-        (live->offered.index != position || load_index(live->avail_at + 2) != position))
+        (live->offered.index != position || load_index(live->offered.at) != position))
         signal_event(live->kick);
 }
 
@@ -134,13 +135,17 @@ static void *work(void *at) {
 static int start_worker(struct live *live, const struct pk_region *regions, size_t region_count) {
     struct worker *worker = &live->workers[live->count];
     struct pk_device device = {PAGE_SIZE, LIMIT, 0};
+    int error = EINVAL;
     *worker = (struct worker){.live = live, .request = malloc(PK_REQUEST_MAX)};
-    live->count++;
     if (!worker->request) return ENOMEM;
-    if (pk_chain_set_memory(&worker->chain, &device, regions, region_count) != PK_DONE)
-        return EINVAL;
-    int error = pthread_create(&worker->thread, NULL, work, worker);
-    if (error) pk_chain_free(&worker->chain);
+    if (pk_chain_set_memory(&worker->chain, &device, regions, region_count) == PK_DONE)
+        error = pthread_create(&worker->thread, NULL, work, worker);
+    if (error) {
+        pk_chain_free(&worker->chain);
+        free(worker->request);
+    } else {
+        live->count++;
+    }
     return error;
 }
 
@@ -153,13 +158,12 @@ int live_start(struct live *live, const struct pk_region *regions, size_t region
     live->sleeping = (unsigned)thread_count;
     /* an earlier device may have left any flags: the first thread that finds no chain sets them */
     live->kicks = UNKNOWN;
-    if (live->quit < 0 || !live->workers || pthread_mutex_init(&live->lock, NULL)) return ENOMEM;
-    if (pk_queue_begin(&live->queue, live->queue.next_avail) != PK_DONE) return EINVAL;
-    for (size_t k = 0; k < thread_count; k++) {
-        int error = start_worker(live, regions, region_count);
-        if (error) return error;
-    }
-    return 0;
+    int error = live->quit < 0 || !live->workers ? ENOMEM : pthread_mutex_init(&live->lock, NULL);
+    if (!error && pk_queue_begin(&live->queue, live->queue.next_avail) != PK_DONE) error = EINVAL;
+    for (size_t k = 0; !error && k < thread_count; k++)
+        error = start_worker(live, regions, region_count);
+    if (error) live_stop(live);
+    return error;
 }
 
 uint32_t live_refusal(struct live *live) {

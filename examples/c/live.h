@@ -6,9 +6,9 @@
 #include "access.h"
 #include <pthread.h>
 
-/* Answers a call, and returns PK_DONE, PK_NO_ROOM, or an error (then the reply is EIO). `device` is
- * a copy of the device's numbers, whose options INIT may change. Threads of other queues answer
- * meanwhile. */
+/* Answers a call, and returns PK_DONE, PK_NO_ROOM, or an error: then the reply is EIO. A
+ * READDIRPLUS that has entries isn't left to that (PK_ENTRIES). `device` is a copy of the device's
+ * numbers, whose options INIT may change. Threads of other queues answer meanwhile. */
 typedef uint32_t answerer(void *files, struct pk_chain *chain, struct pk_device *device,
                           const struct pk_call *call, const uint8_t *request);
 
@@ -20,11 +20,10 @@ struct worker {
     uint8_t *request;
 };
 
-/* Set the first eight, and the others to 0. Of `queue` set the addresses, `size`, `event_index` and
- * `next_avail`. `avail_at` is the host address of the available ring. */
+/* Set the first seven, and the others to 0. Of `queue` set the addresses, `size`, `event_index` and
+ * `next_avail`. */
 struct live {
     struct pk_queue queue; /* from here on the threads', under the lock */
-    uintptr_t avail_at;
     int kick, call;
     _Atomic uint64_t *options; /* those that INIT agreed on, for all queues of the device */
     answerer *answer;
@@ -44,7 +43,7 @@ struct live {
 };
 
 /* Resets the queue, and starts so many threads over the guest's memory, each with one chain in
- * flight at a time. Returns 0 or an errno. */
+ * flight at a time. Returns 0, or an errno; then no thread runs. */
 int live_start(struct live *live, const struct pk_region *regions, size_t region_count,
                size_t thread_count);
 

@@ -265,8 +265,9 @@ static uint32_t serve_request(const struct pk_pop *pop) {
     uint32_t status = ask(&chain, &device, request, have, &call);
     if (status != PK_DONE) return status;
     status = answer(&call);
-    return status == PK_DONE || status == PK_NO_ROOM ? PK_DONE
-                                                     : pk_reply_err(&chain, call.ticket, EIO);
+    if (status != PK_DONE && status != PK_NO_ROOM)
+        status = pk_reply_err(&chain, call.ticket, EIO);
+    return status == PK_NO_ROOM ? PK_DONE : status;
 }
 
 /* Serves the available chains. PK_IDLE: none is left. PK_OUT_OF_MEMORY: one is left, call again

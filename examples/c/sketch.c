@@ -81,7 +81,8 @@ static uint32_t serve_request(const struct pk_pop *pop) {
     uint32_t s = decode(pop, &call);
     if (s != PK_DONE) return s;
     s = answer(&call);
-    return s == PK_DONE || s == PK_NO_ROOM ? PK_DONE : pk_reply_err(&chain, call.ticket, EIO);
+    if (s != PK_DONE && s != PK_NO_ROOM) s = pk_reply_err(&chain, call.ticket, EIO);
+    return s == PK_NO_ROOM ? PK_DONE : s;
 }
 
 /* Stores the reply's front, the used element, and last the index, which the driver looks at. */

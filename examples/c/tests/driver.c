@@ -48,7 +48,6 @@ static void start(struct driver *driver, uint16_t position) {
                                            .size = RING_SIZE,
                                            .next_avail = position,
                                            .event_index = driver->event_index},
-                                 .avail_at = (uintptr_t)place_of(driver, AVAIL),
                                  .kick = driver->live.kick,
                                  .call = driver->live.call,
                                  .options = &driver->options,
