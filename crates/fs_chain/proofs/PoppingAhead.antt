@@ -1,10 +1,9 @@
 -- A pop by loads that were made ahead is calls of `pop` one after another.
-use Rattle.std.proofs.Common.{◌≡◌, ◌∙◌, ℕ, ◌<◌, ◌+◌, ◌-◌, ◌++◌, ◌==◌, ◌&&◌, List, [], ◌∷◌, Bool, true, false, not, Option, Some}
+use Rattle.std.proofs.Common.{◌≡◌, ◌∙◌, ℕ, ◌<◌, ◌+◌, ◌-◌, ◌++◌, ◌==◌, List, [], ◌∷◌, Bool, true, false, not, Option, Some}
 use Rattle.std.proofs.Common.{None, inl, inr, length, min, ap, refl, sym, subst, arith}
 use Rattle.std.specs.Prelude.{if◌then◌else◌}
 use Rattle.std.proofs.lemmas.Bool.{eq-eqb, and_from}
 use Rattle.smallvec.specs.SmallVec.{SmallVec}
-use Rattle.vm_memory_core.specs.Window.{Window}
 use Rattle.vm_iotlb.specs.declared.iova.IovaRange.{IovaRange}
 use Rattle.vm_iotlb.specs.declared.permissions.Permissions.{Permissions}
 use Rattle.fs_queue.specs.declared.fault.QueueError.{QueueError}
@@ -18,7 +17,7 @@ use Rattle.vm_iotlb.specs.declared.permissions.Permissions.TheVariants.{Read}
 use Rattle.vm_memory.specs.Memory.{location}
 use Rattle.vm_memory.specs.Slices.{IsWindowAt}
 use Rattle.fs_regions.specs.Places.{Mapped, left_in, places_in}
-use Rattle.fs_regions.specs.Walks.{Loaded, nothing, ComesBy, IsCourseStep, IsWalkAt, asked_by, asked_len, queue_of}
+use Rattle.fs_regions.specs.Walks.{nothing, ComesBy, IsCourseStep, asked_by, asked_len, queue_of}
 use Rattle.fs_regions.specs.Ahead.{AheadBytes, BeginsAhead, IsLoadOf, LeavesLoad, StepsAhead, StopsBefore, last_first}
 use Rattle.fs_chain.specs.declared.error.ChainError.{ChainError}
 use Rattle.fs_chain.specs.declared.error.ChainError.TheVariants.{BadArgument, ChainInFlight, OtherQueue}
@@ -32,7 +31,7 @@ use Rattle.fs_chain.specs.declared.popping.PopOutcome.TheVariants as tells
 use Rattle.fs_chain.specs.declared.chain_handle.ChainHandle.{ChainHandle}
 use Rattle.fs_chain.specs.Ahead.{IsWantedLoad, PopsAhead, StopsAt, WalksAhead}
 use Rattle.fs_chain.specs.Events.{event_fault, event_miss}
-use Rattle.fs_chain.specs.Loads.{GoesSo, IsLoadWindow, whole}
+use Rattle.fs_chain.specs.Loads.{whole}
 use Rattle.fs_chain.specs.Orders.{IfWalking, give_error, load_len, walk_error}
 use Rattle.fs_chain.specs.Queues.{fits_pop, may_take, pop_id_of}
 use Rattle.fs_chain.specs.Walks.{BeginsPop, BeginsUnless, GoesOn, IsAllButPart, LacksEvents, KeepsStep, StaysForLoad, WalksFrom}

@@ -134,9 +134,38 @@ impl Chain {
         pop: &mut sys::Pop,
     ) -> Result<PopStep, Status> {
         // SAFETY: as the module says.
-        match unsafe {
+        let status = unsafe {
             sys::pk_pop(&mut self.handle, queue.numbers_mut(), loaded.as_ptr(), loaded.len(), pop)
-        } {
+        };
+        self.popped(status, pop)
+    }
+
+    /// Begins a pop. `bytes` has those of the loads that were made ahead, one behind another.
+    pub fn pop_ahead(
+        &mut self,
+        queue: &mut Queue,
+        ahead: &[sys::LoadAhead],
+        bytes: &[u8],
+        pop: &mut sys::Pop,
+    ) -> Result<PopStep, Status> {
+        // SAFETY: as the module says.
+        let status = unsafe {
+            sys::pk_pop_ahead(
+                &mut self.handle,
+                queue.numbers_mut(),
+                ahead.as_ptr(),
+                ahead.len(),
+                bytes.as_ptr(),
+                bytes.len(),
+                pop,
+            )
+        };
+        self.popped(status, pop)
+    }
+
+    /// The result of a pop that ended with this status.
+    fn popped(&mut self, status: u32, pop: &sys::Pop) -> Result<PopStep, Status> {
+        match status {
             status::DONE => {
                 self.ticket = pop.ticket;
                 Ok(PopStep::InFlight)

@@ -122,6 +122,11 @@ impl Queue {
         self.seen = Some(Seen { index, regions });
     }
 
+    /// Forgets the available index: a pop may go by a later one.
+    pub(crate) fn forget_index(&mut self) {
+        self.seen = None;
+    }
+
     /// The queue with up to `max_in_flight` chains in flight: one for each worker that serves it.
     ///
     /// # Errors

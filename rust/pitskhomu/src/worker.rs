@@ -1,4 +1,5 @@
 //! The worker: from a chain's pop to its push.
+mod ahead;
 mod answering;
 mod decoding;
 mod dispatching;
@@ -128,7 +129,9 @@ pub struct Worker {
     layout: Vec<Region>,
     /// What the last pop missed in the table that was lent.
     misses: Vec<Miss>,
-    /// The bytes of a pop's load.
+    /// The rings of the queue that it popped from last, if they are in its regions.
+    ring: Option<ahead::Ring>,
+    /// The bytes of a pop's loads.
     loaded: Vec<u8>,
     /// The request, as far as it was loaded.
     request: Vec<u8>,
@@ -191,6 +194,7 @@ impl Worker {
             is_asked: false,
             regions: 0,
             layout: Vec::new(),
+            ring: None,
             misses: Vec::new(),
             loaded: Vec::new(),
             request: Vec::new(),
@@ -240,6 +244,7 @@ impl Worker {
         layout.extend_from_slice(regions);
         self.chain.set_memory(&device.numbers(), regions)?;
         (self.regions, self.layout) = (memory::next_regions(), layout);
+        self.ring = None;
         Ok(())
     }
 
@@ -340,7 +345,7 @@ impl Worker {
         grow(&mut self.request, sys::FIRST)?;
         self.forget_last();
         let popping = Popping(self);
-        match popping.0.pop_steps(queue, memory)? {
+        match popping.0.pop_steps(queue, memory, is_lent)? {
             PopStep::InFlight if is_lent => popping.0.keep_windows(queue)?,
             PopStep::InFlight => {}
             PopStep::Missed => return popping.0.gather_misses().map(|()| Popped::Missing),
@@ -381,9 +386,17 @@ impl Worker {
         &mut self,
         queue: &mut Queue,
         memory: &dyn GuestMemory,
+        is_lent: bool,
     ) -> Result<PopStep, Status> {
         self.pop = sys::Pop::default();
         let mut is_first = true;
+        if !is_lent {
+            match self.pop_ahead(queue, memory)? {
+                PopStep::Load => self.load_first(queue, memory)?,
+                ended => return Ok(ended),
+            }
+            is_first = false;
+        }
         loop {
             let loaded = &self.loaded[..self.pop.load_len];
             match self.chain.pop(queue, loaded, &mut self.pop)? {
@@ -393,6 +406,14 @@ impl Worker {
             }
             is_first = false;
         }
+    }
+
+    /// The load that a pop asks for, which began with loads ahead. It may be the available index.
+    fn load_first(&mut self, queue: &mut Queue, memory: &dyn GuestMemory) -> Result<(), Status> {
+        if self.pop.load_len == 2 {
+            queue.forget_index();
+        }
+        self.load(memory)
     }
 
     /// The first load of a pop: the available index. The index that was loaded last is used again
