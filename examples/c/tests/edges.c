@@ -145,14 +145,16 @@ static int ascending(const void *a, const void *b) {
     return (x > y) - (x < y);
 }
 
-/* Of many handles no two have near tickets: none gets another's in its first million chains. */
+/* Of many handles no two have near tickets, however often a guest resets meanwhile: none gets
+ * another's in its first million chains. 10946 is a number of Fibonacci's: tickets by one count of
+ * handles and resets would be near. */
 static void far_apart(void) {
     static uint32_t tickets[HANDLES];
     begin_both(NEXT);
-    queues[0].max_in_flight = 1;
     for (size_t k = 0; k < HANDLES; k++) {
         struct pk_chain chain = {0};
-        expect("a reset", pk_queue_begin(&queues[0], 0), PK_DONE);
+        for (unsigned resets = k < 10 ? 10946 - 1 : 1; resets > 0; resets--)
+            expect("a reset", pk_queue_begin(&queues[0], 0), PK_DONE);
         put(AVAIL + 2, 0, 2);
         tickets[k] = ask(&chain, &queues[0]);
         pk_chain_free(&chain);
