@@ -5,8 +5,8 @@ Plays the vectors of this folder on a device, and compares. README.md says what 
 PROGRAM reads one script from its standard input, prints what the script's commands return, and
 ends with the script's status. FILE lists the scripts at whose commands the device lacks something,
 by lines `SCRIPT PRINTED COMMAND`: it prints the first PRINTED lines of SCRIPT's output, and ends
-at the first line COMMAND with status 4. Such a script isn't counted; one that is played otherwise
-fails.
+at the first line COMMAND with status 4, or, if it doesn't know that command at all, with status 1.
+Such a script isn't counted; one that is played otherwise fails.
 
 The last line is `N passed, M failed`. The status is 0 if all vectors passed, 1 if one didn't, 2 if
 the call is wrong."""
@@ -24,6 +24,10 @@ PATIENCE = 300
 # The status of a script that ends at a command which the device lacks, and a line of a list.
 LACKING = 4
 LISTED = re.compile(rb"(\w+) (\d+) (.+)")
+# Commands that a device may not know.
+OPTIONAL = (b"event_index ", b"notify ", b"drop ")
+# The size of the greatest queue.
+GREATEST = 32768
 
 
 class Device:
@@ -49,6 +53,7 @@ class Device:
         """Plays one script, which prints `whole`; its reason stands on standard error."""
         want, ended = self.wanted(name, script, whole)
         printed, status, said = self.play(script)
+        printed, status = self.as_lacking(name, printed, status)
         why = differs(printed, status, want, ended)
         if why is None and reason is not None and ended != LACKING and said != reason:
             why = f"standard error has {said!r} in place of {reason!r}"
@@ -62,6 +67,7 @@ class Device:
         moving = with_moves(script)
         want, ended = self.wanted(name, moving, whole)
         printed, status, _ = self.play(moving)
+        printed, status = self.as_lacking(name, printed, status)
         why = differs(without_moves(printed), status, without_moves(want), ended)
         self.count("moved", f"{name} with moves", ended, why or differs_in_moves(moving, printed))
 
@@ -75,6 +81,18 @@ class Device:
         number = script.split(b"\n").index(command) + 1
         lines = whole.split(b"\n")[:count] + [b"line %d: not on this device" % number, b""]
         return b"\n".join(lines), LACKING
+
+    def as_lacking(self, name, printed, status):
+        """What is printed, with `not on this device` for a listed command that isn't known."""
+        unknown = b": not a command\n"
+        is_listed = name in self.lacks and self.lacks[name][1].startswith(OPTIONAL)
+        if is_listed and status == 1 and printed.endswith(unknown):
+            return printed.removesuffix(unknown) + b": not on this device\n", LACKING
+        return printed, status
+
+    def has_events(self):
+        """Whether no script is listed for a lack of the event index."""
+        return not any(command.startswith(b"event_index ") for _, command in self.lacks.values())
 
     def count(self, kind, name, ended, why):
         """Counts a script, which differs for a reason or not at all."""
@@ -137,6 +155,28 @@ def first_difference(printed, want):
     return f"{len(ones) - 1} lines are printed in place of {len(others) - 1}"
 
 
+def around(with_events):
+    """A script that goes round the greatest queue, so that its indices wrap, with chains of no
+    byte; and what it prints. With the event index the driver is notified of position 65535."""
+    avail, used = 0x100000, 0x200000
+    lines = [f"queue {GREATEST} 0 {avail:#x} {used:#x}", "region 0 0x1000",
+        f"region {avail:#x} 0x11000", f"region {used:#x} 0x41000"]
+    whole = ["ok", "block 0", "block 1", "block 2"]
+    if with_events:
+        lines += ["event_index on", f"write {avail + 4 + 2 * GREATEST:#x} ffff"]
+        whole += ["ok", "ok"]
+    for first, end in ((0, 0x8000), (0x8000, 0x10000), (0x10000, 0x10001)):
+        index = (end % 65536).to_bytes(2, "little").hex()
+        lines += [f"write {avail + 2:#x} {index}", "kick 0 65535", f"read {used:#x} 16"]
+        told = [int(not with_events or at == 65535) for at in range(first, end)]
+        whole += ["ok", *(f"done 0 0 DecodeMessage {number}" for number in told)]
+        whole.append(f"bytes 0000{index}" + "00" * 12)
+    if with_events:
+        lines += ["notify 0 on", f"read {used + 4 + 8 * GREATEST:#x} 2"]
+        whole += ["ok", "bytes 0100"]
+    return [("\n".join(text) + "\n").encode() for text in (lines, whole)]
+
+
 def named_wrongly(device, scripts):
     """The files and the names of the list that belong to no script, a line each."""
     names = {path.stem for path in scripts}
@@ -163,6 +203,9 @@ def play_all(device):
         for number, line in enumerate(lines, 1):
             name, want = f"no_commands.txt, line {number}", b"ok\nline 2: not a command\n"
             jobs.append(pool.submit(device.check, "no commands", name, QUEUE + line, want))
+        for with_events in [False, True] if device.has_events() else [False]:
+            name = "the round with the event index" if with_events else "the round"
+            jobs.append(pool.submit(device.check, "around", name, *around(with_events)))
         for job in jobs:
             job.result()
 
@@ -196,7 +239,7 @@ def main(arguments):
     lacking = sorted(device.left.items())
     counts += [f"{count} {kind} up to a command that the device lacks" for kind, count in lacking]
     print("; ".join(counts))
-    for kind in {"as they are", "moved", "no commands"} - device.passed.keys():
+    for kind in {"around", "as they are", "moved", "no commands"} - device.passed.keys():
         device.failures.append(kind)
         print(f"FAILED: no script passed of the kind: {kind}")
     print(f"{sum(device.passed.values())} passed, {len(device.failures)} failed")

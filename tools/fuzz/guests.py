@@ -10,6 +10,8 @@ SPAN = 0x3000
 BASES = [0] * 6 + [0x10000, 2**32 - 0x2000, 2**40, 2**64 - SPAN, 2**64 - 0x10000]
 # So many of the scripts have only regions and mappings of whole pages.
 FOR_HANDLE = 0.95
+# In so many of them the driver may have an event index, and chains are dropped.
+EVENTS = 0.15
 NO_COMMANDS = [
     " ", "harvest ", "kick 0", "kick 0 65536", "read 0 -1", "write 0 0", "write 0 ",
     "queue 4 0 0 0", "iommu", "x", "read 0X0 1"]
@@ -52,6 +54,8 @@ class Guest:
         self.blocks = 0
         self.session = rng.random() < 0.3
         self.began = False
+        # Whether the script has commands that only the handle has.
+        self.has_events = rng.random() < EVENTS
 
     def chance(self, part):
         """Whether something happens that happens so often."""
@@ -70,6 +74,8 @@ class Guest:
             self.put(queue.avail, struct.pack("<HH", self.flags(), 0))
         if self.chance(0.7):
             self.say("harvest")
+        if self.has_events:
+            self.say("event_index on")
         for _ in range(self.rng.choice(self.rounds)):
             self.round()
         self.look()
@@ -375,6 +381,8 @@ class Guest:
             queue.index = (queue.index + rng.choice([1, queue.size, queue.size + 1, 65535])) % 65536
             queue.risky = True
         self.put(queue.avail, struct.pack("<HH", self.flags(), queue.index))
+        if self.has_events:
+            self.events(number_of, queue)
         if self.chance(0.3):
             self.disturb()
         self.say(f"kick {number_of} {rng.choice([offers] * 6 + [0, 1, 2, 9, 65535])}")
@@ -387,6 +395,20 @@ class Guest:
             self.disturb()
         if self.chance(0.8):
             self.taken = self.taken[:3 * len(self.queues)]
+
+    def events(self, number_of, queue):
+        """The driver's used_event, mostly near the next chain's position; the device's avail_event,
+        which is read; and chains that are dropped."""
+        rng = self.rng
+        if rng.random() < 0.7:
+            event = rng.choice([queue.index - 1, queue.index - 1, queue.index, queue.index - 2,
+                0, 65535, queue.index ^ 0x100])
+            self.put(queue.avail + 4 + 2 * queue.size, struct.pack("<H", event % 65536))
+        for _ in range(rng.choice([0, 0, 1, 2])):
+            self.say(rng.choice([f"drop {number_of}", f"notify {number_of} on",
+                f"notify {number_of} off"]))
+        if rng.random() < 0.1:
+            self.say(rng.choice(["event_index on", "event_index off"]))
 
     def disturb(self):
         """Something that isn't a kick."""

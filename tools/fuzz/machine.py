@@ -1,6 +1,6 @@
 """The plain machine: what a script prints, told by single addresses and whole lists. It shares
-nothing with the program. It also tells at which command the handle ends, which lacks a few
-(docs/SCRIPT.md, "On the handle")."""
+nothing with the program. It also tells at which command the handle ends, which lacks a few, and
+the program, which hasn't the commands that only the handle has (docs/SCRIPT.md)."""
 
 import re
 from collections import Counter
@@ -30,6 +30,14 @@ class Queue:
         self.size, self.desc, self.avail, self.used = size, desc, avail, used
         self.position = 0
         self.stopped = False
+
+    def used_event(self):
+        """The address of the driver's field behind the available ring."""
+        return self.avail + 4 + 2 * self.size
+
+    def avail_event(self):
+        """The address of the device's field behind the used ring."""
+        return self.used + 4 + 8 * self.size
 
 
 def bad_layout(size, desc, avail, used):
@@ -119,6 +127,8 @@ class Machine:
     def __init__(self, work, coverage):
         self.memory = Memory(work)
         self.queues = []
+        # Whether the driver accepted VIRTIO_F_EVENT_IDX.
+        self.event_index = False
         self.files = Files()
         self.server = Server(self.files)
         self.coverage = coverage
@@ -127,19 +137,47 @@ class Machine:
 
     def step(self, queue):
         """One chain goes back: the lines that it prints. None where none waits."""
+        taken = self.pop(queue)
+        return None if taken is None else self.serve(queue, *taken)
+
+    def drop(self, queue):
+        """A chain is popped and dropped, so that it waits again: the line that is printed. One with
+        a fault goes back."""
+        taken = self.pop(queue)
+        if taken is None:
+            return ["idle"]
+        *_, fault = taken
+        return ["dropped"] if fault is None else self.serve(queue, *taken)
+
+    def notify(self, queue, is_on):
+        """The driver is asked to notify, or not to."""
+        address, value = queue.used, 0 if is_on else 1
+        if self.event_index:
+            address, value = queue.avail_event(), queue.position
+        places = self.memory.places(address, 2, "w")
+        if is_on or not self.event_index:
+            if places is None:
+                raise Refused(USED_UNREACHABLE)
+            self.memory.store(places, value.to_bytes(2, "little"))
+
+    def pop(self, queue):
+        """As `take`; a refusal stops the queue."""
         if queue.stopped:
             raise Refused(STOPPED)
         try:
-            taken = self.take(queue)
+            return self.take(queue)
         except Refused:
             queue.stopped = True
             raise
-        return None if taken is None else self.serve(queue, *taken)
 
     def take(self, queue):
         """The head of the next chain, the places of its element and of the used index, and the
         chain or its fault."""
         memory = self.memory
+        if self.event_index:
+            memory.fetch(queue.used_event(), 2, FLAGS_UNREACHABLE)
+            if memory.places(queue.avail_event(), 2, "w") is None:
+                raise Refused(USED_UNREACHABLE)
         index = memory.number(queue.avail + 2, 2, INDEX_UNREACHABLE)
         waiting = (index - queue.position) % 65536
         if waiting == 0:
@@ -154,7 +192,8 @@ class Machine:
         used_index = memory.places(queue.used + 2, 2, "w")
         if element is None or used_index is None:
             raise Refused(USED_UNREACHABLE)
-        memory.fetch(queue.avail, 2, FLAGS_UNREACHABLE)
+        if not self.event_index:
+            memory.fetch(queue.avail, 2, FLAGS_UNREACHABLE)
         try:
             chain, inside = walk(memory, queue, head)
             self.coverage["shape", "through a table" if inside else "direct"] += 1
@@ -180,9 +219,16 @@ class Machine:
         else:
             self.coverage["chain fault", str(fault)] += 1
         self.give_back(queue, head, element, used_index, room, reply)
-        flags = self.memory.number(queue.avail, 2, FLAGS_UNREACHABLE)
         name = "-" if fault is None else str(fault)
-        return call_lines(self.files.calls) + [f"done {head} {len(reply)} {name} {1 - flags % 2}"]
+        told = int(self.is_told(queue))
+        return call_lines(self.files.calls) + [f"done {head} {len(reply)} {name} {told}"]
+
+    def is_told(self, queue):
+        """Whether the driver is notified of the chain that went back last."""
+        if self.event_index:
+            event = self.memory.number(queue.used_event(), 2, FLAGS_UNREACHABLE)
+            return event == (queue.position - 1) % 65536
+        return self.memory.number(queue.avail, 2, FLAGS_UNREACHABLE) % 2 == 0
 
     def give_back(self, queue, head, element, used_index, room, reply):
         """The reply, the used element, the used index, in this order."""
@@ -225,7 +271,10 @@ class Player:
         "queue": "smmm", "region": "mm", "alias": "mm", "unregion": "mm", "write": "mh",
         "read": "mm", "map": "mmmp",
         "unmap": "mm", "iommu": "o", "kick": "ms", "reset": "msmmm", "harvest": "", "move": "",
+        "event_index": "o", "notify": "mo", "drop": "m",
     }
+    # The program doesn't know these.
+    HANDLES = ("event_index", "notify", "drop")
 
     def __init__(self, work):
         self.coverage = Counter()
@@ -233,8 +282,10 @@ class Player:
         self.began = False
         self.printed = []
         self.number = 0
-        # What the handle prints, if it ends at a command that it lacks.
+        # What the handle prints, if it ends at a command that it lacks, and the program, if it ends
+        # at one of the handle's.
         self.on_handle = None
+        self.on_program = None
 
     def play(self, script):
         """What the script prints, and its status."""
@@ -270,6 +321,8 @@ class Player:
 
     def command(self, name, arguments):
         """Plays one command."""
+        if name in self.HANDLES and self.on_program is None:
+            self.on_program = text_of([*self.printed, f"line {self.number}: not a command"])
         self.began = self.began or name != "queue"
         self.coverage["command", name] += 1
         try:
@@ -364,6 +417,28 @@ class Player:
             return lines + [f"refused {refused.number}"]
         return lines or ["idle"]
 
+    def event_index(self, on):
+        """The driver accepts VIRTIO_F_EVENT_IDX, or doesn't."""
+        self.machine.event_index = on
+        return ["ok"]
+
+    def notify(self, index, on):
+        """The device asks the driver to notify it, or not to."""
+        self.machine.notify(self.queue_of(index), on)
+        return ["ok"]
+
+    def drop(self, index):
+        """A chain is popped and dropped."""
+        return self.machine.drop(self.queue_of(index))
+
+    def queue_of(self, index):
+        """A queue that is served, by its number."""
+        if index >= len(self.machine.queues):
+            raise Refused(NO_QUEUE)
+        if not self.machine.memory.fits_handle():
+            self.lack()
+        return self.machine.queues[index]
+
     def harvest(self):
         """The marked pages, whose marks are cleared."""
         lines = []
@@ -427,4 +502,5 @@ def play(script, work=6_000_000):
     player = Player(work)
     whole = player.play(script)
     on_handle = whole if player.on_handle is None else (player.on_handle, LACKING)
-    return {"the program": whole, "the handle": on_handle}, player.coverage
+    on_program = whole if player.on_program is None else (player.on_program, 1)
+    return {"the program": on_program, "the handle": on_handle}, player.coverage

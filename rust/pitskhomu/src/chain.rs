@@ -209,11 +209,18 @@ impl Chain {
                 Ok(())
             }
             Err(status) => {
-                // SAFETY: as the module says.
-                Status::check(unsafe { sys::pk_drop(&mut self.handle, queue.numbers_mut()) })?;
+                self.unpop(queue)?;
                 Err(status)
             }
         }
+    }
+
+    /// Undoes the pop of a chain that wasn't decoded.
+    pub fn unpop(&mut self, queue: &mut Queue) -> Result<(), Status> {
+        // SAFETY: as the module says.
+        Status::check(unsafe { sys::pk_drop(&mut self.handle, queue.numbers_mut()) })?;
+        self.kept = None;
+        Ok(())
     }
 
     /// Forgets the windows: the chain is returned.

@@ -48,6 +48,16 @@ pub enum Command {
     },
     Move,
     Harvest,
+    /// Whether the driver accepts `VIRTIO_F_EVENT_IDX`.
+    EventIndex(bool),
+    /// Enables or disables notifications of the driver.
+    Notify {
+        queue: u64,
+        enabled: bool,
+    },
+    Drop {
+        queue: u64,
+    },
 }
 
 /// Why a line isn't a command, or not one that is allowed there.
@@ -139,6 +149,14 @@ impl<'a> Words<'a> {
         }
     }
 
+    fn switch(&mut self) -> Result<bool, WrongLine> {
+        match self.word()? {
+            b"on" => Ok(true),
+            b"off" => Ok(false),
+            _ => Err(WrongLine::NotASwitch),
+        }
+    }
+
     fn end(&mut self) -> Result<(), WrongLine> {
         match self.word() {
             Err(WrongLine::MissingWord) => Ok(()),
@@ -161,15 +179,14 @@ impl<'a> Words<'a> {
                 Ok(Command::Map { iova, target, len, access: self.permissions()? })
             }
             b"unmap" => Ok(Command::Unmap { iova: self.number()?, len: self.number()? }),
-            b"iommu" => match self.word()? {
-                b"on" => Ok(Command::Iommu(true)),
-                b"off" => Ok(Command::Iommu(false)),
-                _ => Err(WrongLine::NotASwitch),
-            },
+            b"iommu" => Ok(Command::Iommu(self.switch()?)),
             b"kick" => Ok(Command::Kick { queue: self.number()?, most: self.short()? }),
             b"reset" => Ok(Command::Reset { queue: self.number()?, layout: self.layout()? }),
             b"move" => Ok(Command::Move),
             b"harvest" => Ok(Command::Harvest),
+            b"event_index" => Ok(Command::EventIndex(self.switch()?)),
+            b"notify" => Ok(Command::Notify { queue: self.number()?, enabled: self.switch()? }),
+            b"drop" => Ok(Command::Drop { queue: self.number()? }),
             _ => Err(WrongLine::UnknownCommand),
         }
     }

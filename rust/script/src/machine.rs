@@ -6,6 +6,7 @@ use crate::memory::{Memory, Refusal};
 use pitskhomu::{
     Device, Fault, Miss, Popped, Queue, QueueLayout, RequestFault, Served, Status, Worker,
 };
+use std::mem;
 
 /// The bytes of a reply's header (struct `fuse_out_header`).
 const HEADER: usize = 16;
@@ -21,6 +22,8 @@ pub struct Machine {
     pub iommu: Iommu,
     device: Device,
     queues: Vec<Queue>,
+    /// Whether the driver accepted `VIRTIO_F_EVENT_IDX`.
+    event_index: bool,
     worker: Worker,
     files: Files,
 }
@@ -31,6 +34,26 @@ pub enum Step {
     Done(Calls, Served),
     /// With the script language's number.
     Refused(u32),
+}
+
+/// The outcome of a pop whose chain is dropped.
+pub enum Dropped {
+    Idle,
+    /// The chain is available again.
+    Available,
+    /// The chain has a fault, so it was returned.
+    Faulty(Served),
+    /// With the script language's number.
+    Refused(u32),
+}
+
+/// The script language's number of a status that refuses a pop.
+fn refusal(status: Status) -> Result<u32, Stuck> {
+    if status.stops_queue() || status == Status::OutOfMemory {
+        Ok(status.number())
+    } else {
+        Err(status.into())
+    }
 }
 
 /// The script language's number of a layout's error, if it has one.
@@ -99,6 +122,7 @@ impl Machine {
             iommu: Iommu::new()?,
             device: Device::default(),
             queues: Vec::new(),
+            event_index: false,
             worker: Worker::new(),
             files: Files::new(),
         })
@@ -119,10 +143,67 @@ impl Machine {
 
     /// Resets a queue: position 0, not stopped.
     pub fn reset(&mut self, queue: u64, layout: QueueLayout) -> Result<Result<(), Refusal>, Stuck> {
+        let begun = Queue::new(layout, 0)?.with_event_index(self.event_index);
         match usize::try_from(queue).ok().and_then(|queue| self.queues.get_mut(queue)) {
-            Some(queue) => Ok(Ok(queue.begin(Queue::new(layout, 0)?)?)),
+            Some(queue) => Ok(Ok(queue.begin(begun)?)),
             None => Ok(Err(Refusal::NoSuchQueue)),
         }
+    }
+
+    /// Whether the driver accepts `VIRTIO_F_EVENT_IDX`, for all queues.
+    pub fn set_event_index(&mut self, is_accepted: bool) {
+        self.event_index = is_accepted;
+        for queue in &mut self.queues {
+            *queue = mem::take(queue).with_event_index(is_accepted);
+        }
+    }
+
+    /// Enables or disables notifications of the driver. `false` if the bytes aren't mapped.
+    pub fn notify(&mut self, queue: u64, enabled: bool) -> Result<bool, Stuck> {
+        self.set_memory()?;
+        self.memory.begin_step(self.iommu.is_on);
+        let queue = &self.queues[queue as usize];
+        let stored = if self.iommu.is_on {
+            let mut lent = self.worker.lend(&mut self.iommu.table)?;
+            lent.set_notification(queue, enabled, &self.memory)
+        } else {
+            self.worker.set_notification(queue, enabled, &self.memory)
+        };
+        match stored {
+            Ok(_) => Ok(true),
+            Err(Status::NotMapped) => Ok(false),
+            Err(status) => Err(status.into()),
+        }
+    }
+
+    /// Pops a queue's next chain and drops it, or returns it if it has a fault.
+    pub fn drop_chain(&mut self, queue: u64) -> Result<Dropped, Stuck> {
+        self.set_memory()?;
+        let queue = queue as usize;
+        self.memory.begin_step(self.iommu.is_on);
+        let popped = if self.iommu.is_on {
+            self.pop_translated(queue)?.map(|popped| popped == Popped::Chain)
+        } else {
+            self.worker.pop(&mut self.queues[queue], &self.memory)
+        };
+        match popped {
+            Ok(false) => Ok(Dropped::Idle),
+            Ok(true) if self.worker.is_answered() => Ok(Dropped::Faulty(self.push(queue)?)),
+            Ok(true) => {
+                self.worker.unpop(&mut self.queues[queue])?;
+                Ok(Dropped::Available)
+            }
+            Err(status) => Ok(Dropped::Refused(refusal(status)?)),
+        }
+    }
+
+    /// Pushes the worker's chain.
+    fn push(&mut self, queue: usize) -> Result<Served, Stuck> {
+        if self.iommu.is_on {
+            let mut lent = self.worker.lend(&mut self.iommu.table)?;
+            return Ok(lent.push(&mut self.queues[queue], &self.memory)?);
+        }
+        Ok(self.worker.push(&mut self.queues[queue], &self.memory)?)
     }
 
     /// Sets the worker's regions, before each chain. So the wrapper loads the available index again
@@ -167,8 +248,7 @@ impl Machine {
             Err(status) => return Ok(Err(status)),
         }
         self.worker.answer(&self.device, &self.files, &self.memory)?;
-        let mut lent = self.worker.lend(&mut self.iommu.table)?;
-        Ok(Ok(Some(lent.push(&mut self.queues[queue], &self.memory)?)))
+        Ok(Ok(Some(self.push(queue)?)))
     }
 
     /// Serves a queue's next chain.
@@ -191,10 +271,7 @@ impl Machine {
                 }
                 Ok(Step::Done(self.files.take_calls(), served))
             }
-            Err(status) if status.stops_queue() || status == Status::OutOfMemory => {
-                Ok(Step::Refused(status.number()))
-            }
-            Err(status) => Err(status.into()),
+            Err(status) => Ok(Step::Refused(refusal(status)?)),
         }
     }
 
@@ -211,6 +288,7 @@ impl Machine {
         self.memory = memory;
         self.device = device;
         self.queues = queues;
+        self.set_event_index(self.event_index);
         self.worker = Worker::new();
         Ok(Some(record.len()))
     }

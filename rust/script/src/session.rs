@@ -1,9 +1,9 @@
 //! Runs a script's commands one after another, and prints their outcomes.
 use crate::halt::Halt;
 use crate::line::{self, Command, WrongLine};
-use crate::machine::{bad_layout, fault_name, Machine, Step, QUEUES_MAX};
+use crate::machine::{bad_layout, fault_name, Dropped, Machine, Step, QUEUES_MAX};
 use crate::memory::Refusal;
-use pitskhomu::{QueueLayout, Status};
+use pitskhomu::{QueueLayout, Served, Status};
 use std::io::{self, Write};
 
 /// The number of a kick's refusal: there is no such queue.
@@ -64,6 +64,12 @@ impl Session {
             }
             Command::Kick { queue, most } => self.kick(number, queue, most, writer)?,
             Command::Reset { queue, layout } => self.reset(number, queue, layout, writer)?,
+            Command::EventIndex(is_accepted) => {
+                self.machine.set_event_index(is_accepted);
+                writeln!(writer, "ok")?;
+            }
+            Command::Notify { queue, enabled } => self.notify(number, queue, enabled, writer)?,
+            Command::Drop { queue } => self.drop_chain(number, queue, writer)?,
             Command::Move => self.move_on(number, writer)?,
             Command::Harvest => self.harvest(writer)?,
         }
@@ -121,13 +127,51 @@ impl Session {
                     if calls.more > 0 {
                         writeln!(writer, "more {}", calls.more)?;
                     }
-                    let (head, len, fault) = (served.head, served.reply_len, fault_name(&served));
-                    writeln!(writer, "done {head} {len} {fault} {}", u8::from(served.notify))?;
+                    print_done(writer, &served)?;
                 }
             }
         }
         if is_idle {
             writeln!(writer, "idle")?;
+        }
+        Ok(())
+    }
+
+    /// Enables or disables notifications of the driver.
+    fn notify(
+        &mut self,
+        number: usize,
+        queue: u64,
+        enabled: bool,
+        writer: &mut dyn Write,
+    ) -> Result<(), Halt> {
+        if !self.machine.has_queue(queue) {
+            writeln!(writer, "refused {NO_SUCH_QUEUE}")?;
+            return Ok(());
+        }
+        match self.machine.notify(queue, enabled).map_err(|stuck| stuck.at(number))? {
+            true => writeln!(writer, "ok")?,
+            false => writeln!(writer, "refused {}", Status::UsedUnreachable.number())?,
+        }
+        Ok(())
+    }
+
+    /// Pops a chain, and drops it: it is available again. One with a fault is returned.
+    fn drop_chain(
+        &mut self,
+        number: usize,
+        queue: u64,
+        writer: &mut dyn Write,
+    ) -> Result<(), Halt> {
+        if !self.machine.has_queue(queue) {
+            writeln!(writer, "refused {NO_SUCH_QUEUE}")?;
+            return Ok(());
+        }
+        match self.machine.drop_chain(queue).map_err(|stuck| stuck.at(number))? {
+            Dropped::Idle => writeln!(writer, "idle")?,
+            Dropped::Refused(number) => writeln!(writer, "refused {number}")?,
+            Dropped::Available => writeln!(writer, "dropped")?,
+            Dropped::Faulty(served) => print_done(writer, &served)?,
         }
         Ok(())
     }
@@ -161,6 +205,11 @@ impl Session {
         }
         pages.iter().try_for_each(|(block, page)| writeln!(writer, "page {block} {page}"))
     }
+}
+
+fn print_done(writer: &mut dyn Write, served: &Served) -> io::Result<()> {
+    let (head, len, fault) = (served.head, served.reply_len, fault_name(served));
+    writeln!(writer, "done {head} {len} {fault} {}", u8::from(served.notify))
 }
 
 fn done(result: Result<(), Refusal>) -> Result<String, Refusal> {

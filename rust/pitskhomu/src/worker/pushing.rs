@@ -56,6 +56,21 @@ impl Worker {
         Ok(self.served(stores.len, notify))
     }
 
+    /// Undoes a pop, with a table or without one: the queue's next pop returns the chain again. The
+    /// driver doesn't notify for it again.
+    ///
+    /// # Errors
+    /// An error leaves the chain with the worker.
+    /// - `WrongOrder`: the worker has no chain, or one that was decoded or has a fault; or another
+    ///   worker popped a chain of the queue later.
+    /// - `OtherQueue`: the chain is of another queue, or its queue was reset.
+    pub fn unpop(&mut self, queue: &mut Queue) -> Result<(), Status> {
+        if !self.has_chain() {
+            return Err(Status::WrongOrder);
+        }
+        self.chain.unpop(queue)
+    }
+
     /// Makes the stores of a push, and returns whether to notify the driver.
     fn store(
         &mut self,

@@ -102,9 +102,19 @@ impl Guest {
         self.memory.write(entry, &[0, 0]);
         self.memory.write(0x4002, &next.to_le_bytes());
         match self.worker.serve(&mut self.queue, &self.device, files, &self.memory)? {
+            Some(served) if self.used(position) != [0, served.reply_len] => {
+                Ok(End::Fault(format!("the used element is {:?}", self.used(position))))
+            }
             Some(served) => Ok(self.end(&served)),
             None => Ok(End::Fault("no chain is available".into())),
         }
+    }
+
+    /// The used element of a position: head and length.
+    fn used(&self, position: u16) -> [u32; 2] {
+        let at = 0x5004 + 8 * usize::from(position % SIZE);
+        let value = |bytes: &[u8]| bytes.iter().rev().fold(0, |all, &b| all << 8 | u32::from(b));
+        [at, at + 4].map(|at| value(&self.memory.read(at, 4)))
     }
 
     fn end(&self, served: &Served) -> End {

@@ -1,0 +1,26 @@
+# Chains of a device behind an IOMMU that are dropped, with the event index, too.
+queue 4 0x10000 0x11000 0x12000
+region 0 0x8000
+map 0x10000 0x1000 0x1000 r
+map 0x11000 0x3000 0x1000 r
+map 0x12000 0x5000 0x1000 rw
+map 0x13000 0x7000 0x1000 rw
+iommu on
+write 0x7000 28000000070000001100000000000000010000000000000000000000000000000000000000000000
+write 0x1000 0030010000000000280000000100010000380100000000001000000002000000
+write 0x3004 0000000000000000
+write 0x3002 0200
+drop 0
+drop 0
+kick 0 1
+drop 0
+# The reply buffer may not be written: the chain has a fault, and is returned.
+map 0x13000 0x7000 0x1000 r
+drop 0
+map 0x13000 0x7000 0x1000 rw
+write 0x3002 0300
+event_index on
+write 0x300c 0200
+drop 0
+kick 0 1
+read 0x5000 40
