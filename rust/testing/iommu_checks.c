@@ -148,6 +148,29 @@ static void refuses_pages(void) {
     printf("iommu: what is refused is a fault, once\n");
 }
 
+/* A chain that nobody has taken, whose request isn't mapped: while its ring stops nothing is asked
+ * for. */
+static void asks_nothing(void) {
+    for (int stops = 0; stops < 2; stops++) {
+        uint16_t position = front.rings[1].offered;
+        usleep(300000);
+        tell(INVALIDATE, SHIFT + request_at(1), 0x100000, 0, 0);
+        front_offer(&front, 1, 0); /* the last one again, without a kick */
+        unsigned before = misses;
+        if (stops)
+            check("the chain stays in the ring", stop_ring(1) == position);
+        else
+            enable_ring(1, 0);
+        usleep(100000);
+        check("no miss is sent while a ring stops", misses == before);
+        if (stops)
+            start_ring(1, position);
+        else
+            enable_ring(1, 1);
+        if (!front_wait(&front, 1, 20000)) die("a ring that stopped doesn't go on");
+    }
+}
+
 /* No message waits for a miss. */
 static void stops(void) {
     struct fuse_getattr_in in = {0};
@@ -174,6 +197,7 @@ static void stops(void) {
         if (!front_wait(&front, 1, 20000)) die("a ring that waited for a miss doesn't go on");
         ask_root("GETATTR after a stop");
     }
+    asks_nothing();
     printf("iommu: no message waits for a miss\n");
 }
 

@@ -70,6 +70,9 @@ impl<F: ServedFs> FrontEnd<F> {
     /// Enables or disables all rings.
     fn enable_all(&mut self, enabled: bool, patience: Patience) {
         let memory = self.core.memory();
+        if !enabled {
+            memory.iommu().hush();
+        }
         for ring in &self.core.rings {
             ring.enable(enabled, &mut self.worker, &memory, patience);
         }
@@ -213,7 +216,9 @@ impl<F: ServedFs> VhostUserBackendReqHandlerMut for FrontEnd<F> {
         let patience = self.patience();
         // The reply has only the base, so it can't report an error.
         let ring = self.core.rings.get(index as usize).ok_or(Error::InvalidParam)?;
-        let next_avail = ring.stop(&mut self.worker, &self.core.memory(), patience);
+        let memory = self.core.memory();
+        memory.iommu().hush();
+        let next_avail = ring.stop(&mut self.worker, &memory, patience);
         Ok(VhostUserVringState::new(index, next_avail.into()))
     }
 
@@ -271,7 +276,11 @@ impl<F: ServedFs> VhostUserBackendReqHandlerMut for FrontEnd<F> {
         }
         let patience = self.patience();
         let ring = self.core.rings.get(index as usize).ok_or_else(no_queue)?;
-        ring.enable(enable, &mut self.worker, &self.core.memory(), patience);
+        let memory = self.core.memory();
+        if !enable {
+            memory.iommu().hush();
+        }
+        ring.enable(enable, &mut self.worker, &memory, patience);
         Ok(())
     }
 

@@ -75,6 +75,13 @@ impl Iommu {
         self.channel.ask(misses, cancel, is_known)
     }
 
+    /// The front-end stops a ring.
+    pub fn hush(&self) {
+        if self.is_on() {
+            self.channel.hush();
+        }
+    }
+
     /// From here on the ring's threads don't wait for answers.
     pub fn cancel(&self, ring: &Ring) {
         self.channel.cancel(&ring.asking);

@@ -312,51 +312,52 @@ mod tests {
         assert!(options(all).expect("options").warnings().is_empty());
     }
 
+    /// Wrong words, and how virtiofsd's message for them begins.
+    const WRONG: &[(&str, &str)] = &[
+        ("--cache=some", "invalid value 'some' for '--cache <CACHE>': invalid cache policy"),
+        ("--sandbox=x", "invalid value 'x' for '--sandbox <SANDBOX>': Unknown sandbox mode"),
+        ("--seccomp=x", "invalid value 'x' for '--seccomp <SECCOMP>': Matching variant not found"),
+        (
+            "--inode-file-handles=x",
+            "invalid value 'x' for '--inode-file-handles=<INODE_FILE_HANDLES>': invalid inode \
+             file handles mode",
+        ),
+        (
+            "--inode-file-handles",
+            "equal sign is needed when assigning values to \
+             '--inode-file-handles=<INODE_FILE_HANDLES>'",
+        ),
+        (
+            "--tag=",
+            "invalid value '' for '--tag <TAG>': The tag may not be empty or longer than 36 \
+             bytes (encoded as UTF-8).",
+        ),
+        ("--log-level=x", "invalid value 'x' for '--log-level <LOG_LEVEL>'"),
+        ("--fd=3", "the argument '--socket-path <SOCKET_PATH>' cannot be used with '--fd <FD>'"),
+        ("--no-such-option", "unexpected argument '--no-such-option' found"),
+        ("-o cache=some", "Invalid compat value 'some' for '-o cache'"),
+        ("-o cache=never", "Invalid compat value 'never' for '-o cache'"),
+        ("-o loglevel=trace", "Invalid compat value 'trace' for '-o loglevel'"),
+        ("-o sandbox=none", "Invalid compat value 'none' for '-o sandbox'"),
+        ("-o xattrmap=x", "Invalid compat value 'x' for '-o xattrmap'"),
+        ("-o flock", "Invalid compat argument '-o flock'"),
+        ("-o timeout=1", "Invalid compat argument '-o timeout=1'"),
+        ("-o source=/a=b", "Invalid compat argument '-o source=/a=b'"),
+        ("-o xattr,,no_flock", "Invalid compat argument '-o '"),
+    ];
+
     /// The messages of virtiofsd 1.13.2 for the same words, up to the end of the line.
     #[test]
     fn what_is_wrong_is_refused_in_virtiofsds_words() {
-        for (words, wanted) in [
-            ("--cache=some", "invalid value 'some' for '--cache <CACHE>': invalid cache policy"),
-            ("--sandbox=x", "invalid value 'x' for '--sandbox <SANDBOX>': Unknown sandbox mode"),
-            (
-                "--seccomp=x",
-                "invalid value 'x' for '--seccomp <SECCOMP>': Matching variant not found",
-            ),
-            (
-                "--inode-file-handles=x",
-                "invalid value 'x' for '--inode-file-handles=<INODE_FILE_HANDLES>': invalid inode \
-                 file handles mode",
-            ),
-            (
-                "--inode-file-handles",
-                "equal sign is needed when assigning values to \
-                 '--inode-file-handles=<INODE_FILE_HANDLES>'",
-            ),
-            (
-                "--tag=",
-                "invalid value '' for '--tag <TAG>': The tag may not be empty or longer than 36 \
-                 bytes (encoded as UTF-8).",
-            ),
-            ("--log-level=x", "invalid value 'x' for '--log-level <LOG_LEVEL>'"),
-            (
-                "--fd=3",
-                "the argument '--socket-path <SOCKET_PATH>' cannot be used with '--fd <FD>'",
-            ),
-            ("--no-such-option", "unexpected argument '--no-such-option' found"),
-            ("-o cache=some", "Invalid compat value 'some' for '-o cache'"),
-            ("-o cache=never", "Invalid compat value 'never' for '-o cache'"),
-            ("-o loglevel=trace", "Invalid compat value 'trace' for '-o loglevel'"),
-            ("-o sandbox=none", "Invalid compat value 'none' for '-o sandbox'"),
-            ("-o xattrmap=x", "Invalid compat value 'x' for '-o xattrmap'"),
-            ("-o flock", "Invalid compat argument '-o flock'"),
-            ("-o timeout=1", "Invalid compat argument '-o timeout=1'"),
-            ("-o source=/a=b", "Invalid compat argument '-o source=/a=b'"),
-            ("-o xattr,,no_flock", "Invalid compat argument '-o '"),
-        ] {
+        for (words, wanted) in WRONG {
             let why = options(words).expect_err(words);
             assert!(why.starts_with(&format!("error: {wanted}")), "{words}: {why}");
             assert!(why.contains("For more information, try '--help'."), "{words}: {why}");
         }
+    }
+
+    #[test]
+    fn numbers_past_their_limits_are_refused() {
         for wrong in ["--thread-pool-size=1025", "--num-request-queues=64"] {
             assert!(options(wrong).is_err(), "{wrong}");
         }

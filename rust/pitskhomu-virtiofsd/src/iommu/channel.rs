@@ -5,6 +5,7 @@ use log::{debug, warn};
 use pitskhomu::{Access, Iotlb, Miss};
 use std::collections::VecDeque;
 use std::io::{self, ErrorKind, IoSlice, IoSliceMut};
+use std::iter::Peekable;
 use std::os::fd::{AsRawFd, OwnedFd};
 use std::sync::atomic::{AtomicBool, AtomicU64, Ordering};
 use std::sync::{Arc, Condvar, Mutex, MutexGuard, PoisonError};
@@ -16,6 +17,9 @@ use super::messages::{flags, receive, send, Head, IotlbBody, HEAD_LEN, MISS};
 
 /// How long a pop waits for the answers to its misses.
 const PATIENCE: Duration = Duration::from_secs(2);
+/// The time for which no miss is sent after a message that stops a ring. QEMU stops all rings of a
+/// device one after another, refuses each miss that it reads then, and complains of it.
+const QUIET: Duration = Duration::from_millis(200);
 /// So many misses are asked for before the first is answered.
 const MOST_ASKED: usize = 64;
 /// So many pages are asked for before the pop is made again: a READ and its reply have 514. A guest
@@ -104,6 +108,8 @@ struct State {
     part: Vec<u8>,
     /// Where the reading thread waits, once it runs.
     events: Option<Arc<Epoll>>,
+    /// No miss is sent until then.
+    quiet: Option<Instant>,
 }
 
 /// The channel, if the front-end has one.
@@ -157,6 +163,11 @@ impl State {
             }
         }
         None
+    }
+
+    /// The time until misses may be sent.
+    fn quiet_time(&self) -> Duration {
+        self.quiet.map_or(Duration::ZERO, |end| end.saturating_duration_since(Instant::now()))
     }
 
     /// An ask of a moment ago that needs no less.
@@ -264,10 +275,16 @@ impl Channel {
         self.changed.notify_all();
     }
 
+    /// The device stops, it seems: for a while no miss is sent.
+    pub fn hush(&self) {
+        self.lock().quiet = Some(Instant::now() + QUIET);
+    }
+
     /// The device begins: no thread waits for an answer to an earlier ask.
     pub fn begin(&self) {
         self.epoch.fetch_add(1, Ordering::AcqRel);
-        self.wake();
+        self.lock().quiet = None;
+        self.changed.notify_all();
     }
 
     /// The number of times that the device began.
@@ -292,50 +309,83 @@ impl Channel {
         is_known: impl Fn(u64) -> bool,
     ) -> Option<Vec<u64>> {
         let end = Instant::now() + PATIENCE;
-        let mut wanted = pages(misses).take(MOST_PAGES).peekable();
-        let mut mine = Vec::<Arc<Ask>>::new();
-        let mut refused = Vec::new();
         let mut state = self.lock();
-        let (epoch, cancelled) = (self.epoch(), cancel.count());
+        let mut asking = Asking::new(misses, self.epoch());
+        let cancelled = cancel.count();
         loop {
-            if self.epoch() != epoch {
+            if self.epoch() != asking.epoch {
                 return Some(Vec::new());
             }
-            while let Some(&(page, access)) = wanted.peek() {
-                if is_known(page) {
-                    wanted.next();
-                    continue;
-                }
-                let ask =
-                    state.shared(page, access, epoch).or_else(|| state.send(page, access, epoch));
-                let Some(ask) = ask else { break };
-                mine.push(ask);
-                wanted.next();
+            let quiet = state.quiet_time();
+            let is_cancelled = cancel.is_set_since(cancelled);
+            if quiet.is_zero() && !is_cancelled {
+                asking.send(&mut state, &is_known);
             }
-            mine.retain(|ask| match ask.answer() {
-                Answer::None => !is_known(ask.page),
-                Answer::Good => false,
-                Answer::Refused => {
-                    refused.push(ask.page);
-                    false
-                }
-                Answer::Lost => true,
-            });
-            if wanted.peek().is_none() && mine.is_empty() {
-                return Some(refused);
+            asking.take_answers(&is_known);
+            if asking.is_done() {
+                return Some(asking.refused);
             }
             let left = end.saturating_duration_since(Instant::now());
-            let is_lost =
-                state.socket.is_none() || mine.iter().any(|ask| ask.answer() == Answer::Lost);
-            if left.is_zero() || is_lost || cancel.is_set_since(cancelled) {
-                drop(state);
-                if left.is_zero() {
-                    warn!("the front-end doesn't answer what an I/O address means");
-                }
+            if left.is_zero() {
+                warn!("the front-end doesn't answer what an I/O address means");
+            }
+            if left.is_zero() || is_cancelled || state.socket.is_none() || asking.is_lost() {
                 return None;
             }
-            let changed = self.changed.wait_timeout(state, left);
+            let time = if quiet.is_zero() { left } else { left.min(quiet) };
+            let changed = self.changed.wait_timeout(state, time);
             state = changed.unwrap_or_else(PoisonError::into_inner).0;
         }
+    }
+}
+
+/// What a thread asks for at once.
+struct Asking<'m> {
+    wanted: Peekable<Box<dyn Iterator<Item = (u64, Access)> + 'm>>,
+    sent: Vec<Arc<Ask>>,
+    refused: Vec<u64>,
+    epoch: u64,
+}
+
+impl<'m> Asking<'m> {
+    fn new(misses: &'m [Miss], epoch: u64) -> Asking<'m> {
+        let pages: Box<dyn Iterator<Item = (u64, Access)> + 'm> =
+            Box::new(pages(misses).take(MOST_PAGES));
+        Asking { wanted: pages.peekable(), sent: Vec::new(), refused: Vec::new(), epoch }
+    }
+
+    /// Sends as many as may be.
+    fn send(&mut self, state: &mut State, is_known: &impl Fn(u64) -> bool) {
+        while let Some(&(page, access)) = self.wanted.peek() {
+            if !is_known(page) {
+                let ask = state
+                    .shared(page, access, self.epoch)
+                    .or_else(|| state.send(page, access, self.epoch));
+                let Some(ask) = ask else { return };
+                self.sent.push(ask);
+            }
+            self.wanted.next();
+        }
+    }
+
+    fn take_answers(&mut self, is_known: &impl Fn(u64) -> bool) {
+        let refused = &mut self.refused;
+        self.sent.retain(|ask| match ask.answer() {
+            Answer::None => !is_known(ask.page),
+            Answer::Good => false,
+            Answer::Refused => {
+                refused.push(ask.page);
+                false
+            }
+            Answer::Lost => true,
+        });
+    }
+
+    fn is_done(&mut self) -> bool {
+        self.wanted.peek().is_none() && self.sent.is_empty()
+    }
+
+    fn is_lost(&self) -> bool {
+        self.sent.iter().any(|ask| ask.answer() == Answer::Lost)
     }
 }
