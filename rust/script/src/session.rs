@@ -149,9 +149,10 @@ impl Session {
             writeln!(writer, "refused {NO_SUCH_QUEUE}")?;
             return Ok(());
         }
-        match self.machine.notify(queue, enabled).map_err(|stuck| stuck.at(number))? {
-            true => writeln!(writer, "ok")?,
-            false => writeln!(writer, "refused {}", Status::UsedUnreachable.number())?,
+        if self.machine.notify(queue, enabled).map_err(|stuck| stuck.at(number))? {
+            writeln!(writer, "ok")?;
+        } else {
+            writeln!(writer, "refused {}", Status::UsedUnreachable.number())?;
         }
         Ok(())
     }
