@@ -82,8 +82,9 @@ def descriptor(memory, address, inside):
         if inside:
             raise Fault("TableUnreachable") from None
         raise
-    parts = data[:8], data[8:12], data[12:14], data[14:]
-    return [int.from_bytes(part, "little") for part in parts]
+    parts = {"addr": data[:8], "len": data[8:12], "flags": data[12:14], "next": data[14:]}
+    return [memory.seen("desc." + field, int.from_bytes(part, "little"))
+        for field, part in parts.items()]
 
 
 def check_table(address, length, flags, inside):
@@ -153,7 +154,7 @@ class Machine:
         """The driver is asked to notify, or not to."""
         address, value = queue.used, 0 if is_on else 1
         if self.event_index:
-            address, value = queue.avail_event(), queue.position
+            address, value = queue.avail_event(), self.memory.seen("avail_event", queue.position)
         places = self.memory.places(address, 2, "w")
         if is_on or not self.event_index:
             if places is None:
@@ -178,14 +179,15 @@ class Machine:
             memory.fetch(queue.used_event(), 2, FLAGS_UNREACHABLE)
             if memory.places(queue.avail_event(), 2, "w") is None:
                 raise Refused(USED_UNREACHABLE)
-        index = memory.number(queue.avail + 2, 2, INDEX_UNREACHABLE)
+        index = memory.seen("avail.idx", memory.number(queue.avail + 2, 2, INDEX_UNREACHABLE))
         waiting = (index - queue.position) % 65536
         if waiting == 0:
             return None
         if waiting > queue.size:
             raise Refused(TOO_FAR)
         slot = queue.position % queue.size
-        head = memory.number(queue.avail + 4 + 2 * slot, 2, ENTRY_UNREACHABLE)
+        entry = memory.number(queue.avail + 4 + 2 * slot, 2, ENTRY_UNREACHABLE)
+        head = memory.seen("avail.ring", entry)
         if head >= queue.size:
             raise Refused(HEAD_OUT)
         element = memory.places(queue.used + 4 + 8 * slot, 8, "w")
@@ -227,15 +229,18 @@ class Machine:
         """Whether the driver is notified of the chain that went back last."""
         if self.event_index:
             event = self.memory.number(queue.used_event(), 2, FLAGS_UNREACHABLE)
-            return event == (queue.position - 1) % 65536
-        return self.memory.number(queue.avail, 2, FLAGS_UNREACHABLE) % 2 == 0
+            return self.memory.seen("used_event", event) == (queue.position - 1) % 65536
+        flags = self.memory.number(queue.avail, 2, FLAGS_UNREACHABLE)
+        return self.memory.seen("avail.flags", flags) % 2 == 0
 
     def give_back(self, queue, head, element, used_index, room, reply):
         """The reply, the used element, the used index, in this order."""
         queue.position = (queue.position + 1) % 65536
         self.memory.store(room, reply)
-        self.memory.store(element, head.to_bytes(4, "little") + len(reply).to_bytes(4, "little"))
-        self.memory.store(used_index, queue.position.to_bytes(2, "little"))
+        used = [self.memory.seen("used.id", head), self.memory.seen("used.len", len(reply))]
+        self.memory.store(element, b"".join(number.to_bytes(4, "little") for number in used))
+        index = self.memory.seen("used.idx", queue.position)
+        self.memory.store(used_index, index.to_bytes(2, "little"))
 
     def count_request(self, reply, fault):
         """What was asked and how it ended, for the coverage."""
@@ -496,10 +501,11 @@ ARGUMENTS = {
 }
 
 
-def play(script, work=6_000_000):
-    """What a script prints and its status, on the program and on the handle, and what it
-    covered."""
+def play(script, work=6_000_000, wrong=None):
+    """What a script prints and its status, on the program and on the handle, and what it covered. A
+    wrong device reads or writes one field wrongly (`Memory.wrong`)."""
     player = Player(work)
+    player.machine.memory.wrong = wrong
     whole = player.play(script)
     on_handle = whole if player.on_handle is None else (player.on_handle, LACKING)
     on_program = whole if player.on_program is None else (player.on_program, 1)

@@ -71,6 +71,8 @@ class Memory:
         self.table = []
         self.iommu = False
         self.work = work
+        # A field that the device reads or writes wrongly, and how many of its bits are left.
+        self.wrong = None
 
     def place(self, address):
         """The block and the offset of a guest address, and how many of its region follow from it
@@ -123,6 +125,12 @@ class Memory:
             found.append((block, offset, count))
             address, length = address + count, length - count
         return found
+
+    def seen(self, field, value):
+        """A field's value, which may be cut."""
+        if self.wrong is not None and self.wrong[0] == field:
+            return value & (1 << self.wrong[1]) - 1
+        return value
 
     def fetch(self, address, length, refusal):
         """The bytes that the device reads there."""
