@@ -64,6 +64,8 @@ mod device;
 mod errno;
 mod exchange;
 mod file_system;
+#[cfg(all(feature = "std", target_os = "linux", target_pointer_width = "64"))]
+mod files;
 mod flags;
 mod iotlb;
 mod kept;

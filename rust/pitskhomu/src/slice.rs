@@ -67,6 +67,13 @@ impl<'m> GuestSlice<'m> {
         GuestSlice { at, len, is_wide: true, memory: PhantomData }
     }
 
+    /// The address of its first byte, for a system call. The duties of [`GuestSlice::new`] are those
+    /// of code that accesses the bytes by it.
+    #[must_use]
+    pub const fn as_ptr(&self) -> *mut u8 {
+        self.at
+    }
+
     /// The number of bytes.
     #[must_use]
     pub const fn len(&self) -> usize {

@@ -1,0 +1,167 @@
+//! READ's and WRITE's data from and to a file, without a copy: system calls on the guest's own
+//! memory (preadv and pwritev of Linux).
+#![allow(unsafe_code)]
+
+use crate::data::{at_most, ReadData, WriteData};
+use crate::memory::{GuestMemory, Window};
+use std::fs::File;
+use std::io::{self, ErrorKind};
+use std::os::raw::{c_int, c_void};
+use std::os::unix::fs::FileExt;
+use std::os::unix::io::AsRawFd;
+
+/// The most windows of one system call.
+const WINDOWS: usize = 64;
+/// The bytes that the data of an owned request is read by.
+const BUFFER: usize = 4096;
+
+/// struct iovec of sys/uio.h.
+#[repr(C)]
+#[derive(Clone, Copy)]
+struct Piece {
+    at: *mut c_void,
+    len: usize,
+}
+
+extern "C" {
+    fn preadv(fd: c_int, pieces: *const Piece, count: c_int, offset: i64) -> isize;
+    fn pwritev(fd: c_int, pieces: *const Piece, count: c_int, offset: i64) -> isize;
+}
+
+/// The bytes of windows, as a system call takes them. They end at the first window that the memory
+/// doesn't have.
+struct Pieces {
+    list: [Piece; WINDOWS],
+    /// How many of the list they are.
+    count: c_int,
+    len: u64,
+}
+
+impl Pieces {
+    fn new(memory: &dyn GuestMemory, windows: &[Window]) -> Pieces {
+        let none = Piece { at: core::ptr::null_mut(), len: 0 };
+        let mut found = Pieces { list: [none; WINDOWS], count: 0, len: 0 };
+        for (window, piece) in windows.iter().zip(&mut found.list) {
+            match memory.get_slice(window.at, window.len) {
+                Some(slice) if slice.len() == window.len => {
+                    *piece = Piece { at: slice.as_ptr().cast(), len: window.len };
+                    found.len += window.len as u64;
+                    found.count += 1;
+                }
+                _ => break,
+            }
+        }
+        found
+    }
+
+    /// Makes a system call with them.
+    fn call(
+        &self,
+        call: unsafe extern "C" fn(c_int, *const Piece, c_int, i64) -> isize,
+        file: &File,
+        offset: u64,
+    ) -> io::Result<u64> {
+        // `EINVAL`, as of an offset that the system doesn't have.
+        let offset = i64::try_from(offset).map_err(|_| io::Error::from_raw_os_error(22))?;
+        if self.count == 0 {
+            return Err(io::Error::from_raw_os_error(14)); // `EFAULT`: the memory lacks them
+        }
+        loop {
+            // SAFETY: the pieces are valid, and are the guest's: the memory keeps them mapped while
+            // `self` borrows from it, and all accesses of this process to them are atomic or
+            // volatile. The call keeps no pointer.
+            let moved = unsafe { call(file.as_raw_fd(), self.list.as_ptr(), self.count, offset) };
+            if let Ok(moved) = u64::try_from(moved) {
+                return Ok(moved);
+            }
+            let error = io::Error::last_os_error();
+            if error.kind() != ErrorKind::Interrupted {
+                return Err(error);
+            }
+        }
+    }
+}
+
+/// Moves bytes piece by piece until one is short. `piece` gets how many were moved, and returns how
+/// many it moved and wanted to. Only an error of the first piece is returned: the guest's next call
+/// meets a later one again.
+fn move_pieces(mut piece: impl FnMut(u64) -> io::Result<(u64, u64)>) -> io::Result<u64> {
+    let mut done = 0;
+    loop {
+        match piece(done) {
+            Ok((moved, wanted)) => {
+                done += moved;
+                if moved < wanted || wanted == 0 {
+                    return Ok(done);
+                }
+            }
+            Err(error) if done == 0 => return Err(error),
+            Err(_) => return Ok(done),
+        }
+    }
+}
+
+impl ReadData<'_> {
+    /// Fills the data from a file, from a byte of it on, without a copy: as much as fits, or up to
+    /// the file's end. Returns the number of bytes, which [`ReadData::done`] counts.
+    ///
+    /// # Errors
+    /// Those of pread. After some bytes they aren't returned.
+    ///
+    /// # Examples
+    /// ```
+    /// # use pitskhomu::*;
+    /// # use std::fs::File;
+    /// /// READ of a file system that has an open file for each handle.
+    /// fn read(file: &File, read: &Read, data: &mut ReadData<'_>) -> Answer<()> {
+    ///     data.read_from(file, read.offset)?;
+    ///     Ok(())
+    /// }
+    /// ```
+    pub fn read_from(&mut self, file: &File, offset: u64) -> io::Result<u64> {
+        move_pieces(|done| {
+            let (from, wanted) = (offset.saturating_add(done), self.left());
+            if wanted == 0 {
+                return Ok((0, 0));
+            }
+            let mut windows = [Window::default(); WINDOWS];
+            if let Some((memory, windows)) = self.pieces(&mut windows) {
+                let pieces = Pieces::new(memory, windows);
+                let moved = pieces.call(preadv, file, from)?;
+                self.advance(moved);
+                return Ok((moved, pieces.len));
+            }
+            let mut buffer = [0; BUFFER];
+            let len = at_most(wanted, BUFFER);
+            let moved = file.read_at(&mut buffer[..len], from)?;
+            self.put(&buffer[..moved]);
+            Ok((moved as u64, len as u64))
+        })
+    }
+}
+
+impl WriteData<'_> {
+    /// Writes the data that is left to a file, from a byte of it on, without a copy. Returns the
+    /// number of bytes, which [`WriteData::done`] counts.
+    ///
+    /// # Errors
+    /// Those of pwrite. After some bytes they aren't returned.
+    pub fn write_to(&mut self, file: &File, offset: u64) -> io::Result<u64> {
+        move_pieces(|done| {
+            let from = offset.saturating_add(done);
+            if self.left() == 0 {
+                return Ok((0, 0));
+            }
+            let mut windows = [Window::default(); WINDOWS];
+            let (moved, wanted) = match self.pieces(&mut windows) {
+                Ok((memory, windows)) => {
+                    let pieces = Pieces::new(memory, windows);
+                    (pieces.call(pwritev, file, from)?, pieces.len)
+                }
+                Err(bytes) => (file.write_at(bytes, from)? as u64, bytes.len() as u64),
+            };
+            self.advance(moved);
+            Ok((moved, wanted))
+        })
+    }
+}
