@@ -81,6 +81,8 @@ mod requests;
 mod slice;
 mod status;
 mod sys;
+#[cfg(feature = "std")]
+pub mod testing;
 mod values;
 mod worker;
 

@@ -292,13 +292,27 @@ impl SetAttributes {
 /// it.
 #[derive(Clone, Debug)]
 pub struct Forgets<'r> {
-    pairs: core::slice::ChunksExact<'r, u8>,
+    pairs: Pairs<'r>,
+}
+
+#[derive(Clone, Debug)]
+enum Pairs<'r> {
+    /// Of a request: 8 bytes each, little-endian (struct `fuse_forget_one`).
+    Bytes(core::slice::ChunksExact<'r, u8>),
+    /// Of other code.
+    Numbers(core::slice::Iter<'r, (Node, u64)>),
 }
 
 impl<'r> Forgets<'r> {
-    /// Pairs of 8 bytes each, little-endian (struct `fuse_forget_one`).
+    /// Those of a request.
     pub(crate) fn new(pairs: &'r [u8]) -> Forgets<'r> {
-        Forgets { pairs: pairs.chunks_exact(16) }
+        Forgets { pairs: Pairs::Bytes(pairs.chunks_exact(16)) }
+    }
+}
+
+impl<'r> From<&'r [(Node, u64)]> for Forgets<'r> {
+    fn from(pairs: &'r [(Node, u64)]) -> Forgets<'r> {
+        Forgets { pairs: Pairs::Numbers(pairs.iter()) }
     }
 }
 
@@ -306,13 +320,19 @@ impl Iterator for Forgets<'_> {
     type Item = (Node, u64);
 
     fn next(&mut self) -> Option<(Node, u64)> {
-        let pair = self.pairs.next()?;
+        let pair = match &mut self.pairs {
+            Pairs::Bytes(pairs) => pairs.next()?,
+            Pairs::Numbers(pairs) => return pairs.next().copied(),
+        };
         let number = |at: usize| u64::from_le_bytes(core::array::from_fn(|k| pair[at + k]));
         Some((Node(number(0)), number(8)))
     }
 
     fn size_hint(&self) -> (usize, Option<usize>) {
-        self.pairs.size_hint()
+        match &self.pairs {
+            Pairs::Bytes(pairs) => pairs.size_hint(),
+            Pairs::Numbers(pairs) => pairs.size_hint(),
+        }
     }
 }
 
