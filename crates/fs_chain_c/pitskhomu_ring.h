@@ -11,6 +11,7 @@ struct pk_ring {
     const struct pk_region *regions; /* yours: they have to live as long */
     size_t count;
     uint32_t reset_count; /* of the queue, as `index` was loaded */
+    uint16_t size;        /* of the queue, as the rings were found */
     uint16_t index;       /* the available index that was loaded last */
     uint16_t has_index;   /* 0: load it. Set it to 0 after you loaded it otherwise (by pk_pop, or
                              before a sleep), since an older index stops the queue */
@@ -41,6 +42,7 @@ static inline void pk_ring_find(struct pk_ring *ring, const struct pk_queue *que
     ring->avail = pk_ring_host(regions, count, queue->avail, 6u + 2u * (uint64_t)queue->size);
     ring->regions = regions;
     ring->count = count;
+    ring->size = queue->size;
     ring->has_index = 0;
 }
 
@@ -121,7 +123,7 @@ static inline void pk_ring_guess(const struct pk_queue *queue, struct pk_ring *r
     uint16_t head;
     uintptr_t entry = ring->avail + 4 + 2 * (queue->next_avail & (queue->size - 1u));
     loads->count = loads->len = 0;
-    if (!ring->desc || !ring->avail) return;
+    if (!ring->desc || !ring->avail || queue->size == 0 || queue->size != ring->size) return;
     if (!ring->has_index || ring->reset_count != queue->reset_count ||
         ring->index == queue->next_avail) {
         pk_ring_load(&ring->index, ring->avail + 2, 2);
