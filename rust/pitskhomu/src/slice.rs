@@ -67,8 +67,8 @@ impl<'m> GuestSlice<'m> {
         GuestSlice { at, len, is_wide: true, memory: PhantomData }
     }
 
-    /// The address of its first byte, for a system call. The duties of [`GuestSlice::new`] are those
-    /// of code that accesses the bytes by it.
+    /// The address of its first byte, for a system call. Code that accesses the bytes by it has the
+    /// duties of [`GuestSlice::new`].
     #[must_use]
     pub const fn as_ptr(&self) -> *mut u8 {
         self.at
