@@ -1,23 +1,25 @@
 -- A driver of several handles: a call of one of them leaves the others theirs.
-use Rattle.std.proofs.Common.{inl, inr, ◌≡◌, ◌⊎◌, ◌≤◌, ◌^◌, ℕ, Bool, true, false, List, [], ◌∷◌, ◌++◌, Option, Some, None, map, slice_get}
+use Rattle.std.proofs.Common.{inl, inr, ◌≡◌, ◌⊎◌, ◌≤◌, ◌^◌, ℕ, Bool, true, false, List, [], ◌∷◌, ◌++◌, Option}
+use Rattle.std.proofs.Common.{Some, None, slice_get}
 use Rattle.std.proofs.Common.{refl, subst, sym, ap, ◌∙◌, eqb-true, ◌==◌}
 use Rattle.std.specs.List.{AllByRecursion}
-use Rattle.std.proofs.lemmas.List.{map-append}
 use Rattle.vm_memory.specs.Memory.{Memory}
-use Rattle.live_machine.specs.Live.{Abandoned, Asked, Fetched, InFlightChain, LiveEvent, LiveRun, Own, Phase, PoppedFaulty}
+use Rattle.live_machine.specs.Live.{Abandoned, Asked, Fetched, InFlightChain, Own, Phase}
+use Rattle.live_machine.specs.Live.{PoppedFaulty}
 use Rattle.live_machine.proofs.Alone.{all_both}
 use Rattle.live_machine.proofs.Moved.{joined}
 use Rattle.live_machine.proofs.Queues.{apart_of, same_some, there_other, there_same}
 use Rattle.server_phases.specs.declared.session.Session.{Session}
 use Rattle.fs_chain.specs.Holds.{HoldsChain, IsHeldIn, IsQueue, Machine, any_files}
 use Rattle.fs_chain.specs.Orders.{is_out}
-use Rattle.fs_chain.specs.Driving.{Driven, Drives, FitsRun, In, IsReady, Leads, MayPop, own}
-use Rattle.fs_chain.specs.Together.{HasNone, IsHeldBy, IsNot, Owned, Together, with_handle}
+use Rattle.fs_chain.specs.Driving.{Driven, Drives, FitsRun, In, IsReady, own}
+use Rattle.fs_chain.specs.Together.{HasNone, IsHeldBy, IsNot, Owned, with_handle}
 use Rattle.fs_chain.specs.declared.chain_handle.ChainHandle.{ChainHandle}
 use Rattle.fs_chain.specs.declared.queue.QueueState.{QueueState}
 use Rattle.fs_chain.specs.declared.state.ChainState as state
 use Rattle.fs_chain.specs.declared.state.ChainState.TheVariants as at
-use Rattle.fs_chain.proofs.Together.{all_still, amid, chains_of, finds_own, joins_others, keeps_others, leaves_others}
+use Rattle.fs_chain.proofs.Together.{all_still, amid, chains_of, finds_own, joins_others, keeps_others}
+use Rattle.fs_chain.proofs.Together.{leaves_others}
 
 -- ---- chains among others
 
@@ -66,7 +68,8 @@ same_chain : (j k : ℕ) (d c : InFlightChain) → own j d ≡ own k c → d ≡
 same_chain j k d c e = ap (λ (o : Owned). o.chain) e
 
 -- another handle's chain isn't handle k's
-others_apart : (j k : ℕ) (d c : InFlightChain) (ob oh : List Owned) → HasNone k ob × HasNone k oh → In (own j d) (ob ++ oh) → j ≡ k → ⊥
+others_apart : (j k : ℕ) (d c : InFlightChain) (ob oh : List Owned) → HasNone k ob × HasNone k oh →
+    In (own j d) (ob ++ oh) → j ≡ k → ⊥
 others_apart j k d c ob oh none m same =
     not_in k d (ob ++ oh) (all_both (λ (o : Owned). IsNot k o.handle) ob oh none.0 none.1)
     (subst (λ (n : ℕ). In (own n d) (ob ++ oh)) same m)
@@ -75,9 +78,11 @@ others_apart j k d c ob oh none m same =
 the_new : (ws : List ChainHandle) (k j : ℕ) (w new v : ChainHandle) → k ≡ j → slice_get ws k ≡ Some w →
     slice_get (with_handle ws k new) j ≡ Some v → new ≡ v
 the_new ws k j w new v same there now =
-    same_some new v (sym (there_same ws k j (λ _. new) w same (ap (λ (n : ℕ). slice_get ws n) (sym same) ∙ there)) ∙ now)
+    same_some new v (sym (there_same ws k j (λ _. new) w same
+    (ap (λ (n : ℕ). slice_get ws n) (sym same) ∙ there)) ∙ now)
 
-another : (ws : List ChainHandle) (k j : ℕ) (new v : ChainHandle) → (k ≡ j → ⊥) → slice_get (with_handle ws k new) j ≡ Some v →
+another : (ws : List ChainHandle) (k j : ℕ) (new v : ChainHandle) → (k ≡ j → ⊥) →
+    slice_get (with_handle ws k new) j ≡ Some v →
     slice_get ws j ≡ Some v
 another ws k j new v apart now = sym (there_other ws k j (λ _. new) apart) ∙ now
 
@@ -92,7 +97,8 @@ pub record Moves (s after : Machine) (i : ℕ) (q q' : QueueState) (new : ChainH
   pub event : q'.event_index ≡ q.event_index
   pub fits : FitsRun s.places s.limit q.event_index new
 
-fits_after : (s after : Machine) (i : ℕ) (q q' : QueueState) (new v : ChainHandle) → Moves s after i q q' new →
+fits_after : (s after : Machine) (i : ℕ) (q q' : QueueState) (new v : ChainHandle) → Moves s after i q q' new
+    →
     FitsRun s.places s.limit q.event_index v → FitsRun after.places after.limit q'.event_index v
 fits_after s after i q q' new v moves fits =
     let one : FitsRun after.places s.limit q.event_index v =
@@ -101,28 +107,32 @@ fits_after s after i q q' new v moves fits =
     subst (λ (n : ℕ). FitsRun after.places n q.event_index v) (sym moves.limit) one in
     subst (λ (b : Bool). FitsRun after.places after.limit b v) (sym moves.event) two
 
-all_fit : (s after : Machine) (i : ℕ) (q q' : QueueState) (ws : List ChainHandle) (k : ℕ) (w new : ChainHandle)
+all_fit : (s after : Machine) (i : ℕ) (q q' : QueueState) (ws : List ChainHandle) (k : ℕ)
+    (w new : ChainHandle)
     → Moves s after i q q' new → slice_get ws k ≡ Some w
     → ((j : ℕ) (v : ChainHandle) → slice_get ws j ≡ Some v → FitsRun s.places s.limit q.event_index v)
-    → (j : ℕ) (v : ChainHandle) → slice_get (with_handle ws k new) j ≡ Some v → FitsRun after.places after.limit q'.event_index v
+    → (j : ℕ) (v : ChainHandle) → slice_get (with_handle ws k new) j ≡ Some v →
+    FitsRun after.places after.limit q'.event_index v
 all_fit s after i q q' ws k w new moves there fits j v now = by_cases (by_number k j)
   where
     by_cases : (k ≡ j) ⊎ (k ≡ j → ⊥) → FitsRun after.places after.limit q'.event_index v
     by_cases (inl same) =
         fits_after s after i q q' new v moves
-        (subst (λ (x : ChainHandle). FitsRun s.places s.limit q.event_index x) (the_new ws k j w new v same there now) moves.fits)
+        (subst (λ (x : ChainHandle). FitsRun s.places s.limit q.event_index x)
+        (the_new ws k j w new v same there now) moves.fits)
     by_cases (inr apart) = fits_after s after i q q' new v moves (fits j v (another ws k j new v apart now))
 
-abbrev pub MineIn : (owed : Bool) → (i page_size : ℕ) → InFlightChain → ChainHandle → Type 0
-MineIn owed i page_size c w = (c.queue ≡ i) × (owed ≡ false → IsReady page_size c w.state)
+abbrev pub MineIn : (i page_size : ℕ) → InFlightChain → ChainHandle → Type 0
+MineIn i page_size c w = (c.queue ≡ i) × IsReady page_size c w.state
 
 -- handle k has its chain in another phase
-pub keeps : (owed : Bool) (s after : Machine) (i page_size : ℕ) (q q' : QueueState) (ws : List ChainHandle) (ob oh : List Owned) (k : ℕ)
-    (w new : ChainHandle) (c c' : InFlightChain)
-    → Driven false s i page_size q ws (ob ++ own k c ∷ oh) → slice_get ws k ≡ Some w → Moves s after i q q' new
-    → after.chains ≡ chains_of ob ++ c' ∷ chains_of oh → HoldsChain s.page_size c' new → MineIn owed i page_size c' new
-    → Driven owed after i page_size q' (with_handle ws k new) (ob ++ own k c' ∷ oh)
-keeps owed s after i page_size q q' ws ob oh k w new c c' all there moves chains holds mine =
+pub keeps : (s after : Machine) (i page_size : ℕ) (q q' : QueueState) (ws : List ChainHandle)
+    (ob oh : List Owned) (k : ℕ) (w new : ChainHandle) (c c' : InFlightChain)
+    → Driven s i page_size q ws (ob ++ own k c ∷ oh) → slice_get ws k ≡ Some w → Moves s after i q q' new
+    → after.chains ≡ chains_of ob ++ c' ∷ chains_of oh → HoldsChain s.page_size c' new →
+    MineIn i page_size c' new
+    → Driven after i page_size q' (with_handle ws k new) (ob ++ own k c' ∷ oh)
+keeps s after i page_size q q' ws ob oh k w new c c' all there moves chains holds mine =
     let none = amid k c ob oh all.all.once in
     record {
       all = keeps_others s after ws ob oh k w new c c' all.all there moves.page chains holds;
@@ -134,25 +144,28 @@ keeps owed s after i page_size q q' ws ob oh k w new c c' all there moves chains
       fits = all_fit s after i q q' ws k w new moves there all.fits;
     }
   where
-    its_own : (j : ℕ) (v : ChainHandle) (d : InFlightChain) → slice_get (with_handle ws k new) j ≡ Some v → HasNone k ob × HasNone k oh
-        → (own j d ≡ own k c') ⊎ In (own j d) (ob ++ oh) → MineIn owed i page_size d v
+    its_own : (j : ℕ) (v : ChainHandle) (d : InFlightChain) → slice_get (with_handle ws k new) j ≡ Some v →
+        HasNone k ob × HasNone k oh
+        → (own j d ≡ own k c') ⊎ In (own j d) (ob ++ oh) → MineIn i page_size d v
     its_own j v d now none (inl e) =
         let same : k ≡ j = sym (same_number j k d c' e) in
-        let one : MineIn owed i page_size d new =
-        subst (λ (x : InFlightChain). MineIn owed i page_size x new) (sym (same_chain j k d c' e)) mine in
-        subst (λ (x : ChainHandle). MineIn owed i page_size d x) (the_new ws k j w new v same there now) one
+        let one : MineIn i page_size d new =
+        subst (λ (x : InFlightChain). MineIn i page_size x new) (sym (same_chain j k d c' e)) mine in
+        subst (λ (x : ChainHandle). MineIn i page_size d x) (the_new ws k j w new v same there now) one
     its_own j v d now none (inr m) =
         let apart : k ≡ j → ⊥ = λ same. others_apart j k d c ob oh none m (sym same) in
         let was = all.mine j v d (another ws k j new v apart now) (put ob oh (own k c) (own j d) m) in
-        (was.0, λ _. was.1 refl)
+        was
 
-    others_out : (j : ℕ) (v : ChainHandle) (d : InFlightChain) → (k ≡ j → ⊥) → (own j d ≡ own k c) ⊎ In (own j d) (ob ++ oh)
+    others_out : (j : ℕ) (v : ChainHandle) (d : InFlightChain) → (k ≡ j → ⊥) →
+        (own j d ≡ own k c) ⊎ In (own j d) (ob ++ oh)
         → (e : InFlightChain) × In (own j e) (ob ++ own k c' ∷ oh)
     others_out j v d apart (inl e) = absurd (apart (sym (same_number j k d c e)))
     others_out j v d apart (inr m) = (d, put ob oh (own k c') (own j d) m)
 
     its_out : (j : ℕ) (v : ChainHandle) → slice_get (with_handle ws k new) j ≡ Some v → is_out v.state ≡ true
-        → HasNone k ob × HasNone k oh → (k ≡ j) ⊎ (k ≡ j → ⊥) → (e : InFlightChain) × In (own j e) (ob ++ own k c' ∷ oh)
+        → HasNone k ob × HasNone k oh → (k ≡ j) ⊎ (k ≡ j → ⊥) →
+        (e : InFlightChain) × In (own j e) (ob ++ own k c' ∷ oh)
     its_out j v now out none (inl same) =
         (c', subst (λ (n : ℕ). In (own n c') (ob ++ own k c' ∷ oh)) same (here ob oh (own k c')))
     its_out j v now out none (inr apart) =
@@ -167,11 +180,11 @@ pub not_free : (b : Bool) → b ≡ true → b ≡ false → ⊥
 not_free b t f = subst (λ (k : Bool). IsYes k) (sym t ∙ f) tt
 
 -- handle k has none anymore
-pub leaves : (s after : Machine) (i page_size : ℕ) (q q' : QueueState) (ws : List ChainHandle) (ob oh : List Owned) (k : ℕ)
-    (w new : ChainHandle) (c : InFlightChain)
-    → Driven false s i page_size q ws (ob ++ own k c ∷ oh) → slice_get ws k ≡ Some w → Moves s after i q q' new
+pub leaves : (s after : Machine) (i page_size : ℕ) (q q' : QueueState) (ws : List ChainHandle)
+    (ob oh : List Owned) (k : ℕ) (w new : ChainHandle) (c : InFlightChain)
+    → Driven s i page_size q ws (ob ++ own k c ∷ oh) → slice_get ws k ≡ Some w → Moves s after i q q' new
     → after.chains ≡ chains_of ob ++ chains_of oh → is_out new.state ≡ false
-    → Driven false after i page_size q' (with_handle ws k new) (ob ++ oh)
+    → Driven after i page_size q' (with_handle ws k new) (ob ++ oh)
 leaves s after i page_size q q' ws ob oh k w new c all there moves chains free =
     let none = amid k c ob oh all.all.once in
     record {
@@ -202,11 +215,12 @@ leaves s after i page_size q q' ws ob oh k w new c all there moves chains free =
 
 -- ---- calls one behind another
 
-pub goes_on : (owed : Bool) (page_size : ℕ) (one two three : List ChainHandle) (q q' q'' : QueueState) → Drives false page_size one two q q'
+pub goes_on : (page_size : ℕ) (one two three : List ChainHandle) (q q' q'' : QueueState) →
+    Drives page_size one two q q'
     →
-    Drives owed page_size two three q' q'' → Drives owed page_size one three q q''
+    Drives page_size two three q' q'' → Drives page_size one three q q''
 unfolding Drives
-goes_on owed page_size one two three q q' q'' first more told tells s i os all =
+goes_on page_size one two three q q' q'' first more told tells s i os all =
     let a = first told tells s i os all in
     let b = more told tells a.1 i a.2 a.4 in
     (a.0 ++ b.0, b.1, b.2, joined any_files s a.1 b.1 a.0 b.0 a.3 b.3, b.4)
@@ -233,21 +247,22 @@ held_out page_size c p (at.HasReply out kept) session held = refl
 held_out page_size c p (at.Pushing out) session held = refl
 
 -- what a handle has is its chain of the run
-pub record Has (owed : Bool) (s : Machine) (i page_size : ℕ) (q : QueueState) (ws : List ChainHandle) (os : List Owned) (k : ℕ)
-    (w : ChainHandle) (c : InFlightChain) : Type 0 where
+pub record Has (s : Machine) (i page_size : ℕ) (q : QueueState) (ws : List ChainHandle) (os : List Owned)
+    (k : ℕ) (w : ChainHandle) (c : InFlightChain) : Type 0 where
   pub ob : List Owned
   pub oh : List Owned
-  pub driven : Driven owed s i page_size q ws (ob ++ own k c ∷ oh)
+  pub driven : Driven s i page_size q ws (ob ++ own k c ∷ oh)
   pub chains : s.chains ≡ chains_of ob ++ c ∷ chains_of oh
   pub holds : HoldsChain s.page_size c w
 
-pub has_own : (owed : Bool) (s : Machine) (i page_size : ℕ) (q : QueueState) (ws : List ChainHandle) (os : List Owned) (k : ℕ)
-    (w : ChainHandle) (c : InFlightChain)
-    → Driven owed s i page_size q ws os → slice_get ws k ≡ Some w → In (own k c) os → Has owed s i page_size q ws os k w c
-has_own owed s i page_size q ws os k w c all there is =
+pub has_own : (s : Machine) (i page_size : ℕ) (q : QueueState) (ws : List ChainHandle) (os : List Owned)
+    (k : ℕ) (w : ChainHandle) (c : InFlightChain)
+    → Driven s i page_size q ws os → slice_get ws k ≡ Some w → In (own k c) os →
+    Has s i page_size q ws os k w c
+has_own s i page_size q ws os k w c all there is =
     let r = split os (own k c) is in
-    let driven : Driven owed s i page_size q ws (r.0 ++ own k c ∷ r.1) =
-    subst (λ (l : List Owned). Driven owed s i page_size q ws l) r.2 all in
+    let driven : Driven s i page_size q ws (r.0 ++ own k c ∷ r.1) =
+    subst (λ (l : List Owned). Driven s i page_size q ws l) r.2 all in
     let finds = finds_own s ws r.0 r.1 k w c driven.all there in
     record { ob = r.0; oh = r.1; driven = driven; chains = finds.0; holds = finds.1 }
 
@@ -255,24 +270,30 @@ none_of : (k : ℕ) (os : List Owned) → ((c : InFlightChain) → In (own k c) 
 none_of k [] none = tt
 none_of k (o ∷ os) none = (isnt k o os none o.handle refl, none_of k os (λ c m. none c (inr m)))
   where
-    isnt : (k : ℕ) (o : Owned) (os : List Owned) → ((c : InFlightChain) → In (own k c) (o ∷ os) → ⊥) → (h : Option ℕ) → o.handle ≡ h →
+    isnt : (k : ℕ) (o : Owned) (os : List Owned) → ((c : InFlightChain) → In (own k c) (o ∷ os) → ⊥) →
+        (h : Option ℕ) → o.handle ≡ h →
         IsNot k h
     isnt k o os none None is = tt
     isnt k o os none (Some j) is =
         λ same. none o.chain
-        (inl (ap (λ (h : Option ℕ). record { handle = h; chain = o.chain }) (sym (ap (λ (n : ℕ). Some n) same) ∙ sym is)))
+        (inl (ap (λ (h : Option ℕ). record { handle = h; chain = o.chain })
+        (sym (ap (λ (n : ℕ). Some n) same) ∙ sym is)))
 
-has_none : (s : Machine) (i page_size : ℕ) (q : QueueState) (ws : List ChainHandle) (os : List Owned) (k : ℕ) (w : ChainHandle)
-    → Driven false s i page_size q ws os → slice_get ws k ≡ Some w → is_out w.state ≡ false → (c : InFlightChain) → In (own k c) os → ⊥
+has_none : (s : Machine) (i page_size : ℕ) (q : QueueState) (ws : List ChainHandle) (os : List Owned) (k : ℕ)
+    (w : ChainHandle)
+    → Driven s i page_size q ws os → slice_get ws k ≡ Some w → is_out w.state ≡ false → (c : InFlightChain) →
+    In (own k c) os → ⊥
 has_none s i page_size q ws os k w all there free c is =
-    let has = has_own false s i page_size q ws os k w c all there is in
+    let has = has_own s i page_size q ws os k w c all there is in
     not_free (is_out w.state) (held_out s.page_size c c.phase w.state w.session has.holds) free
 
 -- handle k has no chain, before and after
-pub idles : (s after : Machine) (i page_size : ℕ) (q q' : QueueState) (ws : List ChainHandle) (os : List Owned) (k : ℕ)
-    (w new : ChainHandle)
-    → Driven false s i page_size q ws os → slice_get ws k ≡ Some w → Moves s after i q q' new → after.chains ≡ s.chains
-    → is_out w.state ≡ false → is_out new.state ≡ false → Driven false after i page_size q' (with_handle ws k new) os
+pub idles : (s after : Machine) (i page_size : ℕ) (q q' : QueueState) (ws : List ChainHandle)
+    (os : List Owned) (k : ℕ) (w new : ChainHandle)
+    → Driven s i page_size q ws os → slice_get ws k ≡ Some w → Moves s after i q q' new →
+    after.chains ≡ s.chains
+    → is_out w.state ≡ false → is_out new.state ≡ false →
+    Driven after i page_size q' (with_handle ws k new) os
 idles s after i page_size q q' ws os k w new all there moves chains free still =
     let none = has_none s i page_size q ws os k w all there free in
     let held = all_still s.page_size ws k new os (none_of k os none) all.all.held in
@@ -280,7 +301,8 @@ idles s after i page_size q q' ws os k w new all there moves chains free still =
       all = record {
         chains = chains ∙ all.all.chains;
         held = subst
-            (λ (n : ℕ). AllByRecursion (λ (o : Owned). IsHeldBy n (with_handle ws k new) o.handle o.chain) os) (sym moves.page) held;
+            (λ (n : ℕ). AllByRecursion (λ (o : Owned). IsHeldBy n (with_handle ws k new) o.handle o.chain) os)
+            (sym moves.page) held;
         once = all.all.once;
       };
       queue = moves.queue;
@@ -312,11 +334,12 @@ in_front [] x y m = absurd m
 in_front (o ∷ os) x y (inl e) = inl e
 in_front (o ∷ os) x y (inr m) = inr (in_front os x y m)
 
-pub joins : (s after : Machine) (i page_size : ℕ) (q q' : QueueState) (ws : List ChainHandle) (os : List Owned) (k : ℕ)
-    (w new : ChainHandle) (c : InFlightChain)
-    → Driven false s i page_size q ws os → slice_get ws k ≡ Some w → Moves s after i q q' new → after.chains ≡ s.chains ++ c ∷ []
-    → is_out w.state ≡ false → HoldsChain s.page_size c new → MineIn false i page_size c new
-    → Driven false after i page_size q' (with_handle ws k new) (os ++ own k c ∷ [])
+pub joins : (s after : Machine) (i page_size : ℕ) (q q' : QueueState) (ws : List ChainHandle)
+    (os : List Owned) (k : ℕ) (w new : ChainHandle) (c : InFlightChain)
+    → Driven s i page_size q ws os → slice_get ws k ≡ Some w → Moves s after i q q' new →
+    after.chains ≡ s.chains ++ c ∷ []
+    → is_out w.state ≡ false → HoldsChain s.page_size c new → MineIn i page_size c new
+    → Driven after i page_size q' (with_handle ws k new) (os ++ own k c ∷ [])
 joins s after i page_size q q' ws os k w new c all there moves chains free holds mine =
     let none = has_none s i page_size q ws os k w all there free in
     record {
@@ -330,18 +353,21 @@ joins s after i page_size q q' ws os k w new c all there moves chains free holds
     }
   where
     its_own : (j : ℕ) (v : ChainHandle) (d : InFlightChain) → slice_get (with_handle ws k new) j ≡ Some v
-        → ((e : InFlightChain) → In (own k e) os → ⊥) → (own j d ≡ own k c) ⊎ In (own j d) os → MineIn false i page_size d v
+        → ((e : InFlightChain) → In (own k e) os → ⊥) → (own j d ≡ own k c) ⊎ In (own j d) os →
+        MineIn i page_size d v
     its_own j v d now none (inl e) =
         let same : k ≡ j = sym (same_number j k d c e) in
-        let one : MineIn false i page_size d new =
-        subst (λ (x : InFlightChain). MineIn false i page_size x new) (sym (same_chain j k d c e)) mine in
-        subst (λ (x : ChainHandle). MineIn false i page_size d x) (the_new ws k j w new v same there now) one
+        let one : MineIn i page_size d new =
+        subst (λ (x : InFlightChain). MineIn i page_size x new) (sym (same_chain j k d c e)) mine in
+        subst (λ (x : ChainHandle). MineIn i page_size d x) (the_new ws k j w new v same there now) one
     its_own j v d now none (inr m) =
         let apart : k ≡ j → ⊥ = λ same. none d (subst (λ (n : ℕ). In (own n d) os) (sym same) m) in
         all.mine j v d (another ws k j new v apart now) m
 
     its_out : (j : ℕ) (v : ChainHandle) → slice_get (with_handle ws k new) j ≡ Some v → is_out v.state ≡ true
         → (k ≡ j) ⊎ (k ≡ j → ⊥) → (e : InFlightChain) × In (own j e) (os ++ own k c ∷ [])
-    its_out j v now out (inl same) = (c, subst (λ (n : ℕ). In (own n c) (os ++ own k c ∷ [])) same (here os [] (own k c)))
+    its_out j v now out (inl same) =
+        (c, subst (λ (n : ℕ). In (own n c) (os ++ own k c ∷ [])) same (here os [] (own k c)))
     its_out j v now out (inr apart) =
-        let was = all.outs j v (another ws k j new v apart now) out in (was.0, in_front os (own k c) (own j was.0) was.1)
+        let was = all.outs j v (another ws k j new v apart now) out in
+        (was.0, in_front os (own k c) (own j was.0) was.1)

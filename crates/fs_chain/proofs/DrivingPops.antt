@@ -1,5 +1,6 @@
 -- A pop of a handle drives the run.
-use Rattle.std.proofs.Common.{inl, inr, ◌≡◌, ℕ, Bool, false, List, [], ◌∷◌, ◌++◌, length, Option, Some, None, slice_get}
+use Rattle.std.proofs.Common.{inl, inr, ◌≡◌, ℕ, Bool, false, List, [], ◌∷◌, ◌++◌, length, Option, Some, None}
+use Rattle.std.proofs.Common.{slice_get}
 use Rattle.std.proofs.Common.{refl, subst, sym, ap, ◌∙◌}
 use Rattle.std.specs.Prelude.{Result, Ok, Err, IfOk, OnErr}
 use Rattle.fs_chain.specs.declared.error.ChainError.{ChainError}
@@ -52,10 +53,13 @@ use Rattle.fs_chain.specs.declared.state.ChainState.TheVariants as at
 use Rattle.fs_chain.proofs.Driving.{Moves, held_out, idles, joins}
 use Rattle.fs_chain.proofs.DrivingCalls.{fits_out, stays_put, stays, fetched_ready, still}
 
-pub idle_may : (limit : ℕ) (event_index : Bool) (w : ChainHandle) → w.state ≡ at.Free → MayPop limit event_index w w.state
-idle_may limit event_index w free = subst (λ (st : state.ChainState). MayPop limit event_index w st) (sym free) tt
+pub idle_may : (limit : ℕ) (event_index : Bool) (w : ChainHandle) → w.state ≡ at.Free →
+    MayPop limit event_index w w.state
+idle_may limit event_index w free =
+    subst (λ (st : state.ChainState). MayPop limit event_index w st) (sym free) tt
 
-fits_free : (places : Memory) (limit : ℕ) (event_index : Bool) (old new : ChainHandle) → KeepsMemory old new → new.state ≡ at.Free
+fits_free : (places : Memory) (limit : ℕ) (event_index : Bool) (old new : ChainHandle) → KeepsMemory old new →
+    new.state ≡ at.Free
     → FitsRun places limit event_index old → FitsRun places limit event_index new
 fits_free places limit event_index old new same free fits =
     (fits.0 ∙ ap places_in (sym same.0), fits.1 ∙ sym same.1, idle_may limit event_index new free)
@@ -65,10 +69,13 @@ event_stays : (s : Machine) (i : ℕ) (q q' : QueueState) (v : LiveQueue) → Is
     slice_get (changed_at s.queues i (λ _. v)) i ≡ Some (live_of q')
     → v.event_index ≡ q.event_index → q'.event_index ≡ q.event_index
 event_stays s i q q' v there now event =
-    let same : live_of q' ≡ v = sym (same_some v (live_of q') (sym (there_same s.queues i i (λ _. v) (live_of q) refl there) ∙ now)) in
+    let same : live_of q' ≡ v =
+    sym (same_some v (live_of q') (sym (there_same s.queues i i (λ _. v) (live_of q) refl there) ∙
+    now)) in
     ap (λ (r : LiveQueue). r.event_index) same ∙ event
 
-popped_ready : (page_size n : ℕ) (c : InFlightChain) (fault : Option ChainFault) (st : state.ChainState) (session : Session)
+popped_ready : (page_size n : ℕ) (c : InFlightChain) (fault : Option ChainFault) (st : state.ChainState)
+    (session : Session)
     → c.phase ≡ phase_by fault → IsHeldIn n c c.phase st session → IsReady page_size c st
 popped_ready page_size n c None st session is held = fetched_ready page_size n c c.phase st session is held
 popped_ready page_size n c (Some why) (at.HasReply out kept) session is held =
@@ -82,24 +89,30 @@ popped_ready page_size n c (Some why) (at.Waits out w) session is held = tt
 popped_ready page_size n c (Some why) (at.Lists out l) session is held = tt
 
 -- a pop that ended by itself
-ended : (s : Machine) (i page_size k : ℕ) (q q' : QueueState) (ws : List ChainHandle) (os : List Owned) (old new : ChainHandle)
-    (loaded : Loaded) (came : comes.CourseStep)
-    → Driven false s i page_size q ws os → slice_get ws k ≡ Some old → is_out old.state ≡ false → KeepsMemory old new
-    → Happens any_files s (EndsPop i loaded new.descriptors.items came) (after_pop s i (live_of q) loaded new.descriptors.items came)
+ended : (s : Machine) (i page_size k : ℕ) (q q' : QueueState) (ws : List ChainHandle) (os : List Owned)
+    (old new : ChainHandle) (loaded : Loaded) (came : comes.CourseStep)
+    → Driven s i page_size q ws os → slice_get ws k ≡ Some old → is_out old.state ≡ false →
+    KeepsMemory old new
+    → Happens any_files s (EndsPop i loaded new.descriptors.items came)
+    (after_pop s i (live_of q) loaded new.descriptors.items came)
     → IsQueue (after_pop s i (live_of q) loaded new.descriptors.items came) i q'
     → HasPopped s i (live_of q) loaded came new
-    → Leads false s i page_size q' (with_handle ws k new)
-ended s i page_size k q q' ws os old new loaded (step.Load walk) all there free same happens queue has = absurd happens.ends
-ended s i page_size k q q' ws os old new loaded (step.Missing range access) all there free same happens queue has = absurd happens.ends
+    → Leads s i page_size q' (with_handle ws k new)
+ended s i page_size k q q' ws os old new loaded (step.Load walk) all there free same happens queue has =
+    absurd happens.ends
+ended s i page_size k q q' ws os old new loaded (step.Missing range access) all there free same happens queue
+    has = absurd happens.ends
 ended s i page_size k q q' ws os old new loaded step.Idle all there free same happens queue has =
     let event : q'.event_index ≡ q.event_index =
-    ap (λ (r : LiveQueue). r.event_index) (sym (same_some (live_of q) (live_of q') (sym all.queue ∙ queue))) in (
+    ap (λ (r : LiveQueue). r.event_index)
+    (sym (same_some (live_of q) (live_of q') (sym all.queue ∙ queue))) in (
       EndsPop i loaded new.descriptors.items step.Idle ∷ [],
       s,
       os,
       (s, happens, refl),
       idles s s i page_size q q' ws os k old new all there
-          (stays_put s i q q' new queue event (fits_free s.places s.limit q.event_index old new same has (all.fits k old there)))
+          (stays_put s i q q' new queue event
+          (fits_free s.places s.limit q.event_index old new same has (all.fits k old there)))
           refl free (ap is_out has),
     )
 ended s i page_size k q q' ws os old new loaded (step.Refused e) all there free same happens queue has =
@@ -109,7 +122,8 @@ ended s i page_size k q q' ws os old new loaded (step.Refused e) all there free 
       limit = refl;
       places = refl;
       queue = queue;
-      event = event_stays s i q q' (record (live_of q) { queue = after_refusal (live_of q).queue e }) all.queue queue refl;
+      event = event_stays s i q q' (record (live_of q) { queue = after_refusal (live_of q).queue e })
+          all.queue queue refl;
       fits = fits_free s.places s.limit q.event_index old new same has (all.fits k old there);
     } in (
       EndsPop i loaded new.descriptors.items (step.Refused e) ∷ [],
@@ -118,7 +132,8 @@ ended s i page_size k q q' ws os old new loaded (step.Refused e) all there free 
       (after, happens, refl),
       idles s after i page_size q q' ws os k old new all there moves refl free (ap is_out has),
     )
-ended s i page_size k q q' ws os old new loaded (step.Chain head fault) all there free same happens queue has =
+ended s i page_size k q q' ws os old new loaded (step.Chain head fault) all there free same happens queue
+    has =
     let after : Machine = after_pop s i (live_of q) loaded new.descriptors.items (step.Chain head fault) in
     let c : InFlightChain = new_chain s i (live_of q) loaded new.descriptors.items head fault in
     let moves : Moves s after i q q' new = record {
@@ -127,22 +142,23 @@ ended s i page_size k q q' ws os old new loaded (step.Chain head fault) all ther
       places = refl;
       queue = queue;
       event = event_stays s i q q' (several.took (live_of q)) all.queue queue refl;
-      fits = fits_out s.places s.limit q.event_index old new same (held_out s.page_size c c.phase new.state new.session has)
-          (all.fits k old there);
+      fits = fits_out s.places s.limit q.event_index old new same
+          (held_out s.page_size c c.phase new.state new.session has) (all.fits k old there);
     } in (
       EndsPop i loaded new.descriptors.items (step.Chain head fault) ∷ [],
       after,
       os ++ own k c ∷ [],
       (after, happens, refl),
       joins s after i page_size q q' ws os k old new c all there moves refl free has
-          (refl, λ e. popped_ready page_size s.page_size c fault new.state new.session refl has),
+          (refl, popped_ready page_size s.page_size c fault new.state new.session refl has),
     )
 
-refused : (s : Machine) (i page_size k : ℕ) (q q' : QueueState) (ws : List ChainHandle) (os : List Owned) (old new : ChainHandle)
-    (told : walked.PopOutcome)
-    → Driven false s i page_size q ws os → slice_get ws k ≡ Some old → is_out old.state ≡ false → KeepsMemory old new
+refused : (s : Machine) (i page_size k : ℕ) (q q' : QueueState) (ws : List ChainHandle) (os : List Owned)
+    (old new : ChainHandle) (told : walked.PopOutcome)
+    → Driven s i page_size q ws os → slice_get ws k ≡ Some old → is_out old.state ≡ false →
+    KeepsMemory old new
     → RefusedBy s i q q' new told
-    → Leads false s i page_size q' (with_handle ws k new)
+    → Leads s i page_size q' (with_handle ws k new)
 refused s i page_size k q q' ws os old new told all there free same r =
     let h = r.happens in
     let v : LiveQueue = record (h.w) { queue = after_refusal h.w.queue r.error } in
@@ -164,12 +180,13 @@ refused s i page_size k q q' ws os old new told all there free same r =
       idles s after i page_size q q' ws os k old new all there moves refl free (ap is_out r.free),
     )
 
-popped : (s : Machine) (i page_size k : ℕ) (q q' : QueueState) (ws : List ChainHandle) (os : List Owned) (old new : ChainHandle) (p : Pop)
-    (told : walked.PopOutcome)
-    → Driven false s i page_size q ws os → slice_get ws k ≡ Some old → is_out old.state ≡ false → KeepsMemory old new
+popped : (s : Machine) (i page_size k : ℕ) (q q' : QueueState) (ws : List ChainHandle) (os : List Owned)
+    (old new : ChainHandle) (p : Pop) (told : walked.PopOutcome)
+    → Driven s i page_size q ws os → slice_get ws k ≡ Some old → is_out old.state ≡ false →
+    KeepsMemory old new
     → p.event_index ≡ q.event_index
     → PopIs s i q q' p new told
-    → Leads false s i page_size q' (with_handle ws k new)
+    → Leads s i page_size q' (with_handle ws k new)
 popped s i page_size k q q' ws os old new p (says.Load n) all there free same event is =
     still s i page_size k q q' ws os old new p all there free same event is
 popped s i page_size k q q' ws os old new p (says.Missing range access) all there free same event is =
@@ -200,32 +217,40 @@ popped s i page_size k q q' ws os old new p (says.Faulty head why) all there fre
 popped s i page_size k q q' ws os old new p (says.Faulty head why) all there free same event (inr r) =
     refused s i page_size k q q' ws os old new (says.Faulty head why) all there free same r
 
-begins : (page_size : ℕ) (old new : ChainHandle) (q q' : QueueState) (told : went.LoadOutcome) → old.state ≡ at.Free
-    → BeginsAPop old new q q' told → KeepsMemory old new → DrivesOne false page_size old new q q'
+begins : (page_size : ℕ) (old new : ChainHandle) (q q' : QueueState) (told : went.LoadOutcome) →
+    old.state ≡ at.Free
+    → BeginsAPop old new q q' told → KeepsMemory old new → DrivesOne page_size old new q q'
 unfolding DrivesOne Drives BeginsAPop
 begins page_size old new q q' wents.Part free begin same ws k there given tells s i os all = absurd begin
 begins page_size old new q q' (wents.On told) free begin same ws k there given tells s i os all =
     let was = all.fits k old there in
-    popped s i page_size k q q' ws os old new (record { loaded = nothing; event_index = q.event_index }) told all there (ap is_out free)
+    popped s i page_size k q q' ws os old new (record { loaded = nothing; event_index = q.event_index }) told
+    all there (ap is_out free)
     same refl
     (begin s i all.queue was.0 was.1 all.small)
 
-continues : (page_size : ℕ) (old new : ChainHandle) (q q' : QueueState) (bytes : List ℕ) (told : went.LoadOutcome) (course : Course)
-    (pop_id : PopId) (walk : QueueWalk) → old.state ≡ at.Walking course pop_id walk
-    → ContinuesAPop old new q q' bytes told → KeepsMemory old new → DrivesOne false page_size old new q q'
+continues : (page_size : ℕ) (old new : ChainHandle) (q q' : QueueState) (bytes : List ℕ)
+    (told : went.LoadOutcome) (course : Course) (pop_id : PopId) (walk : QueueWalk) →
+    old.state ≡ at.Walking course pop_id walk
+    → ContinuesAPop old new q q' bytes told → KeepsMemory old new → DrivesOne page_size old new q q'
 unfolding DrivesOne Drives ContinuesAPop
-continues page_size old new q q' bytes wents.Part course pop_id walk is go same ws k there given tells s i os all =
+continues page_size old new q q' bytes wents.Part course pop_id walk is go same ws k there given tells s i os
+    all =
     let was = all.fits k old there in
     let may = subst (λ (st : state.ChainState). MayPop s.limit q.event_index old st) is was.2 in
-    still s i page_size k q q' ws os old new may.0 all there (ap is_out is) same may.2 (go s i may.0 may.1 all.queue was.0 may.2 all.small)
-continues page_size old new q q' bytes (wents.On told) course pop_id walk is go same ws k there given tells s i os all =
+    still s i page_size k q q' ws os old new may.0 all there (ap is_out is) same may.2
+    (go s i may.0 may.1 all.queue was.0 may.2 all.small)
+continues page_size old new q q' bytes (wents.On told) course pop_id walk is go same ws k there given tells s
+    i os all =
     let was = all.fits k old there in
     let may = subst (λ (st : state.ChainState). MayPop s.limit q.event_index old st) is was.2 in
     let on = go s i may.0 may.1 all.queue was.0 may.2 all.small in
-    popped s i page_size k q q' ws os old new (record (may.0) { loaded = on.0 }) told all there (ap is_out is) same may.2 on.2
+    popped s i page_size k q q' ws os old new (record (may.0) { loaded = on.0 }) told all there (ap is_out is)
+    same may.2 on.2
 
 -- a pop keeps the handle's memory
-begun_memory : (old new : ChainHandle) (q q' : QueueState) (told : walked.PopOutcome) (stopped : Option QueueError) →
+begun_memory : (old new : ChainHandle) (q q' : QueueState) (told : walked.PopOutcome)
+    (stopped : Option QueueError) →
     BeginsUnless stopped old new q q' told
     → KeepsMemory old new
 begun_memory old new q q' told (Some why) by = (by.1.0.0, by.1.0.1)
@@ -237,23 +262,28 @@ begun_memory old new q q' told None by = by_fault old new q q' told (event_fault
     by_miss old new q q' told e (Some miss) by = (by.1.0.0.0, by.1.0.0.1)
     by_miss old new q q' told e None by = (by.1.0.0.0, by.1.0.0.1)
 
-    by_fault : (old new : ChainHandle) (q q' : QueueState) (told : walked.PopOutcome) (fault : Option QueueError) →
+    by_fault : (old new : ChainHandle) (q q' : QueueState) (told : walked.PopOutcome)
+        (fault : Option QueueError) →
         BeginsWhere fault old new q q' told
         → KeepsMemory old new
-    by_fault old new q q' told (Some e) by = by_miss old new q q' told e (event_miss (places_in old.regions) q) by
+    by_fault old new q q' told (Some e) by =
+        by_miss old new q q' told e (event_miss (places_in old.regions) q) by
     by_fault old new q q' told None by = (by.1.4.0, by.1.4.1)
 
-gone_memory : (old new : ChainHandle) (q q' : QueueState) (bytes : List ℕ) (told : walked.PopOutcome) (course : Course) (pop_id : PopId)
-    (walk : QueueWalk) (stopped : Option QueueError) → GoesOnUnless stopped course pop_id walk bytes old new q q' told → KeepsMemory old new
+gone_memory : (old new : ChainHandle) (q q' : QueueState) (bytes : List ℕ) (told : walked.PopOutcome)
+    (course : Course) (pop_id : PopId) (walk : QueueWalk) (stopped : Option QueueError) →
+    GoesOnUnless stopped course pop_id walk bytes old new q q' told → KeepsMemory old new
 gone_memory old new q q' bytes told course pop_id walk (Some why) by = (by.1.0.0, by.1.0.1)
 gone_memory old new q q' bytes told course pop_id walk None by = (by.1.4.0, by.1.4.1)
 
-no_part : (old : ChainHandle) (bytes : List ℕ) → came old + length bytes < load_len old.state → load_len old.state ≡ 0 → ⊥
+no_part : (old : ChainHandle) (bytes : List ℕ) → came old + length bytes < load_len old.state →
+    load_len old.state ≡ 0 → ⊥
 no_part old bytes less zero_is = omega arith
 
-pop_at : (page_size : ℕ) (old new : ChainHandle) (q q' : QueueState) (bytes : List ℕ) (told : went.LoadOutcome) (st : state.ChainState) →
+pop_at : (page_size : ℕ) (old new : ChainHandle) (q q' : QueueState) (bytes : List ℕ)
+    (told : went.LoadOutcome) (st : state.ChainState) →
     old.state ≡ st
-    → GoesSo old q bytes told new q' → PopsBy st old new q q' bytes told → DrivesOne false page_size old new q q'
+    → GoesSo old q bytes told new q' → PopsBy st old new q q' bytes told → DrivesOne page_size old new q q'
 pop_at page_size old new q q' bytes wents.Part at.Free is goes by =
     begins page_size old new q q' wents.Part is by (goes.3.0.0, goes.3.0.1)
 pop_at page_size old new q q' bytes (wents.On told) at.Free is goes by =
@@ -275,18 +305,25 @@ pop_at page_size old new q q' bytes (wents.On told) (at.HasReply o kept) is goes
     absurd (subst (λ (st : state.ChainState). WalksFrom st (whole old bytes) old new q q' told) is goes.4)
 pop_at page_size old new q q' bytes (wents.On told) (at.Pushing o) is goes by =
     absurd (subst (λ (st : state.ChainState). WalksFrom st (whole old bytes) old new q q' told) is goes.4)
-pop_at page_size old new q q' bytes wents.Part (at.Taken o) is goes by = absurd (no_part old bytes goes.1 (ap load_len is))
-pop_at page_size old new q q' bytes wents.Part (at.Waits o w) is goes by = absurd (no_part old bytes goes.1 (ap load_len is))
-pop_at page_size old new q q' bytes wents.Part (at.Lists o l) is goes by = absurd (no_part old bytes goes.1 (ap load_len is))
-pop_at page_size old new q q' bytes wents.Part (at.HasReply o kept) is goes by = absurd (no_part old bytes goes.1 (ap load_len is))
-pop_at page_size old new q q' bytes wents.Part (at.Pushing o) is goes by = absurd (no_part old bytes goes.1 (ap load_len is))
+pop_at page_size old new q q' bytes wents.Part (at.Taken o) is goes by =
+    absurd (no_part old bytes goes.1 (ap load_len is))
+pop_at page_size old new q q' bytes wents.Part (at.Waits o w) is goes by =
+    absurd (no_part old bytes goes.1 (ap load_len is))
+pop_at page_size old new q q' bytes wents.Part (at.Lists o l) is goes by =
+    absurd (no_part old bytes goes.1 (ap load_len is))
+pop_at page_size old new q q' bytes wents.Part (at.HasReply o kept) is goes by =
+    absurd (no_part old bytes goes.1 (ap load_len is))
+pop_at page_size old new q q' bytes wents.Part (at.Pushing o) is goes by =
+    absurd (no_part old bytes goes.1 (ap load_len is))
 
-pub pop_result : (old new : ChainHandle) (q q' : QueueState) (bytes : List ℕ) (result : Result went.LoadOutcome ChainError)
+pub pop_result : (old new : ChainHandle) (q q' : QueueState) (bytes : List ℕ)
+    (result : Result went.LoadOutcome ChainError)
     → IfOk result (λ told. GoesSo old q bytes told new q')
     → OnErr result (IsSame old new × (q' ≡ q))
     → IfOk result (λ told. PopsBy old.state old new q q' bytes told)
-    → (page_size : ℕ) → DrivesOne false page_size old new q q'
-pop_result old new q q' bytes (Ok told) goes same step page_size = pop_at page_size old new q q' bytes told old.state refl goes step
+    → (page_size : ℕ) → DrivesOne page_size old new q q'
+pop_result old new q q' bytes (Ok told) goes same step page_size =
+    pop_at page_size old new q q' bytes told old.state refl goes step
 pop_result old new q q' bytes (Err e) goes same step page_size =
-    subst (λ (r : QueueState). DrivesOne false page_size old new q r) (sym same.1)
+    subst (λ (r : QueueState). DrivesOne page_size old new q r) (sym same.1)
     (stays page_size old new q (same.0.1, same.0.4, same.0.0.0, same.0.0.1, same.0.2))

@@ -1,24 +1,27 @@
 -- The answer to the call of a chain that the handle holds.
 use Rattle.std.proofs.Common.{◌≡◌, ◌+◌, ◌≤◌, ℕ, Bool, true, List, [], ◌∷◌, ◌++◌, length, Option, Some, None, refl, subst, sym, ap, ◌∙◌}
-use Rattle.std.specs.Prelude.{drop, IsTrue, IfOk, OnOk, Result, Ok, Err}
+use Rattle.std.specs.Prelude.{drop, false, take, IsTrue, IfOk, OnOk, Result, Ok, Err}
+use Rattle.std.proofs.Math.Seq.{take-length}
 use Rattle.fs_chain.specs.declared.error.ChainError.{ChainError}
 use Rattle.fs_queue.specs.Taking.{addresses_of, writable}
-use Rattle.fuse_fs.specs.Calls.{FileAnswer, FileCall, suits}
+use Rattle.fuse_fs.specs.Calls.{Done, FileAnswer, FileCall, Forget, suits}
+use Rattle.fuse_fs.specs.declared.answers.Context.{Context}
 use Rattle.fuse_values.specs.Answers.{answer_of}
 use Rattle.fuse_values.specs.Values.{call_of}
 use Rattle.fuse_values.specs.declared.answer.FileAnswer as made_answer
-use Rattle.virtiofsd_fuse.specs.Grammar.{FileCommand, Meaning, meaning}
-use Rattle.virtiofsd_fuse.specs.Serving.{ServedMessage, Setting, served, setting}
+use Rattle.virtiofsd_fuse.specs.Grammar.{FileCommand, Lists, Meaning, One, Starts, meaning}
+use Rattle.virtiofsd_fuse.specs.Serving.{ServedMessage, Setting, commanded, served, setting}
 use Rattle.virtiofsd_fuse.proofs.Serve.{served_fits}
 use Rattle.server_phases.specs.Answering.{Gives, TellsBytes, forget_calls, served_by}
+use Rattle.server_phases.specs.Gathering.{is_list_command}
 use Rattle.server_phases.specs.Waiting.{first_call}
 use Rattle.server_phases.specs.declared.answering.Sent.{Sent}
 use Rattle.server_phases.specs.declared.answering.Sent.TheVariants as sent
 use Rattle.server_phases.specs.declared.session.Session.{Session}
 use Rattle.plain_machine.specs.Step.{Calls, calls_alone}
-use Rattle.live_machine.specs.Live.{Asked, InFlightChain, Phase, asked_chain, room_of, room_of_phase}
+use Rattle.live_machine.specs.Live.{Asked, InFlightChain, Phase, after_answer, asked_chain, room_of, room_of_phase}
 use Rattle.fs_chain.specs.Answers.{CanBeGiven, IfWaits, IsGiven, IsWaiting, data_len, reply_of}
-use Rattle.fs_chain.specs.Holds.{Answers, AnsweringIs, IsHeldIn, IsOutAs, KeepsReplyOf, Machine, served_so}
+use Rattle.fs_chain.specs.Holds.{Answers, AnsweringIs, ForgettingIs, IsHeldIn, IsOutAs, IsRepliedWith, KeepsReplyOf, Machine, served_so}
 use Rattle.fs_chain.specs.Orders.{front_len, front_of}
 use Rattle.fs_chain.specs.declared.answering.Replied.{Replied}
 use Rattle.fs_chain.specs.declared.chain_handle.ChainHandle.{ChainHandle}
@@ -35,13 +38,74 @@ sent_bytes : (cs : List FileCall) (o n : ℕ) (x : Sent) (bytes : List ℕ) →
 sent_bytes cs o n (sent.Reply front) bytes = (bytes, refl)
 sent_bytes cs o n sent.NoRoom bytes = ([], refl)
 
+-- as many of the data's bytes as the handle told
+data_bytes : (cs : List FileCall) (o n : ℕ) (x : Sent) (bytes : List ℕ) → length bytes ≡ n →
+    (served_by cs o x bytes).reply ≡ front_of (reply_of x n) ++ take (reply_of x n).behind bytes
+data_bytes cs o n (sent.Reply front) bytes is =
+    ap (λ (b : List ℕ). front ++ b) (sym (take-length bytes)) ∙ ap (λ (k : ℕ). front ++ take k bytes) is
+data_bytes cs o n sent.NoRoom bytes is = refl
+
+-- an answer behind the first one tells nothing more
+no_more : (s : Setting) (command : FileCommand) (x : FileAnswer) (more : List FileAnswer) → is_list_command command ≡ false →
+    commanded s command (x ∷ more) ≡ commanded s command (x ∷ [])
+no_more s (One unique call) x more is = refl
+no_more s (Starts unique capable readahead) x more is = refl
+no_more s (Lists unique l) x more is = absurd (cc)
+
+-- a FORGET that is owed
+forgets : (s : Machine) (before behind : List InFlightChain) (c : InFlightChain) (request : List ℕ) (options : ℕ) (call : FileCall)
+    (x : FileAnswer) (new : ChainHandle) (owed : Option (Context × ℕ)) (out : InFlight) (kept : ChainReply)
+    → s.chains ≡ before ++ c ∷ behind → c.phase ≡ Asked request options ((call, x) ∷ []) → IsOutAs c out
+    → new.state ≡ at.HasReply out kept
+    → KeepsReplyOf (served_so s.page_size options request out.room_len ((call, x) ∷ [])).reply out kept
+    → served (setting s.page_size options out.room_len) (meaning options request out.room_len) (x ∷ Done ∷ [])
+    ≡ served (setting s.page_size options out.room_len) (meaning options request out.room_len) (x ∷ [])
+    → (served_so s.page_size options request (length (addresses_of (writable c.descriptors))) ((call, x) ∷ [])).calls ≡ call ∷ forget_calls
+    owed
+    → ForgettingIs s before behind c request options ((call, x) ∷ []) new owed
+forgets s before behind c request options call x new None out kept is phase is_out state_is keeps same all = tt
+forgets s before behind c request options call x new (Some node) out kept is phase is_out state_is keeps same all =
+    let forget : FileCall = Forget node.0 node.1 1 in
+    let calls : Calls = (call, x) ∷ (forget, Done) ∷ [] in
+    let room : length (room_of c) ≡ length (addresses_of (writable c.descriptors)) =
+    ap (λ (p : Phase). length (room_of_phase p c.descriptors)) phase in (
+      record {
+        before = before;
+        behind = behind;
+        out = is;
+        request = request;
+        options = options;
+        calls = (call, x) ∷ [];
+        asked = phase;
+        pending = ap (λ (k : ℕ). (served (setting s.page_size options k) (meaning options request k) (x ∷ [])).calls) room ∙ all;
+        is_one = refl;
+        files = tt;
+        may_so = tt;
+        state = refl;
+      },
+      subst (λ (st : state.ChainState). IsHeldIn s.page_size (asked_chain c request options calls) (Asked request options calls) st
+          new.session) (sym state_is) (
+            record {
+              taken = is_out.taken;
+              head = is_out.head;
+              request_len = is_out.request_len;
+              room_len = is_out.room_len;
+              small = is_out.small;
+            },
+            subst (λ (m : ServedMessage). KeepsReplyOf m.reply out kept) (sym same) keeps,
+          ),
+      ap (λ (k : ℕ). (served (setting s.page_size options k) (meaning options request k) (x ∷ Done ∷ [])).calls) is_out.room_len
+          ∙ ap (λ (m : ServedMessage). m.calls) same
+          ∙ sym (ap (λ (k : ℕ). (served (setting s.page_size options k) (meaning options request k) (x ∷ [])).calls) is_out.room_len) ∙ all,
+    )
+
 by_state : (st : state.ChainState) (was : Session) (new : ChainHandle) (a : made_answer.FileAnswer) (told : Replied)
     → IfWaits st (λ out w. IsGiven (setting was.page_size was.options.0 w.room) w a out new.session.options.0 told new.state)
     → IsWaiting st → IfWaits st (λ out w. CanBeGiven w a)
     → (s : Machine) (before behind : List InFlightChain) (c : InFlightChain) (request bytes : List ℕ) (options : ℕ)
     → s.chains ≡ before ++ c ∷ behind → c.phase ≡ Asked request options []
     → IsHeldIn s.page_size c (Asked request options []) st was → TellsBytes bytes a
-    → (call : FileCall) × AnsweringIs s before behind c request options call (answer_of bytes a) told new
+    → (call : FileCall) × AnsweringIs s before behind c request bytes options call (answer_of bytes a) told new
 by_state (at.Waits out w) was new a told given waits can s before behind c request bytes options is asked held data_told =
     let is_out : IsOutAs c out = held.0 in
     let call = call_of (drop 80 request) held.3 in
@@ -75,6 +139,24 @@ by_state (at.Waits out w) was new a told given waits can s before behind c reque
     let calls : Calls = (call, answer_of bytes a) ∷ [] in
     let in_buffer : served_so s.page_size options request (length (addresses_of (writable c.descriptors))) calls ≡ g =
     ap (λ (k : ℕ). served_so s.page_size options request k calls) is_out.room_len ∙ serving in
+    let same_more : served set m (answer_of bytes a ∷ Done ∷ []) ≡ served set m (answer_of bytes a ∷ []) =
+    ap (λ (k : Meaning). served set k (answer_of bytes a ∷ Done ∷ [])) asks.1
+    ∙ no_more set command (answer_of bytes a) (Done ∷ []) (held.5 command asks.4)
+    ∙ sym (ap (λ (k : Meaning). served set k (answer_of bytes a ∷ [])) asks.1) in
+    let now_out : IsOutAs (asked_chain c request options calls) out = record {
+      taken = is_out.taken;
+      head = is_out.head;
+      request_len = is_out.request_len;
+      room_len = is_out.room_len;
+      small = is_out.small;
+    } in
+    let keeps_served : KeepsReplyOf (served_so s.page_size options request r calls).reply out kept =
+    subst (λ (x : ServedMessage). KeepsReplyOf x.reply out kept) (sym serving) keeps in
+    let all : (served_so s.page_size options request (length (addresses_of (writable c.descriptors))) calls).calls
+    ≡ call ∷ forget_calls told.forget =
+    ap (λ (x : ServedMessage). x.calls) in_buffer ∙ by_calls cs left given.0.sent bytes
+    ∙ ap (λ (k : FileCall). k ∷ forget_calls given.0.forget) (sym asks.2)
+    ∙ sym (ap (λ (t : Replied). call ∷ forget_calls t.forget) given.1) in
     let P : state.ChainState → Type 0 =
     λ st. IsHeldIn s.page_size (asked_chain c request options calls) (Asked request options calls) st new.session in (
       call,
@@ -93,20 +175,15 @@ by_state (at.Waits out w) was new a told given waits can s before behind c reque
           may_so = tt;
           state = refl;
         },
-        subst P (sym given.2) (
-          record {
-            taken = is_out.taken;
-            head = is_out.head;
-            request_len = is_out.request_len;
-            room_len = is_out.room_len;
-            small = is_out.small;
-          },
-          subst (λ (x : ServedMessage). KeepsReplyOf x.reply out kept) (sym serving) keeps,
-        ),
-        ap (λ (x : ServedMessage). x.calls) in_buffer ∙ by_calls cs left given.0.sent bytes
-            ∙ ap (λ (k : FileCall). k ∷ forget_calls given.0.forget) (sym asks.2)
-            ∙ sym (ap (λ (t : Replied). call ∷ forget_calls t.forget) given.1),
+        subst P (sym given.2) (now_out, keeps_served),
+        all,
         sym (ap (λ (x : ServedMessage). x.options) in_buffer ∙ by_options cs left given.0.sent bytes),
+        subst (λ (st : state.ChainState). IsRepliedWith
+            (served_so s.page_size options request (length (addresses_of (writable c.descriptors))) calls).reply bytes st)
+            (sym given.2)
+            (ap (λ (x : ServedMessage). x.reply) in_buffer ∙ data_bytes cs left n given.0.sent bytes (sym (data_is bytes a data_told))),
+        forgets (after_answer s before behind c request options calls tt) before behind (asked_chain c request options calls) request
+            options call (answer_of bytes a) new told.forget out kept refl refl now_out given.2 keeps_served same_more all,
       ),
     )
 by_state st was new a told given waits can s before behind c request bytes options is asked held data_told = absurd waits

@@ -1,22 +1,21 @@
 -- A chain that the handle gives up, or to which its caller replies.
-use Rattle.std.proofs.Common.{arith, ◌≡◌, ◌+◌, ◌≤◌, ◌<◌, ◌^◌, ◌-◌, ℕ, Bool, List, [], ◌∷◌, ◌++◌, length, Option, Some, None, refl, subst}
+use Rattle.std.proofs.Common.{arith, ◌≡◌, ◌+◌, ◌≤◌, ◌<◌, ◌^◌, ◌-◌, ℕ, Bool, List, ◌∷◌, ◌++◌, length, Some, None, refl, subst}
 use Rattle.std.proofs.Common.{sym, ap, ◌∙◌}
 use Rattle.std.specs.Prelude.{OnOk, Result, Ok, Err}
-use Rattle.std.specs.Prelude.{◌==◌, ◌%◌, ◌&&◌, ◌||◌, false, true, if◌then◌else◌, min, nat_lt, not, drop}
+use Rattle.std.specs.Prelude.{◌==◌, ◌%◌, ◌||◌, false, true, if◌then◌else◌, min, nat_lt, not}
 use Rattle.std.proofs.Math.Nat.{min-eq_left}
 use Rattle.std.proofs.lemmas.Bool.{and_parts, eqb-true, ltb-false}
 use Rattle.fs_queue.specs.Queue.{Queue}
-use Rattle.fs_queue.specs.Taking.{addresses_of, readable, total_len, writable}
-use Rattle.server_phases.specs.declared.listing.Listing.{Listing}
+use Rattle.fs_queue.specs.Taking.{addresses_of, writable}
 use Rattle.server_phases.specs.declared.session.Session.{Session}
-use Rattle.server_phases.specs.declared.waiting.Waiting.{Waiting}
 use Rattle.fs_regions.specs.declared.course.Course.{Course}
 use Rattle.fs_regions.specs.declared.walk.QueueWalk.{QueueWalk}
 use Rattle.live_machine.specs.Several as several
 use Rattle.live_machine.specs.Live.{Asked, Fetched, GivesUpChain, Happens, InFlightChain, IsUnreplied, Own, Phase, RepliesOwnBytes}
 use Rattle.live_machine.specs.Live.{after_giving_up, after_own, room_of, room_of_phase}
 use Rattle.live_machine.proofs.Queues.{none_some, there_same}
-use Rattle.fs_chain.specs.Holds.{GivesUp, HoldsChain, IsHeldIn, IsOutAs, IsQueue, KeepsReplyOf, Machine, RepliesOwn, any_files, live_of}
+use Rattle.fs_chain.specs.Holds.{GivesUp, HasUnreplied, HoldsChain, IsHeldIn, IsOutAs, IsQueue, Machine, RepliesOwn}
+use Rattle.fs_chain.specs.Holds.{any_files, live_of}
 use Rattle.fs_chain.specs.Orders.{give_up_error, is_out, reply_len}
 use Rattle.fs_chain.specs.OwnReplies.{IfUnanswered, own_chain_error, own_error, own_len_error, own_reply}
 use Rattle.fs_chain.specs.Queues.{gave_up, is_in_flight_of, is_last}
@@ -157,34 +156,23 @@ replied_so s before behind c request reply options mine serial out st session is
           ),
     )
 
-waits_is : (page_size : ℕ) (c : InFlightChain) (p : Phase) (out : InFlight) (w : Waiting) (session : Session) →
-    IsHeldIn page_size c p (at.Waits out w) session → IsOutAs c out
-waits_is page_size c (Asked request options calls) out w session held = held.0
-waits_is page_size c p out w session held = absurd held
-
-lists_is : (page_size : ℕ) (c : InFlightChain) (p : Phase) (out : InFlight) (l : Listing) (session : Session) →
-    IsHeldIn page_size c p (at.Lists out l) session → IsOutAs c out
-lists_is page_size c (Asked request options calls) out l session held = held.0
-lists_is page_size c p out l session held = absurd held
-
 replied_by : (s : Machine) (before behind : List InFlightChain) (c : InFlightChain) (request reply : List ℕ) (options mine serial : ℕ)
-    (st : state.ChainState) (was : Session) (old new : ChainHandle)
-    → s.chains ≡ before ++ c ∷ behind → IsHeldIn s.page_size c c.phase st was → IsUnreplied c c.phase request
+    (st : state.ChainState) (old new : ChainHandle)
+    → s.chains ≡ before ++ c ∷ behind → HasUnreplied c st → IsUnreplied c c.phase request
     → own_error st mine serial (length reply) ≡ None
     → IfUnanswered st (λ out. new ≡ record old { state = at.HasReply out (own_reply (length reply)) })
     → Happens any_files s (RepliesOwnBytes c request reply options) (after_own s before behind c request reply options)
     × HoldsChain s.page_size (record c { phase = Own request reply }) new
-replied_by s before behind c request reply options mine serial (at.Taken out) was old new is held un clear kept =
-    replied_so s before behind c request reply options mine serial out new.state new.session is
-    (taken_phase s.page_size c c.phase out was held).1 un clear (ap (λ (w : ChainHandle). w.state) kept)
-replied_by s before behind c request reply options mine serial (at.Waits out w) was old new is held un clear kept =
-    replied_so s before behind c request reply options mine serial out new.state new.session is
-    (waits_is s.page_size c c.phase out w was held) un clear (ap (λ (w : ChainHandle). w.state) kept)
-replied_by s before behind c request reply options mine serial (at.Lists out l) was old new is held un clear kept =
-    replied_so s before behind c request reply options mine serial out new.state new.session is
-    (lists_is s.page_size c c.phase out l was held) un clear (ap (λ (w : ChainHandle). w.state) kept)
-replied_by s before behind c request reply options mine serial st was old new is held un clear kept =
-    absurd (none_some error.WrongOrder (sym clear))
+replied_by s before behind c request reply options mine serial (at.Taken out) old new is held un clear kept =
+    replied_so s before behind c request reply options mine serial out new.state new.session is held un clear
+    (ap (λ (w : ChainHandle). w.state) kept)
+replied_by s before behind c request reply options mine serial (at.Waits out w) old new is held un clear kept =
+    replied_so s before behind c request reply options mine serial out new.state new.session is held un clear
+    (ap (λ (w : ChainHandle). w.state) kept)
+replied_by s before behind c request reply options mine serial (at.Lists out l) old new is held un clear kept =
+    replied_so s before behind c request reply options mine serial out new.state new.session is held un clear
+    (ap (λ (w : ChainHandle). w.state) kept)
+replied_by s before behind c request reply options mine serial st old new is held un clear kept = absurd held
 
 pub replies_own : (old new : ChainHandle) (serial len : ℕ) → own_error old.state old.serial serial len ≡ None
     → IfUnanswered old.state (λ out. new ≡ record old { state = at.HasReply out (own_reply len) })
@@ -195,7 +183,7 @@ replies_own old new serial len clear kept s before behind c request reply option
     subst (λ (n : ℕ). own_error old.state old.serial serial n ≡ None) (sym long) clear in
     let kept_so : IfUnanswered old.state (λ out. new ≡ record old { state = at.HasReply out (own_reply (length reply)) }) =
     subst (λ (n : ℕ). IfUnanswered old.state (λ out. new ≡ record old { state = at.HasReply out (own_reply n) })) (sym long) kept in
-    replied_by s before behind c request reply options old.serial serial old.state old.session old new is held un clear_so kept_so
+    replied_by s before behind c request reply options old.serial serial old.state old new is held un clear_so kept_so
 
 -- by the state, and the result
 pub gives_up_from : (old new : ChainHandle) (q q' : QueueState) (r : Result (Unit {0}) ChainError) (out : InFlight)

@@ -17,7 +17,8 @@ use Rattle.fs_queue.specs.declared.fault.ChainFault.{ChainFault}
 use Rattle.fs_queue.specs.declared.fault.QueueError.{QueueError}
 use Rattle.fs_queue.specs.declared.fault.QueueError.TheVariants as stop
 use Rattle.fs_regions.specs.Places.{Mapped, places_in}
-use Rattle.fs_regions.specs.Walks.{ComesBy, IsCourseStep, IsThere, IsWalkAt, Loaded, OffersBy, asked_len, nothing, queue_of}
+use Rattle.fs_regions.specs.Walks.{ComesBy, IsCourseStep, IsLongestStretch, IsThere, IsWalkAt, Loaded, OffersBy, asked_len, nothing}
+use Rattle.fs_regions.specs.Walks.{queue_of}
 use Rattle.fs_regions.specs.declared.course.Course.{Course}
 use Rattle.fs_regions.specs.declared.step.CourseStep as comes
 use Rattle.fs_regions.specs.declared.step.CourseStep.TheVariants as step
@@ -197,6 +198,7 @@ comes_to s i q q' course pop_id p (step.Load walk) new told c = (
     limit_is = sym c.limit;
     comes = c.is.0;
     there = c.is.1;
+    longest = c.is.2;
     mapped = c.mapped;
     events = c.events;
   },
@@ -393,9 +395,11 @@ continues old new q q' bytes wents.Part call s i p from there places index small
     let same : new.regions ≡ old.regions = call.3.0.0 in
     let C : Mapped → Type 0 = λ r. IsWalkAt (places_in r) (queue_of from.course) p.loaded new.descriptors.items from.walk in
     let T : Mapped → Type 0 = λ r. IsThere (places_in r) from.walk in
+    let L : Mapped → Type 0 = λ r. IsLongestStretch (places_in r) (queue_of from.course) new.descriptors.items from.walk in
     let M : Mapped → Type 0 = λ r. LoadsAreMapped (places_in r) (queue_of from.course) p.loaded in
     let E : Mapped → Type 0 = λ r. pop_refusal (places_in r) (queue_with (queue_of from.course) p.event_index) ≡ None in
-    let D : List Descriptor → Type 0 = λ ds. IsWalkAt (places_in old.regions) (queue_of from.course) p.loaded ds from.walk in (
+    let D : List Descriptor → Type 0 = λ ds. IsWalkAt (places_in old.regions) (queue_of from.course) p.loaded ds from.walk in
+    let S : List Descriptor → Type 0 = λ ds. IsLongestStretch (places_in old.regions) (queue_of from.course) ds from.walk in (
       record {
         course = from.course;
         pop_id = from.pop_id;
@@ -404,6 +408,7 @@ continues old new q q' bytes wents.Part call s i p from there places index small
         limit_is = from.limit_is;
         comes = subst C (sym same) (subst D (kept_items old new call.3.2) from.comes);
         there = subst T (sym same) from.there;
+        longest = subst L (sym same) (subst S (kept_items old new call.3.2) from.longest);
         mapped = subst M (sym same) from.mapped;
         events = subst E (sym same) from.events;
       },

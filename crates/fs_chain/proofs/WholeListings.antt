@@ -63,7 +63,7 @@ replied_at : (P : Listing → ListingReply → Type 0) (st new : state.ChainStat
 replied_at P st new out l len is replies = subst (λ (s : state.ChainState). RepliesBy P s new (Ok len)) is replies
 
 -- its data stands in the list, as long as what is told of it: a longer one would tell of bytes behind the entries
-in_list : (l : Listing) (list : List ℕ) (es : List Brought) (front whole : List ℕ) (n : ℕ) → Holds l list es
+pub in_list : (l : Listing) (list : List ℕ) (es : List Brought) (front whole : List ℕ) (n : ℕ) → Holds l list es
     → ((other : List ℕ) → Holds l other es → front ++ take n other ≡ whole)
     → length (take n list) ≡ n
 in_list l list es front whole n holds same =

@@ -1,6 +1,6 @@
 -- A driver of several handles over one queue of a run: its commands, one behind another, are a run of the
 -- live machine.
-use Rattle.std.specs.Prelude.{◌≡◌, ◌⊎◌, ◌≤◌, ◌^◌, ℕ, Bool, true, false, List, [], ◌∷◌, ◌++◌, Some, slice_get}
+use Rattle.std.specs.Prelude.{◌≡◌, ◌⊎◌, ◌≤◌, ◌^◌, ℕ, Bool, true, List, [], ◌∷◌, Some, slice_get}
 use Rattle.vm_memory.specs.Memory.{Memory}
 use Rattle.fs_regions.specs.Places.{places_in}
 use Rattle.fuse_values.specs.declared.answer.FileAnswer.{FileAnswer}
@@ -41,41 +41,55 @@ abbrev pub FitsRun : Memory → (limit : ℕ) → (event_index : Bool) → Chain
 FitsRun places limit event_index w =
     (places ≡ places_in w.regions) × (limit ≡ w.limit) × MayPop limit event_index w w.state
 
--- the handles hold the chains of a run, all of queue i, and no others. `owed`: a FORGET is owed
-pub record Driven (owed : Bool) (s : Machine) (i page_size : ℕ) (q : QueueState) (ws : List ChainHandle)
+-- the handles hold the chains of a run, all of queue i, and no others. No FORGET is owed
+pub record Driven (s : Machine) (i page_size : ℕ) (q : QueueState) (ws : List ChainHandle)
     (os : List Owned) : Type 0 where
   pub all : Together s ws os
   pub queue : IsQueue s i q
   pub page : s.page_size ≡ page_size
   pub small : s.limit ≤ 2 ^ 31
   pub mine : (k : ℕ) (w : ChainHandle) (c : InFlightChain) → slice_get ws k ≡ Some w → In (own k c) os →
-      (c.queue ≡ i) × (owed ≡ false → IsReady page_size c w.state)
+      (c.queue ≡ i) × IsReady page_size c w.state
   pub outs : (k : ℕ) (w : ChainHandle) → slice_get ws k ≡ Some w → is_out w.state ≡ true →
       (c : InFlightChain) × In (own k c) os
   pub fits : (k : ℕ) (w : ChainHandle) → slice_get ws k ≡ Some w → FitsRun s.places s.limit q.event_index w
 
 -- events lead to a state of which the handles hold the chains
-abbrev pub Leads : (owed : Bool) → Machine → (i page_size : ℕ) → QueueState → List ChainHandle → Type 0
-Leads owed s i page_size q ws =
+abbrev pub Leads : Machine → (i page_size : ℕ) → QueueState → List ChainHandle → Type 0
+Leads s i page_size q ws =
     (es : List LiveEvent)
     × (after : Machine)
     × (os : List Owned)
     × LiveRun any_files s es after
-    × Driven owed after i page_size q ws os
+    × Driven after i page_size q ws os
 
 -- what the handles and the queue become is a run, whatever bytes are the data of the answers
-unfoldable pub Drives : (owed : Bool) → (page_size : ℕ) → (ws ws' : List ChainHandle) → (q q' : QueueState) →
+unfoldable pub Drives : (page_size : ℕ) → (ws ws' : List ChainHandle) → (q q' : QueueState) →
     Type 0
-Drives owed page_size ws ws' q q' =
+Drives page_size ws ws' q q' =
     (told : FileAnswer → List ℕ) →
     ((a : FileAnswer) → TellsBytes (told a) a) →
     (s : Machine) (i : ℕ) (os : List Owned) →
-    Driven false s i page_size q ws os →
-    Leads owed s i page_size q' ws'
+    Driven s i page_size q ws os →
+    Leads s i page_size q' ws'
 
 -- so it is for a call of one handle, among any others
-unfoldable pub DrivesOne : (owed : Bool) → (page_size : ℕ) → (w new : ChainHandle) → (q q' : QueueState) →
+unfoldable pub DrivesOne : (page_size : ℕ) → (w new : ChainHandle) → (q q' : QueueState) →
     Type 0
-DrivesOne owed page_size w new q q' =
+DrivesOne page_size w new q q' =
     (ws : List ChainHandle) (k : ℕ) → slice_get ws k ≡ Some w →
-    Drives owed page_size ws (with_handle ws k new) q q'
+    Drives page_size ws (with_handle ws k new) q q'
+
+-- ---- the beginning
+
+-- free handles over the run's memory, while no chain is in flight
+abbrev pub BeginsDriven : Type 0
+BeginsDriven =
+    (s : Machine) (i page_size : ℕ) (q : QueueState) (ws : List ChainHandle) →
+    s.chains ≡ [] →
+    IsQueue s i q →
+    s.page_size ≡ page_size →
+    s.limit ≤ 2 ^ 31 →
+    ((k : ℕ) (w : ChainHandle) → slice_get ws k ≡ Some w →
+    (w.state ≡ at.Free) × (s.places ≡ places_in w.regions) × (s.limit ≡ w.limit)) →
+    Driven s i page_size q ws []

@@ -1,32 +1,24 @@
--- What the contracts of the calls give a driver: for a check of the lemmas alone.
-use Rattle.std.specs.Prelude.{◌≡◌, ℕ, Bool, true, false, List, length, Option, Some, None, is_some, OnOk}
+-- What the contract of each call gives a driver.
+use Rattle.std.specs.Prelude.{◌≡◌, ℕ, Bool, true, List, length, None, if◌then◌else◌}
 use Rattle.fuse_values.specs.declared.answer.FileAnswer as made_answer
 use Rattle.virtiofsd_fuse.specs.Grammar.{Meaning}
 use Rattle.virtiofsd_fuse.specs.Serving.{Setting}
 use Rattle.server_phases.specs.declared.session.Session.{Session}
 use Rattle.fs_chain.specs.Answers.{IsWaiting}
 use Rattle.fs_chain.specs.Decoding.{TellsMeaning}
-use Rattle.fs_chain.specs.Driving.{Drives, DrivesOne}
-use Rattle.fs_chain.specs.Holds.{Answers, Decodes, EndsPush, PopsBy, Pushes}
-use Rattle.fs_chain.specs.Orders.{is_out}
-use Rattle.fs_chain.specs.Queues.{gave}
+use Rattle.fs_chain.specs.Driving.{DrivesOne}
+use Rattle.fs_chain.specs.Holds.{Answers, Decodes, EndsPush, GivesUp, Pushes}
+use Rattle.fs_chain.specs.Orders.{give_up_error, is_out}
+use Rattle.fs_chain.specs.Queues.{gave, gave_up}
 use Rattle.fs_chain.specs.Serials.{freed}
 use Rattle.fs_chain.specs.declared.answering.Replied.{Replied}
 use Rattle.fs_chain.specs.declared.chain_handle.ChainHandle.{ChainHandle}
 use Rattle.fs_chain.specs.declared.decoding.Decoded.{Decoded}
-use Rattle.fs_chain.specs.declared.loads.LoadOutcome.{LoadOutcome}
 use Rattle.fs_chain.specs.declared.pushing.PushStores.{PushStores}
 use Rattle.fs_chain.specs.declared.queue.QueueState.{QueueState}
 use Rattle.fs_chain.specs.declared.state.ChainReply.{ChainReply}
 use Rattle.fs_chain.specs.declared.state.ChainState.TheVariants as at
 use Rattle.fs_chain.specs.declared.state.InFlight.{InFlight}
-
-abbrev pub GoesOnLaw : Type 0
-GoesOnLaw =
-    (owed : Bool) (page_size : ℕ) (one two three : List ChainHandle) (q q' q'' : QueueState) →
-    Drives false page_size one two q q' →
-    Drives owed page_size two three q' q'' →
-    Drives owed page_size one three q q''
 
 -- what a run's relation tells of a handle is the same
 abbrev pub IsSameHeld : (old new : ChainHandle) → Type 0
@@ -45,7 +37,7 @@ abbrev pub StaysLaw : Type 0
 StaysLaw =
     (page_size : ℕ) (old new : ChainHandle) (q : QueueState) →
     IsSameHeld old new →
-    DrivesOne false page_size old new q q
+    DrivesOne page_size old new q q
 
 abbrev pub DecodeDrivesLaw : Type 0
 DecodeDrivesLaw =
@@ -58,7 +50,7 @@ DecodeDrivesLaw =
     Decodes old new session request told →
     TellsMeaning st m bytes out told new.state →
     KeepsMemory old new →
-    DrivesOne false page_size old new q q
+    DrivesOne page_size old new q q
 
 abbrev pub AnswerDrivesLaw : Type 0
 AnswerDrivesLaw =
@@ -66,7 +58,7 @@ AnswerDrivesLaw =
     IsWaiting old.state →
     Answers old new a told →
     KeepsMemory old new →
-    DrivesOne (is_some told.forget) page_size old new q q
+    DrivesOne page_size old new q q
 
 abbrev pub PushDrivesLaw : Type 0
 PushDrivesLaw =
@@ -77,7 +69,16 @@ PushDrivesLaw =
     new ≡ record old { state = at.Pushing out } →
     q' ≡ record q { pushing = true } →
     Pushes old new q front stores →
-    DrivesOne false page_size old new q q'
+    DrivesOne page_size old new q q'
+
+abbrev pub GiveUpDrivesLaw : Type 0
+GiveUpDrivesLaw =
+    (page_size : ℕ) (old new : ChainHandle) (q q' : QueueState) →
+    give_up_error old.state q ≡ None →
+    new ≡ freed old →
+    q' ≡ (if is_out old.state then gave_up q else q) →
+    GivesUp old new q q' →
+    DrivesOne page_size old new q q'
 
 abbrev pub EndDrivesLaw : Type 0
 EndDrivesLaw =
@@ -87,4 +88,4 @@ EndDrivesLaw =
     new ≡ freed old →
     q' ≡ gave q →
     EndsPush old q q' seen notice →
-    DrivesOne false page_size old new q q'
+    DrivesOne page_size old new q q'

@@ -1,13 +1,10 @@
 -- What a handle holds of a live run, and what each of its calls does there. A call's contract ensures: for
 -- each state of the live machine in which the handle holds a chain, or none, the call is an event of that
 -- machine, or none; and afterwards the handle holds what the event left.
-use Rattle.std.specs.Prelude.{◌≡◌, ◌⊎◌, ◌≤◌, ◌^◌, ℕ, Bool, true, false, List, [], ◌∷◌, ◌++◌, length, take}
-use Rattle.std.specs.Prelude.{drop, is_some}
-use Rattle.std.specs.Prelude.{IsTrue, Option, Some, None, slice_get}
-use Rattle.vm_memory.specs.Memory.{Memory}
+use Rattle.std.specs.Prelude.{◌≡◌, ◌⊎◌, ◌≤◌, ◌^◌, ℕ, Bool, List, [], ◌∷◌, ◌++◌, length, take}
+use Rattle.std.specs.Prelude.{drop, is_some, Option, Some, None}
+use Rattle.std.specs.Prelude.{slice_get}
 use Rattle.fs_queue.specs.declared.fault.QueueError.{QueueError}
-use Rattle.fs_queue.specs.declared.fault.ChainFault.{ChainFault}
-use Rattle.fs_queue.specs.Chain.{Descriptor}
 use Rattle.fs_queue.specs.Queue.{Queue}
 use Rattle.fs_queue.specs.Returning.{stores_after_reply}
 use Rattle.fs_queue.specs.ReturningView.{stores_of}
@@ -18,21 +15,17 @@ use Rattle.fs_regions.specs.declared.step.CourseStep as comes
 use Rattle.fs_regions.specs.declared.step.CourseStep.TheVariants as step
 use Rattle.fs_regions.specs.declared.walk.QueueWalk.{QueueWalk}
 use Rattle.fs_regions.specs.Places.{places_in}
-use Rattle.fs_regions.specs.Walks.{IsThere, IsWalkAt, Loaded, nothing, queue_of}
-use Rattle.fuse_fs.specs.Calls.{Entries, FileAnswer, FileCall, HasEntry, Listed, Lookup, suits}
+use Rattle.fs_regions.specs.Walks.{IsLongestStretch, IsThere, IsWalkAt, Loaded, nothing, queue_of}
+use Rattle.fuse_fs.specs.Calls.{Done, FileAnswer, FileCall, Forget}
+use Rattle.fuse_fs.specs.declared.answers.Context.{Context}
 use Rattle.fuse_values.specs.Answers.{answer_of}
 use Rattle.fuse_values.specs.Values.{call_of}
 use Rattle.fuse_values.specs.declared.answer.FileAnswer as made_answer
 use Rattle.fuse_values.specs.declared.call.FileCall as made_call
-use Rattle.virtiofsd_fuse.specs.Grammar.{Lists, meaning}
-use Rattle.virtiofsd_fuse.specs.Grammar as grammar
-use Rattle.virtiofsd_fuse.specs.Listings.{ListRequest, readdir_call}
+use Rattle.virtiofsd_fuse.specs.Grammar.{meaning}
 use Rattle.virtiofsd_fuse.specs.Serving.{ServedMessage, served, setting}
 use Rattle.server_phases.specs.Answering.{TellsBytes, forget_calls}
 use Rattle.server_phases.specs.Asking.{AsksCall, IsRequestFront}
-use Rattle.server_phases.specs.Gathering.{Brought, IsListingFor, entries_of, is_looked_up}
-use Rattle.server_phases.specs.Gathering as gathering
-use Rattle.server_phases.specs.declared.listing.Listing.{Listing}
 use Rattle.server_phases.specs.declared.session.Session.{Session}
 use Rattle.plain_machine.specs.Step.{Calls, Exchange, answers_alone, calls_alone}
 pub use Rattle.live_machine.specs.Files.{any_files}
@@ -50,7 +43,6 @@ use Rattle.fs_chain.specs.Loads.{whole}
 use Rattle.fs_chain.specs.Orders.{front_of, reply_len}
 use Rattle.fs_chain.specs.Walks.{told_of}
 use Rattle.fs_chain.specs.Whole.{AddsSo}
-use Rattle.fs_chain.specs.WholeListings.{all_looked_up}
 use Rattle.fs_chain.specs.declared.answering.Replied.{Replied}
 use Rattle.fs_chain.specs.declared.chain_handle.ChainHandle.{ChainHandle}
 use Rattle.fs_chain.specs.declared.decoding.Decoded.{Decoded}
@@ -167,6 +159,7 @@ pub record HoldsPop (limit : ℕ) (p : Pop) (w : ChainHandle) : Type 0 where
   pub limit_is : course.limit ≡ limit
   pub comes : IsWalkAt (places_in w.regions) (queue_of course) p.loaded w.descriptors.items walk
   pub there : IsThere (places_in w.regions) walk
+  pub longest : IsLongestStretch (places_in w.regions) (queue_of course) w.descriptors.items walk
   pub mapped : LoadsAreMapped (places_in w.regions) (queue_of course) p.loaded
   pub events : pop_refusal (places_in w.regions) (queue_with (queue_of course) p.event_index) ≡ None
 
@@ -197,19 +190,43 @@ Decodes old new session front told =
     IsRequestFront front request →
     DecodingIs s before behind c request new told
 
+-- the handle keeps the front of this reply. Behind it are the first of these bytes, as many as the handle
+-- told
+abbrev pub IsRepliedWith : (reply bytes : List ℕ) → state.ChainState → Type 0
+IsRepliedWith reply bytes (at.HasReply out kept) = reply ≡ front_of kept ++ take kept.behind bytes
+IsRepliedWith reply bytes _ = ⊥
+
+-- a FORGET that the caller owes is answered at any later moment, without the handle: the event
+-- `ReceivesAnswer` too. The handle holds what it held, and no call of the chain is pending
+abbrev pub ForgettingIs : (s : Machine) (before behind : List InFlightChain) (c : InFlightChain)
+    (request : List ℕ) (options : ℕ) (calls : Calls) (new : ChainHandle) → Option (Context × ℕ) → Type 0
+ForgettingIs s before behind c request options calls new None = Unit {0}
+ForgettingIs s before behind c request options calls new (Some node) =
+    let forget = Forget node.0 node.1 1 in
+    let all = calls ++ (forget, Done) ∷ [] in
+    Happens any_files s (ReceivesAnswer c forget Done) (after_answer s before behind c request options all tt)
+    × HoldsChain s.page_size (asked_chain c request options all) new
+    × ((served_so s.page_size options request (length (addresses_of (writable c.descriptors))) all).calls
+    ≡ calls_alone all)
+
 -- this call was pending, and is answered: the event `ReceivesAnswer`. `told.forget` is the FORGET that the
--- caller owes then, and the handle's session has the options that the chain leaves
+-- caller owes then, and the handle's session has the options that the chain leaves. `bytes`: the answer's
+-- data
 abbrev pub AnsweringIs : (s : Machine) (before behind : List InFlightChain) (c : InFlightChain)
-    (request : List ℕ) (options : ℕ) (call : FileCall) (answer : FileAnswer) (told : Replied)
+    (request bytes : List ℕ) (options : ℕ) (call : FileCall) (answer : FileAnswer) (told : Replied)
     (new : ChainHandle) → Type 0
-AnsweringIs s before behind c request options call answer told new =
+AnsweringIs s before behind c request bytes options call answer told new =
     let calls : Calls = (call, answer) ∷ [] in
-    let room = length (addresses_of (writable c.descriptors)) in
-    Happens any_files s (ReceivesAnswer c call answer)
-    (after_answer s before behind c request options calls tt)
+    let given = served_so s.page_size options request (length (addresses_of (writable c.descriptors)))
+    calls in
+    let after = after_answer s before behind c request options calls tt in
+    Happens any_files s (ReceivesAnswer c call answer) after
     × HoldsChain s.page_size (asked_chain c request options calls) new
-    × ((served_so s.page_size options request room calls).calls ≡ call ∷ forget_calls told.forget)
-    × (new.session.options.0 ≡ (served_so s.page_size options request room calls).options)
+    × (given.calls ≡ call ∷ forget_calls told.forget)
+    × (new.session.options.0 ≡ given.options)
+    × IsRepliedWith given.reply bytes new.state
+    × ForgettingIs after before behind (asked_chain c request options calls) request options calls new
+    told.forget
 
 -- so it is for an answer to a decoded chain, with these bytes of data in the reply buffer
 unfoldable pub Answers : (old new : ChainHandle) → made_answer.FileAnswer → Replied → Type 0
@@ -220,7 +237,8 @@ Answers old new answer told =
     c.phase ≡ Asked request options [] →
     HoldsChain s.page_size c old →
     TellsBytes bytes answer →
-    (call : FileCall) × AnsweringIs s before behind c request options call (answer_of bytes answer) told new
+    (call : FileCall) × AnsweringIs s before behind c request bytes options call (answer_of bytes answer) told
+    new
 
 -- a push returns the stores of the chain's exchange at the queue's next used position, and the reply's front
 unfoldable pub Pushes : (old new : ChainHandle) → QueueState → (front : List ℕ) → PushStores → Type 0
@@ -261,13 +279,21 @@ GivesUp old new q q' =
     let after = after_giving_up s before behind c (live_of q) in
     Happens any_files s (GivesUpChain c) after × IsQueue after c.queue q' × (new.state ≡ at.Free)
 
+-- a handle in this state has the chain, and its reply isn't known. The file system may have answered some of
+-- its calls
+abbrev pub HasUnreplied : InFlightChain → state.ChainState → Type 0
+HasUnreplied c (at.Taken out) = IsOutAs c out
+HasUnreplied c (at.Waits out waiting) = IsOutAs c out
+HasUnreplied c (at.Lists out listing) = IsOutAs c out
+HasUnreplied c _ = ⊥
+
 -- a reply of the caller's own bytes is the event `RepliesOwnBytes`, with any options of the session then
 unfoldable pub RepliesOwn : (old new : ChainHandle) → (len : ℕ) → Type 0
 RepliesOwn old new len =
     (s : Machine) (before behind : List InFlightChain) (c : InFlightChain) (request reply : List ℕ)
     (options : ℕ) →
     s.chains ≡ before ++ c ∷ behind →
-    HoldsChain s.page_size c old →
+    HasUnreplied c old.state →
     IsUnreplied c c.phase request →
     length reply ≡ len →
     Happens any_files s (RepliesOwnBytes c request reply options)
@@ -350,54 +376,3 @@ abbrev pub PopsBy : state.ChainState → (old new : ChainHandle) → (q q' : Que
     went.LoadOutcome → Type 0
 PopsBy at.Free old new q q' bytes told = BeginsAPop old new q q' told
 PopsBy st old new q q' bytes told = ContinuesAPop old new q q' bytes told
-
--- ---- a listing
-
--- the file calls of a listing so far: the directory was read, and the entries that were added were looked up.
--- It has other entries behind them
-abbrev pub listed_calls : FileCall → (with_nodes : Bool) → List Brought → (others : List Listed) → Calls
-listed_calls call with_nodes es others =
-    (call, Entries (entries_of es ++ others)) ∷ all_looked_up call with_nodes es
-
--- a handle gathers the entries of a directory that was read. These are added, and are at the front of the
--- caller's list; the others are to come
-pub record HoldsListing (page_size : ℕ) (c : InFlightChain) (es : List Brought) (others : List Listed)
-    (list : List ℕ) (w : ChainHandle) : Type 0 where
-  pub out : InFlight
-  pub listing : Listing
-  pub state : w.state ≡ at.Lists out listing
-  pub is_out : IsOutAs c out
-  pub request : List ℕ
-  pub options : ℕ
-  pub session : IsDecodedIn page_size options w.session
-  pub unique : ℕ
-  pub asked : ListRequest
-  pub means : meaning options request out.room_len ≡ grammar.Asks (Lists unique asked)
-  pub is_for : IsListingFor listing out.room_len (Lists unique asked)
-  pub holds : gathering.Holds listing list es
-  pub phase : c.phase ≡ Asked request options (listed_calls (readdir_call asked) asked.with_nodes es others)
-
--- an entry is added: with a look-up that is the event `ReceivesAnswer`; without one nothing happens
-abbrev pub AddingIs : (s : Machine) (before behind : List InFlightChain) (c : InFlightChain)
-    (es : List Brought) (e : Brought) (others : List Listed) (list' : List ℕ) (new : ChainHandle)
-    (request : List ℕ) (options : ℕ)
-    (asked : ListRequest) (looked : Bool) → Type 0
-AddingIs s before behind c es e others list' new request options asked false =
-    HoldsListing s.page_size c (es ++ e ∷ []) others list' new
-AddingIs s before behind c es e others list' new request options asked true =
-    let call = Lookup asked.context asked.node e.0.name in
-    let calls = listed_calls (readdir_call asked) asked.with_nodes es
-    (e.0 ∷ others) ++ (call, HasEntry e.1) ∷ [] in
-    Happens any_files s (ReceivesAnswer c call (HasEntry e.1))
-    (after_answer s before behind c request options calls tt)
-    × HoldsListing s.page_size (asked_chain c request options calls) (es ++ e ∷ []) others list' new
-
-unfoldable pub AddsEntry : (old new : ChainHandle) → (list list' : List ℕ) → Brought → Type 0
-AddsEntry old new list list' e =
-    (s : Machine) (before behind : List InFlightChain) (c : InFlightChain) (es : List Brought)
-    (others : List Listed) →
-    s.chains ≡ before ++ c ∷ behind →
-    (held : HoldsListing s.page_size c es (e.0 ∷ others) list old) →
-    IsTrue (suits (Lookup held.asked.context held.asked.node e.0.name) (HasEntry e.1)) →
-    AddingIs s before behind c es e others list' new held.request held.options held.asked
-    (is_looked_up held.asked.with_nodes e.0)

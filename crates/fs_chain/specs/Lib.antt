@@ -4,8 +4,10 @@ pub mod Decoding
 pub mod Driving
 pub mod DrivingLaws
 pub mod Events
+pub mod Held
 pub mod Holds
-pub mod HoldsLaws
+pub mod HoldsAround
+pub mod HoldsListings
 pub mod Laws
 pub mod Listings
 pub mod Loads

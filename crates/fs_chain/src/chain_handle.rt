@@ -5,6 +5,7 @@ ghost use Rattle.std.specs.Prelude.{false};
 ghost use Rattle.fs_queue.specs.Taking.{all_reach, total_len, access_of, of_direction};
 ghost use Rattle.fs_regions.specs.Places.{places_in, untranslated};
 ghost use Rattle.fs_regions.specs.Windows.{HasNoWindowFrom, IsWindowFrom};
+ghost use Rattle.fs_chain.specs.HoldsAround.{SetsMemory};
 ghost use Rattle.fs_chain.specs.Orders.{is_out, memory_error};
 ghost use Rattle.fs_chain.specs.Passing.{HasPassed};
 ghost use Rattle.fs_chain.specs.declared.state.ChainState.TheVariants as at;
@@ -66,6 +67,7 @@ impl ChainHandle {
     /// Sets the memory of the next pops, and the greatest length of a request and of a reply buffer, in
     /// bytes. `ChainInFlight` unless the handle is free; `BadArgument` for a limit below 0x101000 or above
     /// 2^31.
+    #[tactic(auto, using(crate::proofs::HoldsAround::sets_memory))]
     pub fn set_memory(&mut self, regions: GuestMap, limit: u32) -> Result<(), ChainError>
         ensures error { IfErr result (λ e. memory_error self.old.state limit ≡ Some e) }
         ensures ok { OnOk result (memory_error self.old.state limit ≡ None) }
@@ -77,6 +79,7 @@ impl ChainHandle {
             × (self.new.session ≡ self.old.session)
             × (self.new.serial ≡ self.old.serial)
             × (self.new.list_len ≡ self.old.list_len)) }
+        ensures step { OnOk result (SetsMemory self.new) }
     {
         match self.state {
             ChainState::Free => self.take_memory(regions, limit),

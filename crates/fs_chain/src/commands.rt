@@ -1,6 +1,6 @@
 //! A driver of several handles over one queue: its commands, one behind another, are a run.
 
-ghost use Rattle.std.specs.Prelude.{◌≡◌, ℕ, false};
+ghost use Rattle.std.specs.Prelude.{◌≡◌, ℕ};
 ghost use Rattle.fs_chain.specs.Driving.{Drives, DrivesOne};
 
 use crate::chain_handle::ChainHandle;
@@ -23,12 +23,14 @@ pub enum Command<'a> {
     Push,
     /// Ends it, with the two bytes that were seen.
     Pushed([u8; 2]),
+    /// Gives the chain up, or a pop.
+    GiveUp,
 }
 
 // Decodes the whole request of a handle's chain; otherwise nothing happens.
 #[tactic(auto, using(crate::proofs::DrivingCalls::decode_result, crate::proofs::DrivingCalls::unchanged))]
 fn drive_decode(handle: &mut ChainHandle, queue: &QueueState, session: Session, request: &[u8])
-    ensures step { DrivesOne false session.page_size handle.old handle.new queue.now queue.now }
+    ensures step { DrivesOne session.page_size handle.old handle.new queue.now queue.now }
 {
     match &handle.state {
         ChainState::Taken(out) => {
@@ -41,26 +43,26 @@ fn drive_decode(handle: &mut ChainHandle, queue: &QueueState, session: Session, 
     }
 }
 
-// Answers a handle's chain. Returns whether a FORGET is owed.
-#[tactic(auto, using(crate::proofs::DrivingCalls::answer_result, crate::proofs::DrivingCalls::unchanged))]
-fn drive_answer(
-    handle: &mut ChainHandle,
-    queue: &QueueState,
-    serial: u32,
-    answer: FileAnswer,
-) -> bool
-    ensures step { (page_size : ℕ) → DrivesOne result page_size handle.old handle.new queue.now queue.now }
+// Answers a handle's chain. A FORGET that is owed is answered next.
+#[tactic(auto, using(crate::proofs::DrivingCalls::answer_result))]
+fn drive_answer(handle: &mut ChainHandle, queue: &QueueState, serial: u32, answer: FileAnswer)
+    ensures step { (page_size : ℕ) → DrivesOne page_size handle.old handle.new queue.now queue.now }
 {
-    match handle.answer(serial, answer) {
-        Ok(told) => told.forget.is_some(),
-        Err(_) => false,
-    }
+    let _told = handle.answer(serial, answer);
+}
+
+// Gives up a handle's chain, or its pop.
+#[tactic(auto, using(crate::proofs::DrivingEnds::give_up_result))]
+fn drive_give_up(handle: &mut ChainHandle, queue: &mut QueueState)
+    ensures step { (page_size : ℕ) → DrivesOne page_size handle.old handle.new queue.old queue.new }
+{
+    let _told = handle.give_up(queue);
 }
 
 // Begins the push of a handle's chain, if its reply is known.
-#[tactic(auto, using(crate::proofs::DrivingCalls::push_result, crate::proofs::DrivingCalls::unchanged))]
+#[tactic(auto, using(crate::proofs::DrivingEnds::push_result, crate::proofs::DrivingCalls::unchanged))]
 fn drive_push(handle: &mut ChainHandle, queue: &mut QueueState, front: &mut [u8])
-    ensures step { (page_size : ℕ) → DrivesOne false page_size handle.old handle.new queue.old queue.new }
+    ensures step { (page_size : ℕ) → DrivesOne page_size handle.old handle.new queue.old queue.new }
 {
     match &handle.state {
         ChainState::HasReply(_, _) => {
@@ -71,9 +73,9 @@ fn drive_push(handle: &mut ChainHandle, queue: &mut QueueState, front: &mut [u8]
 }
 
 // Ends the push of a handle's chain.
-#[tactic(auto, using(crate::proofs::DrivingCalls::pushed_result, crate::proofs::DrivingCalls::unchanged))]
+#[tactic(auto, using(crate::proofs::DrivingEnds::pushed_result, crate::proofs::DrivingCalls::unchanged))]
 fn drive_pushed(handle: &mut ChainHandle, queue: &mut QueueState, seen: [u8; 2])
-    ensures step { (page_size : ℕ) → DrivesOne false page_size handle.old handle.new queue.old queue.new }
+    ensures step { (page_size : ℕ) → DrivesOne page_size handle.old handle.new queue.old queue.new }
 {
     match &handle.state {
         ChainState::Pushing(_) => {
@@ -86,12 +88,12 @@ fn drive_pushed(handle: &mut ChainHandle, queue: &mut QueueState, seen: [u8; 2])
 // Pops the next chain into a handle.
 #[tactic(auto, using(crate::proofs::DrivingPops::pop_result))]
 fn drive_pop(handle: &mut ChainHandle, queue: &mut QueueState, loaded: &[u8])
-    ensures step { (page_size : ℕ) → DrivesOne false page_size handle.old handle.new queue.old queue.new }
+    ensures step { (page_size : ℕ) → DrivesOne page_size handle.old handle.new queue.old queue.new }
 {
     let _told = handle.pop(queue, loaded);
 }
 
-/// Performs a command for a handle. Returns whether a FORGET is owed then.
+/// Performs a command for a handle.
 #[tactic(auto, using(crate::proofs::DrivingCalls::unchanged))]
 pub fn drive_one(
     handle: &mut ChainHandle,
@@ -99,34 +101,25 @@ pub fn drive_one(
     page_size: u32,
     front: &mut [u8],
     command: &mut Command,
-) -> bool
-    ensures step { DrivesOne result page_size handle.old handle.new queue.old queue.new }
+)
+    ensures step { DrivesOne page_size handle.old handle.new queue.old queue.new }
 {
     let command = mem::replace(command, Command::Push);
     match command {
-        Command::Pop(loaded) => {
-            drive_pop(handle, queue, loaded);
-            false
-        }
+        Command::Pop(loaded) => drive_pop(handle, queue, loaded),
         Command::Decode(session, request) => {
             if session.page_size() == page_size {
                 drive_decode(handle, queue, session, request);
             }
-            false
         }
         Command::Answer(serial, answer) => drive_answer(handle, queue, serial, answer),
-        Command::Push => {
-            drive_push(handle, queue, front);
-            false
-        }
-        Command::Pushed(seen) => {
-            drive_pushed(handle, queue, seen);
-            false
-        }
+        Command::Push => drive_push(handle, queue, front),
+        Command::Pushed(seen) => drive_pushed(handle, queue, seen),
+        Command::GiveUp => drive_give_up(handle, queue),
     }
 }
 
-/// Performs a command for one of several handles. Returns whether a FORGET is owed then.
+/// Performs a command for one of several handles.
 #[tactic(auto, using(crate::proofs::DrivingList::at_none))]
 pub fn drive(
     handles: &mut [ChainHandle],
@@ -135,17 +128,15 @@ pub fn drive(
     page_size: u32,
     front: &mut [u8],
     command: &mut Command,
-) -> bool
-    ensures step { Drives result page_size handles.old handles.new queue.old queue.new }
+)
+    ensures step { Drives page_size handles.old handles.new queue.old queue.new }
 {
     if k < handles.len() {
         return drive_one(&mut handles[k], queue, page_size, front, command);
     }
-    false
 }
 
-/// Performs commands one behind another, each for the handle in its place, up to the first after which a
-/// FORGET is owed. Returns whether one is.
+/// Performs commands one behind another, each for the handle in its place: a run of the live machine.
 #[tactic(auto, using(crate::proofs::Driving::goes_on, crate::proofs::DrivingList::at_none))]
 pub fn drive_all(
     handles: &mut [ChainHandle],
@@ -154,22 +145,19 @@ pub fn drive_all(
     front: &mut [u8],
     places: &[usize],
     commands: &mut [Command],
-) -> bool
-    ensures step { Drives result page_size handles.old handles.new queue.old queue.new }
+)
+    ensures step { Drives page_size handles.old handles.new queue.old queue.new }
 {
     let mut n = 0;
     while n < places.len() && n < commands.len() {
-        if drive(
+        drive(
             handles,
             places[n],
             queue,
             page_size,
             front,
             &mut commands[n],
-        ) {
-            return true;
-        }
+        );
         n += 1;
     }
-    false
 }

@@ -5,6 +5,7 @@ ghost use Rattle.std.specs.Prelude.{◌≡◌, option_map};
 ghost use Rattle.fs_regions.specs.Places.{places_in};
 ghost use Rattle.fs_chain.specs.Events.{avail_event_at, event_fault, event_miss, notification_store};
 ghost use Rattle.fs_chain.specs.Events.{seen_at, store_of, tells_of, used_event_at};
+ghost use Rattle.fs_chain.specs.HoldsAround.{StoresNotice};
 
 use crate::queue::QueueState;
 use fs_queue::{QueueError, QueueLayout, Return};
@@ -95,8 +96,10 @@ impl QueueState {
     /// A thread enables them before it sleeps, and when it pops a chain while another thread of the queue
     /// sleeps. Behind a full barrier it then looks once more, with a new load of the available index. It
     /// does all of that under the queue's lock.
+    #[tactic(auto, using(crate::proofs::HoldsAround::stores_notice))]
     pub fn notification_store(&self, wanted: bool) -> Option<NotificationStore>
-        ensures { option_map store_of result ≡ notification_store self.now wanted }
+        ensures store { option_map store_of result ≡ notification_store self.now wanted }
+        ensures step { StoresNotice self.now wanted result }
     {
         if self.event_index {
             if !wanted {

@@ -2,6 +2,7 @@
 
 ghost use Rattle.std.specs.Prelude.{◌≡◌, Some, None, IfErr, OnOk, OnErr, if◌then◌else◌};
 ghost use Rattle.fs_chain.specs.Holds.{GivesUp};
+ghost use Rattle.fs_chain.specs.HoldsAround.{AbandonsChain};
 ghost use Rattle.fs_chain.specs.Orders.{give_up_error, is_out};
 ghost use Rattle.fs_chain.specs.Queues.{gave_up};
 ghost use Rattle.fs_chain.specs.Pushes.{IsFreed};
@@ -64,8 +65,10 @@ impl ChainHandle {
 
     /// Frees a handle whose queue was reset while its chain was in flight, or during its pop. The queue
     /// doesn't change, and the handle keeps no part of a load.
+    #[tactic(auto, using(crate::proofs::HoldsAround::abandons))]
     pub fn abandon(&mut self)
-        ensures { IsFreed self.old self.new }
+        ensures free { IsFreed self.old self.new }
+        ensures step { AbandonsChain self.new }
     {
         self.free();
         self.part.clear();

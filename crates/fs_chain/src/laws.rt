@@ -1,6 +1,9 @@
 //! Theorems about the definitions, as contracts of functions that do nothing.
 
 ghost use Rattle.fs_regions.specs.Laws.{MissesCanBeMapped};
+ghost use Rattle.fs_chain.specs.Driving.{BeginsDriven};
+ghost use Rattle.fs_chain.specs.Held.{AskedIsMapped, HeldIsUnreplied, LoadsAreFew, LoadsCount};
+ghost use Rattle.fs_chain.specs.HoldsListings.{BeginsListing, LeavesOut, LooksUp, ReadsDirectory};
 ghost use Rattle.fs_chain.specs.Laws.{WalksAreOffers};
 ghost use Rattle.fs_chain.specs.Missed.{EventMissIsNoStep, MissIsNoStep};
 ghost use Rattle.fs_chain.specs.Whole.{ChainIsAnsweredBy, ChainIsStep, ChainIsStepBy, EventFaultRefuses};
@@ -65,4 +68,29 @@ pub fn law_together()
     ensures keeps { KeepsOthers }
     ensures leaves { LeavesOthers }
     ensures joins { JoinsOthers }
+{}
+
+/// What a handle holds of a run. Its pop has at most size + 4 loads, each of mapped addresses. A chain
+/// without a reply may be given its caller's own bytes.
+pub fn law_held()
+    ensures few { LoadsAreFew }
+    ensures count { LoadsCount }
+    ensures mapped { AskedIsMapped }
+    ensures unreplied { HeldIsUnreplied }
+{}
+
+/// The file calls of a listing that a handle gathers. Each is answered without the handle, which holds the
+/// same afterwards: the reading of the directory, the look-ups of its entries, and the FORGET of an entry
+/// that isn't added.
+pub fn law_listings()
+    ensures begins { BeginsListing }
+    ensures reads { ReadsDirectory }
+    ensures looks_up { LooksUp }
+    ensures leaves_out { LeavesOut }
+{}
+
+/// The commands of a driver (`drive_all`) may begin with free handles over a run's memory, while no chain is
+/// in flight.
+pub fn law_driven()
+    ensures { BeginsDriven }
 {}

@@ -12,7 +12,6 @@ mod error;
 mod event_index;
 mod giving_up;
 mod going_on;
-pub mod held_laws;
 mod iotlb;
 mod iotlb_place;
 pub mod laws;

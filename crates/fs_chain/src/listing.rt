@@ -1,9 +1,10 @@
 //! A listing that the caller answers entry by entry.
 
-ghost use Rattle.std.specs.Prelude.{◌≡◌, OnOk, OnErr, length};
+ghost use Rattle.std.specs.Prelude.{◌≡◌, IfOk, OnOk, OnErr, length};
 ghost use Rattle.fuse_fs.specs.Answers.{listed};
 ghost use Rattle.server_replies.specs.Entries.{no_node};
 ghost use Rattle.server_phases.specs.Gathering.{added_found, added_plain};
+ghost use Rattle.fs_chain.specs.HoldsListings.{AddsEntry, EndsListing, FailsListing};
 ghost use Rattle.fs_chain.specs.Listings.{AddsTo, EndsByEntries, EndsByError, adding_error, answered_by};
 ghost use Rattle.fs_chain.specs.Listings.{list_after, list_error, told_added};
 ghost use Rattle.fs_chain.specs.Serials.{UnlessRefused, serial_error};
@@ -153,6 +154,7 @@ impl ChainHandle {
     /// - `BadArgument`: the listing has entries, in a list of another length.
     /// - `OtherKind`: the call is no READDIR.
     /// - `ShortBuffer`: the list ends before the entry.
+    #[tactic(auto, using(crate::proofs::HoldsListed::added_plain_from))]
     pub fn add(
         &mut self,
         serial: u32,
@@ -170,6 +172,8 @@ impl ChainHandle {
             (λ l. added_plain l (length list.old) (length entry.now.name.now)) result) }
         ensures list { self.new.list_len ≡ list_after self.old.list_len (length list.old) result }
         ensures stays { IsAllButPlace self.old self.new }
+        ensures step { IfOk result (λ told. AddsEntry self.old self.new list.old list.new
+            (listed entry.now, no_node (listed entry.now)) told) }
     {
         match self.adding_error(serial, list.len()) {
             Some(error) => Err(error),
@@ -206,6 +210,7 @@ impl ChainHandle {
     /// Puts an entry of READDIRPLUS, with its node, behind the others, unless it doesn't fit (`Added`).
     /// The caller then forgets the look-up that it made for the entry. Errors are those of `add`, for
     /// READDIRPLUS.
+    #[tactic(auto, using(crate::proofs::HoldsListed::added_found_from))]
     pub fn add_with_node(
         &mut self,
         serial: u32,
@@ -223,6 +228,8 @@ impl ChainHandle {
             (λ l. added_found l (length list.old) (length entry.now.name.now)) result) }
         ensures list { self.new.list_len ≡ list_after self.old.list_len (length list.old) result }
         ensures stays { IsAllButPlace self.old self.new }
+        ensures step { IfOk result
+            (λ told. AddsEntry self.old self.new list.old list.new (listed entry.now, node) told) }
     {
         match self.adding_error(serial, list.len()) {
             Some(error) => Err(error),
@@ -264,12 +271,14 @@ impl ChainHandle {
     /// - `WrongOrder`: no call is in flight.
     /// - `OtherCall`: another call than that of this number is.
     /// - `OtherKind`: the call is no listing.
+    #[tactic(auto, using(crate::proofs::HoldsListed::ended_from))]
     pub fn end(&mut self, serial: u32) -> Result<usize, ChainError>
         ensures told { UnlessRefused (serial_error self.old.state self.old.serial serial) result
             (self.new ≡ self.old) (EndsByEntries self.old.state self.new.state result) }
         ensures ended { OnOk result (EndsByEntries self.old.state self.new.state result) }
         ensures same { OnErr result (self.new ≡ self.old) }
         ensures stays { IsAllButPlace self.old self.new }
+        ensures step { IfOk result (λ len. EndsListing self.old self.new len) }
     {
         match self.serial_error(serial) {
             Some(error) => Err(error),
@@ -298,12 +307,14 @@ impl ChainHandle {
 
     /// Replies that the listing failed. Returns how many bytes of the list are the data. Errors are those
     /// of `end`.
+    #[tactic(auto, using(crate::proofs::HoldsListed::failed_from))]
     pub fn fail(&mut self, serial: u32, error: Errno) -> Result<usize, ChainError>
         ensures told { UnlessRefused (serial_error self.old.state self.old.serial serial) result
             (self.new ≡ self.old) (EndsByError error self.old.state self.new.state result) }
         ensures failed { OnOk result (EndsByError error self.old.state self.new.state result) }
         ensures same { OnErr result (self.new ≡ self.old) }
         ensures stays { IsAllButPlace self.old self.new }
+        ensures step { IfOk result (λ len. FailsListing error self.old self.new len) }
     {
         match self.serial_error(serial) {
             Some(refusal) => Err(refusal),

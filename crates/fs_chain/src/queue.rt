@@ -1,6 +1,7 @@
 //! A queue's state, which the caller keeps.
 
 ghost use Rattle.std.specs.Prelude.{◌≡◌};
+ghost use Rattle.fs_chain.specs.HoldsAround.{Resets};
 ghost use Rattle.fs_chain.specs.Queues.{reset_to, new_queue, gave, fits_pop, is_laid_out, is_last};
 ghost use Rattle.fs_chain.specs.Queues.{is_in_flight_of, may_take, in_flight, pop_id_of, took, gave_up};
 
@@ -68,7 +69,8 @@ impl QueueState {
     /// takes the queue refuses its earlier pops and chains with `OtherQueue`; `give_up` ends a pop. They
     /// would be valid again after 2^32 resets. `max_in_flight` and the event index stay.
     pub fn reset(&mut self, layout: QueueLayout, position: u16)
-        ensures { self.new ≡ reset_to self.old layout position }
+        ensures set { self.new ≡ reset_to self.old layout position }
+        ensures step { Resets self.old self.new }
     {
         self.layout = layout;
         self.next_avail = position;

@@ -1,14 +1,2 @@
-pub mod Among
-pub mod AmongLoads
-pub mod Answered
-pub mod Declined
 pub mod Filling
-pub mod Left
-pub mod Listed
-pub mod ListedSoFar
-pub mod NoneAmid
-pub mod Others
-pub mod Popped
-pub mod Pushed
-pub mod Sleeping
-pub mod WantedAmong
+pub mod Moves

@@ -1,4 +1,2 @@
-pub mod Among
 pub mod Filling
-pub mod Handles
-pub mod Others
+pub mod Moves

@@ -1,5 +1,5 @@
 -- Two chains, one after the other, are a serial run.
-use Rattle.std.proofs.Common.{◌≡◌, ℕ, List, [], ◌∷◌, None, inl, refl, subst, sym, ap, ◌∙◌}
+use Rattle.std.proofs.Common.{◌≡◌, ℕ, [], ◌∷◌, None, inl, refl, subst, sym, ap, ◌∙◌}
 use Rattle.std.specs.Prelude.{true}
 use Rattle.vm_values.specs.Fields as fields
 use Rattle.vm_memory.specs.Layout.{place}

@@ -24,7 +24,7 @@ use Rattle.fs_chain.specs.declared.state.ChainState as state
 use Rattle.fs_chain.specs.declared.state.ChainState.TheVariants as at
 use Rattle.fs_chain.proofs.WholeWalks.{walk_comes}
 use Rattle.worked_callers.specs.ChainCalls.{HasMemoryOf, HasServedOne, KeepsChain}
-use Rattle.worked_callers.specs.Events.{loaded_flags}
+use Rattle.worked_callers.specs.ChainCalls.{loaded_flags}
 
 -- ---- the pop
 

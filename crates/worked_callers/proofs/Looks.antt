@@ -1,5 +1,5 @@
 -- The first call of a pop.
-use Rattle.std.proofs.Common.{◌≡◌, ℕ, [], List, None, Some, subst, ap, ◌∙◌}
+use Rattle.std.proofs.Common.{◌≡◌, ℕ, [], List, None, Some, refl, subst, sym, ap, ◌∙◌}
 use Rattle.fs_queue.specs.Chain.{Descriptor}
 use Rattle.fs_regions.specs.declared.step.CourseStep as comes
 use Rattle.fs_regions.specs.declared.step.CourseStep.TheVariants as step
@@ -15,7 +15,30 @@ use Rattle.fs_chain.specs.declared.popping.PopOutcome as walked
 use Rattle.fs_chain.specs.declared.popping.PopOutcome.TheVariants as says
 use Rattle.fs_chain.specs.declared.chain_handle.ChainHandle.{ChainHandle}
 use Rattle.fs_chain.proofs.WholeWalks.{walk_comes}
-use Rattle.worked_callers.proofs.NamedEvents.{idle_is, refusal_is}
+use Rattle.fs_queue.specs.declared.fault.QueueError.TheVariants as stop
+
+abbrev IsIdle : walked.PopOutcome → Type 0
+IsIdle says.Idle = Unit {0}
+IsIdle _ = ⊥
+
+abbrev IsRefusal : walked.PopOutcome → Type 0
+IsRefusal (says.Refused e) = Unit {0}
+IsRefusal _ = ⊥
+
+abbrev error_in : walked.PopOutcome → QueueError
+error_in (says.Refused e) = e
+error_in _ = stop.Stopped
+
+idle_is : (ds : List Descriptor) (came : comes.CourseStep) → says.Idle ≡ told_of ds came → came ≡ step.Idle
+idle_is ds step.Idle told = refl
+idle_is ds (step.Chain head None) told = absurd (subst IsIdle told tt)
+idle_is ds came told = absurd (subst IsIdle told tt)
+
+refusal_is :
+    (ds : List Descriptor) (came : comes.CourseStep) (error : QueueError) → says.Refused error ≡ told_of ds came → came ≡ step.Refused error
+refusal_is ds (step.Refused why) error told = ap (λ (e : QueueError). step.Refused e) (sym (ap error_in told))
+refusal_is ds (step.Chain head None) error told = absurd (subst IsRefusal told tt)
+refusal_is ds came error told = absurd (subst IsRefusal told tt)
 
 abbrev IsALoad : walked.PopOutcome → Type 0
 IsALoad (says.Load n) = Unit {0}

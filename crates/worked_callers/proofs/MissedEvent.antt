@@ -12,8 +12,6 @@ use Rattle.fs_regions.specs.Misses.{Area, first_miss, last_page}
 use Rattle.fs_regions.specs.Places.{Mapped, places_in, untranslated}
 use Rattle.fs_chain.specs.Events.{avail_event_at, event_fault, event_miss, used_event_at}
 use Rattle.fs_chain.specs.declared.queue.QueueState.{QueueState}
-use Rattle.fs_live.specs.Handles.{live_of}
-use Rattle.live_machine.specs.Live.{pop_refusal}
 
 -- regions behind a table without mappings
 abbrev pub behind_none : List Region → Mapped
@@ -52,7 +50,3 @@ pub unmapped_event : (q : QueueState) → q.event_index ≡ true
     → (event_fault (places_in (untranslated [])) q ≡ Some AvailFlagsUnreachable)
     × (event_miss (places_in (untranslated [])) q ≡ None)
 unmapped_event q event = (rw event (rw (none_mapped (used_event_at q.layout)) refl), rw event refl)
-
-pub refused_unmapped : (q : QueueState) → q.stopped ≡ None → q.event_index ≡ true
-    → pop_refusal (places_in (untranslated [])) (live_of q) ≡ Some AvailFlagsUnreachable
-refused_unmapped q goes event = rw goes (rw event (rw (none_mapped (used_event_at q.layout)) refl))

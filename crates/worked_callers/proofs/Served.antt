@@ -189,3 +189,7 @@ on_ok (Err e) P p = tt
 pub on_ok_more : {A E : Type 0} (r : Result A E) (P Q : Type 0) → (P → Q) → OnOk r P → OnOk r Q
 on_ok_more (Ok a) P Q more p = more p
 on_ok_more (Err e) P Q more p = tt
+
+pub on_ok_two : {A E : Type 0} (r : Result A E) (P Q S : Type 0) → (P → Q → S) → OnOk r P → OnOk r Q → OnOk r S
+on_ok_two (Ok a) P Q S more p q = more p q
+on_ok_two (Err e) P Q S more p q = tt

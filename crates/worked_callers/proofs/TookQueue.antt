@@ -1,14 +1,16 @@
 -- The queue after a pop that led to a chain.
-use Rattle.std.proofs.Common.{◌≡◌, ℕ, List, [], ◌∷◌, Option, Some, None, Result, Ok, Err, OnOk, refl, subst, ap, ◌∙◌}
+use Rattle.std.proofs.Common.{◌≡◌, ℕ, List, [], ◌∷◌, Option, Some, None, Result, Ok, Err, OnOk, refl, subst, ap, ◌∙◌, arith}
 use Rattle.std.specs.Prelude.{true, if◌then◌else◌, Bool}
 use Rattle.fs_queue.specs.declared.fault.ChainFault.{ChainFault}
 use Rattle.fs_queue.specs.declared.fault.QueueError.{QueueError}
 use Rattle.fs_queue.specs.declared.fault.QueueError.TheVariants as stop
 use Rattle.fs_regions.specs.declared.step.CourseStep as comes
-use Rattle.fs_chain.specs.Loads.{whole}
+use Rattle.fs_queue.specs.Chain.{Descriptor}
+use Rattle.fs_regions.specs.declared.step.CourseStep.TheVariants as step
+use Rattle.fs_chain.specs.Loads.{GoesSo, whole}
 use Rattle.fs_chain.specs.Orders.{is_out, load_len}
 use Rattle.fs_chain.specs.Queues.{gave, took, gave_up}
-use Rattle.fs_chain.specs.Walks.{BeginsPop, BeginsUnless, WalksFrom, WalksOn, queue_after}
+use Rattle.fs_chain.specs.Walks.{BeginsPop, BeginsUnless, WalksFrom, WalksOn, queue_after, told_of}
 use Rattle.fs_chain.specs.Whole.{BeginsPopBy, FromTaken, IsWalked, WalksBy, WantsBytes}
 use Rattle.fs_chain.specs.declared.chain_handle.ChainHandle.{ChainHandle}
 use Rattle.fs_chain.specs.declared.loads.LoadOutcome as went
@@ -19,10 +21,8 @@ use Rattle.fs_chain.specs.declared.queue.QueueState.{QueueState}
 use Rattle.fs_chain.specs.declared.state.InFlight.{InFlight}
 use Rattle.fs_chain.specs.declared.state.ChainState as state
 use Rattle.fs_chain.specs.declared.state.ChainState.TheVariants as at
-use Rattle.fs_chain.proofs.WholeChains.{faulty_is}
+use Rattle.fs_chain.proofs.WholeChains.{came_is, faulty_is}
 use Rattle.fs_chain.proofs.WholeWalks.{walk_comes}
-use Rattle.fs_live.proofs.Popped.{begins_whole}
-use Rattle.worked_callers.proofs.ServedBeside.{chain_is}
 
 -- ---- a stopped queue
 
@@ -31,6 +31,11 @@ no_load w free = ap load_len free
 
 whole_of_none : (w : ChainHandle) → w.state ≡ at.Free → whole w [] ≡ []
 whole_of_none w free = rw (no_load w free) refl
+
+-- a pop's first call is given no part of a load
+begins_whole : (old : ChainHandle) (before : QueueState) (new : ChainHandle) (after : QueueState) → old.state ≡ at.Free →
+    GoesSo old before [] wents.Part new after → ⊥
+begins_whole old before new after free call = let none = no_load old free in let few = call.1 in omega (arith, none, few)
 
 -- its pops are refused by their first call
 refused_first : (old new : ChainHandle) (before after : QueueState) (told : went.LoadOutcome) (why : QueueError)
@@ -63,6 +68,10 @@ never_stopped : (old new : ChainHandle) (before after : QueueState) (told : went
 never_stopped old new before after told None is walked taken = is
 never_stopped old new before after told (Some why) is walked taken =
     absurd (subst IsTaken (refused_pop walked.0 old new before after told why is walked.1) taken)
+
+chain_is :
+    (ds : List Descriptor) (came : comes.CourseStep) (head n r : ℕ) → says.Chain head n r ≡ told_of ds came → came ≡ step.Chain head None
+chain_is ds came head n r is = (came_is ds came head n r is).0
 
 -- after a chain
 pub took_chain : (old new : ChainHandle) (before after : QueueState) (head n r : ℕ)

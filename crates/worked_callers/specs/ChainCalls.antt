@@ -130,3 +130,7 @@ IsResetBy read before after =
     × (layout.avail ≡ read.avail)
     × (layout.used ≡ read.used)
     × (after ≡ record (reset_to before layout read.position) { stopped = stop_of read.stopped })
+
+-- the two bytes that the caller of these pushes passes as loaded: available flags 0, or used_event 0
+abbrev pub loaded_flags : List ℕ
+loaded_flags = 0 ∷ 0 ∷ []

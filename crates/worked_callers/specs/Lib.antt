@@ -1,10 +1,6 @@
 pub mod ChainCalls
-pub mod Events
 pub mod InARow
 pub mod Notified
 pub mod OverMemory
-pub mod OwnReplies
 pub mod Refusals
-pub mod ServedSteps
-pub mod Turns
 pub mod WorkedRuns

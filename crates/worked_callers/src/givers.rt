@@ -1,6 +1,6 @@
 //! A push: its stores and its load are steps of the model in which no notification is lost (crate `notify`).
 
-ghost use Rattle.std.specs.Prelude.{◌≡◌, ◌≤◌, ◌+◌, ◌||◌, ℕ, IfOk, IsTrue, [], ◌∷◌, ◌++◌, List, OnOk};
+ghost use Rattle.std.specs.Prelude.{◌≡◌, ◌≤◌, ◌+◌, ◌||◌, IfOk, IsTrue, [], ◌∷◌, ◌++◌, List, OnOk};
 ghost use Rattle.std.specs.Int.{w16, to_le_bytes};
 ghost use Rattle.fs_queue.specs.Returning.{Store};
 ghost use Rattle.fs_queue.specs.ReturningView.{stores_of};

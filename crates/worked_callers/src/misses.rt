@@ -1,6 +1,6 @@
 //! A pop that misses addresses of an IOMMU's table is no step. The bytes for which a pop asks are mapped.
 
-ghost use Rattle.std.specs.Prelude.{◌≡◌, ◌<◌, ◌≤◌, ◌+◌, [], false, true, IfOk, List, None, Some};
+ghost use Rattle.std.specs.Prelude.{◌≡◌, ◌<◌, ◌≤◌, ◌+◌, [], false, true, IfOk, None, Some};
 ghost use Rattle.std.specs.Prelude.{length};
 ghost use Rattle.vm_iotlb.specs.declared.iova.IovaRange.{IovaRange};
 ghost use Rattle.vm_iotlb.specs.declared.permissions.Permissions.{Permissions};

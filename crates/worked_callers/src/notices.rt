@@ -7,7 +7,7 @@ ghost use Rattle.fs_queue.specs.Returning.{next_position};
 ghost use Rattle.fs_chain.specs.Queues.{gave};
 ghost use Rattle.fs_chain.specs.Whole.{PushedBy};
 ghost use Rattle.fs_chain.specs.declared.state.ChainState.TheVariants as at;
-ghost use Rattle.fs_live.specs.Handles.{live_of};
+ghost use Rattle.fs_chain.specs.Holds.{live_of};
 ghost use Rattle.live_machine.specs.Several.{passes, returning};
 
 use crate::seen::push_by;

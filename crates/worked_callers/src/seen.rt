@@ -26,7 +26,7 @@ ghost use Rattle.fs_chain.specs.declared.state.ChainState.TheVariants as at;
 ghost use Rattle.worked_callers.specs.ChainCalls.{AreActsOf, ArePopLoads, AreCallsOf};
 ghost use Rattle.worked_callers.specs.OverMemory.{HasEachLoad, KeepsReplyApart};
 
-use crate::beside::take_faulty;
+use crate::pops::take_faulty;
 use crate::wholes::{decode_and_answer, walk_chain};
 use fs_chain::laws::law_chains;
 use fs_chain::{ChainError, ChainHandle, LoadOutcome, PopOutcome, PushStores, QueueState};

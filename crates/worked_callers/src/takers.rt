@@ -19,7 +19,7 @@ ghost use Rattle.fs_notify.specs.Takers.{HasU16Numbers, IsModelOf, MutesBy, ways
 ghost use Rattle.worked_callers.specs.Notified.{ActsTo, IsStoredWish, IsWalkedBy, PopsWithIndex};
 ghost use Rattle.worked_callers.specs.Notified.{given_so_far};
 
-use crate::beside::walk_to_end;
+use crate::pops::walk_to_end;
 use crate::wholes::walk_chain;
 use fs_chain::{ChainError, ChainHandle, LoadOutcome, NotificationStore, PopOutcome, QueueState};
 use fs_notify::law_takers;

@@ -21,7 +21,7 @@ ghost use Rattle.fs_chain.specs.Whole.{data_behind};
 ghost use Rattle.fs_chain.specs.Whole.{file_calls, no_effects, step_loads};
 ghost use Rattle.fs_chain.specs.declared.state.ChainState.TheVariants as at;
 ghost use Rattle.worked_callers.specs.ChainCalls.{ArePopLoads, HasThisAnswer};
-ghost use Rattle.worked_callers.specs.Events.{loaded_flags};
+ghost use Rattle.worked_callers.specs.ChainCalls.{loaded_flags};
 ghost use Rattle.worked_callers.specs.Notified.{IsWalkedBy, given_so_far};
 ghost use Rattle.worked_callers.specs.Refusals.{IsFailedBy};
 

@@ -7,13 +7,13 @@ use Rattle.fs_chain.proofs.commands.drive.Goals as goal
 pub returns-then-k-handles : goal.returns-then-k-handles
 returns-then-k-handles c =
     let less : c.args.k < length c.args.handles.now = search rules in
-    let one : DrivesOne c.drive_one.result c.args.page_size c.index-handles-k.result c.drive_one.new.handle c.args.queue.now
+    let one : DrivesOne c.args.page_size c.index-handles-k.result c.drive_one.new.handle c.args.queue.now
     c.drive_one.new.queue =
     subst
-    (λ (w : ChainHandle). DrivesOne c.drive_one.result c.args.page_size w c.drive_one.new.handle c.args.queue.now c.drive_one.new.queue)
+    (λ (w : ChainHandle). DrivesOne c.args.page_size w c.drive_one.new.handle c.args.queue.now c.drive_one.new.queue)
     (sym c.index-handles-k.is) c.drive_one.ensures.step in
     record {
-      step = at_place c.drive_one.result c.args.page_size c.args.handles.now c.args.k c.index-handles-k.result c.drive_one.new.handle
+      step = at_place c.args.page_size c.args.handles.now c.args.k c.index-handles-k.result c.drive_one.new.handle
           c.args.queue.now c.drive_one.new.queue (got c.args.handles.now c.args.k c.index-handles-k.result less c.index-handles-k.is)
           one;
     }

@@ -4,7 +4,7 @@ use Rattle.fs_chain.proofs.commands.drive_all.Given as goal
 
 abbrev pub invariant-loop-n : goal.invariant-loop-n
 invariant-loop-n l = record {
-  drives : Drives false l.page_size l.initial.handles l.handles l.initial.queue l.queue;
+  drives : Drives l.page_size l.initial.handles l.handles l.initial.queue l.queue;
 }
 
 abbrev pub decreases-loop-n : goal.decreases-loop-n

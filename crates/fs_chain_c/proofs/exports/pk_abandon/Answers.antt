@@ -6,4 +6,4 @@ pub returns : goal.returns
 returns c =
     on_handle _ _ c.args.chain.now.held.value c.of_box.result.held.value
     c.deref_mut.result.now c.abandon.new.self (search rules) (search rules)
-    c.abandon.ensures
+    c.abandon.ensures.free

@@ -10,7 +10,7 @@ returns-in_default-notification_store c =
       c.in-Some.ensures.is,
       c.in-Some.kept,
       c.in-Some.ensures.kept,
-      subst (λ (o : Option Store). TellsStore c.args.handle.now.regions o told 0) c.in_default-notification_store.ensures
+      subst (λ (o : Option Store). TellsStore c.args.handle.now.regions o told 0) c.in_default-notification_store.ensures.store
           (refl, c.nothing-in_default-notification_store.ensures),
     )
 
@@ -22,7 +22,7 @@ returns-in-Some-here c =
       c.in-Some.ensures.kept,
       subst (λ (o : Option Store). TellsStore c.args.handle.now.regions o
           (record { at = c.in-Some-here.at; value = c.in-Some-notification_store.store.value; len = 2 }) 0)
-          c.in-Some-notification_store.ensures (inl (refl, c.in-Some-here.ensures.some, refl, refl)),
+          c.in-Some-notification_store.ensures.store (inl (refl, c.in-Some-here.ensures.some, refl, refl)),
     )
 
 pub returns-in-None : goal.returns-in-None
@@ -32,6 +32,6 @@ returns-in-None c =
       c.in-Some.ensures.is,
       c.in-Some.kept,
       c.in-Some.ensures.kept,
-      subst (λ (o : Option Store). TellsStore c.args.handle.now.regions o told 77) c.in-Some-notification_store.ensures
+      subst (λ (o : Option Store). TellsStore c.args.handle.now.regions o told 77) c.in-Some-notification_store.ensures.store
           (inr (refl, c.in-None.ensures.none refl, c.nothing-in-None.ensures)),
     )

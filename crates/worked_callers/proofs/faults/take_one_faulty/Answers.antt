@@ -1,4 +1,4 @@
-use Rattle.worked_callers.proofs.FaultyInOrder.{takes_faulty_so}
+use Rattle.worked_callers.proofs.FaultyTaken.{takes_faulty_so}
 use Rattle.worked_callers.proofs.Served.{if_ok}
 use Rattle.worked_callers.proofs.faults.take_one_faulty.Goals as goal
 

@@ -15,7 +15,7 @@ use Rattle.fs_chain.specs.WholeListings.{EndsThere, listing_calls}
 use Rattle.fs_chain.specs.declared.decoding.Decoded.TheVariants as asks
 use Rattle.fs_chain.specs.declared.queue.QueueState.{QueueState}
 use Rattle.worked_callers.specs.ChainCalls.{both_entries}
-use Rattle.worked_callers.specs.Events.{loaded_flags}
+use Rattle.worked_callers.specs.ChainCalls.{loaded_flags}
 use Rattle.worked_callers.specs.Notified.{given_so_far}
 use Rattle.worked_callers.proofs.KeptMemory.{keeps_more, keeps_so, pop_keeps, reply_served_one}
 use Rattle.worked_callers.proofs.CalledBy.{calls_by}

@@ -1,15 +1,9 @@
-use Rattle.std.proofs.Common.{◌≡◌, Some, None, subst, sym, ap, ◌∙◌}
+use Rattle.std.proofs.Common.{◌≡◌, Some, None, subst, sym, ◌∙◌}
 use Rattle.fs_queue.specs.declared.fault.QueueError.TheVariants.{AvailFlagsUnreachable}
 use Rattle.fs_regions.specs.Places.{Mapped, places_in}
 use Rattle.fs_chain.specs.Events.{event_fault, event_miss}
-use Rattle.fs_chain.specs.Whole.{WalksBy}
-use Rattle.fs_chain.specs.declared.loads.LoadOutcome as went
-use Rattle.fs_chain.specs.declared.popping.PopOutcome.TheVariants as says
-use Rattle.vm_memory.specs.Memory.{Memory}
-use Rattle.fs_live.specs.Handles.{live_of}
-use Rattle.live_machine.specs.Live.{pop_refusal}
-use Rattle.worked_callers.proofs.MissedEvent.{refused_unmapped, unmapped_event}
-use Rattle.worked_callers.proofs.Served.{if_ok, on_ok_by}
+use Rattle.worked_callers.proofs.MissedEvent.{unmapped_event}
+use Rattle.worked_callers.proofs.Served.{if_ok}
 use Rattle.worked_callers.proofs.missed_event.pop_without_regions.Goals as goal
 
 pub returns : goal.returns
@@ -40,16 +34,5 @@ returns g c =
             m.3.0.0.2 ∙ set.5,
             m.3.0.0.3 ∙ set.6,
           ))
-          c.walk_by.ensures.walks;
-      event = on_ok_by c.walk_by.result _ _
-          (λ told walks s i there places.
-          let so = unplaced walks.0 AvailFlagsUnreachable old new q after told goes fault miss walks.1 in
-          let on = subst (λ (k : went.LoadOutcome). WalksBy walks.0 old new q after k) so.0 walks.1 in
-          let here : s.places ≡ places_in old.regions = places ∙ ap places_in (sym is) in
-          let why = subst (λ (m : Memory). pop_refusal m (live_of q) ≡ Some AvailFlagsUnreachable) (sym places)
-          (refused_unmapped q goes c.requires.event_index) in
-          let event = c.law_handles.ensures.refuses_pop s i walks.0 old new q after (says.Refused AvailFlagsUnreachable)
-          AvailFlagsUnreachable there here why (λ _. miss) on in
-          (event.2, event.3, event.4))
           c.walk_by.ensures.walks;
     }

@@ -3,7 +3,7 @@ use Rattle.std.specs.Int.{w16, from_le_bytes, to_le_bytes}
 use Rattle.std.proofs.lemmas.Nat.{from_le_bytes-to_le_bytes_2}
 use Rattle.fs_queue.specs.Returning.{next_position}
 use Rattle.fs_chain.specs.Events.{tells_of}
-use Rattle.fs_live.specs.Handles.{live_of}
+use Rattle.fs_chain.specs.Holds.{live_of}
 use Rattle.live_machine.specs.Several.{LiveQueue, passes, returning, wants}
 use Rattle.worked_callers.proofs.notices.notify_by_event.Goals as goal
 

@@ -5,4 +5,4 @@ pub returns : goal.returns
 returns c =
     let q = c.args.queue.now in
     let counted = c.have_u16_numbers.ensures in
-    wish_is c.law_takers.ensures.rearms q c.notification_store.result c.notification_store.ensures counted
+    wish_is c.law_takers.ensures.rearms q c.notification_store.result c.notification_store.ensures.store counted

@@ -5,7 +5,7 @@ use Rattle.fs_chain.specs.Queues.{gave}
 use Rattle.fs_chain.specs.Whole.{PushedBy}
 use Rattle.fs_chain.specs.declared.chain_handle.ChainHandle.{ChainHandle}
 use Rattle.fs_chain.specs.declared.queue.QueueState.{QueueState}
-use Rattle.worked_callers.specs.Events.{loaded_flags}
+use Rattle.worked_callers.specs.ChainCalls.{loaded_flags}
 use Rattle.worked_callers.proofs.Served.{freed_back, goes_back_by, if_ok, on_ok_more}
 use Rattle.worked_callers.proofs.wholes.push_reply.Goals as goal
 

@@ -1,0 +1,14 @@
+use Rattle.fs_chain.proofs.HoldsListed.{begins_listing, leaves_out, looks_up, reads_directory}
+use Rattle.fs_chain.proofs.laws.law_listings.Goals as goal
+
+pub returns-clause-begins : goal.returns-clause-begins
+returns-clause-begins c = begins_listing
+
+pub returns-clause-reads : goal.returns-clause-reads
+returns-clause-reads c = reads_directory
+
+pub returns-clause-looks_up : goal.returns-clause-looks_up
+returns-clause-looks_up c = looks_up
+
+pub returns-clause-leaves_out : goal.returns-clause-leaves_out
+returns-clause-leaves_out c = leaves_out

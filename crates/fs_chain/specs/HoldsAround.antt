@@ -1,0 +1,59 @@
+-- What the calls around a chain do to a run: freeing its handle, a store before a sleep, a reset of its
+-- queue, and another memory.
+use Rattle.std.specs.Prelude.{◌≡◌, ◌⊎◌, ◌≤◌, ℕ, Bool, true, false, List, [], ◌∷◌, ◌++◌, Option, Some, None}
+use Rattle.std.specs.List.{AllByRecursion}
+use Rattle.fs_queue.specs.declared.fault.QueueError.{QueueError}
+use Rattle.fs_regions.specs.Places.{places_in}
+use Rattle.live_machine.specs.Live.{Abandons, Happens, InFlightChain, KeepsQueue, NonePending, Remaps}
+use Rattle.live_machine.specs.Live.{ResetsQueue}
+use Rattle.live_machine.specs.Live.{StoreIsMapped, StoresNotification, after_abandoning, after_reset}
+use Rattle.live_machine.specs.Live.{pop_refusal}
+use Rattle.fs_chain.specs.Events.{store_of}
+use Rattle.fs_chain.specs.Holds.{IsQueue, Machine, any_files, live_of}
+use Rattle.fs_chain.specs.declared.chain_handle.ChainHandle.{ChainHandle}
+use Rattle.fs_chain.specs.declared.event_index.NotificationStore.{NotificationStore}
+use Rattle.fs_chain.specs.declared.queue.QueueState.{QueueState}
+use Rattle.fs_chain.specs.declared.state.ChainState.TheVariants as at
+
+-- freeing a handle is the event `Abandons`, whichever chain of the run it had, in any phase. The chain stays
+-- in flight, and no queue changes
+unfoldable pub AbandonsChain : (new : ChainHandle) → Type 0
+AbandonsChain new =
+    (s : Machine) (before behind : List InFlightChain) (c : InFlightChain) →
+    s.chains ≡ before ++ c ∷ behind →
+    Happens any_files s (Abandons c) (after_abandoning s before behind c) × (new.state ≡ at.Free)
+
+-- the store that enables or disables notifications is the event before a sleep, if its address is mapped.
+-- With the event index it is, unless pops of the queue are refused. There is no store only with the event
+-- index, when notifications are to be disabled
+abbrev pub NotificationIs : Machine → (i : ℕ) → QueueState → (wanted : Bool) → Option NotificationStore →
+    Type 0
+NotificationIs s i q wanted (Some store) =
+    (StoreIsMapped s.places store.address → Happens any_files s (StoresNotification i (store_of store)) s)
+    × (q.event_index ≡ true → pop_refusal s.places (live_of q) ≡ None → StoreIsMapped s.places store.address)
+NotificationIs s i q wanted None = (q.event_index ≡ true) × (wanted ≡ false)
+
+unfoldable pub StoresNotice : QueueState → (wanted : Bool) → Option NotificationStore → Type 0
+StoresNotice q wanted store = (s : Machine) (i : ℕ) → IsQueue s i q → NotificationIs s i q wanted store
+
+-- a reset is the event `ResetsQueue`, once no call of the queue's chains is pending. From then on the caller
+-- may set three things otherwise: how many chains may be in flight, from one to as many as the queue has
+-- descriptors; the event index; and whether the queue is stopped
+unfoldable pub Resets : (old new : QueueState) → Type 0
+Resets old new =
+    (s : Machine) (i max_in_flight : ℕ) (event_index : Bool) (stopped : Option QueueError) →
+    IsQueue s i old →
+    1 ≤ max_in_flight →
+    max_in_flight ≤ new.layout.size →
+    AllByRecursion (λ c. NonePending s.page_size i c c.phase) s.chains →
+    let set = record new { max_in_flight = max_in_flight; event_index = event_index; stopped = stopped } in
+    Happens any_files s (ResetsQueue i (live_of set)) (after_reset s i (live_of set))
+    × IsQueue (after_reset s i (live_of set)) i set
+
+-- a handle's new memory is the event `Remaps`: its next pops are in a run with these mappings. For the queues
+-- of the chains in flight, they must map an address of pushes exactly if the run's do
+unfoldable pub SetsMemory : (new : ChainHandle) → Type 0
+SetsMemory new =
+    (s : Machine) →
+    (s.chains ≡ []) ⊎ AllByRecursion (KeepsQueue s (places_in new.regions)) s.chains →
+    Happens any_files s (Remaps (places_in new.regions)) (record s { places = places_in new.regions })

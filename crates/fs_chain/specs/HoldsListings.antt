@@ -1,0 +1,177 @@
+-- A listing that a handle gathers in a run: its entries, its file calls, and its end. Its calls are answered
+-- without the handle, which is told of the entries alone.
+use Rattle.std.specs.Prelude.{◌≡◌, ℕ, Bool, true, false, IsTrue, List, [], ◌∷◌, ◌++◌, take, Option, Some}
+use Rattle.fuse_fs.specs.Calls.{FileAnswer, FileCall, HasEntry, Listed, suits}
+use Rattle.server_replies.specs.Entries.{EIO, EOVERFLOW, is_dot}
+use Rattle.virtiofsd_fuse.specs.Grammar.{Lists, meaning}
+use Rattle.virtiofsd_fuse.specs.Grammar as grammar
+use Rattle.virtiofsd_fuse.specs.Listings.{ListRequest, readdir_call}
+use Rattle.server_phases.specs.Gathering.{Brought, EndsList, FailsList, IsListingFor}
+use Rattle.server_phases.specs.Gathering as gathering
+use Rattle.server_phases.specs.declared.listing.Listing.{Listing}
+use Rattle.plain_machine.specs.Step.{Calls}
+use Rattle.live_machine.specs.Live.{Asked, Happens, InFlightChain, ReceivesAnswer, after_answer, asked_chain}
+use Rattle.fs_chain.specs.Holds.{HoldsChain, IsDecodedIn, IsOutAs, Machine, any_files, served_so}
+use Rattle.fs_chain.specs.Orders.{front_of}
+use Rattle.fs_chain.specs.WholeListings.{Ending, EndsThere, FailsAt, FullAt, NotFound, Unreadable}
+use Rattle.fs_chain.specs.WholeListings.{calls_so_far}
+use Rattle.fs_chain.specs.WholeListings.{listing_calls, node_back}
+use Rattle.fs_chain.specs.declared.chain_handle.ChainHandle.{ChainHandle}
+use Rattle.fs_chain.specs.declared.listing.Added.{Added}
+use Rattle.fs_chain.specs.declared.listing.Added.TheVariants as added
+use Rattle.fs_chain.specs.declared.state.ChainReply.{ChainReply}
+use Rattle.fs_chain.specs.declared.state.ChainState.TheVariants as at
+use Rattle.fs_chain.specs.declared.state.InFlight.{InFlight}
+
+-- a handle gathers a listing of a run. These entries were added, and are at the front of the caller's list;
+-- these calls of the chain were answered
+pub record HoldsListing (page_size : ℕ) (c : InFlightChain) (es : List Brought) (calls : Calls)
+    (list : List ℕ) (w : ChainHandle) : Type 0 where
+  pub out : InFlight
+  pub listing : Listing
+  pub state : w.state ≡ at.Lists out listing
+  pub is_out : IsOutAs c out
+  pub request : List ℕ
+  pub options : ℕ
+  pub session : IsDecodedIn page_size options w.session
+  pub unique : ℕ
+  pub asked : ListRequest
+  pub means : meaning options request out.room_len ≡ grammar.Asks (Lists unique asked)
+  pub is_for : IsListingFor listing out.room_len (Lists unique asked)
+  pub holds : gathering.Holds listing list es
+  pub phase : c.phase ≡ Asked request options calls
+
+-- ---- the handle's calls
+
+-- an entry that isn't in the list ends it, or fails it with this error
+abbrev pub IsLeftOut : Added → Listing → (list : List ℕ) → Brought → Type 0
+IsLeftOut added.In listing list e = ⊥
+IsLeftOut added.Full listing list e = EndsList listing list e
+IsLeftOut added.NoRoom listing list e = FailsList listing list e EIO
+IsLeftOut added.TooLong listing list e = FailsList listing list e EOVERFLOW
+
+-- an entry is added to the listing, or it isn't, and the listing stays
+abbrev pub AddingIs : (page_size : ℕ) → InFlightChain → List Brought → Calls → (list list' : List ℕ) →
+    Brought →
+    ChainHandle → Added → Type 0
+AddingIs page_size c es calls list list' e new added.In =
+    HoldsListing page_size c (es ++ e ∷ []) calls list' new
+AddingIs page_size c es calls list list' e new why =
+    (held : HoldsListing page_size c es calls list new)
+    × IsLeftOut why held.listing list e
+    × (list' ≡ list)
+
+-- so it is for an entry that is brought to a listing that the handle gathers
+unfoldable pub AddsEntry : (old new : ChainHandle) → (list list' : List ℕ) → Brought → Added → Type 0
+AddsEntry old new list list' e told =
+    (page_size : ℕ) (c : InFlightChain) (es : List Brought) (calls : Calls) →
+    HoldsListing page_size c es calls list old →
+    AddingIs page_size c es calls list list' e new told
+
+-- a listing may end so by the entries that were added
+abbrev pub MayEnd : Listing → (list : List ℕ) → Ending → Type 0
+MayEnd listing list EndsThere = Unit {0}
+MayEnd listing list (FullAt e behind) = EndsList listing list e
+MayEnd listing list _ = ⊥
+
+-- a listing may fail so with this error
+abbrev pub MayFail : (errno : ℕ) → Listing → (list : List ℕ) → Ending → Type 0
+MayFail errno listing list (FailsAt e behind error) = (error ≡ errno) × FailsList listing list e errno
+MayFail errno listing list (NotFound d behind error) =
+    (error ≡ errno) × (listing.with_nodes ≡ true) × (is_dot d.name ≡ false)
+MayFail errno listing list (Unreadable error) = error ≡ errno
+MayFail errno listing list _ = ⊥
+
+-- the listing has its reply: the handle keeps the front, and the first `len` bytes of the list are the data
+pub record HasListed (page_size : ℕ) (c : InFlightChain) (calls : Calls) (list : List ℕ) (request : List ℕ)
+    (options : ℕ) (out : InFlight) (len : ℕ) (new : ChainHandle) : Type 0 where
+  pub holds : HoldsChain page_size c new
+  pub kept : ChainReply
+  pub state : new.state ≡ at.HasReply out kept
+  pub reply : (served_so page_size options request out.room_len calls).reply ≡ front_of kept ++ take len list
+
+-- the end of a listing whose calls were answered
+unfoldable pub EndsListing : (old new : ChainHandle) → (len : ℕ) → Type 0
+EndsListing old new len =
+    (page_size : ℕ) (c : InFlightChain) (es : List Brought) (ending : Ending) (calls : Calls) (list : List ℕ)
+    →
+    (held : HoldsListing page_size c es calls list old) →
+    MayEnd held.listing list ending →
+    calls ≡ listing_calls (readdir_call held.asked) held.asked.with_nodes es ending →
+    HasListed page_size c calls list held.request held.options held.out len new
+
+-- the same, of one that failed
+unfoldable pub FailsListing : (errno : ℕ) → (old new : ChainHandle) → (len : ℕ) → Type 0
+FailsListing errno old new len =
+    (page_size : ℕ) (c : InFlightChain) (es : List Brought) (ending : Ending) (calls : Calls) (list : List ℕ)
+    →
+    (held : HoldsListing page_size c es calls list old) →
+    MayFail errno held.listing list ending →
+    calls ≡ listing_calls (readdir_call held.asked) held.asked.with_nodes es ending →
+    HasListed page_size c calls list held.request held.options held.out len new
+
+-- ---- the file calls
+
+-- a handle that decoded a listing gathers it, in any list
+abbrev pub BeginsListing : Type 0
+BeginsListing =
+    (page_size : ℕ) (c : InFlightChain) (w : ChainHandle) (out : InFlight) (listing : Listing) (list : List ℕ)
+    →
+    w.state ≡ at.Lists out listing →
+    HoldsChain page_size c w →
+    HoldsListing page_size c [] [] list w
+
+-- a call of the listing is answered: the event `ReceivesAnswer`. The handle holds what it held
+abbrev pub ListingCallIs : (s : Machine) (before behind : List InFlightChain) (c : InFlightChain)
+    (es : List Brought) (earlier : Calls) (list : List ℕ) (w : ChainHandle) (request : List ℕ) (options : ℕ)
+    (call : FileCall) (answer : FileAnswer) → Type 0
+ListingCallIs s before behind c es earlier list w request options call answer =
+    let calls = earlier ++ (call, answer) ∷ [] in
+    Happens any_files s (ReceivesAnswer c call answer)
+    (after_answer s before behind c request options calls tt)
+    × HoldsListing s.page_size (asked_chain c request options calls) es calls list w
+
+-- so it is for the reading of the directory, with any answer
+abbrev pub ReadsDirectory : Type 0
+ReadsDirectory =
+    (s : Machine) (before behind : List InFlightChain) (c : InFlightChain) (es : List Brought) (list : List ℕ)
+    (w : ChainHandle) (answer : FileAnswer) →
+    s.chains ≡ before ++ c ∷ behind →
+    (held : HoldsListing s.page_size c es [] list w) →
+    IsTrue (suits (readdir_call held.asked) answer) →
+    ListingCallIs s before behind c es [] list w held.request held.options (readdir_call held.asked) answer
+
+-- for that and the look-ups of the entries, of which the next one may be looked up before it is added, or not
+-- found
+abbrev pub LooksUp : Type 0
+LooksUp =
+    (s : Machine) (before behind : List InFlightChain) (c : InFlightChain) (es : List Brought)
+    (others : List Listed) (next : Option FileAnswer) (list : List ℕ) (w : ChainHandle)
+    (earlier later : Calls)
+    (call : FileCall) (answer : FileAnswer) →
+    s.chains ≡ before ++ c ∷ behind →
+    (held : HoldsListing s.page_size c es earlier list w) →
+    calls_so_far (readdir_call held.asked) held.asked.with_nodes es others next
+    ≡ earlier ++ (call, answer) ∷ later →
+    IsTrue (suits call answer) →
+    ListingCallIs s before behind c es earlier list w held.request held.options call answer
+
+-- the calls of a listing up to an entry that isn't added: with its look-up, and the FORGET of its node
+abbrev pub calls_left_out :
+    FileCall → (with_nodes : Bool) → List Brought → Brought → (others : List Listed) → Calls
+calls_left_out call with_nodes es e others =
+    calls_so_far call with_nodes es (e.0 ∷ others) (Some (HasEntry e.1)) ++ node_back call with_nodes e
+
+-- and for these
+abbrev pub LeavesOut : Type 0
+LeavesOut =
+    (s : Machine) (before behind : List InFlightChain) (c : InFlightChain) (es : List Brought) (e : Brought)
+    (others : List Listed) (why : Added) (list : List ℕ) (w : ChainHandle) (earlier later : Calls)
+    (call : FileCall) (answer : FileAnswer) →
+    s.chains ≡ before ++ c ∷ behind →
+    (held : HoldsListing s.page_size c es earlier list w) →
+    IsLeftOut why held.listing list e →
+    calls_left_out (readdir_call held.asked) held.asked.with_nodes es e others
+    ≡ earlier ++ (call, answer) ∷ later →
+    IsTrue (suits call answer) →
+    ListingCallIs s before behind c es earlier list w held.request held.options call answer
