@@ -1,0 +1,28 @@
+# I/O addresses, guest addresses and a mapping of more than 4 GiB, whose bytes are all different.
+queue 4 0x1122334c679a5000 0x1122334c679a6000 0x1122334c679a7000
+region 0x99aabbd4f0225000 0x8000
+region 0 0x1000
+map 0x1122334455660000 0x99aabbccddee0000 0x900000000 rw
+iommu on
+write 0x99aabbd4f0228000 28000000070000001100000000000000010000000000000000000000000000000000000000000000
+write 0x99aabbd4f0225000 00809a674c332211280000000100010000909a674c3322111000000002000000
+write 0x99aabbd4f0226004 0000000000000000
+write 0x99aabbd4f0226002 0100
+kick 0 9
+read 0x99aabbd4f0229000 16
+read 0x99aabbd4f0227000 12
+# The reply buffer alone is taken out, and the rest stays.
+unmap 0x1122334c679a9000 0x1000
+write 0x99aabbd4f0226002 0200
+kick 0 9
+# It is mapped again, together with 64 GiB behind it.
+map 0x1122334c679a9000 0x99aabbd4f0229000 0x1000000000 w
+write 0x99aabbd4f0226002 0300
+kick 0 9
+move
+write 0x99aabbd4f0226002 0400
+kick 0 9
+read 0x99aabbd4f0227000 36
+# Half of all addresses are taken out.
+unmap 0 0x8000000000000000
+kick 0 1
