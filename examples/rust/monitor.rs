@@ -230,7 +230,7 @@ impl FileSystem for Files {
         &self,
         _context: &Context,
         node: Node,
-        read: Read,
+        read: ReadFile,
         data: &mut ReadData<'_>,
     ) -> Answer<()> {
         self.with(node, |file| {
@@ -244,7 +244,7 @@ impl FileSystem for Files {
         &self,
         _context: &Context,
         node: Node,
-        write: Write,
+        write: WriteFile,
         data: &mut WriteData<'_>,
     ) -> Answer<()> {
         self.with(node, |file| {

@@ -53,7 +53,7 @@ impl Future for Fetch {
 struct Files;
 
 impl Files {
-    async fn read(&self, read: Read) -> Answer<Vec<u8>> {
+    async fn read(&self, read: ReadFile) -> Answer<Vec<u8>> {
         if read.offset > 20 {
             return Err(Errno::EINVAL);
         }

@@ -160,7 +160,7 @@ impl<F: ServedFs> VhostUserBackendReqHandlerMut for FrontEnd<F> {
     }
 
     fn get_max_mem_slots(&mut self) -> Result<u64> {
-        Ok(pitskhomu::Device::MOST_REGIONS as u64)
+        Ok(pitskhomu::Device::MAX_REGIONS as u64)
     }
 
     fn add_mem_region(&mut self, region: &VhostUserSingleMemoryRegion, file: File) -> Result<()> {

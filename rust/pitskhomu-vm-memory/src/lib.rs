@@ -62,7 +62,7 @@ impl<B: Bitmap + 'static> MappedMemory<B> {
     /// The guest's memory over these regions.
     ///
     /// # Errors
-    /// `BadArgument`: there are more than `Device::MOST_REGIONS`, one isn't of whole pages of 4096
+    /// `BadArgument`: there are more than `Device::MAX_REGIONS`, one isn't of whole pages of 4096
     /// bytes, or one is longer than 2^56 bytes.
     pub fn new(memory: GuestMemoryMmap<B>) -> Result<MappedMemory<B>, Status> {
         let stretch = |region: &GuestRegionMmap<B>| {
@@ -73,7 +73,7 @@ impl<B: Bitmap + 'static> MappedMemory<B> {
             (is_whole && fits).then_some(Stretch { guest, len, host }).ok_or(Status::BadArgument)
         };
         let stretches = memory.iter().map(stretch).collect::<Result<Vec<_>, _>>()?;
-        if stretches.len() > Device::MOST_REGIONS {
+        if stretches.len() > Device::MAX_REGIONS {
             return Err(Status::BadArgument);
         }
         Ok(MappedMemory { memory, stretches })
@@ -283,7 +283,7 @@ mod tests {
         let odd = GuestMemoryMmap::<()>::from_ranges(&[(GuestAddress(0x4000), 0x1800)]).unwrap();
         assert_eq!(MappedMemory::new(odd).err(), Some(Status::BadArgument));
         let ranges: Vec<_> =
-            (0..=Device::MOST_REGIONS as u64).map(|k| (GuestAddress(k << 13), 0x1000)).collect();
+            (0..=Device::MAX_REGIONS as u64).map(|k| (GuestAddress(k << 13), 0x1000)).collect();
         let many = GuestMemoryMmap::<()>::from_ranges(&ranges).unwrap();
         assert_eq!(MappedMemory::new(many).err(), Some(Status::BadArgument));
     }

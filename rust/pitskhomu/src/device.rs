@@ -17,7 +17,7 @@ use core::sync::atomic::{AtomicU64, Ordering};
 /// use pitskhomu::{Device, Options, Queue, QueueLayout, Status};
 ///
 /// # fn main() -> Result<(), Status> {
-/// let device = Device::new(4096, Device::LEAST_LIMIT)?;
+/// let device = Device::new(4096, Device::MIN_LIMIT)?;
 /// assert_eq!(device.options(), Options::empty(), "no INIT yet");
 /// assert_eq!(Device::new(1000, 0).err(), Some(Status::BadArgument));
 ///
@@ -40,32 +40,32 @@ pub struct Device {
 impl Default for Device {
     /// A device for a guest with pages of 4096 bytes, with the least limit.
     fn default() -> Device {
-        Device::of_numbers(4096, Device::LEAST_LIMIT)
+        Device::of_numbers(4096, Device::MIN_LIMIT)
     }
 }
 
 impl Device {
     /// The least limit, in bytes: enough for one READ or WRITE of 1 MiB with its headers.
-    pub const LEAST_LIMIT: u32 = 0x0010_1000;
+    pub const MIN_LIMIT: u32 = 0x0010_1000;
 
     /// The greatest limit, in bytes.
-    pub const MOST_LIMIT: u32 = 1 << 31;
+    pub const MAX_LIMIT: u32 = 1 << 31;
 
     /// The most regions of the guest's memory.
-    pub const MOST_REGIONS: usize = sys::REGIONS_MAX;
+    pub const MAX_REGIONS: usize = sys::REGIONS_MAX;
 
     /// The most queues of a record.
-    pub const MOST_QUEUES: usize = sys::QUEUES_MAX;
+    pub const MAX_QUEUES: usize = sys::QUEUES_MAX;
 
     /// A device. `page_size` is the guest's, in bytes: a power of two from 4096 to 65536. `limit`
-    /// is from `LEAST_LIMIT` to `MOST_LIMIT`, in bytes. A chain with a longer request or reply
+    /// is from `MIN_LIMIT` to `MAX_LIMIT`, in bytes. A chain with a longer request or reply
     /// buffer is faulty.
     ///
     /// # Errors
     /// `BadArgument`: the page size or the limit is out of range.
     pub const fn new(page_size: u32, limit: u32) -> Result<Device, Status> {
         let is_page = page_size.is_power_of_two() && page_size >= 4096 && page_size <= 65536;
-        if is_page && limit >= Device::LEAST_LIMIT && limit <= Device::MOST_LIMIT {
+        if is_page && limit >= Device::MIN_LIMIT && limit <= Device::MAX_LIMIT {
             Ok(Device::of_numbers(page_size, limit))
         } else {
             Err(Status::BadArgument)
@@ -100,7 +100,7 @@ impl Device {
         self.options.store(options.bits(), Ordering::Release);
     }
 
-    /// The record of the device and its 1 to `MOST_QUEUES` queues. It has each queue's layout,
+    /// The record of the device and its 1 to `MAX_QUEUES` queues. It has each queue's layout,
     /// positions and whether it is stopped, and the device's options, page size and limit.
     ///
     /// # Errors
@@ -109,7 +109,7 @@ impl Device {
     /// - `OutOfMemory`: an allocation failed.
     pub fn save(&self, queues: &[Queue]) -> Result<Vec<u8>, Status> {
         let numbers = self.numbers();
-        let mut places = [sys::Queue::default(); Device::MOST_QUEUES];
+        let mut places = [sys::Queue::default(); Device::MAX_QUEUES];
         let places = places.get_mut(..queues.len()).ok_or(Status::BadArgument)?;
         places.iter_mut().zip(queues).for_each(|(place, queue)| *place = *queue.numbers());
         let (len, measured) = chain::save(&numbers, places, &mut []);
@@ -132,8 +132,8 @@ impl Device {
     /// Those that begin with `Record`, and `OutOfMemory`. An error leaves the options unchanged.
     pub fn restore(&self, record: &[u8]) -> Result<Vec<Queue>, Status> {
         let mut queues = Vec::new();
-        queues.try_reserve_exact(Device::MOST_QUEUES).map_err(|_| Status::OutOfMemory)?;
-        let mut places = [sys::Queue::default(); Device::MOST_QUEUES];
+        queues.try_reserve_exact(Device::MAX_QUEUES).map_err(|_| Status::OutOfMemory)?;
+        let mut places = [sys::Queue::default(); Device::MAX_QUEUES];
         for place in &mut places {
             *place = queue::fresh_numbers();
         }

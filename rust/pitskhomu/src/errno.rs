@@ -35,7 +35,7 @@ impl Errno {
 
     /// The errno of a system call's error number, and EIO if the number isn't one.
     #[must_use]
-    pub fn of_system(number: i32) -> Errno {
+    pub fn from_raw_os_error(number: i32) -> Errno {
         u32::try_from(number).ok().and_then(Errno::new).unwrap_or(Errno::EIO)
     }
 
@@ -74,7 +74,7 @@ impl From<std::io::Error> for Errno {
     fn from(error: std::io::Error) -> Errno {
         use std::io::ErrorKind;
         match (error.raw_os_error(), error.kind()) {
-            (Some(number), _) => Errno::of_system(number),
+            (Some(number), _) => Errno::from_raw_os_error(number),
             (None, ErrorKind::NotFound) => Errno::ENOENT,
             (None, ErrorKind::PermissionDenied) => Errno::EACCES,
             (None, ErrorKind::AlreadyExists) => Errno::EEXIST,

@@ -6,8 +6,8 @@ use crate::exchange::Exchange;
 use crate::flags::{AccessMask, Options, RenameFlags};
 use crate::listing::Listing;
 use crate::requests::{
-    Allocate, Child, CopyFileRange, Create, Forgets, Init, MakeDirectory, MakeNode, Open, Read,
-    ReadDirectory, Release, Seek, SetAttributes, SetXattr, Write,
+    Allocate, Child, CopyFileRange, Create, Forgets, Init, MakeDirectory, MakeNode, Open,
+    ReadDirectory, ReadFile, Release, SeekFile, SetAttributes, SetXattr, WriteFile,
 };
 use crate::values::{Attributes, Context, Entry, Handle, Node, Opened, Statistics};
 use crate::CStr;
@@ -63,7 +63,13 @@ use core::time::Duration;
 ///         Ok((self.attributes(node), Duration::from_secs(1)))
 ///     }
 ///
-///     fn read(&self, _: &Context, _: Node, read: Read, data: &mut ReadData<'_>) -> Answer<()> {
+///     fn read(
+///         &self,
+///         _: &Context,
+///         _: Node,
+///         read: ReadFile,
+///         data: &mut ReadData<'_>,
+///     ) -> Answer<()> {
 ///         let from = self.0.len().min(usize::try_from(read.offset).unwrap_or(usize::MAX));
 ///         data.put(&self.0[from..]);
 ///         Ok(())
@@ -202,7 +208,7 @@ pub trait FileSystem {
         &self,
         context: &Context,
         node: Node,
-        read: Read,
+        read: ReadFile,
         data: &mut ReadData<'_>,
     ) -> Answer<()> {
         Err(Errno::ENOSYS)
@@ -213,7 +219,7 @@ pub trait FileSystem {
         &self,
         context: &Context,
         node: Node,
-        write: Write,
+        write: WriteFile,
         data: &mut WriteData<'_>,
     ) -> Answer<()> {
         Err(Errno::ENOSYS)
@@ -322,7 +328,7 @@ pub trait FileSystem {
     }
 
     /// LSEEK: the new offset, in bytes from the file's start. ENXIO if there is none.
-    fn lseek(&self, context: &Context, node: Node, seek: Seek) -> Answer<u64> {
+    fn lseek(&self, context: &Context, node: Node, seek: SeekFile) -> Answer<u64> {
         Err(Errno::ENOSYS)
     }
 

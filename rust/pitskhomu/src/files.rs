@@ -113,7 +113,7 @@ impl ReadData<'_> {
     /// # use pitskhomu::*;
     /// # use std::fs::File;
     /// /// READ of a file system that has an open file for each handle.
-    /// fn read(file: &File, read: &Read, data: &mut ReadData<'_>) -> Answer<()> {
+    /// fn read(file: &File, read: &ReadFile, data: &mut ReadData<'_>) -> Answer<()> {
     ///     data.read_from(file, read.offset)?;
     ///     Ok(())
     /// }

@@ -1,6 +1,8 @@
 //! Sets of flags, and the kinds of files, with the names of the headers of Linux.
 use core::fmt;
-use core::ops::{BitAnd, BitOr, BitOrAssign, Sub};
+use core::ops::{
+    BitAnd, BitAndAssign, BitOr, BitOrAssign, BitXor, BitXorAssign, Not, Sub, SubAssign,
+};
 
 /// A set of flags over an integer, with a constant for each flag. A set may have bits without a
 /// name.
@@ -38,6 +40,26 @@ macro_rules! flags {
                 self.0 == 0
             }
 
+            /// All flags that have a name.
+            pub const fn all() -> $type {
+                $type(0 $(| $value)*)
+            }
+
+            /// Whether it has a flag of the other.
+            pub const fn intersects(self, flags: $type) -> bool {
+                self.0 & flags.0 != 0
+            }
+
+            /// Adds flags.
+            pub fn insert(&mut self, flags: $type) {
+                self.0 |= flags.0;
+            }
+
+            /// Removes flags.
+            pub fn remove(&mut self, flags: $type) {
+                self.0 &= !flags.0;
+            }
+
             /// Whether it has all flags of the other.
             pub const fn contains(self, flags: $type) -> bool {
                 self.0 & flags.0 == flags.0
@@ -66,6 +88,76 @@ macro_rules! flags {
             }
         }
 
+        impl BitAndAssign for $type {
+            fn bitand_assign(&mut self, other: $type) {
+                self.0 &= other.0;
+            }
+        }
+
+        impl BitXor for $type {
+            type Output = $type;
+            /// The flags of one of both.
+            fn bitxor(self, other: $type) -> $type {
+                $type(self.0 ^ other.0)
+            }
+        }
+
+        impl BitXorAssign for $type {
+            fn bitxor_assign(&mut self, other: $type) {
+                self.0 ^= other.0;
+            }
+        }
+
+        impl Not for $type {
+            type Output = $type;
+            /// The named flags that it doesn't have.
+            fn not(self) -> $type {
+                $type(Self::all().0 & !self.0)
+            }
+        }
+
+        impl SubAssign for $type {
+            fn sub_assign(&mut self, other: $type) {
+                self.0 &= !other.0;
+            }
+        }
+
+        impl Extend<$type> for $type {
+            fn extend<I: IntoIterator<Item = $type>>(&mut self, flags: I) {
+                flags.into_iter().for_each(|flag| self.insert(flag));
+            }
+        }
+
+        impl FromIterator<$type> for $type {
+            fn from_iter<I: IntoIterator<Item = $type>>(flags: I) -> $type {
+                flags.into_iter().fold($type::empty(), |all, flag| all | flag)
+            }
+        }
+
+        impl fmt::Binary for $type {
+            fn fmt(&self, f: &mut fmt::Formatter<'_>) -> fmt::Result {
+                fmt::Binary::fmt(&self.0, f)
+            }
+        }
+
+        impl fmt::Octal for $type {
+            fn fmt(&self, f: &mut fmt::Formatter<'_>) -> fmt::Result {
+                fmt::Octal::fmt(&self.0, f)
+            }
+        }
+
+        impl fmt::LowerHex for $type {
+            fn fmt(&self, f: &mut fmt::Formatter<'_>) -> fmt::Result {
+                fmt::LowerHex::fmt(&self.0, f)
+            }
+        }
+
+        impl fmt::UpperHex for $type {
+            fn fmt(&self, f: &mut fmt::Formatter<'_>) -> fmt::Result {
+                fmt::UpperHex::fmt(&self.0, f)
+            }
+        }
+
         impl Sub for $type {
             type Output = $type;
             /// The flags that the other doesn't have.
@@ -80,7 +172,7 @@ macro_rules! flags {
                 f.write_str(concat!(stringify!($type), "("))?;
                 for (name, flag) in Self::NAMES.iter().filter(|(_, flag)| self.contains(*flag)) {
                     write!(f, "{name} | ")?;
-                    rest = rest - *flag;
+                    rest -= *flag;
                 }
                 write!(f, "{:#x})", rest.0)
             }
@@ -268,7 +360,7 @@ impl FileKind {
 
     /// The kind that a mode has (`S_IFMT` of sys/stat.h).
     #[must_use]
-    pub const fn of_mode(mode: u32) -> FileKind {
+    pub const fn from_mode(mode: u32) -> FileKind {
         FileKind(mode >> 12 & 15)
     }
 

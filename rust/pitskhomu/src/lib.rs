@@ -75,6 +75,7 @@ pub mod live;
 mod lock;
 mod memory;
 mod operation;
+pub mod prelude;
 mod queue;
 mod reply;
 mod requests;
@@ -110,12 +111,14 @@ pub use queue::{Queue, QueueLayout};
 pub use reply::{Reply, Response, Unsent};
 pub use requests::{
     Allocate, Child, CopyFileRange, Create, FilePlace, Forgets, Init, Label, MakeDirectory,
-    MakeNode, Open, Read, ReadDirectory, Release, Seek, SetAttributes, SetTime, SetXattr, Write,
+    MakeNode, Open, ReadDirectory, ReadFile, Release, SeekFile, SetAttributes, SetTime, SetValues,
+    SetXattr, WriteFile,
 };
 pub use slice::GuestSlice;
 pub use status::{Fault, RequestFault, Status};
 pub use values::{
-    Attributes, Context, DirectoryEntry, Entry, Handle, Node, Opened, RequestId, Statistics, Time,
+    Attributes, Context, DirectoryEntry, Entry, GuestTime, Handle, Node, Opened, RequestId,
+    Statistics, Time,
 };
 pub use worker::{Lent, Popped, Served, Worker};
 

@@ -9,11 +9,12 @@ use crate::memory::GuestMemory;
 use crate::reply::Reply;
 use crate::requests::{
     Allocate, Child, CopyFileRange, Create, FilePlace, Forgets, Init, Label, MakeDirectory,
-    MakeNode, Open, Read, ReadDirectory, Release, Seek, SetAttributes, SetXattr, Write,
+    MakeNode, Open, ReadDirectory, ReadFile, Release, SeekFile, SetAttributes, SetValues, SetXattr,
+    WriteFile,
 };
 use crate::status::Status;
 use crate::sys::{self, answer, kind};
-use crate::values::{Attributes, Context, Handle, Node};
+use crate::values::{Context, Handle, Node};
 use crate::CStr;
 use alloc::vec::Vec;
 
@@ -63,9 +64,9 @@ pub enum Operation<'a> {
     /// CREATE: `Created`.
     Create { child: Child<'a>, create: Create },
     /// READ: `Data`, which `data` makes.
-    Read { node: Node, read: Read, data: ReadData<'a> },
+    Read { node: Node, read: ReadFile, data: ReadData<'a> },
     /// WRITE: `Written`.
-    Write { node: Node, write: Write, data: WriteData<'a> },
+    Write { node: Node, write: WriteFile, data: WriteData<'a> },
     /// STATFS: `Statistics`.
     Statistics { node: Node },
     /// RELEASE: `Done`.
@@ -95,7 +96,7 @@ pub enum Operation<'a> {
     /// FALLOCATE: `Done`.
     Allocate { node: Node, allocate: Allocate },
     /// LSEEK: `Offset`.
-    Seek { node: Node, seek: Seek },
+    Seek { node: Node, seek: SeekFile },
     /// `COPY_FILE_RANGE`: `Written`, of at most `len` bytes.
     CopyFileRange(CopyFileRange),
     /// SYNCFS: `Done`.
@@ -293,7 +294,9 @@ impl<'a> Decoded<'a> {
             kind::FALLOCATE => {
                 Operation::Allocate { node, allocate: Allocate { handle, mode, offset, len } }
             }
-            kind::LSEEK => Operation::Seek { node, seek: Seek { handle, offset, whence: flags } },
+            kind::LSEEK => {
+                Operation::Seek { node, seek: SeekFile { handle, offset, whence: flags } }
+            }
             _ => Operation::None,
         }
     }
@@ -302,7 +305,7 @@ impl<'a> Decoded<'a> {
         let call = self.call;
         SetAttributes {
             valid: SetAttributesValid::from_bits(call.valid),
-            attributes: Attributes::of_raw(&call.attr),
+            values: SetValues::from_raw(&call.attr),
             handle: optional(call.has_handle, Handle(call.handle)),
             lock_owner: call.owner,
         }
@@ -331,7 +334,7 @@ impl<'a> Decoded<'a> {
     fn read(self, data: Data<'a>) -> Operation<'a> {
         let sys::Call { offset, size, flags, data_at, data_len, .. } = *self.call;
         let (handle, lock_owner) = (Handle(self.call.handle), self.lock_owner());
-        let read = Read { handle, offset, size, flags, lock_owner };
+        let read = ReadFile { handle, offset, size, flags, lock_owner };
         let left = data_len.min(size);
         let data = match data {
             Data::InPlace(Places { chain, memory, counts, .. }) => {
@@ -344,7 +347,7 @@ impl<'a> Decoded<'a> {
 
     fn write(self, data: Data<'a>) -> Operation<'a> {
         let sys::Call { offset, size, flags, data_at, data_len, .. } = *self.call;
-        let write = Write {
+        let write = WriteFile {
             handle: Handle(self.call.handle),
             offset,
             size,

@@ -1,7 +1,9 @@
 //! The arguments of the longer calls, one structure for each. A later version may add fields: so
 //! code of others begins with `default()`.
+use crate::errno::Answer;
 use crate::flags::{Options, SetAttributesValid};
-use crate::values::{Attributes, Handle, Node, Time};
+use crate::sys;
+use crate::values::{GuestTime, Handle, Node, Time};
 use crate::CStr;
 
 /// The arguments of MKNOD (struct `fuse_mknod_in`).
@@ -55,7 +57,7 @@ pub struct Create {
 /// The arguments of READ (struct `fuse_read_in`).
 #[derive(Clone, Copy, Debug, Default, PartialEq, Eq)]
 #[non_exhaustive]
-pub struct Read {
+pub struct ReadFile {
     /// The open file.
     pub handle: Handle,
     /// The offset of the first byte.
@@ -71,7 +73,7 @@ pub struct Read {
 /// The arguments of WRITE (struct `fuse_write_in`).
 #[derive(Clone, Copy, Debug, Default, PartialEq, Eq)]
 #[non_exhaustive]
-pub struct Write {
+pub struct WriteFile {
     /// The open file.
     pub handle: Handle,
     /// The offset of the first byte.
@@ -135,7 +137,7 @@ pub struct Allocate {
 /// The arguments of LSEEK (struct `fuse_lseek_in`).
 #[derive(Clone, Copy, Debug, Default, PartialEq, Eq)]
 #[non_exhaustive]
-pub struct Seek {
+pub struct SeekFile {
     /// The open file.
     pub handle: Handle,
     /// The offset in bytes, by `whence`.
@@ -222,12 +224,48 @@ pub enum SetTime {
 pub struct SetAttributes {
     /// Which attributes are set.
     pub valid: SetAttributesValid,
-    /// Their values; of the others, any number that the guest wrote.
-    pub attributes: Attributes,
+    /// The numbers that the guest wrote, of attributes that are set and of others.
+    pub values: SetValues,
     /// The open file, with `FATTR_FH`.
     pub handle: Option<Handle>,
     /// The owner of the locks that apply, with `FATTR_LOCKOWNER`. Without it Linux writes 0.
     pub lock_owner: u64,
+}
+
+/// The numbers of SETATTR, as the guest wrote them.
+#[derive(Clone, Copy, Debug, Default, PartialEq, Eq)]
+#[non_exhaustive]
+pub struct SetValues {
+    /// The length in bytes.
+    pub size: u64,
+    /// When it was read last.
+    pub atime: GuestTime,
+    /// When its data changed last.
+    pub mtime: GuestTime,
+    /// When it changed last.
+    pub ctime: GuestTime,
+    /// The permissions.
+    pub mode: u32,
+    /// The user.
+    pub uid: u32,
+    /// The group.
+    pub gid: u32,
+}
+
+impl SetValues {
+    #[allow(clippy::cast_possible_wrap)] // the seconds are the guest's 64 bits, as Linux reads them
+    pub(crate) fn from_raw(raw: &sys::Attr) -> SetValues {
+        let time = |seconds, nanos| GuestTime { seconds: seconds as i64, nanos };
+        SetValues {
+            size: raw.size,
+            atime: time(raw.atime, raw.atime_nanos),
+            mtime: time(raw.mtime, raw.mtime_nanos),
+            ctime: time(raw.ctime, raw.ctime_nanos),
+            mode: raw.mode,
+            uid: raw.uid,
+            gid: raw.gid,
+        }
+    }
 }
 
 impl SetAttributes {
@@ -238,47 +276,65 @@ impl SetAttributes {
     /// The permissions.
     #[must_use]
     pub fn mode(&self) -> Option<u32> {
-        self.if_valid(SetAttributesValid::MODE, self.attributes.mode)
+        self.if_valid(SetAttributesValid::MODE, self.values.mode)
     }
 
     /// The user.
     #[must_use]
     pub fn uid(&self) -> Option<u32> {
-        self.if_valid(SetAttributesValid::UID, self.attributes.uid)
+        self.if_valid(SetAttributesValid::UID, self.values.uid)
     }
 
     /// The group.
     #[must_use]
     pub fn gid(&self) -> Option<u32> {
-        self.if_valid(SetAttributesValid::GID, self.attributes.gid)
+        self.if_valid(SetAttributesValid::GID, self.values.gid)
     }
 
     /// The length in bytes.
     #[must_use]
     pub fn size(&self) -> Option<u64> {
-        self.if_valid(SetAttributesValid::SIZE, self.attributes.size)
+        self.if_valid(SetAttributesValid::SIZE, self.values.size)
     }
 
     /// When it was read last.
-    #[must_use]
-    pub fn atime(&self) -> Option<SetTime> {
-        let now = self.valid.contains(SetAttributesValid::ATIME_NOW);
-        let time = if now { SetTime::Now } else { SetTime::To(self.attributes.atime) };
-        self.if_valid(SetAttributesValid::ATIME, time)
+    ///
+    /// # Errors
+    /// `EINVAL`: the guest's nanoseconds aren't those of a time. So of `mtime` and `ctime`.
+    pub fn atime(&self) -> Answer<Option<SetTime>> {
+        let (set, now) = (SetAttributesValid::ATIME, SetAttributesValid::ATIME_NOW);
+        self.set_time((set, now), self.values.atime)
     }
 
     /// When its data changed last.
-    #[must_use]
-    pub fn mtime(&self) -> Option<SetTime> {
-        let now = self.valid.contains(SetAttributesValid::MTIME_NOW);
-        let time = if now { SetTime::Now } else { SetTime::To(self.attributes.mtime) };
-        self.if_valid(SetAttributesValid::MTIME, time)
+    ///
+    /// # Errors
+    /// As of `atime`.
+    pub fn mtime(&self) -> Answer<Option<SetTime>> {
+        let (set, now) = (SetAttributesValid::MTIME, SetAttributesValid::MTIME_NOW);
+        self.set_time((set, now), self.values.mtime)
     }
 
     /// When it changed last.
-    #[must_use]
-    pub fn ctime(&self) -> Option<Time> {
-        self.if_valid(SetAttributesValid::CTIME, self.attributes.ctime)
+    ///
+    /// # Errors
+    /// As of `atime`.
+    pub fn ctime(&self) -> Answer<Option<Time>> {
+        self.if_valid(SetAttributesValid::CTIME, self.values.ctime).map(Time::try_from).transpose()
+    }
+
+    fn set_time(
+        &self,
+        (set, now): (SetAttributesValid, SetAttributesValid),
+        time: GuestTime,
+    ) -> Answer<Option<SetTime>> {
+        if !self.valid.contains(set) {
+            return Ok(None);
+        }
+        if self.valid.contains(now) {
+            return Ok(Some(SetTime::Now));
+        }
+        Time::try_from(time).map(|time| Some(SetTime::To(time)))
     }
 
     /// Whether to clear set-user and set-group bits (`Options::HANDLE_KILLPRIV_V2`).

@@ -193,7 +193,7 @@ impl<'f> Guest<'f> {
         }
         match i32::from_le_bytes([reply[4], reply[5], reply[6], reply[7]]) {
             0 => Ok(reply[OUT_HEADER..].to_vec()),
-            error => Err(Errno::of_system(-error)),
+            error => Err(Errno::from_raw_os_error(-error)),
         }
     }
 

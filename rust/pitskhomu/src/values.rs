@@ -1,4 +1,5 @@
 //! The values of file calls and answers: nodes, attributes, entries, times.
+use crate::errno::Errno;
 use crate::flags::{FileKind, OpenOptions};
 use crate::sys;
 use core::fmt;
@@ -11,6 +12,18 @@ pub struct Node(
     /// The number.
     pub u64,
 );
+
+impl From<u64> for Node {
+    fn from(number: u64) -> Node {
+        Node(number)
+    }
+}
+
+impl From<u64> for Handle {
+    fn from(number: u64) -> Handle {
+        Handle(number)
+    }
+}
 
 impl Node {
     /// The root (`FUSE_ROOT_ID`).
@@ -74,12 +87,97 @@ pub struct Context {
 }
 
 /// A time since 1970 (struct timespec).
+///
+/// # Examples
+/// ```
+/// use pitskhomu::Time;
+///
+/// let time = Time::new(-1, 999_999_999).expect("less than a second");
+/// assert_eq!((time.seconds(), time.nanos()), (-1, 999_999_999));
+/// assert_eq!(Time::new(0, 1_000_000_000), None);
+/// ```
 #[derive(Clone, Copy, Debug, Default, PartialEq, Eq, PartialOrd, Ord, Hash)]
 pub struct Time {
-    /// Seconds; negative before 1970.
+    seconds: i64,
+    nanos: u32,
+}
+
+impl Time {
+    /// `seconds`, negative before 1970, and `nanos` nanoseconds after them; `None` if these are
+    /// 10^9 or more.
+    #[must_use]
+    pub const fn new(seconds: i64, nanos: u32) -> Option<Time> {
+        if nanos < 1_000_000_000 {
+            Some(Time { seconds, nanos })
+        } else {
+            None
+        }
+    }
+
+    /// A whole number of seconds.
+    #[must_use]
+    pub const fn from_seconds(seconds: i64) -> Time {
+        Time { seconds, nanos: 0 }
+    }
+
+    /// The seconds, negative before 1970.
+    #[must_use]
+    pub const fn seconds(self) -> i64 {
+        self.seconds
+    }
+
+    /// The nanoseconds after them, below 10^9.
+    #[must_use]
+    pub const fn nanos(self) -> u32 {
+        self.nanos
+    }
+}
+
+#[cfg(feature = "std")]
+impl From<std::time::SystemTime> for Time {
+    /// Times that 64 bits of seconds don't have become the nearest ones.
+    fn from(time: std::time::SystemTime) -> Time {
+        match time.duration_since(std::time::UNIX_EPOCH) {
+            Ok(after) => {
+                let seconds = i64::try_from(after.as_secs()).unwrap_or(i64::MAX);
+                Time { seconds, nanos: after.subsec_nanos() }
+            }
+            Err(error) => {
+                let before = error.duration();
+                let seconds = i64::try_from(before.as_secs()).map_or(i64::MIN, |it| -it);
+                match before.subsec_nanos() {
+                    0 => Time { seconds, nanos: 0 },
+                    nanos => {
+                        Time { seconds: seconds.saturating_sub(1), nanos: 1_000_000_000 - nanos }
+                    }
+                }
+            }
+        }
+    }
+}
+
+/// A time as the guest wrote it in SETATTR: any numbers.
+#[derive(Clone, Copy, Debug, Default, PartialEq, Eq, Hash)]
+pub struct GuestTime {
+    /// Seconds.
     pub seconds: i64,
-    /// Nanoseconds after them, below 10^9.
+    /// Nanoseconds after them; 10^9 and more aren't a time.
     pub nanos: u32,
+}
+
+impl TryFrom<GuestTime> for Time {
+    type Error = Errno;
+
+    /// `EINVAL` if the nanoseconds are 10^9 or more.
+    fn try_from(time: GuestTime) -> Result<Time, Errno> {
+        Time::new(time.seconds, time.nanos).ok_or(Errno::EINVAL)
+    }
+}
+
+impl From<Time> for GuestTime {
+    fn from(time: Time) -> GuestTime {
+        GuestTime { seconds: time.seconds, nanos: time.nanos }
+    }
 }
 
 /// A node's attributes (struct `fuse_attr`).
@@ -143,16 +241,18 @@ impl Attributes {
         }
     }
 
+    /// Those of a reply; `None` if a time isn't one.
+    #[cfg(feature = "std")]
     #[allow(clippy::cast_possible_wrap)] // as of `raw`
-    pub(crate) fn of_raw(raw: &sys::Attr) -> Attributes {
-        let time = |seconds, nanos| Time { seconds: seconds as i64, nanos };
-        Attributes {
+    pub(crate) fn from_raw(raw: &sys::Attr) -> Option<Attributes> {
+        let time = |seconds, nanos| Time::new(seconds as i64, nanos);
+        Some(Attributes {
             inode: raw.ino,
             size: raw.size,
             blocks: raw.blocks,
-            atime: time(raw.atime, raw.atime_nanos),
-            mtime: time(raw.mtime, raw.mtime_nanos),
-            ctime: time(raw.ctime, raw.ctime_nanos),
+            atime: time(raw.atime, raw.atime_nanos)?,
+            mtime: time(raw.mtime, raw.mtime_nanos)?,
+            ctime: time(raw.ctime, raw.ctime_nanos)?,
             mode: raw.mode,
             links: raw.nlink,
             uid: raw.uid,
@@ -160,7 +260,7 @@ impl Attributes {
             rdev: raw.rdev,
             block_size: raw.block_size,
             flags: raw.flags,
-        }
+        })
     }
 }
 

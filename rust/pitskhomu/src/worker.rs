@@ -230,7 +230,7 @@ impl Worker {
     }
 
     /// Sets the regions of the guest's memory for the next chains, and copies them: at most
-    /// `Device::MOST_REGIONS` in any order, not empty and without overlap. Call it first, and after
+    /// `Device::MAX_REGIONS` in any order, not empty and without overlap. Call it first, and after
     /// each change of the guest's memory.
     ///
     /// # Errors

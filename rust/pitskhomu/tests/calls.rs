@@ -247,20 +247,20 @@ fn attributes_are_told_and_set() {
 fn data_is_read_and_written() {
     // FUSE_READ_LOCKOWNER is 2.
     let (call, reply) = called(15, args().q(3).q(4096).d(100).d(2).q(77).d(0x8000).d(0), 116);
-    let read =
-        "Read { handle: Handle(3), offset: 4096, size: 100, flags: 32768, lock_owner: Some(77) }";
+    let read = "ReadFile { handle: Handle(3), offset: 4096, size: 100, flags: 32768, \
+                lock_owner: Some(77) }";
     assert_eq!(call, format!("read (Node(5), {read}, 100, (5, 4), 9)"));
     assert_eq!(reply, Replied::Data(b"some data".to_vec()));
     // A room for less than is asked for.
     let (call, reply) = called(15, args().q(3).q(0).d(100).d(0).q(77).d(0).d(0), 22);
-    let read = "Read { handle: Handle(3), offset: 0, size: 100, flags: 0, lock_owner: None }";
+    let read = "ReadFile { handle: Handle(3), offset: 0, size: 100, flags: 0, lock_owner: None }";
     assert_eq!(call, format!("read (Node(5), {read}, 6, (5, 1), 6)"));
     assert_eq!(reply, Replied::Data(b"some d".to_vec()));
     // FUSE_WRITE_CACHE, LOCKOWNER and KILL_SUIDGID.
     let (call, reply) =
         called(16, args().q(3).q(4096).d(5).d(7).q(77).d(0x8001).d(0).bytes(b"hello"), 24);
     let flags = "flags: 32769, lock_owner: Some(77), delayed: true, kill_priv: true";
-    let write = format!("Write {{ handle: Handle(3), offset: 4096, size: 5, {flags} }}");
+    let write = format!("WriteFile {{ handle: Handle(3), offset: 4096, size: 5, {flags} }}");
     assert_eq!(call, format!("write (Node(5), {write}, \"hello\")"));
     assert_eq!(numbers(&reply.data(), 4), [5, 0]);
 }
@@ -314,7 +314,7 @@ fn other_calls() {
         "fallocate (Node(5), Allocate { handle: Handle(3), mode: 1, offset: 10, len: 20 })"
     );
     let (call, reply) = called(46, args().q(3).q(10).d(4).d(0), 24);
-    assert_eq!(call, "lseek (Node(5), Seek { handle: Handle(3), offset: 10, whence: 4 })");
+    assert_eq!(call, "lseek (Node(5), SeekFile { handle: Handle(3), offset: 10, whence: 4 })");
     assert_eq!(numbers(&reply.data(), 8), [0x701]);
     let (call, reply) = called(47, args().q(3).q(10).q(6).q(4).q(20).q(0x900).q(0), 24);
     let from = "from: FilePlace { node: Node(5), handle: Handle(3), offset: 10 }";

@@ -43,12 +43,18 @@ impl FileSystem for Files<'_> {
     fn getattr(&self, _: &Context, _: Node, _: Option<Handle>) -> Answer<(Attributes, Duration)> {
         Err(Errno::EIO)
     }
-    fn read(&self, _: &Context, _: Node, read: Read, data: &mut ReadData<'_>) -> Answer<()> {
+    fn read(&self, _: &Context, _: Node, read: ReadFile, data: &mut ReadData<'_>) -> Answer<()> {
         let count = data.read_from(self.0, read.offset)?;
         assert_eq!(count, data.done());
         Ok(())
     }
-    fn write(&self, _: &Context, _: Node, write: Write, data: &mut WriteData<'_>) -> Answer<()> {
+    fn write(
+        &self,
+        _: &Context,
+        _: Node,
+        write: WriteFile,
+        data: &mut WriteData<'_>,
+    ) -> Answer<()> {
         let count = data.write_to(self.0, write.offset)?;
         assert_eq!(count, data.done());
         Ok(())

@@ -188,7 +188,7 @@ impl FileSystem for Files {
     fn getattr(&self, _: &Context, _: Node, _: Option<Handle>) -> Answer<(Attributes, Duration)> {
         Err(Errno::EIO)
     }
-    fn read(&self, _: &Context, _: Node, read: Read, data: &mut ReadData<'_>) -> Answer<()> {
+    fn read(&self, _: &Context, _: Node, read: ReadFile, data: &mut ReadData<'_>) -> Answer<()> {
         if read.offset % 97 == 0 {
             thread::sleep(Duration::from_micros(200)); // others overtake it
         }
@@ -317,7 +317,7 @@ impl FileSystem for InOrder {
     fn getattr(&self, _: &Context, _: Node, _: Option<Handle>) -> Answer<(Attributes, Duration)> {
         Err(Errno::EIO)
     }
-    fn read(&self, _: &Context, _: Node, read: Read, data: &mut ReadData<'_>) -> Answer<()> {
+    fn read(&self, _: &Context, _: Node, read: ReadFile, data: &mut ReadData<'_>) -> Answer<()> {
         let mut is_read = self.0.lock().unwrap();
         if read.offset == 2 {
             *is_read = true;

@@ -72,13 +72,13 @@ fn names() {
 fn files() {
     let open = "Open { flags: 2, kill_priv: false }";
     check(|guest| guest.open(NODE, 2), Ok(opened()), &format!("open (Node(5), {open})"));
-    let read = "Read { handle: Handle(3), offset: 7, size: 100, flags: 0, lock_owner: None }";
+    let read = "ReadFile { handle: Handle(3), offset: 7, size: 100, flags: 0, lock_owner: None }";
     check(
         |guest| guest.read(NODE, HANDLE, 7, 100),
         Ok(b"some data".to_vec()),
         &format!("read (Node(5), {read}, 100, (5, 4), 9)"),
     );
-    let write = "Write { handle: Handle(3), offset: 7, size: 5, flags: 0, lock_owner: None, \
+    let write = "WriteFile { handle: Handle(3), offset: 7, size: 5, flags: 0, lock_owner: None, \
                  delayed: false, kill_priv: false }";
     check(
         |guest| guest.write(NODE, HANDLE, 7, b"hello"),
@@ -96,7 +96,7 @@ fn files() {
         Ok(()),
         &format!("fallocate (Node(5), {allocate})"),
     );
-    let seek = "Seek { handle: Handle(3), offset: 7, whence: 4 }";
+    let seek = "SeekFile { handle: Handle(3), offset: 7, whence: 4 }";
     check(|guest| guest.lseek(NODE, HANDLE, 7, 4), Ok(0x701), &format!("lseek (Node(5), {seek})"));
     let mut copy = CopyFileRange::default();
     copy.from = FilePlace { node: NODE, handle: HANDLE, offset: 7 };
@@ -116,7 +116,7 @@ fn attributes_and_values() {
     );
     let mut set = SetAttributes::default();
     set.valid = SetAttributesValid::SIZE | SetAttributesValid::MODE;
-    (set.attributes.size, set.attributes.mode) = (0x1234, 0o600);
+    (set.values.size, set.values.mode) = (0x1234, 0o600);
     check(
         |guest| guest.setattr(NODE, &set),
         Ok(found),

@@ -3,6 +3,7 @@
 use pitskhomu::*;
 use std::error::Error;
 use std::io;
+use std::time::{Duration, SystemTime};
 
 #[test]
 fn names() {
@@ -32,10 +33,13 @@ fn errnos() {
     ];
     for (errno, number) in numbers {
         assert_eq!((errno.number(), Errno::new(number)), (number, Some(errno)));
-        assert_eq!(Errno::of_system(number as i32), errno);
+        assert_eq!(Errno::from_raw_os_error(number as i32), errno);
     }
     assert_eq!((Errno::new(0), Errno::new(Errno::MAX + 1)), (None, None));
-    assert_eq!((Errno::of_system(0), Errno::of_system(-1)), (Errno::EIO, Errno::EIO));
+    assert_eq!(
+        (Errno::from_raw_os_error(0), Errno::from_raw_os_error(-1)),
+        (Errno::EIO, Errno::EIO)
+    );
     let odd = Errno::new(4095).unwrap();
     assert_eq!((Errno::ENOENT.name(), odd.name()), (Some("ENOENT"), None));
     assert_eq!(
@@ -130,7 +134,7 @@ fn workers_are_printed() {
 #[test]
 fn kinds_of_files() {
     assert_eq!(
-        (FileKind::of_mode(0o40755), FileKind::of_mode(0o120777)),
+        (FileKind::from_mode(0o40755), FileKind::from_mode(0o120777)),
         (FileKind::DIRECTORY, FileKind::SYMBOLIC_LINK)
     );
     let kinds = [
@@ -144,17 +148,14 @@ fn kinds_of_files() {
         (FileKind::SOCKET, 0o140000),
     ];
     for (kind, mode) in kinds {
-        assert_eq!((kind.mode(), FileKind::of_mode(mode | 0o777)), (mode, kind));
+        assert_eq!((kind.mode(), FileKind::from_mode(mode | 0o777)), (mode, kind));
     }
 }
 
 #[test]
 fn the_archive_is_of_this_header() {
     assert_eq!(version(), VERSION);
-    assert_eq!(
-        (Device::MOST_REGIONS, Device::MOST_QUEUES, Device::LEAST_LIMIT),
-        (64, 64, 0x101000)
-    );
+    assert_eq!((Device::MAX_REGIONS, Device::MAX_QUEUES, Device::MIN_LIMIT), (64, 64, 0x101000));
     assert_eq!((Node::ROOT, Attributes::SUBMOUNT, Attributes::DAX), (Node(1), 1, 2));
 }
 
@@ -196,7 +197,7 @@ fn records_that_are_refused() {
     let mut changed = record.clone();
     changed[0] ^= 1;
     assert_eq!(restored(&device, &changed), Err(Status::RecordBadMagic));
-    let other = Device::new(65536, Device::LEAST_LIMIT).unwrap();
+    let other = Device::new(65536, Device::MIN_LIMIT).unwrap();
     other.set_options(Options::MAX_PAGES);
     assert_eq!(restored(&other, &record), Err(Status::RecordMismatch));
     assert_eq!(other.options(), Options::MAX_PAGES, "it stays as it was");
@@ -205,17 +206,17 @@ fn records_that_are_refused() {
 #[test]
 fn devices_and_queues_of_bad_numbers_are_refused() {
     let devices = [
-        (2048, Device::LEAST_LIMIT),
-        (4095, Device::LEAST_LIMIT),
-        (131_072, Device::LEAST_LIMIT),
-        (4096, Device::LEAST_LIMIT - 1),
-        (4096, Device::MOST_LIMIT + 1),
+        (2048, Device::MIN_LIMIT),
+        (4095, Device::MIN_LIMIT),
+        (131_072, Device::MIN_LIMIT),
+        (4096, Device::MIN_LIMIT - 1),
+        (4096, Device::MAX_LIMIT + 1),
     ];
     for (page_size, limit) in devices {
         let refused = Device::new(page_size, limit).err();
         assert_eq!(refused, Some(Status::BadArgument), "{page_size} {limit}");
     }
-    for (page_size, limit) in [(4096, Device::LEAST_LIMIT), (65536, Device::MOST_LIMIT)] {
+    for (page_size, limit) in [(4096, Device::MIN_LIMIT), (65536, Device::MAX_LIMIT)] {
         let device = Device::new(page_size, limit).unwrap();
         // The library takes these numbers too.
         assert_eq!(Worker::new().set_memory(&device, &[]), Ok(()), "{page_size} {limit}");
@@ -238,4 +239,56 @@ fn devices_and_queues_of_bad_numbers_are_refused() {
         let queue = Queue::new(layout, 0).unwrap().with_max_in_flight(max_in_flight);
         assert_eq!(queue.is_ok(), is_taken, "{max_in_flight}");
     }
+}
+
+#[test]
+fn times_have_less_than_a_second_of_nanoseconds() {
+    assert_eq!(
+        Time::new(7, 999_999_999).map(|time| (time.seconds(), time.nanos())),
+        Some((7, 999_999_999))
+    );
+    for nanos in [1_000_000_000, 0x3fff_ffff, u32::MAX] {
+        assert_eq!(Time::new(7, nanos), None);
+        assert_eq!(Time::try_from(GuestTime { seconds: 7, nanos }), Err(Errno::EINVAL));
+    }
+    let guests = GuestTime { seconds: -7, nanos: 8 };
+    assert_eq!(GuestTime::from(Time::try_from(guests).unwrap()), guests);
+    let (epoch, time) =
+        (SystemTime::UNIX_EPOCH, |seconds, nanos| Time::new(seconds, nanos).unwrap());
+    assert_eq!(Time::from(epoch), Time::default());
+    assert_eq!(Time::from(epoch + Duration::new(3, 4)), time(3, 4));
+    assert_eq!(Time::from(epoch - Duration::new(3, 0)), time(-3, 0));
+    assert_eq!(Time::from(epoch - Duration::new(3, 4)), time(-4, 999_999_996));
+}
+
+/// SETATTR of a time that is none fails; a number of an attribute that isn't set may be any.
+#[test]
+fn what_is_set_has_times() {
+    let mut set = SetAttributes::default();
+    set.values.atime = GuestTime { seconds: 1, nanos: 1_000_000_000 };
+    (set.values.mtime, set.values.ctime) = (set.values.atime, set.values.atime);
+    assert_eq!((set.atime(), set.mtime(), set.ctime()), (Ok(None), Ok(None), Ok(None)));
+    set.valid = SetAttributesValid::ATIME | SetAttributesValid::MTIME | SetAttributesValid::CTIME;
+    assert_eq!(set.atime(), Err(Errno::EINVAL));
+    assert_eq!((set.mtime(), set.ctime()), (Err(Errno::EINVAL), Err(Errno::EINVAL)));
+    set.valid |= SetAttributesValid::ATIME_NOW | SetAttributesValid::MTIME_NOW;
+    assert_eq!((set.atime(), set.mtime()), (Ok(Some(SetTime::Now)), Ok(Some(SetTime::Now))));
+}
+
+#[test]
+fn sets_of_flags_are_like_other_sets() {
+    let (read, write) = (AccessMask::READ, AccessMask::WRITE);
+    let mut mask: AccessMask = [read, write].into_iter().collect();
+    assert_eq!((mask, mask.bits()), (read | write, 6));
+    assert_eq!((!mask, mask ^ read, mask & read), (AccessMask::EXECUTE, write, read));
+    assert!(mask.intersects(read) && !read.intersects(write));
+    mask.remove(read);
+    mask.insert(AccessMask::EXECUTE);
+    mask.extend([write]);
+    assert_eq!(format!("{mask:x} {mask:#o} {mask:b} {mask:X}"), "3 0o3 11 3");
+    mask ^= write;
+    mask &= AccessMask::EXECUTE;
+    mask -= AccessMask::EXECUTE;
+    assert!(mask.is_empty() && AccessMask::all().contains(read | write));
+    assert_eq!((Node::from(7), Handle::from(8)), (Node(7), Handle(8)));
 }

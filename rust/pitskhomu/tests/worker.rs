@@ -38,7 +38,7 @@ fn an_idle_queue() {
     assert_eq!(serve(&mut guest, &recorder), Ok(None));
     assert_eq!((guest.queue.layout(), guest.queue.next_avail()), (layout(), u16::MAX - 2));
     assert_eq!((guest.queue.stopped(), guest.queue.in_flight()), (None, 0));
-    assert_eq!((guest.device.page_size(), guest.device.limit()), (4096, Device::LEAST_LIMIT));
+    assert_eq!((guest.device.page_size(), guest.device.limit()), (4096, Device::MIN_LIMIT));
 }
 
 #[test]
@@ -145,7 +145,7 @@ fn faulty_chains_go_back_with_no_reply() {
         ((TABLE, 16, INDIRECT | NEXT, 1), Fault::IndirectWithNext),
         ((TABLE, 15, INDIRECT, 0), Fault::IndirectLength),
         ((far, 16, INDIRECT, 0), Fault::TableUnreachable),
-        ((REQUEST, Device::LEAST_LIMIT + 1, 0, 0), Fault::OverLimit),
+        ((REQUEST, Device::MIN_LIMIT + 1, 0, 0), Fault::OverLimit),
         ((far, 40, 0, 0), Fault::RequestUnreachable),
         ((far, 40, DEVICE_WRITES, 0), Fault::RoomUnreachable),
     ];
@@ -394,7 +394,7 @@ fn a_memory_that_panics_loses_no_other_chain() {
 fn a_request_that_is_too_long_is_refused() {
     let (mut guest, recorder) =
         (Guest::over(Device::new(4096, 1 << 31).unwrap()), Recorder::default());
-    let long = Device::LEAST_LIMIT + 1;
+    let long = Device::MIN_LIMIT + 1;
     guest.memory.write(REQUEST, &request(1, 1, HELLO));
     guest.draw(
         DESCRIPTORS,
@@ -423,109 +423,6 @@ fn a_request_that_is_too_long_is_refused() {
     assert_eq!(recorder.taken(), [r#"lookup (Node(1), "hello")"#]);
 }
 
-#[test]
-fn a_log_hears_what_was_written() {
-    let (mut guest, recorder) = (Guest::new(), Recorder::default());
-    guest.memory.is_logging.set(true);
-    let position = guest.queue.next_avail();
-    guest.offer_request(&request(15, 1, &args().q(3).q(0).d(100).bytes(&[0; 20]).0), 116);
-    guest.serve(&recorder);
-    let element = USED + 4 + 8 * u64::from(position % SIZE);
-    let range = |guest, len| GuestRange { guest, len };
-    let rings = [range(element, 8), range(USED + 2, 2)];
-    let marks = guest.memory.marks.take();
-    assert_eq!(marks, [vec![range(ROOM, 16), range(ROOM + 0x1000, 9)], rings.to_vec()].concat());
-    // A READ that fails after it put data in: that data is marked too.
-    guest.offer_request(&request(15, 1, &args().q(3).q(0).d(100).bytes(&[0; 20]).0), 116);
-    guest.serve(&Recorder::failing(Errno::EIO));
-    assert_eq!(guest.memory.marks.take()[..2], [range(ROOM, 16), range(ROOM + 0x1000, 9)]);
-}
-
-/// Writes to the reply buffer of a READ, and panics or fails before it has said how far.
-struct Breaks {
-    by_windows: bool,
-    by_bytes: bool,
-    panics: bool,
-}
-
-impl FileSystem for Breaks {
-    fn lookup(&self, _: &Context, _: Node, _: &CStr) -> Answer<Entry> {
-        Err(Errno::ENOENT)
-    }
-    fn getattr(
-        &self,
-        _: &Context,
-        _: Node,
-        _: Option<Handle>,
-    ) -> Answer<(Attributes, std::time::Duration)> {
-        Err(Errno::EIO)
-    }
-    fn reply_by_bytes(&self, exchange: &mut Exchange<'_>) -> Option<u64> {
-        if self.by_bytes && self.by_windows {
-            exchange.reply_windows(16, &mut [Window::default(); 4]);
-        } else if self.by_bytes {
-            exchange.store(16, b"some data");
-        }
-        assert!(!(self.by_bytes && self.panics), "the file system panics, as the test wants it");
-        None
-    }
-    fn read(&self, _: &Context, _: Node, _: Read, data: &mut ReadData<'_>) -> Answer<()> {
-        if self.by_windows {
-            data.windows(&mut [Window::default(); 4]);
-        } else {
-            data.put(b"some data");
-        }
-        assert!(!self.panics, "the file system panics, as the test wants it");
-        Err(Errno::EIO)
-    }
-}
-
-/// What is in the reply buffer is logged, however the call ends.
-#[test]
-fn a_log_hears_what_was_written_before_a_panic() {
-    let range = |guest, len| GuestRange { guest, len };
-    let read = request(15, 1, &args().q(3).q(0).d(100).bytes(&[0; 20]).0);
-    for (by_windows, by_bytes, panics, len) in [
-        (false, false, true, 9),
-        (true, false, true, 100),
-        (false, true, true, 9),
-        (true, true, true, 100),
-        (true, false, false, 100),
-        (false, true, false, 9),
-    ] {
-        let (mut guest, breaks) = (Guest::new(), Breaks { by_windows, by_bytes, panics });
-        guest.memory.is_logging.set(true);
-        guest.offer_request(&read, 116);
-        if panics {
-            self::panics(&mut guest, &breaks);
-        }
-        assert_eq!(guest.serve(&breaks).1, Replied::Error(5));
-        let marks = guest.memory.marks.take();
-        assert_eq!(marks[..2], [range(ROOM, 16), range(ROOM + 0x1000, len)], "{by_windows}");
-    }
-}
-
-/// The stores, the marks, and only then the end of the push, whose last step is the load of the
-/// available flags.
-#[test]
-fn marks_come_between_the_stores_and_the_end_of_the_push() {
-    let (mut guest, recorder) = (Guest::new(), Recorder::default());
-    guest.memory.is_logging.set(true);
-    guest.offer_request(&request(1, 1, HELLO), 144);
-    let element = USED + 4 + 8 * u64::from(guest.queue.next_used() % SIZE);
-    guest.worker.pop(&mut guest.queue, &guest.memory).unwrap();
-    guest.worker.answer(&guest.device, &recorder, &guest.memory).unwrap();
-    assert_eq!(guest.memory.marks.take(), []);
-    guest.memory.slices.take();
-    guest.worker.push(&mut guest.queue, &guest.memory).unwrap();
-    let marked = guest.memory.marked_at.take();
-    let slices = guest.memory.slices.take();
-    let (stores, load) = slices.split_at(slices.len() - 1);
-    assert_eq!(stores[stores.len() - 3..], [element, element + 4, USED + 2]);
-    assert_eq!(load, [AVAILABLE]);
-    assert_eq!(marked, vec![stores.len(); guest.memory.marks.take().len()]);
-}
-
 /// Moves data by windows, as by preadv and pwritev.
 struct ByWindows<'m>(&'m Memory);
 
@@ -541,7 +438,7 @@ impl FileSystem for ByWindows<'_> {
     ) -> Answer<(Attributes, std::time::Duration)> {
         Err(Errno::EIO)
     }
-    fn read(&self, _: &Context, _: Node, _: Read, data: &mut ReadData<'_>) -> Answer<()> {
+    fn read(&self, _: &Context, _: Node, _: ReadFile, data: &mut ReadData<'_>) -> Answer<()> {
         let (mut windows, mut ranges) = ([Window::default(); 4], [GuestRange::default(); 4]);
         let windows = data.windows(&mut windows).to_vec();
         let ranges = data.ranges(&mut ranges).to_vec();
@@ -554,7 +451,13 @@ impl FileSystem for ByWindows<'_> {
         assert_eq!((data.done(), data.left(), data.put(b"x")), (100, 0, 0));
         Ok(())
     }
-    fn write(&self, _: &Context, _: Node, write: Write, data: &mut WriteData<'_>) -> Answer<()> {
+    fn write(
+        &self,
+        _: &Context,
+        _: Node,
+        write: WriteFile,
+        data: &mut WriteData<'_>,
+    ) -> Answer<()> {
         let mut windows = [Window::default(); 4];
         let windows = data.windows(&mut windows).to_vec();
         assert_eq!(

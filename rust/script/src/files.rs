@@ -1,7 +1,7 @@
 //! The file system of the script language: the root, node 1, and its file `a`, node 2.
 use pitskhomu::{
     Answer, Attributes, Context, DirectoryEntry, Entry, Errno, FileKind, FileSystem, Handle, Init,
-    Listing, Node, Options, Read, ReadData, ReadDirectory, Release, Write, WriteData,
+    Listing, Node, Options, ReadData, ReadDirectory, ReadFile, Release, WriteData, WriteFile,
 };
 use std::cell::RefCell;
 use std::ffi::{CStr, CString};
@@ -128,7 +128,7 @@ impl FileSystem for Files {
         Ok((self.attributes(node)?, GOOD_FOR))
     }
 
-    fn read(&self, _: &Context, node: Node, read: Read, data: &mut ReadData<'_>) -> Answer<()> {
+    fn read(&self, _: &Context, node: Node, read: ReadFile, data: &mut ReadData<'_>) -> Answer<()> {
         self.note(format!("read {}", node.0));
         if node != FILE {
             return Err(Errno::ENOENT);
@@ -139,7 +139,13 @@ impl FileSystem for Files {
         Ok(())
     }
 
-    fn write(&self, _: &Context, node: Node, write: Write, data: &mut WriteData<'_>) -> Answer<()> {
+    fn write(
+        &self,
+        _: &Context,
+        node: Node,
+        write: WriteFile,
+        data: &mut WriteData<'_>,
+    ) -> Answer<()> {
         self.note(format!("write {}", node.0));
         if node != FILE {
             return Err(Errno::ENOENT);

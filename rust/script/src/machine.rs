@@ -15,7 +15,7 @@ const HEADER: usize = 16;
 const WITH_DATA: [u32; 3] = [15, 28, 44];
 
 /// The most queues of a device.
-pub const QUEUES_MAX: usize = Device::MOST_QUEUES;
+pub const QUEUES_MAX: usize = Device::MAX_QUEUES;
 
 pub struct Machine {
     pub memory: Memory,
@@ -211,7 +211,7 @@ impl Machine {
     /// taken all chains up to the last index.
     fn set_memory(&mut self) -> Result<(), Stuck> {
         let regions = self.memory.regions();
-        if regions.len() > Device::MOST_REGIONS {
+        if regions.len() > Device::MAX_REGIONS {
             return Err(Missing::ManyRegions.into());
         }
         if regions.iter().any(|region| (region.guest | region.len) % 4096 != 0) {

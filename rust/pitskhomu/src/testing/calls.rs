@@ -96,7 +96,7 @@ impl Guest<'_> {
         const FATTR_FH: SetAttributesValid = SetAttributesValid::from_bits(1 << 6);
         let handle = set.handle.map_or(0, |handle| handle.0);
         let valid = if set.handle.is_some() { set.valid | FATTR_FH } else { set.valid };
-        let a = &set.attributes;
+        let a = &set.values;
         let args = args().d(valid.bits()).d(0).q(handle).q(a.size).q(set.lock_owner);
         let args = args.q(a.atime.seconds as u64).q(a.mtime.seconds as u64);
         let args = args.q(a.ctime.seconds as u64);

@@ -76,7 +76,7 @@ impl<'r> Reply<'r> {
             block_size: self.d()?,
             flags: self.d()?,
         };
-        Ok(Attributes::of_raw(&raw))
+        Attributes::from_raw(&raw).ok_or(Errno::EIO)
     }
 
     /// struct `fuse_attr_out`.

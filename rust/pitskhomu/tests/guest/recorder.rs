@@ -19,7 +19,7 @@ pub struct Recorder {
 
 /// All attributes of a reply, each another number.
 pub fn attributes() -> Attributes {
-    let time = |seconds, nanos| Time { seconds, nanos };
+    let time = |seconds, nanos| Time::new(seconds, nanos).unwrap();
     Attributes {
         inode: 0x101,
         size: 0x102,
@@ -113,8 +113,15 @@ impl FileSystem for Recorder {
         node: Node,
         set: &SetAttributes,
     ) -> Answer<(Attributes, Duration)> {
-        let arguments =
-            (set.mode(), set.uid(), set.gid(), set.size(), set.atime(), set.mtime(), set.ctime());
+        let arguments = (
+            set.mode(),
+            set.uid(),
+            set.gid(),
+            set.size(),
+            set.atime()?,
+            set.mtime()?,
+            set.ctime()?,
+        );
         let arguments = (node, set.valid, set.handle, set.lock_owner, arguments, set.kills_priv());
         self.asked(context, "setattr", &arguments, (attributes(), Duration::new(0x401, 0x402)))
     }
@@ -163,7 +170,7 @@ impl FileSystem for Recorder {
         &self,
         context: &Context,
         node: Node,
-        read: Read,
+        read: ReadFile,
         data: &mut ReadData<'_>,
     ) -> Answer<()> {
         let left = data.left();
@@ -174,7 +181,7 @@ impl FileSystem for Recorder {
         &self,
         context: &Context,
         node: Node,
-        write: Write,
+        write: WriteFile,
         data: &mut WriteData<'_>,
     ) -> Answer<()> {
         let mut bytes = vec![0; data.left() as usize + 1];
@@ -267,7 +274,7 @@ impl FileSystem for Recorder {
     fn fallocate(&self, context: &Context, node: Node, allocate: Allocate) -> Answer<()> {
         self.asked(context, "fallocate", &(node, allocate), ())
     }
-    fn lseek(&self, context: &Context, node: Node, seek: Seek) -> Answer<u64> {
+    fn lseek(&self, context: &Context, node: Node, seek: SeekFile) -> Answer<u64> {
         self.asked(context, "lseek", &(node, seek), 0x701)
     }
     fn copy_file_range(&self, context: &Context, copy: CopyFileRange) -> Answer<u64> {

@@ -36,7 +36,7 @@ const TEXT_MAX: usize = 32;
 
 #[allow(clippy::cast_possible_wrap)] // times before 1970
 fn wide_attributes() -> Attributes {
-    let time = |first, nanos| Time { seconds: numbered(first) as i64, nanos };
+    let time = |first, nanos| Time::new(numbered(first) as i64, nanos).unwrap_or_default();
     let [links, uid, gid, rdev] = [0xe8, 0xec, 0xf0, 0xf4].map(|first| numbered(first) as u32);
     Attributes {
         inode: WIDE_INODE,
@@ -56,7 +56,7 @@ fn wide_attributes() -> Attributes {
 }
 
 fn attributes() -> Attributes {
-    let time = |seconds, nanos| Time { seconds, nanos };
+    let time = |seconds, nanos| Time::new(seconds, nanos).unwrap_or_default();
     Attributes {
         inode: 2,
         size: 5,
@@ -271,7 +271,7 @@ impl FileSystem for Files {
         node: Node,
         set: &SetAttributes,
     ) -> Answer<(Attributes, Duration)> {
-        let (a, owner) = (&set.attributes, set.lock_owner);
+        let (a, owner) = (&set.values, set.lock_owner);
         let mut words = vec![or_dash(set.handle.map(|handle| handle.0))];
         words.push(set.valid.bits().to_string());
         words.extend(["?", "?"].map(String::from));
@@ -341,7 +341,7 @@ impl FileSystem for Files {
         &self,
         context: &Context,
         node: Node,
-        read: Read,
+        read: ReadFile,
         data: &mut ReadData<'_>,
     ) -> Answer<()> {
         let numbers = [node.0, read.handle.0, read.size, read.offset];
@@ -362,7 +362,7 @@ impl FileSystem for Files {
         &self,
         context: &Context,
         node: Node,
-        write: Write,
+        write: WriteFile,
         data: &mut WriteData<'_>,
     ) -> Answer<()> {
         let mut bytes = vec![0; data.left().min(write.size) as usize];
@@ -496,7 +496,7 @@ impl FileSystem for Files {
         let Allocate { handle, mode, offset, len, .. } = allocate;
         self.done(context, "fallocate", &[node.0, handle.0, mode.into(), offset, len], &[], ())
     }
-    fn lseek(&self, context: &Context, node: Node, seek: Seek) -> Answer<u64> {
+    fn lseek(&self, context: &Context, node: Node, seek: SeekFile) -> Answer<u64> {
         let numbers = [node.0, seek.handle.0, seek.offset, seek.whence.into()];
         let offset = if self.is_wide() { WIDE_OFFSET } else { 0x0102_0304_0506_0708 };
         self.done(context, "lseek", &numbers, &[], offset)

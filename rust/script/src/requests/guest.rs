@@ -59,7 +59,7 @@ fn fault_name(fault: RequestFault) -> &'static str {
 impl Guest {
     /// A guest whose session begins so.
     pub fn new(session: Session) -> Result<Guest, Status> {
-        let device = Device::new(session.page_size, Device::LEAST_LIMIT)?;
+        let device = Device::new(session.page_size, Device::MIN_LIMIT)?;
         device.set_options(Options::from_bits(session.options));
         let mut worker = Worker::new();
         worker.set_memory(&device, &[Region { guest: 0, len: LEN as u64, host: 0 }])?;

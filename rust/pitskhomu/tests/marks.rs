@@ -1,0 +1,112 @@
+//! A migration's log: what is marked, and when.
+mod guest;
+
+use guest::recorder::Recorder;
+use guest::*;
+use pitskhomu::*;
+use std::panic::{catch_unwind, AssertUnwindSafe};
+
+const HELLO: &[u8] = b"hello\0";
+
+#[test]
+fn a_log_hears_what_was_written() {
+    let (mut guest, recorder) = (Guest::new(), Recorder::default());
+    guest.memory.is_logging.set(true);
+    let position = guest.queue.next_avail();
+    guest.offer_request(&request(15, 1, &args().q(3).q(0).d(100).bytes(&[0; 20]).0), 116);
+    guest.serve(&recorder);
+    let element = USED + 4 + 8 * u64::from(position % SIZE);
+    let range = |guest, len| GuestRange { guest, len };
+    let rings = [range(element, 8), range(USED + 2, 2)];
+    let marks = guest.memory.marks.take();
+    assert_eq!(marks, [vec![range(ROOM, 16), range(ROOM + 0x1000, 9)], rings.to_vec()].concat());
+    // A READ that fails after it put data in: that data is marked too.
+    guest.offer_request(&request(15, 1, &args().q(3).q(0).d(100).bytes(&[0; 20]).0), 116);
+    guest.serve(&Recorder::failing(Errno::EIO));
+    assert_eq!(guest.memory.marks.take()[..2], [range(ROOM, 16), range(ROOM + 0x1000, 9)]);
+}
+
+/// Writes to the reply buffer of a READ, and panics or fails before it has said how far.
+struct Breaks {
+    by_windows: bool,
+    by_bytes: bool,
+    panics: bool,
+}
+
+impl FileSystem for Breaks {
+    fn lookup(&self, _: &Context, _: Node, _: &CStr) -> Answer<Entry> {
+        Err(Errno::ENOENT)
+    }
+    fn getattr(
+        &self,
+        _: &Context,
+        _: Node,
+        _: Option<Handle>,
+    ) -> Answer<(Attributes, std::time::Duration)> {
+        Err(Errno::EIO)
+    }
+    fn reply_by_bytes(&self, exchange: &mut Exchange<'_>) -> Option<u64> {
+        if self.by_bytes && self.by_windows {
+            exchange.reply_windows(16, &mut [Window::default(); 4]);
+        } else if self.by_bytes {
+            exchange.store(16, b"some data");
+        }
+        assert!(!(self.by_bytes && self.panics), "the file system panics, as the test wants it");
+        None
+    }
+    fn read(&self, _: &Context, _: Node, _: ReadFile, data: &mut ReadData<'_>) -> Answer<()> {
+        if self.by_windows {
+            data.windows(&mut [Window::default(); 4]);
+        } else {
+            data.put(b"some data");
+        }
+        assert!(!self.panics, "the file system panics, as the test wants it");
+        Err(Errno::EIO)
+    }
+}
+
+/// What is in the reply buffer is logged, however the call ends.
+#[test]
+fn a_log_hears_what_was_written_before_a_panic() {
+    let range = |guest, len| GuestRange { guest, len };
+    let read = request(15, 1, &args().q(3).q(0).d(100).bytes(&[0; 20]).0);
+    for (by_windows, by_bytes, panics, len) in [
+        (false, false, true, 9),
+        (true, false, true, 100),
+        (false, true, true, 9),
+        (true, true, true, 100),
+        (true, false, false, 100),
+        (false, true, false, 9),
+    ] {
+        let (mut guest, breaks) = (Guest::new(), Breaks { by_windows, by_bytes, panics });
+        guest.memory.is_logging.set(true);
+        guest.offer_request(&read, 116);
+        if panics {
+            assert!(catch_unwind(AssertUnwindSafe(|| guest.serve(&breaks))).is_err());
+        }
+        assert_eq!(guest.serve(&breaks).1, Replied::Error(5));
+        let marks = guest.memory.marks.take();
+        assert_eq!(marks[..2], [range(ROOM, 16), range(ROOM + 0x1000, len)], "{by_windows}");
+    }
+}
+
+/// The stores, the marks, and only then the end of the push, whose last step is the load of the
+/// available flags.
+#[test]
+fn marks_come_between_the_stores_and_the_end_of_the_push() {
+    let (mut guest, recorder) = (Guest::new(), Recorder::default());
+    guest.memory.is_logging.set(true);
+    guest.offer_request(&request(1, 1, HELLO), 144);
+    let element = USED + 4 + 8 * u64::from(guest.queue.next_used() % SIZE);
+    guest.worker.pop(&mut guest.queue, &guest.memory).unwrap();
+    guest.worker.answer(&guest.device, &recorder, &guest.memory).unwrap();
+    assert_eq!(guest.memory.marks.take(), []);
+    guest.memory.slices.take();
+    guest.worker.push(&mut guest.queue, &guest.memory).unwrap();
+    let marked = guest.memory.marked_at.take();
+    let slices = guest.memory.slices.take();
+    let (stores, load) = slices.split_at(slices.len() - 1);
+    assert_eq!(stores[stores.len() - 3..], [element, element + 4, USED + 2]);
+    assert_eq!(load, [AVAILABLE]);
+    assert_eq!(marked, vec![stores.len(); guest.memory.marks.take().len()]);
+}
