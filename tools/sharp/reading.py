@@ -37,14 +37,16 @@ def name_of(request):
 
 
 class Wrong:
-    """One thing that a server does wrongly: a request's name, a record's field or a check, and how
-    many bits are left of the field."""
+    """One thing that a server does wrongly: a request's name, and a record's field with how many of
+    its bits are left, or a set of bits with the one that is wrong, or a check."""
 
     def __init__(self, request, what, bits=None):
         self.request, self.what, self.bits = request, what, bits
 
     def __str__(self):
         how = "left out" if self.bits is None else f"cut to {self.bits} bits"
+        if self.what.startswith("bits:"):
+            how = f"with another bit {self.bits}"
         return f"{self.request} {self.what} {how}"
 
 
@@ -71,6 +73,10 @@ class Reading:
         is_left_out = self.is_wrong(f"check of {what}")
         if not is_well and not is_left_out:
             raise why
+
+    def flipped(self, what, options):
+        """Bits that have a meaning, of which one may be wrong."""
+        return options ^ (1 << self.server.wrong.bits if self.is_wrong(what) else 0)
 
     def crooked(self, record, values, request=None):
         """Values, one of which may be cut."""

@@ -117,23 +117,23 @@ class Request(Reading):
         words = [*self.who(), old, self.asked("nodeid"), text(name)]
         return self.new_entry(self.files.entry("link", *words))
 
-    def renamed(self, record, known):
+    def renamed(self, record):
         """RENAME and RENAME2"""
         values = self.read(record)
         old, rest = self.first_name(self.counted(RECORDS[record].size))
         new = self.one_name(rest)
-        flags = values.get("flags", 0) & known
+        flags = values["flags"] & self.flipped("bits: flags", 7) if "flags" in values else 0
         words = [*self.asker(), values["newdir"], flags, text(old), text(new)]
         self.files.done("rename", *words)
         return b""
 
     def do_rename(self):
         """RENAME"""
-        return self.renamed("rename_in", 0)
+        return self.renamed("rename_in")
 
     def do_rename2(self):
         """RENAME2"""
-        return self.renamed("rename2_in", 7)
+        return self.renamed("rename2_in")
 
     # New nodes.
 
@@ -249,7 +249,8 @@ class Request(Reading):
         valid = values["valid"]
         handle = values["fh"] if valid & FATTR_FH else "-"
         fields = [name for name in values if name not in ("padding", "unused4", "unused5")]
-        words = [handle, valid & SETATTR_BITS, *(values[name] for name in fields)]
+        known = valid & self.flipped("bits: valid", SETATTR_BITS)
+        words = [handle, known, *(values[name] for name in fields)]
         return self.attributes(self.files.attributes("setattr", *self.asker(), *words))
 
     def do_access(self):
@@ -267,7 +268,8 @@ class Request(Reading):
         name, value = self.first_name(self.counted(RECORDS[record].size))
         why = Fault(f"InvalidXattrSize {values['size']} {len(value)}")
         self.check(len(value) == values["size"], why, "the value's size")
-        flags = [values["flags"], values.get("setxattr_flags", 0) & 1]
+        known = values.get("setxattr_flags", 0) & self.flipped("bits: setxattr_flags", 1)
+        flags = [values["flags"], known]
         self.files.done("setxattr", *self.asker(), *flags, text(name), text(value))
         return b""
 
@@ -455,8 +457,9 @@ class Request(Reading):
         if values["major"] > 7:
             return self.packed("init_out", out)
         self.check(values["minor"] >= 27, Errno(EPROTO), "the minor version")
-        capable = flags & KNOWN
-        agreed = capable & (self.files.init(capable) | WANTED)
+        capable = flags & self.flipped("bits: options", KNOWN)
+        wanted = self.flipped("bits: options of its own", WANTED)
+        agreed = capable & (self.files.init(capable) | wanted)
         self.server.options = agreed
         out |= {"max_readahead": values["max_readahead"], "flags": agreed & 0xFFFFFFFF,
             "max_background": 65535, "congestion_threshold": 49149, "max_write": LARGEST_BUFFER,

@@ -1,10 +1,11 @@
 #!/usr/bin/env python3
 """sharp.py FILE..
 
-Makes each wrong reading of one field (a value cut to its lowest 8, 16 or 32 bits, or to none) and
-leaves out each check, one at a time, in a server of its own (server.py). It prints those that no
-request of the FILEs (vectors/requests) notices and that aren't explained here. The last line is
-`N passed, M failed`; the status is 1 if M isn't 0."""
+Does one thing wrongly at a time in a server of its own (server.py). It reads or writes one field
+wrongly (a value cut to its lowest 8, 16 or 32 bits, or to none), flips one bit of the flags that
+have a meaning or of the options that it agrees on by itself, or leaves out one check. It prints
+those that no request of the FILEs (vectors/requests) notices and that aren't explained here. The
+last line is `N passed, M failed`; the status is 1 if M isn't 0."""
 
 import sys
 from pathlib import Path
@@ -12,6 +13,7 @@ from pathlib import Path
 from reading import ALL, OPCODES, Wrong
 from records import RECORDS, UNUSED
 from rows import differences, read
+from server import KNOWN
 
 # So many bits of a field have a meaning, so the others needn't be seen.
 MEANT = {
@@ -54,7 +56,11 @@ def wrongs(met):
     """Each thing that a server may do wrongly, of those that requests met."""
     for request, what in sorted(met):
         record, _, field = what.partition(".")
-        if record not in RECORDS:
+        if what.startswith("bits:"):
+            # What the server wants of options that there aren't has no meaning.
+            bits = KNOWN if what.endswith("of its own") else 2**(64 if request == "init" else 32) - 1
+            yield from (Wrong(request, what, bit) for bit in range(64) if bits >> bit & 1)
+        elif record not in RECORDS:
             yield Wrong(request, what)
         elif field not in UNUSED and field not in UNREAD.get(request, []):
             meant = DATA.get(request) if what == "out_header.len" else None
