@@ -378,6 +378,8 @@ guest() {
     grep -q '^AGAIN' "$run/lines" || failure "reset: the guest didn't come again"
     hotplug
     slow
+    frozen 0
+    frozen 4
     descriptors
     run_guest killed ours killed
     grep '^AFTER' "$run/lines" || echo "killed: calls of the guest wait"
@@ -404,6 +406,15 @@ slow() {
     grep -q '^PLUGGED in' "$run/lines" || failure "slow: no memory came"
     grep -q '^STILL SLOW' "$run/lines" || failure "slow: memory came when the file was open"
     grep -q '^SLOW slow' "$run/lines" || failure "slow: the file isn't read"
+}
+
+# A file system of the host that is frozen for a while: frozen.py.
+frozen() {
+    local status=0
+    make_files
+    python3 "$here/testing/frozen.py" "$DAEMON" "$work" "$root" "$1" || status=$?
+    [ $status != 3 ] || echo "frozen: not tried, since this host freezes no file system"
+    case $status in 0 | 3) ;; *) failure "frozen, $1 threads a queue" ;; esac
 }
 
 # The guest takes all descriptors: it is told ENFILE or EMFILE, memory still comes, and files are

@@ -52,6 +52,10 @@ os.makedirs(SHARED, exist_ok=True)
 for word in ("--no-such-option", "--posix-acl=yes"):
     status, told = ended(start("--socket-path", PATH, word))
     check(f"{word} is refused by name: {told}", status == 2 and word.split("=")[0] in told)
+for number in ("-1", "77"):
+    status, told = ended(start(f"--fd={number}"))
+    check(f"--fd={number}, which isn't open: {told}",
+        status == 1 and "Bad file descriptor" in told and "panicked" not in told)
 told = subprocess.run([DAEMON, "--print-capabilities"], stdout=subprocess.PIPE, check=True).stdout
 check("capabilities",
     json.loads(told) == {"type": "fs", "features": ["migrate-precopy", "separate-options"]})

@@ -116,7 +116,8 @@ impl<F: ServedFs> VhostUserBackendReqHandlerMut for FrontEnd<F> {
     fn reset_device(&mut self) -> Result<()> {
         let patience = Patience::new(false);
         self.enable_all(false, patience);
-        self.core.rings.iter().for_each(Ring::reset);
+        let memory = self.core.memory();
+        self.core.rings.iter().for_each(|ring| ring.reset(&memory));
         self.core.end_session(patience);
         Ok(())
     }

@@ -9,7 +9,7 @@ use std::env;
 use std::error::Error;
 use std::fs::{File, OpenOptions};
 use std::io;
-use std::os::fd::{AsFd, AsRawFd};
+use std::os::fd::{AsFd, AsRawFd, FromRawFd};
 use std::panic::PanicHookInfo;
 use std::sync::atomic::{AtomicI32, AtomicU64, Ordering};
 use std::sync::mpsc::{sync_channel, Receiver, RecvTimeoutError, SyncSender};
@@ -24,6 +24,8 @@ use crate::options::Options;
 const MOST_WAITING: usize = 1024;
 /// The time in which the last lines must be written when the daemon ends.
 const LAST_LINES: Duration = Duration::from_millis(200);
+/// The log's own descriptors have this number or a greater one.
+const OWN_NUMBERS: libc::c_int = 64;
 /// The time between two looks for numbers of lines left out, if no period ends before.
 const LOOK: Duration = Duration::from_secs(3600);
 
@@ -58,6 +60,17 @@ fn log_panic(panic: &PanicHookInfo<'_>) {
     log::error!("{}: {panic}", thread::current().name().unwrap_or("a thread"));
 }
 
+/// A copy of a descriptor, with a number that `--fd` doesn't name by mistake.
+fn moved(file: impl AsFd) -> io::Result<File> {
+    // SAFETY: the descriptor is open, and no memory is touched.
+    let fd = unsafe { libc::fcntl(file.as_fd().as_raw_fd(), libc::F_DUPFD_CLOEXEC, OWN_NUMBERS) };
+    if fd < 0 {
+        return Err(io::Error::last_os_error());
+    }
+    // SAFETY: the descriptor is new, and nothing else owns it.
+    Ok(unsafe { File::from_raw_fd(fd) })
+}
+
 /// The writer of lines that the options and the environment ask for.
 fn writer(options: &Options) -> Result<(Box<dyn Log>, log::LevelFilter), Box<dyn Error>> {
     if options.syslog {
@@ -69,7 +82,7 @@ fn writer(options: &Options) -> Result<(Box<dyn Log>, log::LevelFilter), Box<dyn
         };
         return Ok((Box::new(BasicLogger::new(syslog::unix(format)?)), options.messages()));
     }
-    let errors = File::from(io::stderr().as_fd().try_clone_to_owned()?);
+    let errors = moved(io::stderr())?;
     ERRORS.store(errors.as_raw_fd(), Ordering::Relaxed);
     let mut builder = env_logger::Builder::new();
     match env::var("RUST_LOG") {
@@ -85,7 +98,8 @@ impl Logger {
     /// Begins the log. Until `start` the caller itself writes each line.
     pub fn new(options: &Options) -> Result<Logger, Box<dyn Error>> {
         let (writer, level) = writer(options)?;
-        let logger = Logger::over(writer, OpenOptions::new().write(true).open("/dev/null").ok());
+        let nowhere = OpenOptions::new().write(true).open("/dev/null").and_then(moved);
+        let logger = Logger::over(writer, nowhere.ok());
         log::set_boxed_logger(Box::new(Logger(logger.0.clone())))?;
         log::set_max_level(level);
         std::panic::set_hook(Box::new(log_panic));

@@ -354,7 +354,7 @@ impl Ring {
         state.kick = Some(kick);
         if !state.is_started {
             if !Ring::continues(&state, memory) {
-                self.drop_chains(&mut state);
+                self.drop_chains(&mut state, memory);
                 state.is_new = true;
             }
             (state.is_started, state.is_refused, state.is_mapped) = (true, false, true);
@@ -376,7 +376,7 @@ impl Ring {
             );
         }
         if state.is_refused {
-            self.drop_chains(&mut state);
+            self.drop_chains(&mut state, memory);
         }
         self.forget_kick(&mut state);
         state.call = None;

@@ -269,9 +269,7 @@ impl<F: ServedFs> Server for QueueWorker<F> {
 
     fn abandon(&mut self) {
         let Some(memory) = self.memory.take() else { return };
-        if self.is_translated {
-            self.forget_translated(&memory);
-        }
+        self.is_translated = false; // `Ring::drop_chains` has released the ring's pages
         self.cancelled = self.worker.abandon().map(|cancelled| (cancelled, memory));
     }
 

@@ -3,7 +3,7 @@ use crate::options::Options;
 use std::ffi::CString;
 use std::fs::{self, File, OpenOptions};
 use std::io::{self, Write};
-use std::os::fd::{AsRawFd, FromRawFd, IntoRawFd};
+use std::os::fd::{AsRawFd, FromRawFd, IntoRawFd, RawFd};
 use std::os::unix::fs::{chown, FileTypeExt, OpenOptionsExt, PermissionsExt};
 use std::os::unix::net::UnixListener;
 use std::path::{Path, PathBuf};
@@ -75,6 +75,17 @@ fn bind(path: &Path, group: Option<u32>) -> io::Result<UnixListener> {
     listener
 }
 
+/// The listener of --fd.
+fn passed(fd: RawFd) -> Result<UnixListener, String> {
+    // SAFETY: no memory is touched; without such a descriptor the call fails.
+    if unsafe { libc::fcntl(fd, libc::F_GETFD) } < 0 {
+        return Err(format!("Error creating listener: {}", io::Error::last_os_error()));
+    }
+    // SAFETY: the descriptor is open. The process that started the daemon passed it for this one
+    // use: the daemon's own have other numbers.
+    Ok(unsafe { UnixListener::from_raw_fd(fd) })
+}
+
 impl Socket {
     /// Makes the socket, or takes the one of --fd. From then on a front-end may connect. An error
     /// is a message.
@@ -82,8 +93,7 @@ impl Socket {
         let path = options.socket_path.as_ref().or(options.socket.as_ref());
         let (listener, number) = match (path, options.fd) {
             (Some(path), _) => Socket::made(path, options.socket_group.as_deref())?,
-            // SAFETY: the process that started the daemon passed the descriptor for this one use.
-            (None, Some(fd)) => (unsafe { UnixListener::from_raw_fd(fd) }, None),
+            (None, Some(fd)) => (passed(fd)?, None),
             (None, None) => return Err("neither --socket-path nor --fd".into()),
         };
         // The process that made the socket may have set O_NONBLOCK.

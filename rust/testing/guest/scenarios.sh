@@ -113,6 +113,20 @@ scenario_pause() {
     run umount /mnt
 }
 
+# Lines for a file system that the host freezes (frozen.py).
+scenario_frozen() {
+    local boot
+    mount_it
+    boot=$(cat /proc/sys/kernel/random/boot_id)
+    i=0
+    while :; do
+        echo "$boot-$i" | dd of=/mnt/work/frozen/lines oflag=append conv=notrunc,fsync 2> /tmp/dd
+        echo "LINE $i"
+        i=$((i + 1))
+        sleep 0.3
+    done
+}
+
 # The guest reboots in the middle of reading, and reads again.
 scenario_reboot() {
     mount_it

@@ -102,11 +102,22 @@ impl Mappings {
 
     /// It was returned.
     pub fn release(&mut self, ring: usize) {
-        let Some(parts) = self.rings.get_mut(ring) else { return };
-        parts.in_flight = parts.in_flight.saturating_sub(1);
-        if parts.in_flight > 0 || self.stale.is_empty() {
-            return;
+        if let Some(parts) = self.rings.get_mut(ring) {
+            parts.in_flight = parts.in_flight.saturating_sub(1);
+            self.forget_stale();
         }
+    }
+
+    /// All chains of a ring were dropped: none is returned.
+    pub fn release_all(&mut self, ring: usize) {
+        if let Some(parts) = self.rings.get_mut(ring) {
+            parts.in_flight = 0;
+            self.forget_stale();
+        }
+    }
+
+    /// Removes the pages that the front-end has unmapped, and that no ring needs any more.
+    fn forget_stale(&mut self) {
         let (stay, go) = self.stale.iter().partition(|page| self.is_held(**page));
         self.stale = stay;
         let go: BTreeSet<u64> = go;
@@ -344,6 +355,22 @@ mod tests {
         assert_eq!(known(&mappings), [false, false, true, false]);
         mappings.invalidate(0x30000, 0x30fff);
         assert_eq!(known(&mappings), [false; 4]);
+    }
+
+    #[test]
+    fn a_ring_whose_chains_were_dropped_needs_nothing() {
+        let mut mappings = mappings();
+        mappings.update(0x30000, 0x1000, 0x103_0000, RW).expect("a mapping");
+        mappings.hold(1, &layout());
+        mappings.hold(1, &layout());
+        mappings.update(0x30000, 0x1000, 0x203_0000, RW).expect("a mapping");
+        assert_eq!(mappings.guest_address(0x30000), Some(0x103_0000));
+        mappings.release_all(1);
+        assert_eq!(mappings.guest_address(0x30000), None);
+        mappings.update(0x30000, 0x1000, 0x203_0000, RW).expect("a mapping");
+        mappings.hold(1, &layout());
+        mappings.invalidate(0x30000, 0x30fff);
+        assert_eq!(mappings.guest_address(0x30000), Some(0x203_0000));
     }
 
     #[test]

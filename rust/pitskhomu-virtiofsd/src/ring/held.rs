@@ -2,6 +2,9 @@
 //! ring, and wait: the ring may continue, and then they return their chains, or it is reset, and
 //! then nobody gets the replies. Nothing is stored in the guest's memory meanwhile, except the data
 //! of a READ, which the kernel stores in the READ's own reply buffer.
+//!
+//! The library's rule 8 wants the calls of a queue's chains ended before its reset. The host may
+//! never end them, so another queue takes its place: the library refuses each chain of the old one.
 use super::{Patience, Ring, State};
 use crate::in_flight::Doing;
 use crate::memory::Table;
@@ -59,7 +62,7 @@ impl Ring {
         let over = state.over.take();
         if state.queue.in_flight() > 0 && over.is_some_and(|over| !over.agrees(memory, &layout)) {
             warn!("queue {}: its memory is another, so replies are dropped", self.index);
-            self.drop_chains(state);
+            self.drop_chains(state, memory);
             state.refuse();
         }
         self.is_closed.store(false, Ordering::SeqCst);
@@ -78,8 +81,9 @@ impl Ring {
 
     /// Drops the chains in flight of a closed ring: nobody gets their replies. The library's queue
     /// is another one, so it refuses them too.
-    pub(super) fn drop_chains(&self, state: &mut State) {
+    pub(super) fn drop_chains(&self, state: &mut State, memory: &Table) {
         if state.queue.in_flight() > 0 {
+            memory.iommu().lock().release_all(self.index);
             let late = self.doing.iter().filter(|doing| doing.is_in_flight() && doing.drop_chain());
             self.late.fetch_add(late.count(), Ordering::SeqCst);
             (state.queue, state.is_new, state.over) = (Queue::default(), true, None);
@@ -88,9 +92,9 @@ impl Ring {
     }
 
     /// Resets the ring, which is disabled. Its chains in flight are dropped.
-    pub fn reset(&self) {
+    pub fn reset(&self, memory: &Table) {
         let mut state = self.lock();
-        self.drop_chains(&mut state);
+        self.drop_chains(&mut state, memory);
         state.reset();
     }
 

@@ -104,12 +104,6 @@ impl<F: ServedFs> QueueWorker<F> {
         served
     }
 
-    /// The chain was dropped: its ring's pages need not stay.
-    pub(super) fn forget_translated(&mut self, memory: &Table) {
-        memory.iommu().lock().release(self.index);
-        self.is_translated = false;
-    }
-
     pub(super) fn set_notification_translated(
         &mut self,
         queue: &Queue,
