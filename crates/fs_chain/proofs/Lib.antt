@@ -5,6 +5,7 @@ pub mod DrivingEnds
 pub mod DrivingList
 pub mod DrivingPops
 pub mod Held
+pub mod HoldsAhead
 pub mod HoldsAnswered
 pub mod HoldsAround
 pub mod HoldsDecoded

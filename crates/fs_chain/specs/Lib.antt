@@ -1,4 +1,5 @@
 pub mod Ahead
+pub mod AheadSteps
 pub mod Answers
 pub mod Decoding
 pub mod Driving

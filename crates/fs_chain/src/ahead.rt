@@ -4,6 +4,7 @@ ghost use Rattle.std.specs.Prelude.{◌≡◌, List, Some, None, IfOk, IfErr, On
 ghost use Rattle.fs_regions.specs.Ahead.{AheadBytes, loads_ahead};
 ghost use Rattle.fs_regions.specs.Places.{places_in};
 ghost use Rattle.fs_chain.specs.Ahead.{PopsAhead, ahead_error};
+ghost use Rattle.fs_chain.specs.AheadSteps.{PopsAheadBy};
 ghost use Rattle.fs_chain.specs.Events.{event_fault};
 ghost use Rattle.fs_chain.specs.Queues.{may_take};
 ghost use Rattle.fs_chain.specs.declared.state.ChainState.TheVariants as at;
@@ -105,6 +106,7 @@ impl ChainHandle {
         ensures same { OnErr result ((self.new ≡ self.old) × (queue.new ≡ queue.old)) }
         ensures pops { IfOk result (λ told. PopsAhead (loads_ahead ahead.now bytes.now) self.old self.new
             queue.old queue.new (goes.On told)) }
+        ensures step { IfOk result (PopsAheadBy self.old self.new queue.old queue.new) }
     {
         match &self.state {
             ChainState::Free => {
