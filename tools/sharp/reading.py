@@ -78,6 +78,10 @@ class Reading:
         """Bits that have a meaning, of which one may be wrong."""
         return options ^ (1 << self.server.wrong.bits if self.is_wrong(what) else 0)
 
+    def has(self, flags, bits, what):
+        """Whether flags have one of these bits: 1 or 0."""
+        return int(flags & self.flipped(f"bits: {what}", bits) != 0)
+
     def crooked(self, record, values, request=None):
         """Values, one of which may be cut."""
         for field in values:

@@ -173,7 +173,8 @@ class Request(Reading):
     def do_create(self):
         """CREATE"""
         values, (name,), extensions = self.made("create_in", 1)
-        numbers = [values["mode"], values["open_flags"] & 1, values["flags"], values["umask"]]
+        kill = self.has(values["open_flags"], 1, "kill")
+        numbers = [values["mode"], kill, values["flags"], values["umask"]]
         answer = self.files.create(*self.asker(), *numbers, text(name), *extensions)
         return self.new_entry(answer[0], self.opened(answer[1]))
 
@@ -240,14 +241,14 @@ class Request(Reading):
     def do_getattr(self):
         """GETATTR"""
         values = self.read("getattr_in")
-        handle = values["fh"] if values["getattr_flags"] & 1 else "-"
+        handle = values["fh"] if self.has(values["getattr_flags"], 1, "handle") else "-"
         return self.attributes(self.files.attributes("getattr", *self.asker(), handle))
 
     def do_setattr(self):
         """SETATTR"""
         values = self.read("setattr_in")
         valid = values["valid"]
-        handle = values["fh"] if valid & FATTR_FH else "-"
+        handle = values["fh"] if self.has(valid, FATTR_FH, "handle") else "-"
         fields = [name for name in values if name not in ("padding", "unused4", "unused5")]
         known = valid & self.flipped("bits: valid", SETATTR_BITS)
         words = [handle, known, *(values[name] for name in fields)]
@@ -311,7 +312,8 @@ class Request(Reading):
     def do_open(self):
         """OPEN"""
         values = self.read("open_in")
-        words = [*self.asker(), values["open_flags"] & 1, values["flags"]]
+        kill = self.has(values["open_flags"], 1, "kill")
+        words = [*self.asker(), kill, values["flags"]]
         return self.opened(self.files.opened("open", *words))
 
     def do_opendir(self):
@@ -323,8 +325,9 @@ class Request(Reading):
         """RELEASE"""
         values = self.read("release_in")
         flags = values["release_flags"]
-        owner = values["lock_owner"] if flags & 3 else "-"
-        words = [values["flags"], values["fh"], flags & 1, flags >> 1 & 1, owner]
+        owner = values["lock_owner"] if self.has(flags, 3, "owner") else "-"
+        flush, unlock = self.has(flags, 1, "flush"), self.has(flags, 2, "unlock")
+        words = [values["flags"], values["fh"], flush, unlock, owner]
         self.files.done("release", *self.asker(), *words)
         return b""
 
@@ -337,7 +340,8 @@ class Request(Reading):
     def synced(self, call):
         """FSYNC and FSYNCDIR"""
         values = self.read("fsync_in")
-        self.files.done(call, *self.asker(), values["fsync_flags"] & 1, values["fh"])
+        data_only = self.has(values["fsync_flags"], 1, "data")
+        self.files.done(call, *self.asker(), data_only, values["fh"])
         return b""
 
     def do_fsync(self):
@@ -380,7 +384,7 @@ class Request(Reading):
         """READ"""
         values = self.read("read_in")
         self.check(self.room >= 16, Fault("EncodeMessage"), "the room for a header")
-        owner = values["lock_owner"] if values["read_flags"] & 2 else "-"
+        owner = values["lock_owner"] if self.has(values["read_flags"], 2, "owner") else "-"
         words = [values["fh"], values["size"], values["offset"], owner, values["flags"]]
         return self.files.read(max(0, self.room - 16), values["size"], values["offset"],
             *self.asker(), *words)
@@ -389,8 +393,9 @@ class Request(Reading):
         """WRITE"""
         values = self.read("write_in")
         flags = values["write_flags"]
-        owner = values["lock_owner"] if flags & 2 else "-"
-        words = [values["fh"], values["size"], values["offset"], owner, flags & 1, flags >> 2 & 1,
+        owner = values["lock_owner"] if self.has(flags, 2, "owner") else "-"
+        delayed, kill = self.has(flags, 1, "delayed"), self.has(flags, 4, "kill")
+        words = [values["fh"], values["size"], values["offset"], owner, delayed, kill,
             values["flags"]]
         count = self.files.write(values["size"], self.rest, *self.asker(), *words)
         return self.packed("write_out", {"size": count})

@@ -58,7 +58,8 @@ def wrongs(met):
         record, _, field = what.partition(".")
         if what.startswith("bits:"):
             # What the server wants of options that there aren't has no meaning.
-            bits = KNOWN if what.endswith("of its own") else 2**(64 if request == "init" else 32) - 1
+            width = 64 if request == "init" else 32
+            bits = KNOWN if what.endswith("of its own") else 2**width - 1
             yield from (Wrong(request, what, bit) for bit in range(64) if bits >> bit & 1)
         elif record not in RECORDS:
             yield Wrong(request, what)
