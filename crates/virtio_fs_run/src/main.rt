@@ -11,15 +11,23 @@ fn has_argument(environment: &impl Env) -> bool {
     !matches!(environment.arg(1, &mut []), Err(FillError::NotPresent))
 }
 
-// Runs the script, prints on standard error why a line isn't a command, and returns the exit status.
+// Runs the script, prints on standard error why a line isn't a command and its wrong word, and returns the
+// exit status.
 fn run(rt: &HostRuntime, writer: &mut impl Write) -> u8 {
     let Err(halt) = play_script(rt.alloc(), &mut rt.reader(), writer) else {
         return 0;
     };
-    if let Halt::NotACommand(number, why) = halt {
-        let _told = eprintln!(rt; "line {number}: {why}");
+    if let Halt::NotACommand(number, why, word) = halt {
+        let _told = eprintln!(rt; "line {number}: {why}{word}");
     }
     halt.status()
+}
+
+// Says that a stream failed, if one did.
+fn report(rt: &HostRuntime, status: u8) {
+    if status == Halt::Stream.status() {
+        let _told = eprintln!(rt; "the script can't be read, or the output can't be written");
+    }
 }
 
 fn main(rt: HostRuntime) -> ExitCode {
@@ -29,5 +37,6 @@ fn main(rt: HostRuntime) -> ExitCode {
     } else {
         run(&rt, &mut writer)
     };
+    report(&rt, status);
     ExitCode::from(status)
 }

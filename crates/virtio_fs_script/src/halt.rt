@@ -1,6 +1,6 @@
 //! Why a script ends before its last line is run.
 
-use crate::wrong::WrongLine;
+use crate::wrong::{WrongLine, WrongWord};
 use std::alloc::AllocError;
 use std::io;
 use thiserror::Error;
@@ -10,9 +10,10 @@ use thiserror::Error;
 pub enum Halt {
     #[error("script too long")]
     TooLong,
-    /// The line of this number, from 1, isn't a command, or not one that is allowed there, for this reason.
+    /// The line of this number, from 1, isn't a command, or not one that is allowed there, for this reason,
+    /// and by this word.
     #[error("line {0}: not a command")]
-    NotACommand(usize, WrongLine),
+    NotACommand(usize, WrongLine, WrongWord),
     #[error("out of memory")]
     OutOfMemory,
     /// Reading the script or writing the output failed.
@@ -25,7 +26,7 @@ impl Halt {
     /// failed stream.
     pub fn status(&self) -> u8 {
         match self {
-            Halt::TooLong | Halt::NotACommand(_, _) => 1,
+            Halt::TooLong | Halt::NotACommand(_, _, _) => 1,
             Halt::OutOfMemory => 2,
             Halt::Stream => 3,
         }

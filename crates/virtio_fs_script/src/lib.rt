@@ -17,4 +17,4 @@ pub use halt::Halt;
 pub use number::parse_number;
 pub use print::print_calls;
 pub use script::{play_script, print_usage, run_script};
-pub use wrong::WrongLine;
+pub use wrong::{WrongLine, WrongWord};

@@ -1,7 +1,7 @@
 //! The commands of a script, and the parser of a line.
 
 use crate::number::{is_numeral, parse_number};
-use crate::wrong::WrongLine;
+use crate::wrong::{WrongLine, WrongWord};
 use fs_device::Command;
 use fs_queue::{QueueLayout, QueueLayoutError};
 use hex::FromHexError;
@@ -41,10 +41,12 @@ pub(crate) enum Line {
     Machine(Command),
 }
 
-// The rest of a line: words with one space between each two, or None after the last word.
+// The rest of a line: words with one space between each two, or None after the last word; and the word that
+// was read last.
 #[derive(Drop)]
 struct Words<'a> {
     rest: Option<&'a [u8]>,
+    last: &'a [u8],
 }
 
 impl<'a> Words<'a> {
@@ -58,6 +60,7 @@ impl<'a> Words<'a> {
             None => (rest, None),
         };
         self.rest = rest;
+        self.last = word;
         match word.last() {
             None => Err(WrongLine::ExtraBlank),
             Some(b'\r') => Err(WrongLine::CarriageReturn),
@@ -111,6 +114,14 @@ impl<'a> Words<'a> {
             b"on" => Ok(true),
             b"off" => Ok(false),
             _ => Err(WrongLine::NotASwitch),
+        }
+    }
+
+    // The word that was read last, if it is wrong for this reason.
+    fn wrong_word(&self, why: WrongLine) -> WrongWord {
+        match why {
+            WrongLine::MissingWord => WrongWord::none(),
+            _ => WrongWord::of(self.last),
         }
     }
 
@@ -242,12 +253,30 @@ fn parse_all(name: &[u8], words: &mut Words<'_>) -> Result<Line, WrongLine> {
     Ok(line)
 }
 
-/// The command of a line, or the reason that it is none. AllocError if an allocation fails.
-pub(crate) fn parse(alloc: Global, line: &[u8]) -> Result<Result<Line, WrongLine>, AllocError> {
-    let mut words = Words { rest: Some(line) };
+// The command of these words, or the reason that they are none.
+fn parse_words(
+    alloc: Global,
+    words: &mut Words<'_>,
+) -> Result<Result<Line, WrongLine>, AllocError> {
     match words.next_word() {
-        Ok(b"write") => parse_write(alloc, &mut words),
-        Ok(name) => Ok(parse_all(name, &mut words)),
+        Ok(b"write") => parse_write(alloc, words),
+        Ok(name) => Ok(parse_all(name, words)),
         Err(why) => Ok(Err(why)),
+    }
+}
+
+/// The command of a line, or the reason that it is none, and the word that is wrong. AllocError if an
+/// allocation fails.
+pub(crate) fn parse(
+    alloc: Global,
+    line: &[u8],
+) -> Result<Result<Line, (WrongLine, WrongWord)>, AllocError> {
+    let mut words = Words {
+        rest: Some(line),
+        last: &[],
+    };
+    match parse_words(alloc, &mut words)? {
+        Ok(line) => Ok(Ok(line)),
+        Err(why) => Ok(Err((why, words.wrong_word(why)))),
     }
 }

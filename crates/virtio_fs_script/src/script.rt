@@ -47,7 +47,7 @@ fn run_line<W: Write>(
     }
     match parse(alloc, text)? {
         Ok(line) => session.run(number, line, writer),
-        Err(why) => Err(Halt::NotACommand(number, why)),
+        Err((why, word)) => Err(Halt::NotACommand(number, why, word)),
     }
 }
 

@@ -9,7 +9,7 @@ use crate::line::{AskedLayout, Line};
 use crate::print::{
     print_answer, print_bad_layout, print_calls, print_idle, print_moved, print_ok, print_refused,
 };
-use crate::wrong::WrongLine;
+use crate::wrong::{WrongLine, WrongWord};
 use fs_device::{Answer, Command, DeviceError};
 use fs_queue::Queue;
 use std::alloc::{AllocError, Global};
@@ -52,7 +52,7 @@ impl<'a> ScriptSession<'a> {
         }
         match &mut self.guest {
             Some(guest) => run_on(guest, number, line, writer),
-            None => Err(Halt::NotACommand(number, WrongLine::NoQueue)),
+            None => Err(wrong_line(number, WrongLine::NoQueue)),
         }
     }
 
@@ -63,10 +63,10 @@ impl<'a> ScriptSession<'a> {
         writer: &mut W,
     ) -> Result<(), Halt> {
         if self.guest.is_some() {
-            return Err(Halt::NotACommand(number, WrongLine::LateQueue));
+            return Err(wrong_line(number, WrongLine::LateQueue));
         }
         if self.queues.len() == MOST_QUEUES {
-            return Err(Halt::NotACommand(number, WrongLine::ManyQueues));
+            return Err(wrong_line(number, WrongLine::ManyQueues));
         }
         match asked.layout() {
             Ok(layout) => {
@@ -82,7 +82,7 @@ impl<'a> ScriptSession<'a> {
     // Moves the guest to another host. NoQueue without a guest.
     fn move_guest<W: Write>(&mut self, number: usize, writer: &mut W) -> Result<(), Halt> {
         let Some(guest) = self.guest.take() else {
-            return Err(Halt::NotACommand(number, WrongLine::NoQueue));
+            return Err(wrong_line(number, WrongLine::NoQueue));
         };
         let (guest, record_len) = guest.moved()?;
         self.guest = Some(guest);
@@ -100,6 +100,11 @@ impl<'a> ScriptSession<'a> {
     }
 }
 
+// A line that isn't allowed there, as a whole.
+fn wrong_line(number: usize, why: WrongLine) -> Halt {
+    Halt::NotACommand(number, why, WrongWord::none())
+}
+
 // Runs a command that is neither a queue nor a move.
 fn run_on<W: Write>(
     guest: &mut GuestMachine<'_>,
@@ -108,7 +113,7 @@ fn run_on<W: Write>(
     writer: &mut W,
 ) -> Result<(), Halt> {
     match line {
-        Line::Queue(_) | Line::Move => Err(Halt::NotACommand(number, WrongLine::LateQueue)),
+        Line::Queue(_) | Line::Move => Err(wrong_line(number, WrongLine::LateQueue)),
         Line::Region { base, size } => region(guest, base, size, writer),
         Line::Kick { queue, most } => kick(guest, queue, most, writer),
         Line::Reset { queue, layout } => reset(guest, queue, layout, writer),

@@ -1,5 +1,6 @@
 //! The reasons that a line isn't a command.
 
+use std::fmt;
 use thiserror::Error;
 
 /// Why a line isn't a command, or not one that is allowed there.
@@ -34,4 +35,51 @@ pub enum WrongLine {
     LateQueue,
     #[error("there are 64 queues already")]
     ManyQueues,
+}
+
+// The most bytes of a wrong word that are printed.
+const MOST_WORD_BYTES: usize = 40;
+
+/// The word of a line that is wrong, or none if it isn't one word.
+#[derive(Clone, Copy, Debug, PartialEq, Eq)]
+pub struct WrongWord {
+    bytes: [u8; MOST_WORD_BYTES],
+    len: usize,
+}
+
+impl WrongWord {
+    /// No word.
+    pub fn none() -> WrongWord {
+        WrongWord {
+            bytes: [0; MOST_WORD_BYTES],
+            len: 0,
+        }
+    }
+
+    /// The first bytes of a word.
+    pub fn of(word: &[u8]) -> WrongWord {
+        let mut wrong = WrongWord::none();
+        let len = word.len().min(MOST_WORD_BYTES);
+        wrong.bytes[..len].copy_from_slice(&word[..len]);
+        wrong.len = len;
+        wrong
+    }
+}
+
+// `: "WORD"`, with `\xNN` for each byte that isn't a printable ASCII character; nothing for no word.
+impl fmt::Display for WrongWord {
+    fn fmt<W: fmt::Write>(&self, f: &mut fmt::Formatter<W>) -> fmt::Result {
+        if self.len == 0 {
+            return Ok(());
+        }
+        f.write_str(": \"")?;
+        for byte in self.bytes.iter().take(self.len) {
+            if byte.is_ascii_graphic() {
+                f.write_char(char::from(*byte))?;
+            } else {
+                write!(f, "\\x{:02x}", *byte)?;
+            }
+        }
+        f.write_str("\"")
+    }
 }

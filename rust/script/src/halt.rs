@@ -1,5 +1,5 @@
 //! Why a script ends before its last line.
-use crate::line::WrongLine;
+use crate::line::Wrong;
 use pitskhomu::Status;
 use std::fmt;
 use std::io::{self, Write};
@@ -8,7 +8,7 @@ use std::io::{self, Write};
 #[derive(Debug)]
 pub enum Halt {
     TooLong,
-    NotACommand(usize, WrongLine),
+    NotACommand(usize, Wrong),
     /// The handle can't play the line.
     NotOnTheHandle(usize, Missing),
     /// The library refused a call that it should have taken: a bug.
@@ -97,6 +97,9 @@ impl Halt {
             Halt::NotACommand(number, wrong) => Some(format!("line {number}: {wrong}")),
             Halt::NotOnTheHandle(number, missing) => Some(format!("line {number}: {missing}")),
             Halt::Refused(number, status) => Some(format!("line {number}: {status}")),
+            Halt::Stream => {
+                Some(String::from("the script can't be read, or the output can't be written"))
+            }
             _ => None,
         }
     }

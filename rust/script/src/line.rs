@@ -100,15 +100,52 @@ impl fmt::Display for WrongLine {
     }
 }
 
-/// The remaining words of a line; `None` after the last.
-struct Words<'a>(Option<&'a [u8]>);
+/// A line that isn't a command, and the word that is wrong; no bytes if it isn't one word.
+#[derive(Debug)]
+pub struct Wrong {
+    pub why: WrongLine,
+    pub word: Vec<u8>,
+}
+
+impl From<WrongLine> for Wrong {
+    fn from(why: WrongLine) -> Wrong {
+        Wrong { why, word: Vec::new() }
+    }
+}
+
+/// The most bytes of a wrong word that are printed.
+const WORD_MAX: usize = 40;
+
+impl fmt::Display for Wrong {
+    fn fmt(&self, f: &mut fmt::Formatter<'_>) -> fmt::Result {
+        write!(f, "{}", self.why)?;
+        if self.word.is_empty() {
+            return Ok(());
+        }
+        f.write_str(": \"")?;
+        for &byte in self.word.iter().take(WORD_MAX) {
+            if byte.is_ascii_graphic() {
+                write!(f, "{}", char::from(byte))?;
+            } else {
+                write!(f, "\\x{byte:02x}")?;
+            }
+        }
+        f.write_str("\"")
+    }
+}
+
+/// The remaining words of a line, `None` after the last, and the word that was read last.
+struct Words<'a> {
+    rest: Option<&'a [u8]>,
+    last: &'a [u8],
+}
 
 impl<'a> Words<'a> {
     fn word(&mut self) -> Result<&'a [u8], WrongLine> {
-        let rest = self.0.ok_or(WrongLine::MissingWord)?;
+        let rest = self.rest.ok_or(WrongLine::MissingWord)?;
         let mut parts = rest.splitn(2, |&byte| byte == b' ');
         let word = parts.next().unwrap_or_default();
-        self.0 = parts.next();
+        (self.rest, self.last) = (parts.next(), word);
         match word.last() {
             None => Err(WrongLine::ExtraBlank),
             Some(b'\r') => Err(WrongLine::CarriageReturn),
@@ -165,6 +202,13 @@ impl<'a> Words<'a> {
         }
     }
 
+    /// The command of all these words.
+    fn whole_command(&mut self) -> Result<Command, WrongLine> {
+        let command = self.command()?;
+        self.end()?;
+        Ok(command)
+    }
+
     fn command(&mut self) -> Result<Command, WrongLine> {
         let name = self.word()?;
         match name {
@@ -204,12 +248,38 @@ impl<'a> Words<'a> {
 }
 
 /// The command of a line; `None` for an empty line and a comment.
-pub fn parse(line: &[u8]) -> Result<Option<Command>, WrongLine> {
+pub fn parse(line: &[u8]) -> Result<Option<Command>, Wrong> {
     if matches!(line.first(), None | Some(b'#')) {
         return Ok(None);
     }
-    let mut words = Words(Some(line));
-    let command = words.command()?;
-    words.end()?;
-    Ok(Some(command))
+    let mut words = Words { rest: Some(line), last: b"" };
+    words.whole_command().map(Some).map_err(|why| match why {
+        WrongLine::MissingWord => why.into(),
+        _ => Wrong { why, word: words.last.to_vec() },
+    })
+}
+
+#[cfg(test)]
+mod tests {
+    use super::*;
+
+    #[test]
+    fn the_wrong_word_is_quoted() {
+        for (line, wanted) in [
+            ("kik 0 1", "there is no such command: \"kik\""),
+            ("queue 4 0 0x100 0y200", "a word that has to be a number isn't one: \"0y200\""),
+            ("kick 0 70000", "a number that has to fit 16 bits doesn't: \"70000\""),
+            ("harvest 0", "there is a word too many: \"0\""),
+            ("map 0 0 1 R", "a mapping's permission isn't none, r, w or rw: \"R\""),
+            ("write 0 0g", "a word isn't whole bytes in hexadecimal digits: \"0g\""),
+            ("harvest\r", "a word ends with a carriage return: \"harvest\\x0d\""),
+            ("queue 4 0", "a word is missing at the end"),
+            ("kick  0", "the line begins or ends with a blank, or has two in a row"),
+        ] {
+            let wrong = parse(line.as_bytes()).expect_err(line);
+            assert_eq!(wrong.to_string(), wanted, "{line}");
+        }
+        let long = parse(&[b'k'; 100]).expect_err("no command");
+        assert!(long.to_string().ends_with(&format!(": \"{}\"", "k".repeat(40))));
+    }
 }

@@ -59,20 +59,23 @@ fn play_and_report(reader: &mut dyn Read, writer: &mut dyn Write) -> u8 {
     };
     match writer.flush().map_err(Halt::from).and(ended) {
         Ok(()) => 0,
-        Err(halt) => {
-            if let Some(reason) = halt.reason() {
-                eprintln!("{reason}");
-            }
-            halt.status()
-        }
+        Err(halt) => report(&halt),
     }
+}
+
+/// Prints the reason on standard error, if there is one. Returns the program's exit status.
+fn report(halt: &Halt) -> u8 {
+    if let Some(reason) = halt.reason() {
+        eprintln!("{reason}");
+    }
+    halt.status()
 }
 
 fn main() -> ExitCode {
     let (stdin, stdout) = (io::stdin(), io::stdout());
     if env::args_os().len() > 1 {
         let printed = writeln!(stdout.lock(), "usage: pitskhomu-script < script");
-        return ExitCode::from(if printed.is_ok() { 1 } else { 3 });
+        return ExitCode::from(if printed.is_ok() { 1 } else { report(&Halt::Stream) });
     }
     ExitCode::from(play_and_report(&mut stdin.lock(), &mut stdout.lock()))
 }

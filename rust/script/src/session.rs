@@ -27,7 +27,7 @@ impl Session {
             Some(command) => command,
             None => return Ok(()),
         };
-        self.admit(&command).map_err(not_a_command)?;
+        self.admit(&command).map_err(|why| not_a_command(why.into()))?;
         match command {
             Command::Queue(layout) => self.add_queue(layout, writer)?,
             Command::Region { base, size } => {
