@@ -17,7 +17,7 @@ use vm_memory::{
 };
 
 /// All numbers of a region are multiples of this.
-const PAGE: u64 = 4096;
+pub const PAGE: u64 = 4096;
 
 /// Consecutive bytes of one region. Writes to them mark the log.
 pub type Slice<'m> = VolatileSlice<'m, MarksFrom<'m>>;
@@ -225,14 +225,14 @@ impl pitskhomu::GuestMemory for Table {
 }
 
 #[cfg(test)]
-mod tests {
+pub mod tests {
     use super::*;
     use pitskhomu::GuestMemory as _;
 
-    const HIGH: u64 = 1 << 32;
+    pub const HIGH: u64 = 1 << 32;
 
     /// Two regions of two pages each: at 0x4000, and at 2^32.
-    fn table() -> Table {
+    pub fn table() -> Table {
         let file = crate::state::scratch().expect("a file in memory");
         file.set_len(4 * PAGE).expect("room");
         let regions = [(HIGH, 2 * PAGE), (0x4000, 0)].map(|(guest, offset)| {

@@ -389,3 +389,40 @@ impl<'m> Asking<'m> {
         self.sent.iter().any(|ask| ask.answer() == Answer::Lost)
     }
 }
+
+#[cfg(test)]
+mod tests {
+    use super::*;
+    use std::io::Read;
+    use std::os::unix::net::UnixStream;
+
+    #[test]
+    fn nothing_is_asked_while_the_device_stops() {
+        let (channel, misses) = (
+            Arc::new(Channel::default()),
+            [Miss { iova: 0x5000, len: 0x1000, access: Access::Read }],
+        );
+        let (ours, mut theirs) = UnixStream::pair().expect("a channel");
+        channel.set(ours.into()).expect("a channel");
+        theirs.set_nonblocking(true).expect("a socket");
+        let mut is_asked = || theirs.read(&mut [0; 64]).is_ok();
+        let cancel = Cancel::default();
+        channel.cancel(&cancel);
+        assert_eq!(channel.ask(&misses, &cancel, |_| false), None);
+        assert!(!is_asked(), "an ask that is cancelled");
+        cancel.resume();
+        channel.hush();
+        thread::scope(|scope| {
+            let asks = scope.spawn(|| channel.ask(&misses, &cancel, |_| false));
+            thread::sleep(QUIET / 4);
+            assert!(!is_asked(), "an ask while the device stops");
+            let end = Instant::now() + PATIENCE / 2;
+            while !is_asked() {
+                assert!(Instant::now() < end, "no ask after that");
+                thread::yield_now();
+            }
+            channel.cancel(&cancel);
+            assert_eq!(asks.join().expect("an end"), None);
+        });
+    }
+}

@@ -122,3 +122,6 @@ impl Ring {
         state.is_mapped = is_mapped;
     }
 }
+
+#[cfg(test)]
+mod tests;

@@ -1,0 +1,301 @@
+//! A ring in memory, with a thread whose calls of the host end when the test says so.
+use super::*;
+use crate::iommu::Cancel;
+use crate::memory::tests::{table, HIGH};
+use crate::memory::PAGE;
+use crate::ring::{Answered, Server};
+use pitskhomu::{
+    Answer, Attributes, CStr, Context, Device, Entry, Errno, FileSystem, GuestMemory as _, Handle,
+    Node, Popped, QueueLayout, Status, Worker,
+};
+use std::fs::File;
+use std::os::fd::FromRawFd;
+use std::sync::mpsc::{channel, Receiver, Sender};
+use std::thread;
+use std::time::{Duration, Instant};
+
+/// The driver's ring lies in the first page of the upper region, its request in the second.
+const LAYOUT: QueueLayout =
+    QueueLayout { size: 8, descriptors: HIGH, available: HIGH + 0x100, used: HIGH + 0x200 };
+const REQUEST: u64 = HIGH + PAGE;
+const SOON: Duration = Duration::from_secs(20);
+
+/// No file is there.
+struct Empty;
+
+impl FileSystem for Empty {
+    fn lookup(&self, _: &Context, _: Node, _: &CStr) -> Answer<Entry> {
+        Err(Errno::ENOENT)
+    }
+    fn getattr(&self, _: &Context, _: Node, _: Option<Handle>) -> Answer<(Attributes, Duration)> {
+        Err(Errno::ENOENT)
+    }
+}
+
+/// Answers each chain after a call of the host, which begins and ends by these.
+struct Holding {
+    ring: Arc<Ring>,
+    worker: Worker,
+    device: Device,
+    memory: Option<Arc<Table>>,
+    begins: Sender<()>,
+    ends: Receiver<()>,
+}
+
+impl Server for Holding {
+    fn take(&mut self, queue: &mut Queue, memory: &Arc<Table>) -> Result<Popped, Status> {
+        self.worker.set_memory(&self.device, &memory.regions())?;
+        let is_taken = self.worker.pop(queue, &**memory)?;
+        self.memory = is_taken.then(|| memory.clone());
+        Ok(if is_taken { Popped::Chain } else { Popped::Idle })
+    }
+
+    fn ask(&mut self, _memory: &Table, _cancel: &Cancel) -> Answered {
+        Answered::NotAll
+    }
+
+    fn forget_refusals(&mut self) {}
+
+    fn answer(&mut self, doing: &Doing) {
+        let memory = self.memory.clone().expect("a chain");
+        let _ = self.ring.call_host(doing, || {
+            self.begins.send(()).expect("who listens");
+            self.ends.recv().expect("an end");
+        });
+        self.worker.answer(&self.device, &Empty, &*memory).expect("an answer");
+    }
+
+    fn give_back(&mut self, queue: &mut Queue) -> Result<bool, Status> {
+        let memory = self.memory.take().expect("a chain");
+        self.worker.push(queue, &*memory).map(|served| served.notify)
+    }
+
+    fn abandon(&mut self) {
+        self.memory = None;
+        let _ = self.worker.abandon();
+    }
+
+    fn set_notification(
+        &mut self,
+        queue: &Queue,
+        wanted: bool,
+        memory: &Arc<Table>,
+    ) -> Result<bool, Status> {
+        self.worker.set_memory(&self.device, &memory.regions())?;
+        self.worker.set_notification(queue, wanted, &**memory)
+    }
+}
+
+/// Says nothing of kicks: the front-end's thread has no worker here.
+struct Silent;
+
+impl Server for Silent {
+    fn take(&mut self, _queue: &mut Queue, _memory: &Arc<Table>) -> Result<Popped, Status> {
+        Ok(Popped::Idle)
+    }
+    fn ask(&mut self, _memory: &Table, _cancel: &Cancel) -> Answered {
+        Answered::NotAll
+    }
+    fn forget_refusals(&mut self) {}
+    fn answer(&mut self, _doing: &Doing) {}
+    fn give_back(&mut self, _queue: &mut Queue) -> Result<bool, Status> {
+        Ok(false)
+    }
+    fn set_notification(
+        &mut self,
+        _queue: &Queue,
+        _wanted: bool,
+        _memory: &Arc<Table>,
+    ) -> Result<bool, Status> {
+        Ok(false)
+    }
+}
+
+fn store(memory: &Table, guest: u64, bytes: &[u8]) {
+    let regions = memory.regions();
+    let region = regions.iter().find(|region| guest.wrapping_sub(region.guest) < region.len);
+    let region = region.expect("a region");
+    let at = region.host + usize::try_from(guest - region.guest).expect("an offset");
+    memory.get_slice(at, bytes.len()).expect("bytes").store(bytes);
+}
+
+/// A ring that runs, with its thread, and the driver's side of it.
+struct Tried {
+    ring: Arc<Ring>,
+    memory: Arc<Table>,
+    begins: Receiver<()>,
+    ends: Sender<()>,
+    offered: u16,
+}
+
+impl Tried {
+    fn new() -> Tried {
+        let ring = Arc::new(Ring::new(1, 1, Arc::default()).expect("a ring"));
+        let ((begins, begun), (end, ends)) = (channel(), channel());
+        let (worker, device) = (Worker::new(), Device::default());
+        let mut server = Holding { ring: ring.clone(), worker, device, memory: None, begins, ends };
+        let memory = Arc::new(table());
+        let (thread_ring, thread_memory) = (ring.clone(), memory.clone());
+        // it ends with the process
+        thread::spawn(move || thread_ring.run(&mut server, || thread_memory.clone()));
+        let tried = Tried { ring, memory, begins: begun, ends: end, offered: 0 };
+        tried.draw();
+        tried.start(0);
+        tried.ring.enable(true, &mut Silent, &tried.memory, Patience::new(false));
+        tried
+    }
+
+    /// A request with an unknown opcode, whose reply is 16 bytes.
+    fn draw(&self) {
+        let mut descriptors = [0u8; 32];
+        for (k, (addr, len, flags)) in
+            [(REQUEST, 40u32, 1u16), (REQUEST + 0x100, 16, 2)].into_iter().enumerate()
+        {
+            descriptors[16 * k..][..8].copy_from_slice(&addr.to_le_bytes());
+            descriptors[16 * k + 8..][..4].copy_from_slice(&len.to_le_bytes());
+            descriptors[16 * k + 12..][..2].copy_from_slice(&flags.to_le_bytes());
+        }
+        descriptors[14] = 1;
+        store(&self.memory, LAYOUT.descriptors, &descriptors);
+        store(&self.memory, REQUEST, &[40, 0, 0, 0, 0x77, 0x77, 0, 0, 9]);
+    }
+
+    fn start(&self, base: u16) {
+        self.ring.tell(|numbers| (numbers.layout, numbers.next_avail) = (LAYOUT, base));
+        // SAFETY: no memory is touched.
+        let fd = unsafe { libc::eventfd(0, libc::EFD_NONBLOCK | libc::EFD_CLOEXEC) };
+        // SAFETY: the descriptor is new, and nothing else owns it.
+        let kick = unsafe { File::from_raw_fd(fd) };
+        self.ring.start(kick, &self.memory).expect("a start");
+    }
+
+    fn stop(&self) -> u16 {
+        self.ring.stop(&mut Silent, &self.memory, Patience::new(false))
+    }
+
+    /// Offers the chain, and waits until the host has its call.
+    fn hold(&mut self) {
+        self.offered += 1;
+        store(&self.memory, LAYOUT.available + 2, &self.offered.to_le_bytes());
+        self.ring.look();
+        self.begins.recv_timeout(SOON).expect("a call");
+    }
+
+    fn end_call(&self) {
+        self.ends.send(()).expect("who listens");
+    }
+
+    fn returned(&self) -> Option<u16> {
+        self.memory.ring_index(LAYOUT.used)
+    }
+
+    fn waits_for(&self, returned: u16) -> bool {
+        let end = Instant::now() + SOON;
+        while self.returned() != Some(returned) && Instant::now() < end {
+            thread::yield_now();
+        }
+        self.returned() == Some(returned)
+    }
+
+    /// The call ends, and its thread comes back to a closed ring: nothing is stored.
+    fn end_call_unseen(&self) {
+        let before = self.returned();
+        self.end_call();
+        thread::sleep(Duration::from_millis(200));
+        assert_eq!(self.returned(), before);
+        assert_eq!(self.memory.ring_index(REQUEST + 0x100 - 2), Some(0), "no reply is stored");
+    }
+}
+
+#[test]
+fn a_stop_does_not_wait_for_the_host() {
+    let mut tried = Tried::new();
+    for ends_before in [true, false] {
+        tried.draw();
+        store(&tried.memory, REQUEST + 0x100, &[0; 16]);
+        tried.hold();
+        let before = Instant::now();
+        assert_eq!(tried.stop(), tried.offered);
+        assert!(before.elapsed() < Duration::from_secs(5));
+        let held = tried.ring.held().expect("a held call");
+        assert!(held.starts_with("queue 1: request "), "{held}");
+        if ends_before {
+            tried.end_call_unseen();
+        }
+        assert!(tried.ring.held().is_some(), "it is in flight until the ring goes on");
+        tried.start(tried.offered);
+        if !ends_before {
+            tried.end_call();
+        }
+        assert!(tried.waits_for(tried.offered));
+        assert_eq!(tried.ring.held(), None);
+    }
+}
+
+#[test]
+fn a_reset_drops_what_the_host_holds() {
+    for has_message in [true, false] {
+        let mut tried = Tried::new();
+        tried.hold();
+        if has_message {
+            tried.ring.enable(false, &mut Silent, &tried.memory, Patience::new(false));
+            tried.ring.reset(&tried.memory);
+            tried.ring.enable(true, &mut Silent, &tried.memory, Patience::new(false));
+        }
+        tried.stop();
+        store(&tried.memory, LAYOUT.available, &[0; 0x200]);
+        tried.offered = 0;
+        tried.start(0);
+        assert_eq!(tried.ring.held(), None);
+        tried.end_call_unseen();
+        tried.hold();
+        tried.end_call();
+        assert!(tried.waits_for(1));
+        thread::sleep(Duration::from_millis(100));
+        assert_eq!(tried.returned(), Some(1), "only the new driver's chain is returned");
+    }
+}
+
+#[test]
+fn another_position_is_another_ring() {
+    let mut tried = Tried::new();
+    tried.hold();
+    assert_eq!(tried.stop(), 1);
+    store(&tried.memory, LAYOUT.used + 2, &[1, 0]); // another device has returned it
+    tried.start(1);
+    assert_eq!(tried.ring.held(), None);
+    tried.end_call();
+    tried.hold();
+    tried.end_call();
+    assert!(tried.waits_for(2));
+}
+
+#[test]
+fn a_ring_goes_on_when_its_memory_is_back() {
+    let mut tried = Tried::new();
+    for holds in [false, true] {
+        let returned = tried.returned();
+        if holds {
+            tried.hold();
+        }
+        let without = tried.memory.without(HIGH, 2 * PAGE).expect("a table");
+        tried.ring.leave_memory(&tried.memory, &without, Patience::new(false));
+        tried.ring.enter_memory(&mut tried.ring.lock(), &without);
+        if holds {
+            tried.end_call_unseen();
+        } else {
+            tried.offered += 1;
+            store(&tried.memory, LAYOUT.available + 2, &tried.offered.to_le_bytes());
+            tried.ring.look();
+            assert!(tried.begins.recv_timeout(Duration::from_millis(200)).is_err());
+        }
+        assert_eq!(tried.returned(), returned);
+        tried.ring.enter_memory(&mut tried.ring.lock(), &tried.memory);
+        if !holds {
+            tried.begins.recv_timeout(SOON).expect("a call");
+            tried.end_call();
+        }
+        assert!(tried.waits_for(tried.offered));
+        store(&tried.memory, REQUEST + 0x100, &[0; 16]);
+    }
+}
