@@ -57,16 +57,16 @@ def walk(memory, queue, head):
     chain = []
     table, entries, index, inside = queue.desc, queue.size, head, False
     while True:
-        if index >= entries:
+        if index >= entries and memory.keeps("NextOutOfTable"):
             raise Fault("NextOutOfTable")
         address, length, flags, follower = descriptor(memory, table + 16 * index, inside)
         if flags & INDIRECT:
-            check_table(address, length, flags, inside)
+            check_table(memory, address, length, flags, inside)
             table, entries, index, inside = address, length // 16, 0, True
             continue
-        if len(chain) == queue.size:
+        if len(chain) == queue.size and memory.keeps("TooLong"):
             raise Fault("TooLong")
-        if length > 0 and address + length > LAST:
+        if length > 0 and address + length > LAST and memory.keeps("AddressOverflow"):
             raise Fault("AddressOverflow")
         chain.append((address, length, flags))
         if not flags & NEXT:
@@ -87,15 +87,17 @@ def descriptor(memory, address, inside):
         for field, part in parts.items()]
 
 
-def check_table(address, length, flags, inside):
+def check_table(memory, address, length, flags, inside):
     """Whether a descriptor may name an indirect table."""
-    if flags & NEXT:
+    if flags & NEXT and memory.keeps("IndirectWithNext"):
         raise Fault("IndirectWithNext")
-    if inside:
+    if inside and memory.keeps("IndirectNested"):
         raise Fault("IndirectNested")
-    if length == 0 or length % 16:
+    if length == 0 and memory.keeps("IndirectLength 0"):
         raise Fault("IndirectLength")
-    if address + length > LAST:
+    if length % 16 and memory.keeps("IndirectLength"):
+        raise Fault("IndirectLength")
+    if address + length > LAST and memory.keeps("AddressOverflow of a table"):
         raise Fault("AddressOverflow")
 
 
@@ -103,8 +105,8 @@ def request_and_room(memory, chain):
     """The bytes of the readable descriptors, and the places of the writable ones."""
     readable = [part for part in chain if not part[2] & WRITE]
     writable = [part for part in chain if part[2] & WRITE]
-    for parts in (readable, writable):
-        if sum(length for _, length, _ in parts) > LIMIT:
+    for parts, check in ((readable, "OverLimit of a request"), (writable, "OverLimit of a room")):
+        if sum(length for _, length, _ in parts) > LIMIT and memory.keeps(check):
             raise Fault("OverLimit")
     request = all_places(memory, readable, "r", "RequestUnreachable")
     room = all_places(memory, writable, "w", "RoomUnreachable")
@@ -163,7 +165,7 @@ class Machine:
 
     def pop(self, queue):
         """As `take`; a refusal stops the queue."""
-        if queue.stopped:
+        if queue.stopped and self.memory.keeps("Stopped"):
             raise Refused(STOPPED)
         try:
             return self.take(queue)
@@ -176,25 +178,27 @@ class Machine:
         chain or its fault."""
         memory = self.memory
         if self.event_index:
-            memory.fetch(queue.used_event(), 2, FLAGS_UNREACHABLE)
-            if memory.places(queue.avail_event(), 2, "w") is None:
+            if memory.keeps("used_event unreachable"):
+                memory.fetch(queue.used_event(), 2, FLAGS_UNREACHABLE)
+            is_there = memory.places(queue.avail_event(), 2, "w") is not None
+            if not is_there and memory.keeps("avail_event unreachable"):
                 raise Refused(USED_UNREACHABLE)
         index = memory.seen("avail.idx", memory.number(queue.avail + 2, 2, INDEX_UNREACHABLE))
         waiting = (index - queue.position) % 65536
         if waiting == 0:
             return None
-        if waiting > queue.size:
+        if waiting > queue.size and memory.keeps("AvailTooFar"):
             raise Refused(TOO_FAR)
         slot = queue.position % queue.size
         entry = memory.number(queue.avail + 4 + 2 * slot, 2, ENTRY_UNREACHABLE)
         head = memory.seen("avail.ring", entry)
-        if head >= queue.size:
+        if head >= queue.size and memory.keeps("HeadOutOfTable"):
             raise Refused(HEAD_OUT)
         element = memory.places(queue.used + 4 + 8 * slot, 8, "w")
         used_index = memory.places(queue.used + 2, 2, "w")
         if element is None or used_index is None:
             raise Refused(USED_UNREACHABLE)
-        if not self.event_index:
+        if not self.event_index and memory.keeps("AvailFlagsUnreachable"):
             memory.fetch(queue.avail, 2, FLAGS_UNREACHABLE)
         try:
             chain, inside = walk(memory, queue, head)

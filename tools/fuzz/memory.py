@@ -71,7 +71,8 @@ class Memory:
         self.table = []
         self.iommu = False
         self.work = work
-        # A field that the device reads or writes wrongly, and how many of its bits are left.
+        # A field that the device reads or writes wrongly, and how many of its bits are left; or a
+        # check that it leaves out, and None.
         self.wrong = None
 
     def place(self, address):
@@ -131,6 +132,10 @@ class Memory:
         if self.wrong is not None and self.wrong[0] == field:
             return value & (1 << self.wrong[1]) - 1
         return value
+
+    def keeps(self, check):
+        """Whether a check is made."""
+        return self.wrong != (check, None)
 
     def fetch(self, address, length, refusal):
         """The bytes that the device reads there."""
