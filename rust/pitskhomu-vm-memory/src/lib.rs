@@ -6,8 +6,8 @@ use pitskhomu::{Device, GuestMemory, GuestRange, GuestSlice, Region, Status};
 use std::mem::size_of;
 use vm_memory::bitmap::{Bitmap, BS};
 use vm_memory::{
-    Address, GuestMemory as _, GuestMemoryMmap, GuestMemoryRegion, GuestRegionMmap,
-    MemoryRegionAddress, VolatileSlice,
+    Address, GuestMemoryMmap, GuestMemoryRegion, GuestRegionMmap, MemoryRegionAddress,
+    VolatileSlice,
 };
 
 /// All numbers of a region are multiples of this.
@@ -16,6 +16,20 @@ const PAGE: u64 = 4096;
 /// A byte's number has this many bits for the offset in its region. The bits above are the region's
 /// place in the list. So only the library looks an address up.
 const OFFSET_BITS: u32 = usize::BITS - 8;
+
+/// What vm-memory's versions name differently.
+mod versions {
+    #[allow(clippy::wildcard_imports)] // the trait with `iter` is another one since 0.18
+    use vm_memory::*;
+
+    /// The regions of a memory.
+    pub(super) fn regions<B: bitmap::Bitmap + 'static>(
+        memory: &GuestMemoryMmap<B>,
+    ) -> impl Iterator<Item = &GuestRegionMmap<B>> {
+        memory.iter()
+    }
+}
+use versions::regions;
 
 /// A region, for a faster look-up of a guest address. (vm-memory's own takes several times as
 /// long.)
@@ -72,7 +86,7 @@ impl<B: Bitmap + 'static> MappedMemory<B> {
             let host = region.as_ptr() as usize;
             (is_whole && fits).then_some(Stretch { guest, len, host }).ok_or(Status::BadArgument)
         };
-        let stretches = memory.iter().map(stretch).collect::<Result<Vec<_>, _>>()?;
+        let stretches = regions(&memory).map(stretch).collect::<Result<Vec<_>, _>>()?;
         if stretches.len() > Device::MAX_REGIONS {
             return Err(Status::BadArgument);
         }
@@ -116,7 +130,7 @@ impl<B: Bitmap + 'static> MappedMemory<B> {
     #[must_use]
     pub fn slice(&self, at: usize, len: usize) -> Option<VolatileSlice<'_, BS<'_, B>>> {
         let (region, offset) = self.find(at, len)?;
-        self.memory.iter().nth(region)?.get_slice(MemoryRegionAddress(offset as u64), len).ok()
+        regions(&self.memory).nth(region)?.get_slice(MemoryRegionAddress(offset as u64), len).ok()
     }
 
     /// The same by a guest address, which is looked up.
@@ -145,7 +159,7 @@ impl<B: Bitmap + 'static> GuestMemory for MappedMemory<B> {
     /// element, not with a region.
     fn mark(&self, written: GuestRange) {
         let end = written.guest.saturating_add(written.len);
-        for (region, stretch) in self.memory.iter().zip(&self.stretches) {
+        for (region, stretch) in regions(&self.memory).zip(&self.stretches) {
             let first = written.guest.max(stretch.guest);
             let end = end.min(stretch.guest + stretch.len);
             if first < end {
@@ -243,8 +257,7 @@ mod tests {
         let pages = |region: &GuestRegionMmap<_>| {
             (0..region.len() / PAGE).map(|k| (k * PAGE) as usize).collect::<Vec<_>>()
         };
-        let regions = memory.memory().iter();
-        regions
+        regions(memory.memory())
             .flat_map(|region| pages(region).into_iter().map(|at| region.bitmap().dirty_at(at)))
             .collect()
     }

@@ -159,8 +159,8 @@ fn late() -> Vec<(u32, Bytes, Response, Vec<Undo>)> {
     ]
 }
 
-/// Ends the chain in flight of a guest in each way, and takes the next one.
-fn ends() -> [fn(&mut Guest); 6] {
+/// Ends the chain in flight of a guest in each way. The last one takes the next chain.
+fn ends() -> [fn(&mut Guest) -> Option<Reply>; 6] {
     fn reset(guest: &mut Guest) {
         let next = Queue::new(layout(), guest.offered).unwrap();
         guest.queue.begin(next).unwrap();
@@ -169,20 +169,31 @@ fn ends() -> [fn(&mut Guest); 6] {
         |guest| {
             reset(guest);
             assert_eq!(guest.worker.abandon().expect("a call").undo, []);
+            None
         },
-        |guest| reset(guest), // before the worker has abandoned its chain
-        |guest| guest.queue = Queue::new(layout(), guest.offered).unwrap(),
-        |guest| guest.worker = Guest::new().worker,
+        |guest| {
+            reset(guest); // before the worker has abandoned its chain
+            None
+        },
+        |guest| {
+            guest.queue = Queue::new(layout(), guest.offered).unwrap();
+            None
+        },
+        |guest| {
+            guest.worker = Guest::new().worker;
+            None
+        },
         |guest| {
             guest.worker.abandon();
             reset(guest);
             lookup(guest).send(entry()).unwrap();
             pushed(guest);
+            None
         },
         |guest| {
             guest.worker.abandon();
             reset(guest);
-            std::mem::forget(lookup(guest)); // the worker has another chain in flight
+            Some(lookup(guest))
         },
     ]
 }
@@ -194,7 +205,7 @@ fn after_the_end_an_answer_is_refused() {
             let mut guest = Guest::new();
             let reply = ask(&mut guest, opcode, &args, 160);
             let id = reply.id();
-            end(&mut guest);
+            let next = end(&mut guest);
             assert!(reply.is_cancelled());
             let before = seen(&guest);
             let unsent = reply.send(response.clone()).expect_err("it is too late");
@@ -202,8 +213,10 @@ fn after_the_end_an_answer_is_refused() {
             assert_eq!((unsent.cancelled().context.id, &unsent.cancelled().undo), (id, &undo));
             assert_eq!(unsent.into_answer(), Ok(response.clone()));
             assert!(seen(&guest) == before);
-            if k == 5 {
+            if let Some(next) = next {
                 assert_eq!(finish(&mut guest), Ok(false), "it is another's chain");
+                next.error(Errno::ENOENT).unwrap();
+                assert_eq!(pushed(&mut guest), Replied::Error(2));
             }
         }
     }
@@ -214,7 +227,7 @@ fn after_the_end_a_dropped_object_does_nothing() {
     for end in ends() {
         let mut guest = Guest::new();
         let reply = lookup(&mut guest);
-        end(&mut guest);
+        let _next = end(&mut guest);
         let before = seen(&guest);
         drop(reply);
         assert!(seen(&guest) == before);
