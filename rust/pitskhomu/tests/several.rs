@@ -65,6 +65,32 @@ fn used(guest: &Guest, from: u16, count: u16) -> (u16, Vec<u64>) {
 }
 
 #[test]
+fn a_pop_is_undone_if_it_was_the_last_and_its_chain_was_not_decoded() {
+    let (mut guest, mut workers) = several(2);
+    let recorder = recorder();
+    let first = guest.offered;
+    offer(&mut guest, 0);
+    offer(&mut guest, 1);
+    let [one, other, ..] = &mut workers[..] else { unreachable!() };
+    assert_eq!(one.unpop(&mut guest.queue), Err(Status::WrongOrder));
+    assert_eq!((pop(&mut guest, one), pop(&mut guest, other)), (Ok(true), Ok(true)));
+    assert_eq!(one.unpop(&mut guest.queue), Err(Status::WrongOrder));
+    assert!(one.has_chain());
+    assert_eq!(other.unpop(&mut Queue::new(layout(), first).unwrap()), Err(Status::OtherQueue));
+    assert_eq!(other.unpop(&mut guest.queue), Ok(()));
+    assert!(!other.has_chain());
+    assert_eq!(guest.queue.next_avail(), first.wrapping_add(1));
+    // The chain is popped again.
+    assert_eq!(pop(&mut guest, other), Ok(true));
+    other.answer(&guest.device, &recorder, &guest.memory).unwrap();
+    assert_eq!(other.unpop(&mut guest.queue), Err(Status::WrongOrder));
+    assert_eq!(push(&mut guest, other).unwrap().unique, 1);
+    assert_eq!(one.unpop(&mut guest.queue), Err(Status::WrongOrder));
+    one.answer(&guest.device, &recorder, &guest.memory).unwrap();
+    assert_eq!(push(&mut guest, one).unwrap().unique, 0);
+}
+
+#[test]
 fn chains_go_back_in_any_order() {
     let (mut guest, mut workers) = several(4);
     let recorder = recorder();
