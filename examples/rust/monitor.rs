@@ -54,13 +54,10 @@ impl File {
     /// The entry of its name; the guest holds the node once more.
     fn entry(&mut self) -> Entry {
         self.held += 1;
-        Entry {
-            node: Node(self.attributes.inode),
-            generation: self.generation,
-            attributes: self.attributes,
-            attributes_timeout: GOOD_FOR,
-            entry_timeout: GOOD_FOR,
-        }
+        Entry::new(Node(self.attributes.inode), self.attributes)
+            .with_generation(self.generation)
+            .with_attributes_timeout(GOOD_FOR)
+            .with_entry_timeout(GOOD_FOR)
     }
 }
 
@@ -146,13 +143,11 @@ impl FileSystem for Files {
         _handle: Option<Handle>,
     ) -> Answer<(Attributes, Duration)> {
         if node == Node::ROOT {
-            let root = Attributes {
-                inode: 1,
-                mode: S_IFDIR | 0o755,
-                links: 2,
-                block_size: 4096,
-                ..Attributes::default()
-            };
+            let root = Attributes::default()
+                .with_inode(1)
+                .with_mode(S_IFDIR | 0o755)
+                .with_links(2)
+                .with_block_size(4096);
             return Ok((root, GOOD_FOR));
         }
         self.with(node, |file| Ok((file.attributes, GOOD_FOR)))
@@ -192,15 +187,13 @@ impl FileSystem for Files {
         let is_free = |file: &Option<File>| !file.as_ref().map_or(false, File::lives);
         let place = places.files.iter().position(is_free).ok_or(Errno::ENOSPC)?;
         places.made += 1;
-        let attributes = Attributes {
-            inode: place as u64 + 2,
-            mode: S_IFREG | (create.mode & !create.umask & 0o7777),
-            links: 1,
-            uid: context.uid,
-            gid: context.gid,
-            block_size: 4096,
-            ..Attributes::default()
-        };
+        let attributes = Attributes::default()
+            .with_inode(place as u64 + 2)
+            .with_mode(S_IFREG | (create.mode & !create.umask & 0o7777))
+            .with_links(1)
+            .with_uid(context.uid)
+            .with_gid(context.gid)
+            .with_block_size(4096);
         let contents = Vec::new();
         let mut file = File {
             name: Some(name.name.into()),
@@ -270,7 +263,7 @@ impl FileSystem for Files {
             .filter_map(|(k, name)| Some((k, name.as_ref()?)));
         for (k, name) in named {
             let (inode, next_offset, kind) = (k + 2, k + 1, FileKind::REGULAR);
-            let entry = DirectoryEntry { name, inode, next_offset, kind };
+            let entry = DirectoryEntry::new(name, inode, next_offset, kind);
             // READDIRPLUS has the file's node too.
             if !list.add_with(entry, || self.lookup(context, node, name))? {
                 break;

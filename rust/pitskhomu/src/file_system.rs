@@ -42,7 +42,8 @@ use core::time::Duration;
 ///     fn attributes(&self, node: Node) -> Attributes {
 ///         let mode = if node == FILE { 0o100_444 } else { 0o40_555 };
 ///         let size = if node == FILE { self.0.len() as u64 } else { 0 };
-///         Attributes { inode: node.0, mode, size, links: 1, ..Attributes::default() }
+///         let attributes = Attributes::default().with_inode(node.0).with_mode(mode);
+///         attributes.with_size(size).with_links(1)
 ///     }
 /// }
 ///
@@ -51,7 +52,7 @@ use core::time::Duration;
 ///         if parent != Node::ROOT || name.to_bytes() != b"hello" {
 ///             return Err(Errno::ENOENT);
 ///         }
-///         Ok(Entry { node: FILE, attributes: self.attributes(FILE), ..Entry::default() })
+///         Ok(Entry::new(FILE, self.attributes(FILE)))
 ///     }
 ///
 ///     fn getattr(

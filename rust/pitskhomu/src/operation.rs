@@ -388,7 +388,7 @@ impl<'a> Decoded<'a> {
 /// # fn ask(request: Request<'_>) -> Result<(), Unsent> {
 /// match request.operation {
 ///     Operation::Lookup { name, .. } if name.to_bytes() == b"hello" => {
-///         request.reply.send(Entry { node: Node(2), ..Entry::default() })
+///         request.reply.send(Entry::new(Node(2), Attributes::default()))
 ///     }
 ///     Operation::Lookup { .. } => request.reply.error(Errno::ENOENT),
 ///     Operation::Read { read, mut data, .. } => {

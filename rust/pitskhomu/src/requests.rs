@@ -148,6 +148,7 @@ pub struct SeekFile {
 
 /// An open file, and a place in it.
 #[derive(Clone, Copy, Debug, Default, PartialEq, Eq)]
+#[non_exhaustive]
 pub struct FilePlace {
     /// The node.
     pub node: Node,
@@ -180,6 +181,7 @@ pub struct Init {
 
 /// The security label of a new node (struct `fuse_secctx`).
 #[derive(Clone, Copy, Debug, Default, PartialEq, Eq)]
+#[non_exhaustive]
 pub struct Label<'n> {
     /// The extended attribute that holds it, such as `security.selinux`.
     pub name: &'n CStr,
@@ -189,6 +191,7 @@ pub struct Label<'n> {
 
 /// A name in a directory.
 #[derive(Clone, Copy, Debug, Default, PartialEq, Eq)]
+#[non_exhaustive]
 pub struct Child<'n> {
     /// The directory.
     pub parent: Node,
@@ -393,3 +396,34 @@ impl Iterator for Forgets<'_> {
 }
 
 impl ExactSizeIterator for Forgets<'_> {}
+
+impl FilePlace {
+    /// A place in an open file.
+    #[must_use]
+    pub const fn new(node: Node, handle: Handle, offset: u64) -> FilePlace {
+        FilePlace { node, handle, offset }
+    }
+}
+
+impl<'n> Label<'n> {
+    /// The label of a new node.
+    #[must_use]
+    pub const fn new(name: &'n CStr, value: &'n [u8]) -> Label<'n> {
+        Label { name, value }
+    }
+}
+
+impl<'n> Child<'n> {
+    /// A name in a directory, without a label.
+    #[must_use]
+    pub const fn new(parent: Node, name: &'n CStr) -> Child<'n> {
+        Child { parent, name, label: None }
+    }
+
+    /// The same with another label.
+    #[must_use]
+    pub const fn with_label(mut self, label: Option<Label<'n>>) -> Child<'n> {
+        self.label = label;
+        self
+    }
+}

@@ -182,6 +182,7 @@ impl From<Time> for GuestTime {
 
 /// A node's attributes (struct `fuse_attr`).
 #[derive(Clone, Copy, Debug, Default, PartialEq, Eq)]
+#[non_exhaustive]
 pub struct Attributes {
     /// The number that stat reports, which may differ from the node's.
     pub inode: u64,
@@ -267,6 +268,7 @@ impl Attributes {
 /// The node of a name (struct `fuse_entry_out`). The default is node 0: the name doesn't exist, and
 /// the guest may remember that.
 #[derive(Clone, Copy, Debug, Default, PartialEq, Eq)]
+#[non_exhaustive]
 pub struct Entry {
     /// The node, which the guest then holds once more; `Node(0)` if the name doesn't exist.
     pub node: Node,
@@ -296,6 +298,7 @@ impl Entry {
 
 /// A file or directory that was opened (struct `fuse_open_out`).
 #[derive(Clone, Copy, Debug, Default, PartialEq, Eq)]
+#[non_exhaustive]
 pub struct Opened {
     /// The file system's number of it, which the guest passes with READ and other calls.
     pub handle: Handle,
@@ -305,6 +308,7 @@ pub struct Opened {
 
 /// The file system as a whole (struct `fuse_kstatfs`).
 #[derive(Clone, Copy, Debug, PartialEq, Eq)]
+#[non_exhaustive]
 pub struct Statistics {
     /// The number of blocks of `fragment_size` bytes.
     pub blocks: u64,
@@ -357,6 +361,7 @@ impl Statistics {
 
 /// A name of a directory (struct `fuse_dirent`).
 #[derive(Clone, Copy, Debug)]
+#[non_exhaustive]
 pub struct DirectoryEntry<'n> {
     /// The name, of 1 to 255 bytes.
     pub name: &'n crate::CStr,
@@ -366,4 +371,87 @@ pub struct DirectoryEntry<'n> {
     pub next_offset: u64,
     /// The file's kind.
     pub kind: FileKind,
+}
+
+/// For each field a function that returns the structure with another value of it.
+macro_rules! setters {
+    ($($type:ident { $($with:ident, $field:ident: $kind:ty;)* })*) => {
+        $(impl $type {
+            $(
+                #[doc = concat!("The same with another `", stringify!($field), "`.")]
+                #[must_use]
+                pub const fn $with(mut self, $field: $kind) -> $type {
+                    self.$field = $field;
+                    self
+                }
+            )*
+        })*
+    };
+}
+
+setters! {
+    Attributes {
+        with_inode, inode: u64;
+        with_size, size: u64;
+        with_blocks, blocks: u64;
+        with_atime, atime: Time;
+        with_mtime, mtime: Time;
+        with_ctime, ctime: Time;
+        with_mode, mode: u32;
+        with_links, links: u32;
+        with_uid, uid: u32;
+        with_gid, gid: u32;
+        with_rdev, rdev: u32;
+        with_block_size, block_size: u32;
+        with_flags, flags: u32;
+    }
+    Entry {
+        with_node, node: Node;
+        with_generation, generation: u64;
+        with_attributes, attributes: Attributes;
+        with_attributes_timeout, attributes_timeout: Duration;
+        with_entry_timeout, entry_timeout: Duration;
+    }
+    Opened {
+        with_options, options: OpenOptions;
+    }
+    Statistics {
+        with_blocks, blocks: u64;
+        with_blocks_free, blocks_free: u64;
+        with_blocks_available, blocks_available: u64;
+        with_files, files: u64;
+        with_files_free, files_free: u64;
+        with_block_size, block_size: u32;
+        with_name_len, name_len: u32;
+        with_fragment_size, fragment_size: u32;
+    }
+}
+
+impl Entry {
+    /// An entry that the guest may not cache: see `with_entry_timeout`.
+    #[must_use]
+    pub fn new(node: Node, attributes: Attributes) -> Entry {
+        Entry { node, attributes, ..Entry::default() }
+    }
+}
+
+impl Opened {
+    /// A file with this handle, and no option.
+    #[must_use]
+    pub const fn new(handle: Handle) -> Opened {
+        Opened { handle, options: OpenOptions::empty() }
+    }
+}
+
+impl<'n> DirectoryEntry<'n> {
+    /// A name of a directory.
+    #[must_use]
+    pub const fn new(
+        name: &'n crate::CStr,
+        inode: u64,
+        next_offset: u64,
+        kind: FileKind,
+    ) -> DirectoryEntry<'n> {
+        DirectoryEntry { name, inode, next_offset, kind }
+    }
 }

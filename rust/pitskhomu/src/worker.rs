@@ -80,7 +80,7 @@ pub struct Served {
 ///         _: Node,
 ///         _: Option<Handle>,
 ///     ) -> Answer<(Attributes, Duration)> {
-///         let root = Attributes { inode: 1, mode: 0o40_755, links: 2, ..Attributes::default() };
+///         let root = Attributes::default().with_inode(1).with_mode(0o40_755).with_links(2);
 ///         Ok((root, Duration::from_secs(1)))
 ///     }
 /// }

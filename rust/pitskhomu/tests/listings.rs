@@ -170,7 +170,7 @@ impl FileSystem for Fails {
     ) -> Answer<()> {
         for (name, k) in [c(b"a\0"), c(b"b\0")].into_iter().zip(1..) {
             let kind = FileKind::REGULAR;
-            let entry = DirectoryEntry { name, inode: 0x600 + k, next_offset: k, kind };
+            let entry = DirectoryEntry::new(name, 0x600 + k, k, kind);
             list.add_with(entry, || self.lookup(context, node, name))?;
         }
         Err(Errno::EIO)
@@ -221,8 +221,7 @@ fn names_that_no_directory_has_by(way: Way) {
             _: ReadDirectory,
             list: &mut Listing<'_>,
         ) -> Answer<()> {
-            let entry =
-                DirectoryEntry { name: self.0, inode: 1, next_offset: 1, kind: FileKind::UNKNOWN };
+            let entry = DirectoryEntry::new(self.0, 1, 1, FileKind::UNKNOWN);
             assert_eq!(list.add(entry), Err(self.1));
             list.add(entry).map(|_| ())
         }

@@ -413,8 +413,7 @@ fn entries_with_nodes_may_come_later() {
             Operation::ReadDirectory { list, .. } => list,
             other => panic!("{other:?}"),
         };
-        let entry_of =
-            |name| DirectoryEntry { name, inode: 9, next_offset: 1, kind: FileKind::REGULAR };
+        let entry_of = |name| DirectoryEntry::new(name, 9, 1, FileKind::REGULAR);
         let dots = CStr::from_bytes_with_nul(b"..\0").unwrap();
         let name = CStr::from_bytes_with_nul(b"name\0").unwrap();
         assert_eq!(list.add_plus(entry_of(dots), &entry()), Ok(true));

@@ -99,8 +99,8 @@ fn files() {
     let seek = "SeekFile { handle: Handle(3), offset: 7, whence: 4 }";
     check(|guest| guest.lseek(NODE, HANDLE, 7, 4), Ok(0x701), &format!("lseek (Node(5), {seek})"));
     let mut copy = CopyFileRange::default();
-    copy.from = FilePlace { node: NODE, handle: HANDLE, offset: 7 };
-    copy.to = FilePlace { node: Node(6), handle: Handle(4), offset: 8 };
+    copy.from = FilePlace::new(NODE, HANDLE, 7);
+    copy.to = FilePlace::new(Node(6), Handle(4), 8);
     copy.len = 0x900;
     check(|guest| guest.copy_file_range(copy), Ok(0x801), &format!("copy_file_range {copy:?}"));
 }

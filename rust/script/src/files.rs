@@ -58,14 +58,12 @@ impl Files {
             FILE => (self.contents.borrow().len() as u64, 0o100_644, 1),
             _ => return Err(Errno::ENOENT),
         };
-        Ok(Attributes {
-            inode: node.0,
-            size,
-            mode,
-            links,
-            block_size: 4096,
-            ..Attributes::default()
-        })
+        Ok(Attributes::default()
+            .with_inode(node.0)
+            .with_size(size)
+            .with_mode(mode)
+            .with_links(links)
+            .with_block_size(4096))
     }
 
     /// Looks up and forgets an entry that doesn't fit the list. The wrapper doesn't look up such a
@@ -105,13 +103,10 @@ impl FileSystem for Files {
             return Err(Errno::ENOENT);
         }
         let attributes = self.attributes(FILE)?;
-        Ok(Entry {
-            node: FILE,
-            generation: 0,
-            attributes,
-            attributes_timeout: GOOD_FOR,
-            entry_timeout: GOOD_FOR,
-        })
+        Ok(Entry::new(FILE, attributes)
+            .with_generation(0)
+            .with_attributes_timeout(GOOD_FOR)
+            .with_entry_timeout(GOOD_FOR))
     }
 
     fn forget(&self, node: Node, count: u64) {
@@ -184,7 +179,7 @@ impl FileSystem for Files {
             if plus && entry_len(&name, plus) > list.left() {
                 self.give_back(context, node, &name)?;
             }
-            let entry = DirectoryEntry { name: &name, inode: inode.0, next_offset, kind };
+            let entry = DirectoryEntry::new(&name, inode.0, next_offset, kind);
             match list.add_with(entry, || self.lookup(context, node, &name)) {
                 Ok(true) => {}
                 // The wrapper returns EINVAL for a first entry that doesn't fit. In the script

@@ -20,35 +20,31 @@ pub struct Recorder {
 /// All attributes of a reply, each another number.
 pub fn attributes() -> Attributes {
     let time = |seconds, nanos| Time::new(seconds, nanos).unwrap();
-    Attributes {
-        inode: 0x101,
-        size: 0x102,
-        blocks: 0x103,
-        atime: time(0x104, 0x107),
-        mtime: time(0x105, 0x108),
-        ctime: time(-1, 0x109),
-        mode: 0o100644,
-        links: 0x10b,
-        uid: 0x10c,
-        gid: 0x10d,
-        rdev: 0x10e,
-        block_size: 0x10f,
-        flags: Attributes::SUBMOUNT,
-    }
+    Attributes::default()
+        .with_inode(0x101)
+        .with_size(0x102)
+        .with_blocks(0x103)
+        .with_atime(time(0x104, 0x107))
+        .with_mtime(time(0x105, 0x108))
+        .with_ctime(time(-1, 0x109))
+        .with_mode(0o100644)
+        .with_links(0x10b)
+        .with_uid(0x10c)
+        .with_gid(0x10d)
+        .with_rdev(0x10e)
+        .with_block_size(0x10f)
+        .with_flags(Attributes::SUBMOUNT)
 }
 
 pub fn entry() -> Entry {
-    Entry {
-        node: Node(0x201),
-        generation: 0x202,
-        attributes: attributes(),
-        attributes_timeout: Duration::new(0x203, 0x204),
-        entry_timeout: Duration::new(0x205, 0x206),
-    }
+    Entry::new(Node(0x201), attributes())
+        .with_generation(0x202)
+        .with_attributes_timeout(Duration::new(0x203, 0x204))
+        .with_entry_timeout(Duration::new(0x205, 0x206))
 }
 
 pub fn opened() -> Opened {
-    Opened { handle: Handle(0x301), options: OpenOptions::KEEP_CACHE }
+    Opened::new(Handle(0x301)).with_options(OpenOptions::KEEP_CACHE)
 }
 
 impl Recorder {
@@ -190,16 +186,15 @@ impl FileSystem for Recorder {
         self.asked(context, "write", &(node, write, String::from_utf8_lossy(&bytes)), ())
     }
     fn statfs(&self, context: &Context, node: Node) -> Answer<Statistics> {
-        let statistics = Statistics {
-            blocks: 0x501,
-            blocks_free: 0x502,
-            blocks_available: 0x503,
-            files: 0x504,
-            files_free: 0x505,
-            block_size: 0x506,
-            name_len: 0x507,
-            fragment_size: 0x508,
-        };
+        let statistics = Statistics::default()
+            .with_blocks(0x501)
+            .with_blocks_free(0x502)
+            .with_blocks_available(0x503)
+            .with_files(0x504)
+            .with_files_free(0x505)
+            .with_block_size(0x506)
+            .with_name_len(0x507)
+            .with_fragment_size(0x508);
         self.asked(context, "statfs", &node, statistics)
     }
     fn release(&self, context: &Context, node: Node, release: Release) -> Answer<()> {
@@ -248,8 +243,7 @@ impl FileSystem for Recorder {
     ) -> Answer<()> {
         self.asked(context, "readdir", &(node, read, list.left(), list.has_nodes()), ())?;
         for (&name, k) in self.names.iter().zip(1..) {
-            let entry =
-                DirectoryEntry { name, inode: 0x600 + k, next_offset: k, kind: FileKind::REGULAR };
+            let entry = DirectoryEntry::new(name, 0x600 + k, k, FileKind::REGULAR);
             if !list.add_with(entry, || self.lookup(context, node, name))? {
                 break;
             }

@@ -38,40 +38,38 @@ const TEXT_MAX: usize = 32;
 fn wide_attributes() -> Attributes {
     let time = |first, nanos| Time::new(numbered(first) as i64, nanos).unwrap_or_default();
     let [links, uid, gid, rdev] = [0xe8, 0xec, 0xf0, 0xf4].map(|first| numbered(first) as u32);
-    Attributes {
-        inode: WIDE_INODE,
-        size: numbered(0xb0),
-        blocks: numbered(0xb8),
-        atime: time(0xc0, 0x2bda_d9d8),
-        mtime: time(0xc8, 0x2cde_dddc),
-        ctime: time(0xd0, 0x2de2_e1e0),
-        mode: 0xe7e6_c5e4,
-        links,
-        uid,
-        gid,
-        rdev,
-        block_size: numbered(0xf8) as u32,
-        flags: 0xfffe_fdfc,
-    }
+    Attributes::default()
+        .with_inode(WIDE_INODE)
+        .with_size(numbered(0xb0))
+        .with_blocks(numbered(0xb8))
+        .with_atime(time(0xc0, 0x2bda_d9d8))
+        .with_mtime(time(0xc8, 0x2cde_dddc))
+        .with_ctime(time(0xd0, 0x2de2_e1e0))
+        .with_mode(0xe7e6_c5e4)
+        .with_links(links)
+        .with_uid(uid)
+        .with_gid(gid)
+        .with_rdev(rdev)
+        .with_block_size(numbered(0xf8) as u32)
+        .with_flags(0xfffe_fdfc)
 }
 
 fn attributes() -> Attributes {
     let time = |seconds, nanos| Time::new(seconds, nanos).unwrap_or_default();
-    Attributes {
-        inode: 2,
-        size: 5,
-        blocks: 6,
-        atime: time(7, 10),
-        mtime: time(8, 11),
-        ctime: time(9, 12),
-        mode: 0o100_644,
-        links: 13,
-        uid: 14,
-        gid: 15,
-        rdev: 16,
-        block_size: 17,
-        flags: 18,
-    }
+    Attributes::default()
+        .with_inode(2)
+        .with_size(5)
+        .with_blocks(6)
+        .with_atime(time(7, 10))
+        .with_mtime(time(8, 11))
+        .with_ctime(time(9, 12))
+        .with_mode(0o100_644)
+        .with_links(13)
+        .with_uid(14)
+        .with_gid(15)
+        .with_rdev(16)
+        .with_block_size(17)
+        .with_flags(18)
 }
 
 /// An entry of a directory: its name, inode, next offset and kind.
@@ -163,21 +161,15 @@ impl Files {
 
     fn entry(&self) -> Entry {
         if self.is_wide() {
-            return Entry {
-                node: Node(WIDE_NODE),
-                generation: numbered(0x88),
-                attributes: wide_attributes(),
-                attributes_timeout: Duration::new(numbered(0x98), 0x2aa6_a5a4),
-                entry_timeout: Duration::new(numbered(0x90), 0x29a2_a1a0),
-            };
+            return Entry::new(Node(WIDE_NODE), wide_attributes())
+                .with_generation(numbered(0x88))
+                .with_attributes_timeout(Duration::new(numbered(0x98), 0x2aa6_a5a4))
+                .with_entry_timeout(Duration::new(numbered(0x90), 0x29a2_a1a0));
         }
-        Entry {
-            node: Node(if self.mood.get() == Mood::NoNode { 0 } else { 2 }),
-            generation: 3,
-            attributes: attributes(),
-            attributes_timeout: Duration::new(22, 23),
-            entry_timeout: Duration::new(20, 21),
-        }
+        Entry::new(Node(if self.mood.get() == Mood::NoNode { 0 } else { 2 }), attributes())
+            .with_generation(3)
+            .with_attributes_timeout(Duration::new(22, 23))
+            .with_entry_timeout(Duration::new(20, 21))
     }
 
     fn attributes(&self) -> (Attributes, Duration) {
@@ -197,12 +189,12 @@ impl Files {
 
     fn opened(&self) -> Opened {
         match self.mood.get() {
-            Mood::Other => Opened { handle: Handle(0), options: OpenOptions::KEEP_CACHE },
+            Mood::Other => Opened::new(Handle(0)).with_options(OpenOptions::KEEP_CACHE),
             Mood::Wide => {
                 let options = OpenOptions::from_bits(WIDE_OPTIONS);
-                Opened { handle: Handle(WIDE_HANDLE), options }
+                Opened::new(Handle(WIDE_HANDLE)).with_options(options)
             }
-            _ => Opened { handle: Handle(0x66), options: OpenOptions::from_bits(5) },
+            _ => Opened::new(Handle(0x66)).with_options(OpenOptions::from_bits(5)),
         }
     }
 
@@ -383,27 +375,27 @@ impl FileSystem for Files {
                 let [files, files_free] = [0x98, 0xa0].map(numbered);
                 let [block_size, name_len, fragment_size] =
                     [0xa8, 0xac, 0xb0].map(|first| numbered(first) as u32);
-                Ok(Statistics {
-                    blocks,
-                    blocks_free,
-                    blocks_available,
-                    files,
-                    files_free,
-                    block_size,
-                    name_len,
-                    fragment_size,
-                })
+                Ok(Statistics::default()
+                    .with_blocks(blocks)
+                    .with_blocks_free(blocks_free)
+                    .with_blocks_available(blocks_available)
+                    .with_files(files)
+                    .with_files_free(files_free)
+                    .with_block_size(block_size)
+                    .with_name_len(name_len)
+                    .with_fragment_size(fragment_size))
             }
-            _ => self.answer(Statistics {
-                blocks: 1,
-                blocks_free: 2,
-                blocks_available: 3,
-                files: 4,
-                files_free: 5,
-                block_size: 6,
-                name_len: 7,
-                fragment_size: 8,
-            }),
+            _ => self.answer(
+                Statistics::default()
+                    .with_blocks(1)
+                    .with_blocks_free(2)
+                    .with_blocks_available(3)
+                    .with_files(4)
+                    .with_files_free(5)
+                    .with_block_size(6)
+                    .with_name_len(7)
+                    .with_fragment_size(8),
+            ),
         }
     }
     fn release(&self, context: &Context, node: Node, release: Release) -> Answer<()> {
@@ -467,7 +459,7 @@ impl FileSystem for Files {
         };
         for (name, inode, next_offset, kind) in entries.into_iter().skip(first as usize) {
             let name = CString::new(name).map_err(|_| Errno::EIO)?;
-            let entry = DirectoryEntry { name: &name, inode, next_offset, kind };
+            let entry = DirectoryEntry::new(&name, inode, next_offset, kind);
             match list.add_with(entry, || self.lookup(context, node, &name)) {
                 Ok(true) => {}
                 // A first entry that doesn't fit is the wrapper's own error.
