@@ -3,6 +3,7 @@
 //! So the daemon changes the flags before virtiofsd sees them, and corrects those of files from a
 //! state of a daemon that didn't do so.
 use std::collections::BTreeSet;
+use std::ffi::CStr;
 use std::fs::File;
 use std::io;
 use std::os::fd::{AsRawFd, FromRawFd, IntoRawFd, RawFd};
@@ -85,9 +86,15 @@ impl Descriptors {
             return Err(io::Error::last_os_error());
         }
         let mut open = BTreeSet::new();
-        // SAFETY: the stream is open, and each name is a C string until the next one is read.
-        while let Some(entry) = unsafe { libc::readdir(stream).as_ref() } {
-            let name = unsafe { std::ffi::CStr::from_ptr(entry.d_name.as_ptr()) };
+        loop {
+            // SAFETY: the stream is open.
+            let entry = unsafe { libc::readdir(stream) };
+            if entry.is_null() {
+                break;
+            }
+            // SAFETY: the name is a C string until the next entry is read. The entry may be shorter
+            // than its type, so there is no reference to it.
+            let name = unsafe { CStr::from_ptr((&raw const (*entry).d_name).cast()) };
             open.extend(name.to_str().ok().and_then(|name| name.parse::<RawFd>().ok()));
         }
         // SAFETY: the stream is closed once.

@@ -126,20 +126,22 @@ impl<F: ServedFs> Core<F> {
     }
 
     /// Ends the session without DESTROY: then no node is held, no file is open, and no options are
-    /// agreed on. A call that the host holds may have locked the file system. Then the session ends
-    /// when it does, and no chain is taken before.
+    /// agreed on. The host may hold the close of a file, or a call that has locked the file system.
+    /// Then the session ends when it does, and no chain is taken before.
     pub fn end_session(self: &Arc<Self>, patience: Patience) {
-        if !self.rings.iter().any(Ring::is_at_the_host) {
-            return self.forget_session();
-        }
         self.late.fetch_add(1, Ordering::SeqCst);
         let (core, (done, is_done)) = (self.clone(), sync_channel(1));
-        thread::spawn(move || {
+        let ending = thread::Builder::new().spawn(move || {
             core.forget_session();
             core.end_late();
             let _ = done.try_send(());
         });
-        let _ = is_done.recv_timeout(patience.left());
+        if ending.is_ok() {
+            let _ = is_done.recv_timeout(patience.left());
+        } else {
+            self.forget_session();
+            self.end_late();
+        }
     }
 
     fn forget_session(&self) {

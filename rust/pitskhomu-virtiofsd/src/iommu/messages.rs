@@ -135,7 +135,7 @@ pub fn receive(socket: RawFd, parts: &mut [IoSliceMut<'_>], how: i32) -> io::Res
 #[allow(clippy::cast_possible_truncation, reason = "it is 4")]
 const FD_LEN: u32 = size_of::<RawFd>() as u32;
 
-/// A copy of the one descriptor that comes with the next message, which stays to be read.
+/// A copy of the first descriptor that comes with the next message, which stays to be read.
 fn peek_descriptor(socket: RawFd) -> Option<OwnedFd> {
     #[repr(C, align(8))]
     struct Control([u8; 64]);
@@ -146,8 +146,9 @@ fn peek_descriptor(socket: RawFd) -> Option<OwnedFd> {
     message.msg_iov = ptr::from_mut(&mut part).cast();
     message.msg_iovlen = 1;
     message.msg_control = control.0.as_mut_ptr().cast();
+    // With CMSG_SPACE a second one would be installed, too, and nobody would close it.
     // SAFETY: no memory is touched.
-    message.msg_controllen = unsafe { libc::CMSG_SPACE(FD_LEN) } as _;
+    message.msg_controllen = unsafe { libc::CMSG_LEN(FD_LEN) } as _;
     let how = libc::MSG_PEEK | libc::MSG_CMSG_CLOEXEC;
     // SAFETY: the parts are borrowed mutably, and the control's space is less than its array.
     if unsafe { libc::recvmsg(socket, &raw mut message, how) } < 1 {
@@ -251,6 +252,47 @@ pub fn answer_next(
 #[cfg(test)]
 mod tests {
     use super::*;
+    use std::io::Read;
+    use std::os::fd::AsRawFd;
+    use std::os::unix::net::UnixStream;
+
+    /// Sends a byte with so many descriptors.
+    fn send_descriptors(socket: &UnixStream, fds: &[RawFd]) {
+        #[repr(C, align(8))]
+        struct Control([u8; 64]);
+        let mut control = Control([0; 64]);
+        let part = IoSlice::new(b"x");
+        let len = u32::try_from(size_of_val(fds)).expect("a length");
+        // SAFETY: zeros are a message without anything.
+        let mut message: libc::msghdr = unsafe { zeroed() };
+        message.msg_iov = ptr::from_ref(&part).cast_mut().cast();
+        message.msg_iovlen = 1;
+        message.msg_control = control.0.as_mut_ptr().cast();
+        // SAFETY: the control has room for the descriptors.
+        unsafe {
+            message.msg_controllen = libc::CMSG_SPACE(len) as _;
+            let head = libc::CMSG_FIRSTHDR(&raw const message);
+            ((*head).cmsg_level, (*head).cmsg_type) = (libc::SOL_SOCKET, libc::SCM_RIGHTS);
+            (*head).cmsg_len = libc::CMSG_LEN(len) as _;
+            let data = libc::CMSG_DATA(head).cast::<RawFd>();
+            fds.iter().enumerate().for_each(|(k, fd)| data.add(k).write_unaligned(*fd));
+            assert_eq!(libc::sendmsg(socket.as_raw_fd(), &raw const message, 0), 1);
+        }
+    }
+
+    #[test]
+    fn one_descriptor_is_peeked_of_several() {
+        for count in 1..4 {
+            let (ours, theirs) = UnixStream::pair().expect("a channel");
+            let (mut reader, writer) = UnixStream::pair().expect("another channel");
+            send_descriptors(&theirs, &[writer.as_raw_fd()].repeat(count));
+            let peeked = peek_descriptor(ours.as_raw_fd()).expect("a descriptor");
+            drop((ours, theirs, writer, peeked));
+            // no copy of the other end is left
+            reader.set_nonblocking(true).expect("a socket");
+            assert_eq!(reader.read(&mut [0]).expect("the end"), 0, "{count}");
+        }
+    }
 
     #[test]
     fn a_message_is_its_bytes() {

@@ -121,17 +121,13 @@ impl Ring {
             .then(|| format!("queue {}: {}", self.index, self.held_calls()))
     }
 
-    /// Whether the host has a call of one of the ring's threads.
-    pub fn is_at_the_host(&self) -> bool {
-        self.doing.iter().any(Doing::is_at_the_host)
-    }
-
     /// Waits until the host has no call, at most for this time. Then the log says which it has.
     /// This waits for a condition: virtiofsd's filter of system calls allows no sleep by the clock.
     pub fn wait_for_its_calls(&self, time: Duration) {
         let mut state = self.lock();
         state.is_awaited = true;
-        let (mut state, is_long) = self.wait_a_while(state, time, |_| self.is_at_the_host());
+        let (mut state, is_long) =
+            self.wait_a_while(state, time, |_| self.doing.iter().any(Doing::is_at_the_host));
         state.is_awaited = false;
         if is_long {
             warn!(
