@@ -132,11 +132,12 @@ impl Worker {
         len: usize,
     ) -> Option<usize> {
         let from = loads.len;
-        match self.loaded.get_mut(from..from + len)? {
-            bytes @ [_, _] => bytes.copy_from_slice(&memory::load_u16(memory, at).to_le_bytes()),
+        let bytes = self.loaded.get_mut(from..from + len)?;
+        *loads.ahead.get_mut(loads.count)? = sys::LoadAhead { at, len };
+        match bytes {
+            two @ [_, _] => two.copy_from_slice(&memory::load_u16(memory, at).to_le_bytes()),
             bytes => memory::load(memory, at, bytes),
         }
-        *loads.ahead.get_mut(loads.count)? = sys::LoadAhead { at, len };
         (loads.count, loads.len) = (loads.count + 1, from + len);
         Some(from)
     }
