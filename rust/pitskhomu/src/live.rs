@@ -276,7 +276,7 @@ impl Builder {
     /// notifications, and `call` interrupts it. Set the queue's event index before.
     ///
     /// # Errors
-    /// Those of [`Worker::set_memory`] and of the system. No thread was started then.
+    /// Those of [`Worker::set_memory`] and of the system. No thread is left then.
     pub fn start<F: FileSystem + Send + Sync + 'static>(
         self,
         queue: Queue,
@@ -367,14 +367,23 @@ impl Serving {
 
     /// Sets the guest's memory for the next chains. The queue's rings lie in the new regions too.
     /// Chains in flight keep the memory that they were popped with, until they are pushed.
+    ///
+    /// # Errors
+    /// Those of [`Worker::set_memory`]. The next chains use the memory as it was.
     pub fn set_memory<M: GuestMemory + Send + Sync + 'static>(
         &self,
         memory: Arc<M>,
         regions: &[Region],
-    ) {
-        let mapped = Mapped { memory, regions: regions.to_vec() };
-        self.shared.lock().mapped = Arc::new(mapped);
+    ) -> Result<(), Status> {
+        let mapped = Arc::new(Mapped { memory, regions: regions.to_vec() });
+        let mut state = self.shared.lock();
+        // So no worker without a chain keeps the old memory.
+        let set = |seat: &mut Seat| seat.use_memory(&self.shared.device, &mapped);
+        state.idle.iter_mut().try_for_each(set)?;
+        state.mapped = mapped.clone();
+        drop(state);
         self.look();
+        Ok(())
     }
 
     /// Has a thread look for chains, as the driver's notification does.

@@ -552,9 +552,13 @@ fn memory_changes_meanwhile() {
     for k in 1..20 {
         let host = k * 0x10_0000;
         let moved = Arc::new(Moved(memory.clone(), host));
-        serving.set_memory(moved, &[Region { host, ..region() }]);
+        serving.set_memory(moved, &[Region { host, ..region() }]).unwrap();
+        assert_eq!(Arc::strong_count(&memory), 3, "the driver's, ours, and that of the new memory");
         run(&mut driver, 50, 4);
     }
+    let odd = Region { len: 100, ..region() };
+    assert_eq!(serving.set_memory(memory.clone(), &[odd]), Err(Status::BadArgument));
+    run(&mut driver, 50, 4);
     assert_eq!(serving.refused(), None);
 }
 

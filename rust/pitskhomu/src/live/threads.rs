@@ -91,7 +91,7 @@ impl Seat {
     }
 
     /// Tells the worker of new memory.
-    fn use_memory(&mut self, device: &Device, mapped: &Arc<Mapped>) -> Result<(), Status> {
+    pub fn use_memory(&mut self, device: &Device, mapped: &Arc<Mapped>) -> Result<(), Status> {
         if !Arc::ptr_eq(&self.mapped, mapped) {
             self.worker.set_memory(device, &mapped.regions)?;
             self.mapped = mapped.clone();
@@ -340,7 +340,9 @@ impl Shared {
     /// Whether a thread ends: nothing is left for it.
     fn is_over(&self) -> bool {
         let state = self.lock();
-        state.is_ending && (state.is_reset || state.queue.in_flight() == 0)
+        // A chain that can't be pushed stays in flight, without a worker.
+        let is_quiet = state.idle.len() == state.waiting.len();
+        state.is_ending && (state.is_reset || is_quiet)
     }
 
     /// The loop of each of the queue's threads. It begins with a look for chains.

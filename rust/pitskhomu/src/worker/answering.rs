@@ -97,7 +97,8 @@ impl Worker {
 
     /// Forgets the worker's chain, whose queue is reset
     /// ([`Queue::begin`](crate::Queue::begin)) or dropped. In a queue that isn't reset the chain
-    /// stays in flight. Its reply object is refused from now on.
+    /// stays in flight. Its reply object is refused from now on. Call it also before you drop a
+    /// worker that has a chain.
     ///
     /// If the file system has a call of the chain, the result is that call, and what is to be
     /// undone of its answer: pass it to [`FileSystem::cancelled`].

@@ -62,8 +62,15 @@ impl Worker {
     }
 
     fn destroyed(&mut self, device: &Device) -> Result<Replied, Status> {
-        device.set_options(Options::empty());
+        self.agree(device, Options::empty());
         self.chain.reply_done()
+    }
+
+    /// Sets what the session agreed on. The answer of a session that has ended sets nothing.
+    fn agree(&self, device: &Device, options: Options) {
+        if self.session.strong_count() > 0 {
+            device.set_options(options);
+        }
     }
 
     fn reply(
@@ -102,7 +109,7 @@ impl Worker {
             Response::Options(wanted) => {
                 let mut numbers = device.numbers();
                 let replied = self.chain.reply_init(&mut numbers, wanted.bits())?;
-                device.set_options(Options::from_bits(numbers.options));
+                self.agree(device, Options::from_bits(numbers.options));
                 Ok(replied)
             }
             Response::Entries(entries) => self.reply_entries(memory, &entries),
@@ -165,7 +172,8 @@ impl Worker {
         let places = (&mut self.list[..len], &mut self.used, &mut self.nodes);
         let mut list = Listing::new(&mut self.chain, places, with_nodes, self.call.size);
         let (added, ended) = entries.add_to(&mut list);
-        let left_out = entries.nodes(added);
+        // READDIR gives no node, if the entries are of a READDIRPLUS.
+        let left_out = entries.nodes(if with_nodes { added } else { 0 });
         if !left_out.is_empty() {
             self.cancelled = Some(self.asked().cancelled(Given::default(), &left_out));
         }

@@ -1,0 +1,73 @@
+//! Answers that outlive their session, or are given to another call.
+mod guest;
+
+use guest::recorder::{entry, Recorder};
+use guest::*;
+use pitskhomu::*;
+
+fn take(guest: &mut Guest) -> Request<'_> {
+    let Guest { worker, queue, device, memory, .. } = guest;
+    worker.take(queue, device, memory).unwrap().expect("a chain is available")
+}
+
+/// INIT is answered, and the queue is reset before its reply is made: the next session has no
+/// options of it. So too for DESTROY, which would end the next session.
+#[test]
+fn a_session_that_has_ended_agrees_on_nothing() {
+    let init = args().d(7).d(38).d(0x2_0000).d(!(1 << 31)).d(0x1ff).bytes(&[0; 44]);
+    for (opcode, args, now) in
+        [(26, init, Options::empty()), (38, guest::args(), Options::ASYNC_READ)]
+    {
+        for is_reset in [true, false] {
+            let mut guest = Guest::new();
+            guest.device.set_options(now);
+            guest.offer_request(&request(opcode, 0, &args.0), 80);
+            let Request { operation, reply, .. } = take(&mut guest);
+            let wanted = Options::DO_READDIRPLUS;
+            let sent = match operation {
+                Operation::Init(_) => reply.send(wanted),
+                _ => reply.send(()),
+            };
+            assert!(sent.is_ok());
+            if is_reset {
+                guest.queue.begin(Queue::new(layout(), guest.offered).unwrap()).unwrap();
+            }
+            assert_eq!(guest.worker.finish(&guest.device, &guest.memory), Ok(true));
+            let agreed = guest.device.options();
+            if is_reset {
+                assert_eq!(agreed, now, "{opcode}");
+                let pushed = guest.worker.push(&mut guest.queue, &guest.memory);
+                assert_eq!(pushed, Err(Status::OtherQueue));
+            } else {
+                assert_ne!(agreed, now, "{opcode}");
+            }
+        }
+    }
+}
+
+/// The entries of a READDIRPLUS, given to a READDIR: the guest gets the names, and no node.
+#[test]
+fn entries_of_another_request_give_no_node() {
+    let mut guest = Guest::new();
+    let read = args().q(3).q(0).d(480).bytes(&[0; 20]);
+    guest.offer_request(&request(44, 5, &read.0), 496);
+    let OwnedRequest { call, reply, .. } = take(&mut guest).into_owned().unwrap();
+    let name = CStr::from_bytes_with_nul(b"name\0").unwrap();
+    let recorder = Recorder { names: vec![name], ..Recorder::default() };
+    let entries = match by_values::call(&recorder, &call.context, call.operation()) {
+        Ok(Response::Entries(entries)) => entries,
+        other => panic!("{other:?}"),
+    };
+    reply.error(Errno::EAGAIN).unwrap();
+    assert_eq!(guest.worker.finish(&guest.device, &guest.memory), Ok(true));
+    guest.worker.push(&mut guest.queue, &guest.memory).unwrap();
+
+    guest.offer_request(&request(28, 5, &read.0), 496);
+    take(&mut guest).reply.send(entries).unwrap();
+    assert_eq!(guest.worker.finish(&guest.device, &guest.memory), Ok(true));
+    let undo = guest.worker.cancelled().expect("a node that isn't given").undo;
+    assert_eq!(undo, [Undo::Forget(entry().node)]);
+    let served = guest.worker.push(&mut guest.queue, &guest.memory).unwrap();
+    assert_eq!(guest.reply(served.reply_len as usize).data().len(), 32);
+    assert!(guest.worker.cancelled().is_none());
+}
