@@ -94,6 +94,9 @@ alone() {
         grep -q "can't move now, .* holds a call of its: queue 1: request .* opcode 14" \
             "$work/checks-held.errors" ||
             failure "held: the log doesn't say why no state is saved"
+        grep -q 'no state can be loaded now, .* queue 1: request .* opcode 14' \
+            "$work/checks-held.errors" ||
+            failure "held: the log doesn't say why no state is loaded"
     done
     THREADS=4 try checks two 5
     try checks sleeps "${SLEEPS:-500000}"

@@ -125,17 +125,17 @@ static void reset(const char *dir, uint64_t node, bool has_message, bool has_thr
            has_message ? "by RESET_DEVICE" : "of the rings");
 }
 
-/* Whether a state is saved. */
-static bool is_saved(void) {
-    uint32_t how[2] = {0, 0};
-    int ends[2];
+/* Whether a state is saved (direction 0), or one without a byte loaded (1). */
+static bool is_transferred(uint32_t direction) {
+    uint32_t how[2] = {direction, 0};
+    int ends[2], theirs = direction == 0;
     char bytes[4096];
     if (pipe2(ends, O_CLOEXEC)) die("no pipe");
-    if (front_tell(&front, SET_DEVICE_STATE_FD, how, sizeof how, &ends[1], 1) & 0xff)
+    if (front_tell(&front, SET_DEVICE_STATE_FD, how, sizeof how, &ends[theirs], 1) & 0xff)
         die("no transfer");
-    close(ends[1]);
-    while (read(ends[0], bytes, sizeof bytes) > 0) {}
-    close(ends[0]);
+    close(ends[theirs]);
+    while (direction == 0 && read(ends[0], bytes, sizeof bytes) > 0) {}
+    close(ends[!theirs]);
     return front_tell(&front, CHECK_DEVICE_STATE, NULL, 0, NULL, 0) == 0;
 }
 
@@ -146,8 +146,9 @@ static void save(const char *dir, uint64_t node) {
     check("the position", front_stop_ring(&front, 1) == position);
     check("the position", front_stop_ring(&front, 2) == other);
     uint64_t before = now();
-    check("no state is saved while the host holds a call", !is_saved());
+    check("no state is saved while the host holds a call", !is_transferred(0));
     must_be_soon("a state that isn't saved", before);
+    check("nor is one loaded", !is_transferred(1)); /* alone.sh looks why */
     front_start_ring(&front, 1, position);
     front_start_ring(&front, 2, other);
     close(lease);
@@ -155,7 +156,7 @@ static void save(const char *dir, uint64_t node) {
     close_slow(node);
     position = front.rings[1].offered;
     check("the position", front_stop_ring(&front, 1) == position);
-    check("a state is saved later", is_saved());
+    check("a state is saved later", is_transferred(0));
     front_start_ring(&front, 1, position);
     ask_beside(1);
     printf("a state isn't saved while the host holds a call, and the source goes on\n");

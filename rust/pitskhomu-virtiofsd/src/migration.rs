@@ -73,7 +73,7 @@ impl<F: ServedFs> Migration<F> {
 
     /// Sends the state by this pipe, unless the host holds a call of the guest's.
     pub fn save(&mut self, pipe: File) {
-        if let Err(e) = state::must_be_quiet(&self.core) {
+        if let Err(e) = state::may_be_saved(&self.core) {
             self.cancel();
             self.transfer = Some(thread::spawn(move || {
                 drop(pipe);

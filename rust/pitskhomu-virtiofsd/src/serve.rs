@@ -116,6 +116,16 @@ impl<F: ServedFs> Core<F> {
         }
     }
 
+    /// The calls that chains in flight wait for, and whether calls of an earlier session go on that
+    /// may change this one, if there are any.
+    pub fn held_calls(&self) -> Option<String> {
+        let mut held: Vec<String> = self.rings.iter().filter_map(Ring::held).collect();
+        if self.late.load(Ordering::SeqCst) > 0 {
+            held.push("one of an earlier session".into());
+        }
+        (!held.is_empty()).then(|| held.join("; "))
+    }
+
     /// Waits until the host has no call, after the connection has ended. It waits at most
     /// `LAST_CHAINS`, since a call may never end.
     pub fn wait_for_calls(&self) {

@@ -16,7 +16,6 @@
 //! (`inner`).
 mod inner;
 
-use crate::ring::Ring;
 use crate::serve::{Core, ServedFs};
 use pitskhomu as p;
 use std::fs::File;
@@ -57,16 +56,22 @@ fn sum(bytes: &[u8]) -> [u8; 8] {
     hasher.finish().to_le_bytes()
 }
 
-/// Refuses to save a state while the host has a call of the guest's: its reply would be lost.
-pub fn must_be_quiet<F: ServedFs>(core: &Core<F>) -> io::Result<()> {
-    let held: Vec<String> = core.rings.iter().filter_map(Ring::held).collect();
-    if held.is_empty() {
-        return Ok(());
-    }
-    let held = held.join("; ");
-    Err(io::Error::other(format!(
-        "the guest can't move now, and goes on here, since the host holds a call of its: {held}"
-    )))
+/// Refuses to save a state while the host holds a call of the guest's: its reply would be lost.
+pub fn may_be_saved<F: ServedFs>(core: &Core<F>) -> io::Result<()> {
+    core.held_calls().map_or(Ok(()), |held| {
+        Err(io::Error::other(format!(
+            "the guest can't move now, and goes on here, since the host holds a call of its: {held}"
+        )))
+    })
+}
+
+/// Refuses to load a state while the host holds a call of the guest's: it may change that state.
+fn may_be_loaded<F: ServedFs>(core: &Core<F>) -> io::Result<()> {
+    core.held_calls().map_or(Ok(()), |held| {
+        Err(io::Error::other(format!(
+            "no state can be loaded now, since the host holds a call: {held}"
+        )))
+    })
 }
 
 /// Sends the state of a core whose rings are stopped.
@@ -101,6 +106,7 @@ fn send(
 
 /// Receives a state from this daemon on another host, or from virtiofsd.
 pub fn load<F: ServedFs>(core: &Core<F>, scratch: &File, pipe: File) -> io::Result<()> {
+    may_be_loaded(core)?;
     let before = core.descriptors.open()?;
     receive(&core.fs, &core.device, core.always_agreed, scratch, pipe)?;
     // a state of virtiofsd has the guest's own flags

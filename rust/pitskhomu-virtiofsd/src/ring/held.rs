@@ -21,8 +21,7 @@ impl Ring {
             return Err(call());
         }
         doing.set_away(true);
-        if self.is_closed.load(Ordering::SeqCst) {
-            drop(self.lock());
+        if self.is_closed.load(Ordering::SeqCst) && self.lock().is_awaited {
             self.changed.notify_all(); // a message may wait for this thread to be away
         }
         let result = call();
@@ -41,7 +40,9 @@ impl Ring {
             doing.set_away(true);
             let state = self.lock();
             doing.set_waiting(true);
-            self.changed.notify_all();
+            if state.is_awaited {
+                self.changed.notify_all();
+            }
             let state = self.wait_while(state, |_| {
                 self.is_closed.load(Ordering::SeqCst) && !doing.is_dropped()
             });
