@@ -14,16 +14,30 @@ use std::sync::atomic::Ordering;
 use std::sync::Arc;
 
 impl Ring {
+    fn go_away(&self, doing: &Doing) {
+        doing.set_away(true);
+        if self.is_closed.load(Ordering::SeqCst) && self.lock().is_awaited {
+            self.changed.notify_all(); // a message may wait for this thread to be away
+        }
+    }
+
+    /// Between two calls of the host that one call of the file system makes: returns whether the
+    /// chain is in flight yet, if need be once the ring is open again.
+    pub fn goes_on(&self, doing: &Doing) -> bool {
+        let is_in_flight = self.come_back(doing);
+        if is_in_flight {
+            self.go_away(doing);
+        }
+        is_in_flight
+    }
+
     /// Makes a call of the host for a chain. `Err` has the result if the chain was dropped
     /// meanwhile. Until this returns the thread accesses no memory of the guest's.
     pub fn call_host<T>(&self, doing: &Doing, call: impl FnOnce() -> T) -> Result<T, T> {
         if doing.is_dropped() {
             return Err(call());
         }
-        doing.set_away(true);
-        if self.is_closed.load(Ordering::SeqCst) && self.lock().is_awaited {
-            self.changed.notify_all(); // a message may wait for this thread to be away
-        }
+        self.go_away(doing);
         let result = call();
         if self.come_back(doing) {
             Ok(result)
