@@ -101,7 +101,8 @@ pub trait Handler: Send + Sync {
     /// Answers a request, or hands its [`Reply`](crate::Reply) on. A panic answers EIO.
     fn call(&self, request: Request<'_>);
 
-    /// An answer that the guest doesn't get is to be undone ([`FileSystem::cancelled`]).
+    /// An answer that the guest doesn't get is to be undone ([`FileSystem::cancelled`]). After a
+    /// panic the rest of it isn't undone.
     fn cancelled(&self, _cancelled: &Cancelled) {}
 }
 
@@ -219,6 +220,13 @@ struct Shared {
 impl Shared {
     fn lock(&self) -> MutexGuard<'_, State> {
         self.state.lock().unwrap_or_else(PoisonError::into_inner)
+    }
+
+    /// Has an answer undone. A panic there ends no thread, and loses no chain.
+    fn undo(&self, cancelled: Option<Cancelled>) {
+        if let Some(cancelled) = cancelled {
+            let _ = catch_unwind(AssertUnwindSafe(|| self.service.cancelled(&cancelled)));
+        }
     }
 }
 

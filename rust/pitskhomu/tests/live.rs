@@ -421,6 +421,7 @@ fn a_panic_is_answered_eio() {
 /// Keeps what it is asked, and counts what is undone.
 #[derive(Default)]
 struct Keeps {
+    panics: bool,
     replies: Mutex<Vec<Reply>>,
     undone: Mutex<Vec<Undo>>,
     cancelled: AtomicUsize,
@@ -433,6 +434,7 @@ impl Handler for Keeps {
     fn cancelled(&self, cancelled: &Cancelled) {
         self.cancelled.fetch_add(1, Ordering::Relaxed);
         self.undone.lock().unwrap().extend(&cancelled.undo);
+        assert!(!self.panics, "the handler panics, as the test wants it");
     }
 }
 
@@ -503,20 +505,29 @@ fn a_stop_waits_for_answers() {
     (0..3).for_each(|_| assert_eq!(driver.wait().1, 144));
 }
 
-/// An answer without room is undone.
+/// An answer without room is undone. A panic there ends no thread, and loses no chain.
 #[test]
 fn an_answer_without_room_is_undone() {
-    let (memory, keeps) = (Memory::new(), Arc::new(Keeps::default()));
-    let (mut driver, kick, call) = Driver::new(&memory, false);
-    let _serving = Builder::new(Arc::default(), memory, &[region()])
-        .start_by_values(Queue::new(layout(), 0).unwrap(), kick, call, keeps.clone())
-        .unwrap();
-    driver.offer(0, &request(1, 1, b"hello\0"), 100);
-    until(|| keeps.replies.lock().unwrap().len() == 1);
-    let reply = keeps.replies.lock().unwrap().pop().unwrap();
-    reply.send(entry()).unwrap();
-    assert_eq!(driver.wait().1, 0);
-    assert_eq!(*keeps.undone.lock().unwrap(), [Undo::Forget(entry().node)]);
+    for panics in [false, true] {
+        let memory = Memory::new();
+        let keeps = Arc::new(Keeps { panics, ..Keeps::default() });
+        let (mut driver, kick, call) = Driver::new(&memory, false);
+        let serving = Builder::new(Arc::default(), memory, &[region()])
+            .start_by_values(Queue::new(layout(), 0).unwrap(), kick, call, keeps.clone())
+            .unwrap();
+        for room in [100, 100, 144] {
+            driver.offer(0, &request(1, 1, b"hello\0"), room);
+            until(|| keeps.replies.lock().unwrap().len() == 1);
+            let reply = keeps.replies.lock().unwrap().pop().unwrap();
+            reply.send(entry()).unwrap();
+            assert_eq!(driver.wait().1, if room == 144 { 144 } else { 0 });
+        }
+        assert_eq!(*keeps.undone.lock().unwrap(), [Undo::Forget(entry().node); 2]);
+        driver.offer(0, &request(1, 1, b"hello\0"), 144);
+        until(|| keeps.replies.lock().unwrap().len() == 1);
+        serving.reset();
+        assert_eq!(keeps.cancelled.load(Ordering::Relaxed), 3);
+    }
 }
 
 #[test]

@@ -207,9 +207,7 @@ impl Shared {
 
     /// Abandons a worker's chain, and has its answer undone.
     pub(super) fn abandon(&self, seat: &mut Seat) {
-        if let Some(cancelled) = seat.worker.abandon() {
-            self.service.cancelled(&cancelled);
-        }
+        self.undo(seat.worker.abandon());
     }
 
     /// Pushes a chain that has its reply, unless the queue was reset. Whether the driver is to be
@@ -230,12 +228,13 @@ impl Shared {
 
     /// Pushes a chain that has its reply, and has undone what the guest doesn't get.
     fn give_back(&self, mut seat: Seat) -> (MutexGuard<'_, State>, bool) {
-        self.tell_cancelled(&mut seat); // an answer without room
+        self.undo(seat.worker.cancelled()); // an answer without room
         let mut state = self.lock(); // [Comes, Enters]
         let owed = self.push(&mut state, &mut seat);
-        if let Some(cancelled) = seat.worker.abandon() {
+        let cancelled = seat.worker.abandon();
+        if cancelled.is_some() {
             drop(state); // the file system isn't called under the lock
-            self.service.cancelled(&cancelled);
+            self.undo(cancelled);
             state = self.lock();
         }
         state.idle.push(seat);
@@ -270,13 +269,6 @@ impl Shared {
         seat.begins_to_work();
         let answered = seat.worker.finish(&self.device, &*seat.mapped.memory);
         self.go_on(seat, answered)
-    }
-
-    /// The cancelled answer of a chain that has no room for it.
-    fn tell_cancelled(&self, seat: &mut Seat) {
-        if let Some(cancelled) = seat.worker.cancelled() {
-            self.service.cancelled(&cancelled);
-        }
     }
 
     /// Serves chains until none is available. A chain that becomes available while notifications
