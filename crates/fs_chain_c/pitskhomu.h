@@ -299,6 +299,8 @@ struct pk_queue {
 
 /* Resets a queue: then no chain of it is in flight, and it isn't stopped. `next_avail` is the
  * number of SET_VRING_BASE, or 0. Calls with its earlier chains are refused.
+ * Call it before the queue's first pop, too, unless pk_restore has read the queue: without it two
+ * queues with the same addresses have the same `reset_count`, and take each other's chains.
  * Enable notifications next: an earlier device may have left them disabled.
  * Errors: PK_BAD_ARGUMENT (your fields are invalid). */
 uint32_t pk_queue_begin(struct pk_queue *queue, uint16_t next_avail) PK_CHECK;
