@@ -3,7 +3,7 @@
 //! It is a package of its own, not a feature of `pitskhomu`: cargo needs even an optional
 //! dependency in its index, and `pitskhomu` builds offline.
 use pitskhomu::{Device, GuestMemory, GuestRange, GuestSlice, Region, Status};
-use std::mem::size_of;
+use std::any::TypeId;
 use vm_memory::bitmap::{Bitmap, BS};
 use vm_memory::{
     Address, GuestMemoryMmap, GuestMemoryRegion, GuestRegionMmap, MemoryRegionAddress,
@@ -150,9 +150,9 @@ impl<B: Bitmap + 'static> GuestMemory for MappedMemory<B> {
         Some(unsafe { GuestSlice::new(host.add(offset), len) })
     }
 
-    /// Whether `B` is a bitmap: `()` has size 0.
+    /// Whether `B` is a bitmap. One without fields, which keeps its marks elsewhere, is one too.
     fn is_logging(&self) -> bool {
-        size_of::<B>() > 0
+        TypeId::of::<B>() != TypeId::of::<()>()
     }
 
     /// A range may begin in one region and end in another: it ends with a descriptor or with a used
@@ -174,7 +174,7 @@ impl<B: Bitmap + 'static> GuestMemory for MappedMemory<B> {
 #[cfg(test)]
 mod tests {
     use super::*;
-    use vm_memory::bitmap::AtomicBitmap;
+    use vm_memory::bitmap::{AtomicBitmap, WithBitmapSlice};
     use vm_memory::{Bytes, GuestAddress};
 
     const HIGH: u64 = 1 << 32;
@@ -289,6 +289,27 @@ mod tests {
             memory.mark(GuestRange { guest, len });
             assert_eq!(dirty(&memory), pages, "{guest:#x} {len:#x}");
         }
+    }
+
+    /// Keeps its marks elsewhere.
+    #[derive(Debug, Default)]
+    struct Elsewhere;
+
+    impl WithBitmapSlice<'_> for Elsewhere {
+        type S = ();
+    }
+
+    impl Bitmap for Elsewhere {
+        fn mark_dirty(&self, _: usize, _: usize) {}
+        fn dirty_at(&self, _: usize) -> bool {
+            false
+        }
+        fn slice_at(&self, _: usize) {}
+    }
+
+    #[test]
+    fn a_bitmap_without_fields_is_one() {
+        assert!(MappedMemory::<Elsewhere>::default().is_logging());
     }
 
     #[test]

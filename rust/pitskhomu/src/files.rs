@@ -66,25 +66,17 @@ impl Pieces {
         if self.count == 0 {
             return Err(io::Error::from_raw_os_error(14)); // `EFAULT`: the memory lacks them
         }
-        loop {
-            // SAFETY: the pieces are valid, and are the guest's: the memory keeps them mapped while
-            // `self` borrows from it, and all accesses of this process to them are atomic or
-            // volatile. The call keeps no pointer.
-            let moved = unsafe { call(file.as_raw_fd(), self.list.as_ptr(), self.count, offset) };
-            if let Ok(moved) = u64::try_from(moved) {
-                return Ok(moved);
-            }
-            let error = io::Error::last_os_error();
-            if error.kind() != ErrorKind::Interrupted {
-                return Err(error);
-            }
-        }
+        // SAFETY: the pieces are valid, and are the guest's: the memory keeps them mapped while
+        // `self` borrows from it, and all accesses of this process to them are atomic or volatile.
+        // The call keeps no pointer.
+        let moved = unsafe { call(file.as_raw_fd(), self.list.as_ptr(), self.count, offset) };
+        u64::try_from(moved).map_err(|_| io::Error::last_os_error())
     }
 }
 
 /// Moves bytes piece by piece until one is short. `piece` gets how many were moved, and returns how
-/// many it moved and wanted to. Only an error of the first piece is returned: the guest's next call
-/// meets a later one again.
+/// many it moved and wanted to. A call that a signal interrupted is made again. Only an error of the
+/// first piece is returned: the guest's next call meets a later one again.
 fn move_pieces(mut piece: impl FnMut(u64) -> io::Result<(u64, u64)>) -> io::Result<u64> {
     let mut done = 0;
     loop {
@@ -95,6 +87,7 @@ fn move_pieces(mut piece: impl FnMut(u64) -> io::Result<(u64, u64)>) -> io::Resu
                     return Ok(done);
                 }
             }
+            Err(error) if error.kind() == ErrorKind::Interrupted => {}
             Err(error) if done == 0 => return Err(error),
             Err(_) => return Ok(done),
         }
@@ -163,5 +156,34 @@ impl WriteData<'_> {
             self.advance(moved);
             Ok((moved, wanted))
         })
+    }
+}
+
+#[cfg(test)]
+mod tests {
+    use super::*;
+    use std::vec;
+
+    /// Moves pieces with these outcomes; the number of bytes before each of them.
+    fn moved(outcomes: vec::Vec<io::Result<(u64, u64)>>) -> (io::Result<u64>, vec::Vec<u64>) {
+        let (mut outcomes, mut before) = (outcomes.into_iter(), vec![]);
+        let moved = move_pieces(|done| {
+            before.push(done);
+            outcomes.next().unwrap()
+        });
+        assert!(outcomes.next().is_none());
+        (moved, before)
+    }
+
+    #[test]
+    fn a_signal_ends_no_move() {
+        let error = |kind: ErrorKind| Err(kind.into());
+        let again = || error(ErrorKind::Interrupted);
+        let (count, before) = moved(vec![again(), again(), Ok((8, 8)), again(), Ok((3, 4))]);
+        assert_eq!((count.unwrap(), before), (11, vec![0, 0, 0, 8, 8]));
+        let (count, _) = moved(vec![again(), error(ErrorKind::Other)]);
+        assert_eq!(count.unwrap_err().kind(), ErrorKind::Other);
+        let (count, _) = moved(vec![Ok((8, 8)), error(ErrorKind::Other)]);
+        assert_eq!(count.unwrap(), 8);
     }
 }
