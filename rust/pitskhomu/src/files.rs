@@ -75,8 +75,8 @@ impl Pieces {
 }
 
 /// Moves bytes piece by piece until one is short. `piece` gets how many were moved, and returns how
-/// many it moved and wanted to. A call that a signal interrupted is made again. Only an error of the
-/// first piece is returned: the guest's next call meets a later one again.
+/// many it moved and wanted to. A call that a signal interrupted is made again. Only an error of
+/// the first piece is returned: the guest's next call meets a later one again.
 fn move_pieces(mut piece: impl FnMut(u64) -> io::Result<(u64, u64)>) -> io::Result<u64> {
     let mut done = 0;
     loop {
