@@ -154,8 +154,9 @@ impl<F: ServedFs> Core<F> {
         }
     }
 
+    /// If the file system panics, the session ends all the same.
     fn forget_session(&self) {
-        self.fs.destroy();
+        let _ = catch_unwind(AssertUnwindSafe(|| self.fs.destroy()));
         self.device.set_options(pitskhomu::Options::empty());
     }
 
@@ -293,7 +294,8 @@ impl<F: ServedFs> Server for QueueWorker<F> {
         if let Some((cancelled, memory)) = self.cancelled.take() {
             let (core, doing) = (&self.core, &Doing::dropped());
             let (fs, ring) = (&core.fs, &core.rings[self.index]);
-            cancelled.undo(&Adapter { fs, ring, memory: &memory, doing, flags: core.flags });
+            let adapter = Adapter { fs, ring, memory: &memory, doing, flags: core.flags };
+            let _ = catch_unwind(AssertUnwindSafe(|| cancelled.undo(&adapter)));
         }
     }
 
