@@ -90,6 +90,41 @@ fn a_log_hears_what_was_written_before_a_panic() {
     }
 }
 
+/// So is what was put into the reply buffer of a chain that is never pushed.
+#[test]
+fn a_log_hears_of_chains_that_end_without_a_push() {
+    let range = |guest, len| GuestRange { guest, len };
+    let read = request(15, 1, &args().q(3).q(0).d(100).bytes(&[0; 20]).0);
+    for (is_logging, is_answered) in [(true, true), (true, false), (false, true), (false, false)] {
+        let mut guest = Guest::new();
+        guest.memory.is_logging.set(is_logging);
+        guest.offer_request(&read, 116);
+        let next = Queue::new(layout(), guest.offered).unwrap();
+        let Guest { worker, queue, device, memory, .. } = &mut guest;
+        let Request { operation, reply, .. } =
+            worker.take(queue, device, memory).unwrap().expect("a chain is available");
+        if let Operation::Read { mut data, .. } = operation {
+            data.put(b"some data");
+            if is_answered {
+                reply.send(data).unwrap();
+            }
+        }
+        queue.begin(next).unwrap();
+        if is_answered {
+            assert_eq!(worker.finish(device, memory), Ok(true));
+            assert_eq!(worker.push(queue, memory), Err(Status::OtherQueue));
+        } else {
+            worker.mark_data(memory);
+            worker.abandon();
+        }
+        let marks = memory.marks.take();
+        let wanted = [range(ROOM, 16), range(ROOM + 0x1000, 9)];
+        assert_eq!(marks, wanted[..if is_logging { 2 } else { 0 }], "{is_answered}");
+        worker.mark_data(memory);
+        assert_eq!(memory.marks.take(), [], "it has no chain");
+    }
+}
+
 /// The stores, the marks, and only then the end of the push, whose last step is the load of the
 /// available flags.
 #[test]

@@ -207,6 +207,7 @@ impl Shared {
 
     /// Abandons a worker's chain, and has its answer undone.
     pub(super) fn abandon(&self, seat: &mut Seat) {
+        seat.worker.mark_data(&*seat.mapped.memory);
         self.undo(seat.worker.abandon());
     }
 
@@ -231,6 +232,7 @@ impl Shared {
         self.undo(seat.worker.cancelled()); // an answer without room
         let mut state = self.lock(); // [Comes, Enters]
         let owed = self.push(&mut state, &mut seat);
+        seat.worker.mark_data(&*seat.mapped.memory); // of a chain that isn't pushed
         let cancelled = seat.worker.abandon();
         if cancelled.is_some() {
             drop(state); // the file system isn't called under the lock

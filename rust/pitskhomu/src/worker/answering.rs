@@ -99,6 +99,7 @@ impl Worker {
     /// ([`Queue::begin`](crate::Queue::begin)) or dropped. In a queue that isn't reset the chain
     /// stays in flight. Its reply object is refused from now on. Call it also before you drop a
     /// worker that has a chain.
+    /// While a migration's log is on, call [`mark_data`](Worker::mark_data) before.
     ///
     /// If the file system has a call of the chain, the result is that call, and what is to be
     /// undone of its answer: pass it to [`FileSystem::cancelled`].

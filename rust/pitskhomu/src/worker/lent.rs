@@ -203,14 +203,8 @@ impl Worker {
         }
     }
 
-    /// Reports the written bytes of a chain that was popped with a table: those of the reply
-    /// buffer, the used element and the used index.
-    pub(super) fn mark_windows(
-        &mut self,
-        memory: &dyn GuestMemory,
-        written: u64,
-        stores: &sys::Stores,
-    ) {
+    /// Reports the first bytes of the reply buffer of a chain that was popped with a table.
+    pub(super) fn mark_windows(&mut self, memory: &dyn GuestMemory, written: u64) {
         let mut windows = [Window::default(); WINDOWS];
         let mut done = 0;
         while done < written {
@@ -223,9 +217,6 @@ impl Worker {
                 self.mark_at(memory, *window);
                 done += window.len as u64;
             }
-        }
-        for (at, len) in [(stores.id_at, 4), (stores.len_at, 4), (stores.index_at, 2)] {
-            self.mark_at(memory, Window { at, len });
         }
     }
 }

@@ -47,7 +47,13 @@ impl Worker {
             return Err(Status::WrongOrder);
         }
         let pushing = Pushing(self, queue);
-        let stores = pushing.0.chain.push(pushing.1, &mut pushing.0.front)?;
+        let stores = match pushing.0.chain.push(pushing.1, &mut pushing.0.front) {
+            Ok(stores) => stores,
+            Err(status) => {
+                pushing.0.mark_data(memory);
+                return Err(status);
+            }
+        };
         // From here on the guest may get the answer: it isn't undone if the memory panics.
         pushing.0.is_called = false;
         let notify = pushing.0.store(pushing.1, memory, &stores)?;
@@ -149,12 +155,33 @@ impl Worker {
         Ok(true)
     }
 
+    /// Marks the bytes of the chain's reply buffer that may have been written so far
+    /// ([`GuestMemory::mark`]), such as a READ's data. `push` does so by itself. Call this before
+    /// [`Worker::abandon`]: the guest gets no reply, but its memory has changed.
+    pub fn mark_data(&mut self, memory: &dyn GuestMemory) {
+        if memory.is_logging() {
+            self.mark_room(memory, self.counts.end());
+        }
+    }
+
     /// Reports the written bytes: the reply buffer up to the end of the reply and of the bytes that
     /// the file system may have written, the used element and the used index.
     fn mark_written(&mut self, memory: &dyn GuestMemory, stores: &sys::Stores) {
-        let written = u64::from(stores.len).max(self.counts.end());
+        self.mark_room(memory, u64::from(stores.len).max(self.counts.end()));
         if self.chain.is_translated() {
-            return self.mark_windows(memory, written, stores);
+            for (at, len) in [(stores.id_at, 4), (stores.len_at, 4), (stores.index_at, 2)] {
+                self.mark_at(memory, Window { at, len });
+            }
+            return;
+        }
+        memory.mark(GuestRange { guest: stores.element_guest, len: 8 });
+        memory.mark(GuestRange { guest: stores.index_guest, len: 2 });
+    }
+
+    /// Reports the first bytes of the reply buffer.
+    fn mark_room(&mut self, memory: &dyn GuestMemory, written: u64) {
+        if self.chain.is_translated() {
+            return self.mark_windows(memory, written);
         }
         let mut ranges = [GuestRange::default(); 16];
         let mut done = 0;
@@ -168,8 +195,6 @@ impl Worker {
                 done += range.len;
             }
         }
-        memory.mark(GuestRange { guest: stores.element_guest, len: 8 });
-        memory.mark(GuestRange { guest: stores.index_guest, len: 2 });
     }
 
     fn served(&self, reply_len: u32, notify: bool) -> Served {
