@@ -105,7 +105,7 @@
  * the memory of its arguments. It meets its contract in crates/fs_chain_c: it has the effect of the
  * call of the handle in crates/fs_chain. The handle's loads, calls, replies (but your own bytes)
  * and stores follow from the bytes passed, by VIRTIO 1.2 and the FUSE grammar. This holds for one
- * chain (law_chains), and for many in flight (law_runs, law_handles: in Rattle). See PROVED.md.
+ * chain (law_chains), and in Rattle for many in flight (law_runs, `step` of calls): PROVED.md.
  * TESTED, not proved: that pk_chain_free frees all; calls on a chain that moves between threads;
  * the inline functions; the numbers that pk_chain_set_memory, pk_queue_begin and pk_restore give,
  * which are C (tools/pk_numbers.c). Also which error is returned if PK_OUT_OF_MEMORY and a later
