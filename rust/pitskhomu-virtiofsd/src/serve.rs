@@ -283,6 +283,7 @@ impl<F: ServedFs> Server for QueueWorker<F> {
     fn abandon(&mut self) {
         let Some(memory) = self.memory.take() else { return };
         self.is_translated = false; // `Ring::drop_chains` has released the ring's pages
+        self.worker.mark_data(&*memory);
         self.cancelled = self.worker.abandon().map(|cancelled| (cancelled, memory));
     }
 
