@@ -348,7 +348,8 @@ impl Builder {
     }
 }
 
-/// A queue that is served. Dropped, it is reset.
+/// A queue that is served. Dropped, it is reset. `stop`, `reset` and a drop wait for the calls that
+/// the threads are in: make none of them from such a call.
 pub struct Serving {
     shared: Arc<Shared>,
     threads: Vec<JoinHandle<()>>,
