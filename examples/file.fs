@@ -17,7 +17,7 @@ write 0x100 0000020000000200
 
 # Both are served, the file system's calls before each.
 kick 0 9
-# The entry: node 2 stands at 0x2010, the file's size of 5 at 0x2040, its mode 0o100644 at 0x2074.
+# The entry: node 2 is at 0x2010, the file's size of 5 at 0x2040, its mode 0o100644 at 0x2074.
 read 0x2000 144
 # The header of 16 bytes, and `hello`.
 read 0x3000 21

@@ -130,7 +130,7 @@ uint32_t give_back(struct pk_chain *chain, struct pk_queue *queue, const struct 
     return status;
 }
 
-bool ask_kicks(struct pk_chain *chain, const struct pk_queue *queue, bool wanted,
+bool set_notification(struct pk_chain *chain, const struct pk_queue *queue, bool wanted,
                const struct marker *marker) {
     struct pk_store store;
     if (pk_set_notification(chain, queue, wanted, &store) != PK_DONE || store.len == 0)

@@ -17,7 +17,7 @@ uint16_t load_index(uintptr_t at);
 /* Enables or disables available buffer notifications (VIRTIO 1.2, 2.7.10): at most one store of 2
  * bytes, and a full barrier. Returns whether something was stored. If that enabled them, pop once
  * more: a chain may have become available before the driver could know. `marker` may be NULL. */
-bool ask_kicks(struct pk_chain *chain, const struct pk_queue *queue, bool wanted,
+bool set_notification(struct pk_chain *chain, const struct pk_queue *queue, bool wanted,
                const struct marker *marker);
 
 /* The available index that was loaded last: its value, its address, and the queue's reset count

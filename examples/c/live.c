@@ -53,7 +53,7 @@ static bool set_kicks(struct worker *worker, bool enabled) {
     if (live->kicks == (enabled ? ENABLED : DISABLED) && live->enabled_at == at) return false;
     live->kicks = enabled ? ENABLED : DISABLED;
     live->enabled_at = at;
-    return ask_kicks(&worker->chain, &live->queue, enabled, live->marker);
+    return set_notification(&worker->chain, &live->queue, enabled, live->marker);
 }
 
 /* A chain that becomes available while this one is answered is for a thread that sleeps. If none

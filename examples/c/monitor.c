@@ -323,7 +323,7 @@ int main(void) {
     expect(pk_queue_begin(&queue, 0), PK_DONE);
     expect(pk_chain_set_memory(&chain, &device, &region, 1), PK_DONE);
     /* an earlier device may have left any flags */
-    if (!ask_kicks(&chain, &queue, true, &marker)) return 1;
+    if (!set_notification(&chain, &queue, true, &marker)) return 1;
     guest_uses_a_file();
     guest_errs();
     print_written();

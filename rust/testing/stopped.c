@@ -91,7 +91,7 @@ static void lose_memory(const char *dir, uint64_t node, bool holds) {
            holds ? ", with a call that the host holds" : "");
 }
 
-/* The driver begins anew, with empty rings. */
+/* The driver begins again, with empty rings. */
 static void begin_rings(void) {
     for (size_t ring = 1; ring < RINGS; ring++) {
         (void)front_stop_ring(&front, ring);

@@ -1,7 +1,7 @@
 /* give_back of access.c: the reply and the used element are in memory when the used index is stored
  * (VIRTIO 1.2, 2.7.8). The index lies at the end of a page that can't be written at first, and the
- * rest in other pages. So its store raises SIGSEGV, whose handler looks at the rest. ask_kicks
- * marks the used flags that it stores. */
+ * rest in other pages. So its store raises SIGSEGV, whose handler looks at the rest.
+ * set_notification marks the used flags that it stores. */
 #define _DEFAULT_SOURCE
 #include "../access.h"
 #include <signal.h>
@@ -88,7 +88,7 @@ static void mark(void *log, uintptr_t at, uint64_t len) {
 
 static void silence(struct pk_chain *chain, const struct pk_queue *queue) {
     const struct marker marker = {mark, NULL};
-    expect("a store", ask_kicks(chain, queue, false, &marker), true);
+    expect("a store", set_notification(chain, queue, false, &marker), true);
     expect("VIRTQ_USED_F_NO_NOTIFY", number(USED, 2), 1);
     expect("its mark", marked.at, (uintptr_t)memory + USED);
     expect("the bytes that are marked", marked.len, 2);

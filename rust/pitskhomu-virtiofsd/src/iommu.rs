@@ -44,7 +44,7 @@ impl Iommu {
     }
 
     /// `SET_FEATURES` says whether there is an IOMMU. What was known is forgotten, but for rings
-    /// with chains in flight: QEMU tells nothing of what changes while the device stands.
+    /// with chains in flight: QEMU reports no change while the device is stopped.
     pub fn set(&self, is_on: bool) -> Result<(), Status> {
         if is_on {
             self.channel.begin();
@@ -113,7 +113,7 @@ impl Iommu {
         Ok(())
     }
 
-    /// The mappings of these addresses are gone. QEMU's main loop stands still until this is
+    /// The mappings of these addresses are gone. QEMU's main loop waits until this is
     /// answered, so nobody is waited for.
     fn invalidate(&self, iova: u64, len: u64) -> Result<(), &'static str> {
         // QEMU says the whole space by a mask, whose length it has no number for.

@@ -168,7 +168,7 @@ mod tests {
         assert_eq!(flags_of(&old) & libc::O_APPEND, libc::O_APPEND);
         assert_eq!(flags_of(&new) & (libc::O_APPEND | libc::O_NONBLOCK), libc::O_NONBLOCK);
         old.write_all(b"abc").expect("appended");
-        new.write_all(b"X").expect("written where it stands");
+        new.write_all(b"X").expect("written at its place");
         let mut text = String::new();
         new.rewind().and_then(|()| new.read_to_string(&mut text)).expect("text");
         assert_eq!(text, "Xbc");

@@ -38,7 +38,7 @@ pub struct Options {
     /// The same as --socket-path [deprecated]
     #[arg(long, required_unless_present_any = ["fd", "socket_path", "print_capabilities"])]
     pub socket: Option<PathBuf>,
-    /// Where the front-end (QEMU) connects to; it is made anew
+    /// Where the front-end (QEMU) connects to; an old one is replaced
     #[arg(long, required_unless_present_any = ["fd", "socket", "print_capabilities"])]
     pub socket_path: Option<PathBuf>,
     /// The group that may connect to the socket, besides its owner

@@ -99,7 +99,7 @@ impl Ring {
     }
 
     fn refuse(&self, state: &mut State, why: Status) {
-        error!("queue {} is refused, and isn't served until it begins anew: {why}", self.index);
+        error!("queue {} is refused, and isn't served until it is reset: {why}", self.index);
         state.refuse();
     }
 
