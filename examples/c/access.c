@@ -131,7 +131,7 @@ uint32_t give_back(struct pk_chain *chain, struct pk_queue *queue, const struct 
 }
 
 bool set_notification(struct pk_chain *chain, const struct pk_queue *queue, bool wanted,
-               const struct marker *marker) {
+                      const struct marker *marker) {
     struct pk_store store;
     if (pk_set_notification(chain, queue, wanted, &store) != PK_DONE || store.len == 0)
         return false;

@@ -18,7 +18,7 @@ uint16_t load_index(uintptr_t at);
  * bytes, and a full barrier. Returns whether something was stored. If that enabled them, pop once
  * more: a chain may have become available before the driver could know. `marker` may be NULL. */
 bool set_notification(struct pk_chain *chain, const struct pk_queue *queue, bool wanted,
-               const struct marker *marker);
+                      const struct marker *marker);
 
 /* The available index that was loaded last: its value, its address, and the queue's reset count
  * then. Zero it before its first use, and keep it with the queue, under the same lock. */
