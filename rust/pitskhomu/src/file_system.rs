@@ -17,9 +17,10 @@ use core::time::Duration;
 ///
 /// It chooses the numbers of nodes and open files. A name is any bytes but zero. A file system that
 /// serves a host directory must refuse each name for which [`is_name`](crate::is_name) is false. A
-/// method that isn't implemented answers ENOSYS, or "done" where that is harmless. If the reply
-/// buffer is too small for an answer, the answer is undone ([`FileSystem::cancelled`]): an entry by
-/// `forget`, an open file by `release`.
+/// method that isn't implemented answers ENOSYS. The exceptions succeed: `init` wants no option,
+/// `open` and `opendir` return handle 0, `statfs` zeros, and `destroy`, `forget`, `release` and
+/// `releasedir` do nothing. If the reply buffer is too small for an answer, the answer is undone
+/// ([`FileSystem::cancelled`]): an entry by `forget`, an open file by `release`.
 ///
 /// These methods answer before they return. A file system that answers later, on another thread or
 /// in an async task, takes each call as a value, with an object for its answer
@@ -288,8 +289,9 @@ pub trait FileSystem {
     }
 
     /// READDIR and READDIRPLUS: adds entries until none is left or the next one doesn't fit. No
-    /// entry at all is the directory's end. READDIRPLUS takes entries with their nodes too
-    /// ([`Listing::add_plus`]).
+    /// entry at all is the directory's end. READDIRPLUS takes entries with their nodes too:
+    /// [`Listing::add_with`] serves both calls. Linux sends READDIRPLUS only if `init` answers
+    /// [`Options::DO_READDIRPLUS`].
     fn readdir(
         &self,
         context: &Context,

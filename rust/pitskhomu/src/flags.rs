@@ -212,11 +212,11 @@ flags! {
         AUTO_INVAL_DATA = 1 << 12;
         /// The file system wants READDIRPLUS in place of READDIR.
         DO_READDIRPLUS = 1 << 13;
-        /// The guest chooses between READDIRPLUS and READDIR.
+        /// The guest chooses between READDIRPLUS and READDIR (with `DO_READDIRPLUS`).
         READDIRPLUS_AUTO = 1 << 14;
         /// Direct reads and writes may be asynchronous.
         ASYNC_DIO = 1 << 15;
-        /// The guest caches written data, and sends it later (`Write::delayed`).
+        /// The guest caches written data, and sends it later (`WriteFile::delayed`).
         WRITEBACK_CACHE = 1 << 16;
         /// The guest sends no more OPEN after one that was answered ENOSYS.
         NO_OPEN_SUPPORT = 1 << 17;

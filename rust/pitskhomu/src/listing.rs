@@ -21,8 +21,9 @@ struct Listed {
     found: Option<Entry>,
 }
 
-/// Entries of a directory, for an answer that comes later. The [`Listing`] of an owned request
-/// makes them ([`Response`](crate::Response)).
+/// Entries of a directory, for an answer that comes later. Usually you need no value of this type:
+/// [`Reply::send`](crate::Reply::send) takes the filled [`Listing`] of a request or of an owned
+/// request, and makes the entries of it.
 #[derive(Clone, Debug, Default, PartialEq)]
 pub struct Entries(Vec<Listed>);
 

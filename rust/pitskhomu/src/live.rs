@@ -14,6 +14,10 @@
 //! The guest's addresses are physical. A queue behind an IOMMU needs a loop of its own, with
 //! [`Worker::lend`].
 //!
+//! The driver's side notifies by adding to the counter of `kick`, as ioeventfd does. A test writes
+//! `1u64.to_ne_bytes()`. The threads never read that counter. They interrupt the driver by adding
+//! 1 to the counter of `call`. Both descriptors may be blocking or non-blocking.
+//!
 //! # Examples
 //! ```no_run
 //! use pitskhomu::{live, Device, FileSystem, GuestMemory, Queue, Region, Status};
@@ -30,6 +34,47 @@
 //!     let (memory, regions) = memory;
 //!     let builder = live::Builder::new(device, memory, &regions).threads(4);
 //!     builder.start(queue, kick, call, file_system)
+//! }
+//! ```
+//! By values, with another thread that answers: one thread serves the queue, with up to 16 chains
+//! in flight.
+//! ```no_run
+//! use pitskhomu::{live, Cancelled, Errno, FileSystem, Operation, OwnedRequest, Queue, Request};
+//! use std::fs::File;
+//! use std::sync::mpsc::Sender;
+//! use std::sync::{Arc, Mutex};
+//!
+//! struct Later<F> {
+//!     files: Arc<F>,
+//!     jobs: Mutex<Sender<OwnedRequest>>, // a lock, since threads share the handler
+//! }
+//!
+//! impl<F: FileSystem + Send + Sync> live::Handler for Later<F> {
+//!     fn call(&self, request: Request<'_>) {
+//!         match request.operation {
+//!             Operation::ReadDirectory { .. } => {
+//!                 // If a step fails, the reply object is dropped, and the guest gets an error.
+//!                 if let Ok(request) = request.into_owned() {
+//!                     let _ = self.jobs.lock().unwrap().send(request);
+//!                 }
+//!             }
+//!             _ => {
+//!                 let _ = request.reply.error(Errno::ENOSYS);
+//!             }
+//!         }
+//!     }
+//!
+//!     fn cancelled(&self, cancelled: &Cancelled) {
+//!         cancelled.undo(&*self.files);
+//!     }
+//! }
+//!
+//! fn start<F: FileSystem + Send + Sync + 'static>(
+//!     builder: live::Builder,
+//!     (queue, kick, call): (Queue, File, File),
+//!     later: Later<F>,
+//! ) -> Result<live::Serving, live::Error> {
+//!     builder.in_flight(16).start_by_values(queue, kick, call, Arc::new(later))
 //! }
 //! ```
 mod events;
@@ -96,13 +141,16 @@ impl From<io::Error> for Error {
     }
 }
 
-/// Answers the requests of a queue by values, at once or later. A function of a [`Request`] is one.
+/// Answers the requests of a queue by values, at once or later. A function of a [`Request`] is one:
+/// write a closure's argument with its type, `|request: Request<'_>|`. A function undoes nothing.
+/// So a type that counts nodes or open files implements [`Handler::cancelled`] itself.
 pub trait Handler: Send + Sync {
     /// Answers a request, or hands its [`Reply`](crate::Reply) on. A panic answers EIO.
     fn call(&self, request: Request<'_>);
 
-    /// An answer that the guest doesn't get is to be undone ([`FileSystem::cancelled`]). After a
-    /// panic the rest of it isn't undone.
+    /// An answer that the guest doesn't get is to be undone ([`FileSystem::cancelled`]). The
+    /// default does nothing. [`Cancelled::undo`] calls the methods of a file system. After a panic
+    /// the rest of it isn't undone.
     fn cancelled(&self, _cancelled: &Cancelled) {}
 }
 
@@ -267,7 +315,8 @@ impl Builder {
     }
 
     /// Sets the greatest number of chains in flight, if it is above the number of threads: the
-    /// others wait for answers that come later.
+    /// others wait for answers that come later. It is at most the queue's size, and replaces
+    /// [`Queue::max_in_flight`].
     pub fn in_flight(mut self, in_flight: u16) -> Builder {
         self.in_flight = in_flight;
         self
@@ -281,7 +330,8 @@ impl Builder {
     }
 
     /// Serves a queue by the methods of a file system. `kick` is the event of the driver's
-    /// notifications, and `call` interrupts it. Set the queue's event index before.
+    /// notifications, and `call` interrupts it. Set the queue's event index before
+    /// ([`Queue::with_event_index`]). The threads look for chains at once, without a notification.
     ///
     /// # Errors
     /// Those of [`Worker::set_memory`] and of the system. No thread is left then.
@@ -295,7 +345,8 @@ impl Builder {
         self.start_service(queue, kick, call, Box::new(Methods(file_system)))
     }
 
-    /// Serves a queue by values.
+    /// Serves a queue by values: `handler` may hand a reply object to another thread. Otherwise it
+    /// is like `start`.
     ///
     /// # Errors
     /// Those of `start`.

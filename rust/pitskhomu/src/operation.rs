@@ -27,7 +27,8 @@ const SETXATTR_ACL_KILL_SGID: u32 = 1;
 #[non_exhaustive]
 #[allow(missing_docs)] // the fields are the arguments of the trait's methods
 pub enum Operation<'a> {
-    /// Nothing is to be done, and nothing answered: the chain has its reply, or gets none.
+    /// Nothing is to be done, and nothing answered: the chain has its reply, or gets none. Drop
+    /// the reply object.
     None,
     /// INIT: `Options`.
     Init(Init),
@@ -65,7 +66,8 @@ pub enum Operation<'a> {
     Create { child: Child<'a>, create: Create },
     /// READ: `Data`, which `data` makes.
     Read { node: Node, read: ReadFile, data: ReadData<'a> },
-    /// WRITE: `Written`.
+    /// WRITE: `Written`, the number of bytes that were taken out of `data`
+    /// ([`WriteData::done`]).
     Write { node: Node, write: WriteFile, data: WriteData<'a> },
     /// STATFS: `Statistics`.
     Statistics { node: Node },
@@ -447,6 +449,30 @@ impl Request<'_> {
 }
 
 /// A request that borrows nothing: it may be answered from another thread, or from an async task.
+///
+/// # Examples
+/// READDIRPLUS from another thread. The list of an owned request is a buffer: fill it, and send it.
+/// ```
+/// use pitskhomu::prelude::*;
+///
+/// /// A directory with one file.
+/// fn list(request: OwnedRequest, files: &dyn FileSystem) {
+///     let OwnedRequest { call, reply, .. } = request;
+///     let sent = match call.operation() {
+///         Operation::ReadDirectory { node, read, mut list } => {
+///             let name = CStr::from_bytes_with_nul(b"hello\0").unwrap();
+///             let entry = DirectoryEntry::new(name, 2, 1, FileKind::REGULAR);
+///             let look_up = || files.lookup(&call.context, node, name);
+///             let added = if read.offset == 0 { list.add_with(entry, look_up) } else { Ok(true) };
+///             reply.answer(added.map(|_| list))
+///         }
+///         _ => reply.error(Errno::ENOSYS),
+///     };
+///     if let Err(unsent) = sent {
+///         unsent.cancelled().undo(files); // too late: forgets the nodes of the list
+///     }
+/// }
+/// ```
 #[derive(Debug)]
 #[non_exhaustive]
 pub struct OwnedRequest {

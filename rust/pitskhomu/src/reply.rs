@@ -16,8 +16,10 @@ use core::mem;
 use core::task::Waker;
 use core::time::Duration;
 
-/// The answer to a call that succeeded, as a value. Most are made by `From`: that of `()` is
-/// `Done`, that of bytes `Data`.
+/// The answer to a call that succeeded, as a value. Most are made by `From`, so
+/// [`send`](Reply::send) takes an [`Entry`], an [`Opened`] or a pair of an entry and a file as it
+/// is. `()` is `Done`, bytes and a [`ReadData`] are `Data`, and a [`Listing`] is `Entries`. Numbers
+/// need a name, for example `Response::Written(data.done())`.
 #[derive(Clone, Debug, PartialEq)]
 #[non_exhaustive]
 pub enum Response {

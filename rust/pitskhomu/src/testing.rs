@@ -128,7 +128,28 @@ impl<'f> Guest<'f> {
     }
 
     /// A guest whose requests are answered by values, at once or later. The guest waits for each
-    /// answer.
+    /// answer, also for one of another thread. INIT is a request too.
+    ///
+    /// # Examples
+    /// ```no_run
+    /// use pitskhomu::testing::Guest;
+    /// use pitskhomu::{Errno, Node, Operation, Options, OwnedRequest};
+    /// use std::sync::mpsc::Sender;
+    ///
+    /// fn first_names(jobs: &Sender<OwnedRequest>) -> Result<Vec<Vec<u8>>, Errno> {
+    ///     let mut guest = Guest::by_values(|request| match request.operation {
+    ///         Operation::Init(_) => request.reply.send(Options::empty()).unwrap(),
+    ///         Operation::OpenDirectory { .. } | Operation::ReadDirectory { .. } => {
+    ///             jobs.send(request.into_owned().unwrap()).unwrap();
+    ///         }
+    ///         _ => request.reply.error(Errno::ENOSYS).unwrap(),
+    ///     });
+    ///     guest.init()?;
+    ///     let handle = guest.opendir(Node::ROOT, 0)?.handle;
+    ///     let listed = guest.readdirplus(Node::ROOT, handle, 0, 4096)?;
+    ///     Ok(listed.into_iter().map(|entry| entry.name).collect())
+    /// }
+    /// ```
     #[must_use]
     pub fn by_values(handler: impl FnMut(Request<'_>) + 'f) -> Guest<'f> {
         Guest::with(Service::Values(Box::new(handler)))

@@ -42,7 +42,8 @@ fn descriptor(fd: c_int) -> io::Result<OwnedFd> {
     Ok(unsafe { OwnedFd::from_raw_fd(fd) })
 }
 
-/// A new event descriptor, which doesn't block.
+/// A new event descriptor, for `kick`, `call` or `err`. It doesn't block: a read without an event
+/// returns `WouldBlock`. Keep a `try_clone` of each that you pass on.
 ///
 /// # Errors
 /// The system's: too many open files, or too little memory.
