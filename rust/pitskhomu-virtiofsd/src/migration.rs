@@ -71,26 +71,38 @@ impl<F: ServedFs> Migration<F> {
         true
     }
 
+    /// Begins a transfer. One that the front-end hasn't asked about ends first: both would use the
+    /// file in memory.
+    fn begin(&mut self, transfer: impl FnOnce() -> io::Result<()> + Send + 'static) {
+        let before = self.transfer.take();
+        self.transfer = Some(thread::spawn(move || {
+            if let Some(Err(e)) = before.map(|before| joined(before).and_then(|result| result)) {
+                warn!("a transfer failed that the front-end didn't ask about: {e}");
+            }
+            transfer()
+        }));
+    }
+
     /// Sends the state by this pipe, unless the host holds a call of the guest's.
     pub fn save(&mut self, pipe: File) {
         if let Err(e) = state::may_be_saved(&self.core) {
             self.cancel();
-            self.transfer = Some(thread::spawn(move || {
+            self.begin(move || {
                 drop(pipe);
                 Err(e)
-            }));
+            });
             return;
         }
         let (core, scratch) = (self.core.clone(), self.scratch.clone());
         let (preparation, cancelled) = (self.preparation.take(), self.cancelled.take());
-        self.transfer = Some(thread::spawn(move || {
+        self.begin(move || {
             end_preparation(cancelled);
             match preparation {
                 Some(preparation) => joined(preparation.thread)?,
                 None => core.fs.prepare_serialization(Arc::new(AtomicBool::new(false))),
             }
             state::save(&core, &scratch, pipe)
-        }));
+        });
     }
 
     /// Receives the state by this pipe.
@@ -100,10 +112,10 @@ impl<F: ServedFs> Migration<F> {
         }
         let (core, scratch, cancelled) =
             (self.core.clone(), self.scratch.clone(), self.cancelled.take());
-        self.transfer = Some(thread::spawn(move || {
+        self.begin(move || {
             end_preparation(cancelled);
             state::load(&core, &scratch, pipe)
-        }));
+        });
     }
 
     /// Waits for the transfer, and returns its result.

@@ -12,7 +12,7 @@ use pitskhomu::{Cancelled, Popped as Taken, Queue, Status};
 use std::collections::BTreeSet;
 use std::io;
 use std::panic::{catch_unwind, AssertUnwindSafe};
-use std::sync::atomic::{AtomicUsize, Ordering};
+use std::sync::atomic::{AtomicBool, AtomicUsize, Ordering};
 use std::sync::mpsc::sync_channel;
 use std::sync::{Arc, PoisonError, RwLock};
 use std::thread;
@@ -39,6 +39,8 @@ pub struct Core<F> {
     pub always_agreed: pitskhomu::Options,
     /// The number of calls of an earlier session that may change the next one.
     late: Arc<AtomicUsize>,
+    /// The end of a session is under way.
+    is_ending: AtomicBool,
     memory: RwLock<Arc<Table>>,
     /// The same memory for each ring, so that threads of different rings share no lock and no
     /// count.
@@ -84,6 +86,7 @@ impl<F: ServedFs> Core<F> {
             descriptors,
             always_agreed,
             late,
+            is_ending: AtomicBool::new(false),
             memory: RwLock::new(Arc::new(memory)),
             of_rings,
         })
@@ -137,20 +140,22 @@ impl<F: ServedFs> Core<F> {
 
     /// Ends the session without DESTROY: then no node is held, no file is open, and no options are
     /// agreed on. The host may hold the close of a file, or a call that has locked the file system.
-    /// Then the session ends when it does, and no chain is taken before.
+    /// Then the session ends when it does, and no chain is taken before. So if an end is under way
+    /// it is this session's too: a guest that is reset again and again makes no more threads.
     pub fn end_session(self: &Arc<Self>, patience: Patience) {
+        if self.is_ending.swap(true, Ordering::SeqCst) {
+            return;
+        }
         self.late.fetch_add(1, Ordering::SeqCst);
         let (core, (done, is_done)) = (self.clone(), sync_channel(1));
         let ending = thread::Builder::new().spawn(move || {
             core.forget_session();
-            core.end_late();
             let _ = done.try_send(());
         });
         if ending.is_ok() {
             let _ = is_done.recv_timeout(patience.left());
         } else {
             self.forget_session();
-            self.end_late();
         }
     }
 
@@ -158,6 +163,8 @@ impl<F: ServedFs> Core<F> {
     fn forget_session(&self) {
         let _ = catch_unwind(AssertUnwindSafe(|| self.fs.destroy()));
         self.device.set_options(pitskhomu::Options::empty());
+        self.is_ending.store(false, Ordering::SeqCst); // before chains are taken again
+        self.end_late();
     }
 
     /// A late call has ended. After the last one chains are taken again.
@@ -313,3 +320,6 @@ impl<F: ServedFs> Server for QueueWorker<F> {
         self.worker.set_notification(queue, wanted, &**memory)
     }
 }
+
+#[cfg(test)]
+mod tests;

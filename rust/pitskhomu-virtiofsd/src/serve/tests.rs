@@ -1,0 +1,123 @@
+//! A session whose end the host holds, or whose state.
+use super::*;
+use crate::migration::Migration;
+use crate::state::scratch;
+use std::fs::File;
+use std::io::{Read, Seek, Write};
+use std::sync::mpsc::{channel, Receiver, Sender};
+use std::sync::Mutex;
+use std::time::Duration;
+use virtiofsd::filesystem::{DirEntry, DirectoryIterator};
+
+const SOON: Duration = Duration::from_secs(20);
+
+/// A directory without entries.
+struct NoEntries;
+
+impl DirectoryIterator for NoEntries {
+    fn next(&mut self) -> Option<DirEntry<'_>> {
+        None
+    }
+}
+
+/// A state of virtiofsd's without a node.
+const EMPTY: [u8; 10] = [1, 0, 2, 0, 0, 0, 0, 0, 0, 0];
+
+/// A file system whose DESTROY, and whose state, begin and end by these.
+struct Holding {
+    begins: Mutex<Sender<()>>,
+    ends: Mutex<Receiver<()>>,
+}
+
+impl Holding {
+    fn hold(&self) {
+        self.begins.lock().expect("who listens").send(()).expect("who listens");
+        self.ends.lock().expect("an end").recv().expect("an end");
+    }
+}
+
+impl FileSystem for Holding {
+    type Inode = u64;
+    type Handle = u64;
+    type DirIter = NoEntries;
+
+    fn destroy(&self) {
+        self.hold();
+    }
+}
+
+impl SerializableFileSystem for Holding {
+    fn serialize(&self, mut file: File) -> io::Result<()> {
+        file.write_all(&EMPTY[..4])?;
+        self.hold();
+        file.write_all(&EMPTY[4..])
+    }
+}
+
+/// A core over it, and the ends of its channels.
+fn core() -> (Arc<Core<Holding>>, Receiver<()>, Sender<()>) {
+    let ((begins, has_begun), (end, ends)) = (channel(), channel());
+    let fs = Holding { begins: Mutex::new(begins), ends: Mutex::new(ends) };
+    let core = Core::new(Parts {
+        fs,
+        request_queues: 1,
+        threads: 1,
+        flags: OpenFlags { allow_direct_io: false, preserve_noatime: false, writeback: false },
+        descriptors: Descriptors::new(None).expect("/proc/self/fd"),
+        always_agreed: pitskhomu::Options::empty(),
+    });
+    (Arc::new(core.expect("a core")), has_begun, end)
+}
+
+/// A guest may be reset as often as it likes while the host holds the close of its files.
+#[test]
+fn a_session_that_does_not_end_has_one_thread() {
+    let (core, has_begun, end) = core();
+    core.end_session(Patience::new(false));
+    has_begun.recv_timeout(SOON).expect("an end that begins");
+    let before = Instant::now();
+    for _ in 0..1000 {
+        core.end_session(Patience::new(false));
+    }
+    assert!(before.elapsed() < SOON, "{:?}", before.elapsed());
+    assert!(core.held_calls().is_some());
+    assert!(has_begun.recv_timeout(Duration::from_millis(300)).is_err(), "another end begins");
+    end.send(()).expect("who waits");
+    let until = Instant::now() + SOON;
+    while core.held_calls().is_some() {
+        assert!(Instant::now() < until, "chains aren't taken again");
+        thread::yield_now();
+    }
+    // the next session's end is one of its own
+    end.send(()).expect("who waits");
+    core.end_session(Patience::new(false));
+    has_begun.recv_timeout(SOON).expect("an end that begins");
+}
+
+fn bytes(mut file: &File) -> Vec<u8> {
+    let mut bytes = Vec::new();
+    file.rewind().expect("a file");
+    file.read_to_end(&mut bytes).expect("bytes");
+    bytes
+}
+
+/// A front-end may begin a transfer before the one before has ended.
+#[test]
+fn one_state_is_transferred_at_a_time() {
+    let (core, has_begun, end) = core();
+    let mut migration = Migration::new(core, scratch().expect("a file"));
+    let pipes = [scratch().expect("a file"), scratch().expect("a file")];
+    migration.save(pipes[0].try_clone().expect("a descriptor"));
+    has_begun.recv_timeout(SOON).expect("a state that is written");
+    migration.save(pipes[1].try_clone().expect("a descriptor"));
+    assert!(
+        has_begun.recv_timeout(Duration::from_millis(300)).is_err(),
+        "both are written at once"
+    );
+    end.send(()).expect("who waits");
+    end.send(()).expect("who waits");
+    migration.finish().expect("a state");
+    let states = pipes.each_ref().map(bytes);
+    assert_eq!(states[0], states[1]);
+    assert_eq!(states[0][2..10], EMPTY[1..9]);
+}
