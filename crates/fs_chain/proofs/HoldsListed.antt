@@ -15,7 +15,7 @@ use Rattle.server_phases.specs.declared.listing.ListingReply.{ListingReply}
 use Rattle.plain_machine.specs.Step.{Calls, answers_alone, calls_alone}
 use Rattle.live_machine.specs.Live.{Abandoned, Asked, Fetched, InFlightChain, Own, Phase, PoppedFaulty, room_of, room_of_phase}
 use Rattle.live_machine.proofs.EachCall.{each_waits_first}
-use Rattle.fs_chain.specs.Holds.{IsDecodedIn, IsHeldIn, KeepsReplyOf, Machine}
+use Rattle.fs_chain.specs.Holds.{IsDecodedIn, IsHeldIn, KeepsReplyOf, Machine, served_so}
 use Rattle.fs_chain.specs.HoldsListings.{AddingIs, AddsEntry, BeginsListing, EndsListing, FailsListing, HasListed, HoldsListing, IsLeftOut}
 use Rattle.fs_chain.specs.HoldsListings.{LeavesOut}
 use Rattle.fs_chain.specs.HoldsListings.{ListingCallIs, LooksUp, MayEnd, MayFail, ReadsDirectory, calls_left_out}
@@ -122,6 +122,10 @@ ended page_size c es ending calls list old new len reply h is told state_is long
     ap (λ (x : Meaning). (served s x (answers_alone steps)).reply) h.means ∙ ap (λ (x : ServedMessage). x.reply) serving in
     let by_calls : (served s m (answers_alone calls)).reply ≡ whole =
     ap (λ (x : Calls). (served s m (answers_alone x)).reply) is ∙ by_steps in
+    let all_steps : (served s m (answers_alone steps)).calls ≡ calls_alone steps =
+    ap (λ (x : Meaning). (served s x (answers_alone steps)).calls) h.means ∙ ap (λ (x : ServedMessage). x.calls) serving in
+    let all_calls : (served s m (answers_alone calls)).calls ≡ calls_alone calls =
+    ap (λ (x : Calls). (served s m (answers_alone x)).calls) is ∙ all_steps ∙ sym (ap (λ (x : Calls). calls_alone x) is) in
     let len_is : front_len kept + kept.behind ≡ length (served s m (answers_alone calls)).reply =
     ap (λ (n : ℕ). length reply.front + n) (sym long) ∙ sym (length-append reply.front (take reply.len list)) ∙ sym (ap length by_calls) in
     let keeps : KeepsReplyOf (served s m (answers_alone calls)).reply h.out kept = record {
@@ -138,6 +142,8 @@ ended page_size c es ending calls list old new len reply h is told state_is long
       kept = kept;
       state = state_is;
       reply = by_calls ∙ ap (λ (n : ℕ). reply.front ++ take n list) (sym told);
+      none_pending =
+          ap (λ (n : ℕ). (served_so page_size h.options h.request n calls).calls) h.is_out.room_len ∙ all_calls;
     }
 
 abbrev len_in : Result ℕ ChainError → ℕ

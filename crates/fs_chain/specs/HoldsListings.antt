@@ -1,6 +1,8 @@
 -- A listing that a handle gathers in a run: its entries, its file calls, and its end. Its calls are answered
 -- without the handle, which is told of the entries alone.
-use Rattle.std.specs.Prelude.{◌≡◌, ℕ, Bool, true, false, IsTrue, List, [], ◌∷◌, ◌++◌, take, Option, Some}
+use Rattle.std.specs.Prelude.{◌≡◌, ℕ, Bool, true, false, IsTrue, List, [], ◌∷◌, ◌++◌, length, take, Option}
+use Rattle.std.specs.Prelude.{Some}
+use Rattle.fs_queue.specs.Taking.{addresses_of, writable}
 use Rattle.fuse_fs.specs.Calls.{FileAnswer, FileCall, HasEntry, Listed, suits}
 use Rattle.server_replies.specs.Entries.{EIO, EOVERFLOW, is_dot}
 use Rattle.virtiofsd_fuse.specs.Grammar.{Lists, meaning}
@@ -9,7 +11,7 @@ use Rattle.virtiofsd_fuse.specs.Listings.{ListRequest, readdir_call}
 use Rattle.server_phases.specs.Gathering.{Brought, EndsList, FailsList, IsListingFor}
 use Rattle.server_phases.specs.Gathering as gathering
 use Rattle.server_phases.specs.declared.listing.Listing.{Listing}
-use Rattle.plain_machine.specs.Step.{Calls}
+use Rattle.plain_machine.specs.Step.{Calls, calls_alone}
 use Rattle.live_machine.specs.Live.{Asked, Happens, InFlightChain, ReceivesAnswer, after_answer, asked_chain}
 use Rattle.fs_chain.specs.Holds.{HoldsChain, IsDecodedIn, IsOutAs, Machine, any_files, served_so}
 use Rattle.fs_chain.specs.Orders.{front_of}
@@ -82,13 +84,17 @@ MayFail errno listing list (NotFound d behind error) =
 MayFail errno listing list (Unreadable error) = error ≡ errno
 MayFail errno listing list _ = ⊥
 
--- the listing has its reply: the handle keeps the front, and the first `len` bytes of the list are the data
+-- the listing has its reply: the handle keeps the front, and the first `len` bytes of the list are the data.
+-- No call of it is pending
 pub record HasListed (page_size : ℕ) (c : InFlightChain) (calls : Calls) (list : List ℕ) (request : List ℕ)
     (options : ℕ) (out : InFlight) (len : ℕ) (new : ChainHandle) : Type 0 where
   pub holds : HoldsChain page_size c new
   pub kept : ChainReply
   pub state : new.state ≡ at.HasReply out kept
   pub reply : (served_so page_size options request out.room_len calls).reply ≡ front_of kept ++ take len list
+  pub none_pending :
+      (served_so page_size options request (length (addresses_of (writable c.descriptors))) calls).calls
+      ≡ calls_alone calls
 
 -- the end of a listing whose calls were answered
 unfoldable pub EndsListing : (old new : ChainHandle) → (len : ℕ) → Type 0
