@@ -234,13 +234,11 @@ impl<F: ServedFs> VhostUserBackendReqHandlerMut for FrontEnd<F> {
     }
 
     fn set_vring_call(&mut self, index: u8, call: Option<File>) -> Result<()> {
-        self.ring(index)?.set_call(call);
-        Ok(())
+        self.ring(index)?.set_call(call).map_err(told)
     }
 
     fn set_vring_err(&mut self, index: u8, err: Option<File>) -> Result<()> {
-        self.ring(index)?.set_err(err);
-        Ok(())
+        self.ring(index)?.set_err(err).map_err(told)
     }
 
     fn get_protocol_features(&mut self) -> Result<VhostUserProtocolFeatures> {

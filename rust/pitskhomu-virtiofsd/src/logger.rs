@@ -18,6 +18,7 @@ use std::thread;
 use std::time::{Duration, Instant};
 use syslog::{BasicLogger, Facility, Formatter3164};
 
+use crate::notifier::Room;
 use crate::options::Options;
 
 /// The most lines that wait for the thread.
@@ -221,9 +222,7 @@ impl Log for Logger {
 /// Whether standard error takes a line at once: a pipe that nobody reads is full some time.
 fn errors_have_room() -> bool {
     let fd = ERRORS.load(Ordering::Relaxed);
-    let mut errors = libc::pollfd { fd, events: libc::POLLOUT, revents: 0 };
-    // SAFETY: the one structure is borrowed mutably.
-    unsafe { libc::poll(&raw mut errors, 1, 0) != 0 }
+    Room::new(fd).ok().flatten().is_none_or(|room| room.is_there())
 }
 
 /// Writes to standard error from a signal's handler, and doesn't wait for those who read it.
@@ -241,7 +240,9 @@ pub fn write_at_the_end(bytes: &[u8]) {
 #[cfg(test)]
 mod tests {
     use super::*;
+    use crate::notifier::{tests::full_pipe, Notifier};
     use std::sync::mpsc::{channel, Sender};
+    use virtiofsd::seccomp::{enable_seccomp, SeccompAction};
 
     /// A writer that waits for a permit at each line.
     struct Slow {
@@ -258,6 +259,18 @@ mod tests {
             let _ = self.written.lock().expect("who reads").send(record.args().to_string());
         }
         fn flush(&self) {}
+    }
+
+    /// A system call that the filter refuses ends the process. Only this thread gets the filter.
+    #[test]
+    fn the_filter_allows_a_look_for_room() {
+        let (_reader, writer) = full_pipe(0);
+        let looked = thread::spawn(move || {
+            enable_seccomp(SeccompAction::Kill, false).expect("a filter");
+            let notifier = Notifier::new(writer).expect("a notifier");
+            (errors_have_room(), notifier.notify().is_ok())
+        });
+        assert!(looked.join().expect("a look").1);
     }
 
     #[test]

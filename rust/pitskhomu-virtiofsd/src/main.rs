@@ -9,6 +9,7 @@ mod logger;
 mod marks;
 mod memory;
 mod migration;
+mod notifier;
 mod open_flags;
 mod options;
 mod ring;

@@ -18,10 +18,11 @@ mod waits;
 use crate::in_flight::Doing;
 use crate::iommu::Cancel;
 use crate::memory::Table;
+use crate::notifier::Notifier;
 use log::warn;
 use pitskhomu::{Popped as Taken, Queue, QueueLayout, Status};
 use std::fs::File;
-use std::io::{self, ErrorKind, Write};
+use std::io;
 use std::os::fd::AsRawFd;
 use std::sync::atomic::{AtomicBool, AtomicUsize};
 use std::sync::{Arc, Condvar, Mutex, MutexGuard, PoisonError};
@@ -92,11 +93,11 @@ pub struct State {
     /// The next chain has addresses that the IOMMU's table doesn't map.
     is_missing: bool,
     kick: Option<File>,
-    call: Option<Arc<File>>,
+    call: Option<Arc<Notifier>>,
     /// The driver wasn't interrupted, since there was no call descriptor. QEMU sets it after it has
     /// started a ring with available chains.
     owes_call: bool,
-    err: Option<File>,
+    err: Option<Notifier>,
 }
 
 impl State {
@@ -180,7 +181,7 @@ impl State {
 
     /// The event that interrupts the driver. Without a call descriptor the driver is interrupted
     /// as soon as there is one.
-    fn interrupt(&mut self) -> Option<Arc<File>> {
+    fn interrupt(&mut self) -> Option<Arc<Notifier>> {
         self.owes_call = self.call.is_none();
         self.call.clone()
     }
@@ -193,20 +194,17 @@ impl State {
     /// Marks the ring as refused, and notifies the front-end by its err descriptor.
     fn refuse(&mut self) {
         self.is_refused = true;
-        if let Some(Err(e)) = self.err.as_mut().map(|err| err.write(&1u64.to_ne_bytes())) {
+        if let Some(Err(e)) = self.err.as_ref().map(Notifier::notify) {
             warn!("the front-end isn't told that a ring is refused: {e}");
         }
     }
 }
 
 /// Interrupts the driver, if an interrupt is owed.
-fn send(owed: &mut Option<Arc<File>>) {
+fn send(owed: &mut Option<Arc<Notifier>>) {
     // [Notifies] of the used ring
-    if let Some(Err(e)) = owed.take().map(|call| (&*call).write(&1u64.to_ne_bytes())) {
-        // If the event's counter is full, the driver gets the interrupt all the same.
-        if e.kind() != ErrorKind::WouldBlock {
-            warn!("the driver isn't notified: {e}");
-        }
+    if let Some(Err(e)) = owed.take().map(|call| call.notify()) {
+        warn!("the driver isn't notified: {e}");
     }
 }
 
@@ -391,17 +389,21 @@ impl Ring {
     }
 
     /// Sets the call descriptor, by which the driver is interrupted, also for chains in flight.
-    pub fn set_call(&self, call: Option<File>) {
+    pub fn set_call(&self, call: Option<File>) -> io::Result<()> {
+        let call = call.map(Notifier::new).transpose()?;
         let mut state = self.lock();
         state.call = call.map(Arc::new);
         if state.owes_call {
             state.notify();
         }
+        Ok(())
     }
 
     /// Sets the err descriptor, by which the front-end is notified of a refusal.
-    pub fn set_err(&self, err: Option<File>) {
+    pub fn set_err(&self, err: Option<File>) -> io::Result<()> {
+        let err = err.map(Notifier::new).transpose()?;
         self.lock().err = err;
+        Ok(())
     }
 
     /// Enables or disables the ring: while it is disabled no chain is taken or returned.
@@ -451,10 +453,10 @@ mod tests {
         let (ring, event) = (Ring::new(0, 1, Arc::default()).expect("a ring"), event());
         let call = || Some(event.try_clone().expect("a descriptor"));
         ring.lock().notify();
-        ring.set_call(None);
-        ring.set_call(call());
+        ring.set_call(None).expect("none");
+        ring.set_call(call()).expect("a place");
         assert!(is_called(&event));
-        ring.set_call(call()); // no interrupt is owed any more
+        ring.set_call(call()).expect("a place"); // no interrupt is owed any more
         assert!(!is_called(&event));
         ring.lock().notify();
         assert!(is_called(&event));

@@ -2,9 +2,9 @@
 use super::{send, Answered, Ring, Server, Source, State};
 use crate::in_flight::Doing;
 use crate::memory::Table;
+use crate::notifier::Notifier;
 use log::{debug, error, warn};
 use pitskhomu::{Popped as Taken, Status};
-use std::fs::File;
 use std::io::{self, ErrorKind};
 use std::sync::atomic::Ordering;
 use std::sync::{Arc, MutexGuard};
@@ -33,7 +33,7 @@ enum Looked {
 #[derive(Debug, Default)]
 struct Turn {
     /// The event by which the driver is to be interrupted.
-    owed: Option<Arc<File>>,
+    owed: Option<Arc<Notifier>>,
     /// So often the IOMMU was asked for the next chain.
     rounds: u32,
     /// The chain that the IOMMU was asked for.
@@ -126,7 +126,7 @@ impl Ring {
         state: &mut State,
         server: &mut impl Server,
         doing: &Doing,
-    ) -> Option<Arc<File>> {
+    ) -> Option<Arc<Notifier>> {
         let mut owed = None;
         if doing.is_dropped() {
             server.abandon();

@@ -3,6 +3,7 @@ use super::*;
 use crate::iommu::Cancel;
 use crate::memory::tests::{table, HIGH};
 use crate::memory::PAGE;
+use crate::notifier::tests::full_pipe;
 use crate::ring::{Answered, Server};
 use pitskhomu::{
     Answer, Attributes, CStr, Context, Device, Entry, Errno, FileSystem, GuestMemory as _, Handle,
@@ -230,6 +231,41 @@ fn a_stop_does_not_wait_for_the_host() {
         assert!(tried.waits_for(tried.offered));
         assert_eq!(tried.ring.held(), None);
     }
+}
+
+/// Whether `GET_VRING_BASE` is answered in time, on a thread of its own.
+fn is_answered(tried: &Tried) -> bool {
+    let (ring, memory) = (tried.ring.clone(), tried.memory.clone());
+    let (answer, answered) = channel();
+    thread::spawn(move || {
+        let _ = answer.send(ring.stop(&mut Silent, &memory, Patience::new(false)));
+    });
+    answered.recv_timeout(Duration::from_millis(100)).is_ok()
+}
+
+/// The call descriptor is a full pipe that blocks.
+#[test]
+fn a_full_call_descriptor_holds_no_stop() {
+    let mut tried = Tried::new();
+    let (_reader, writer) = full_pipe(0);
+    tried.ring.set_call(Some(writer)).expect("a pipe");
+    tried.hold();
+    tried.end_call();
+    assert!(tried.waits_for(1));
+    thread::sleep(Duration::from_millis(50)); // the driver is interrupted
+    assert!(is_answered(&tried));
+}
+
+/// The err descriptor is a full pipe that blocks, and the ring is refused.
+#[test]
+fn a_full_err_descriptor_holds_no_stop() {
+    let tried = Tried::new();
+    let (_reader, writer) = full_pipe(0);
+    tried.ring.set_err(Some(writer)).expect("a pipe");
+    store(&tried.memory, LAYOUT.available + 2, &0x1234u16.to_le_bytes()); // more than its size
+    tried.ring.look();
+    thread::sleep(Duration::from_millis(50));
+    assert!(is_answered(&tried));
 }
 
 #[test]
