@@ -5,6 +5,8 @@ use std::time::{Duration, Instant};
 
 /// The lines of one kind that a period has.
 pub const MOST_LINES: u32 = 20;
+/// The most bytes of a line's text. One that is longer ends with two dots.
+pub const LONGEST_LINE: usize = 1024;
 /// The first period. Each period that left lines out is followed by one twice as long.
 pub const FIRST_PERIOD: Duration = Duration::from_secs(60);
 /// The longest period.
@@ -25,8 +27,32 @@ impl Line {
     /// The line of a record.
     pub fn of(record: &Record<'_>) -> Line {
         let (level, target) = (record.level(), record.target().into());
-        Line { level, target, text: record.args().to_string() }
+        Line { level, target, text: one_line(&record.args().to_string()) }
     }
+}
+
+/// Whether a character would end a line, or move a terminal's cursor.
+fn leaves_line(c: char) -> bool {
+    c.is_control() || matches!(c, '\u{2028}' | '\u{2029}')
+}
+
+/// A text on one line, of at most `LONGEST_LINE` bytes. A guest's names may have any bytes.
+fn one_line(text: &str) -> String {
+    let mut line = String::new();
+    for c in text.chars() {
+        let before = line.len();
+        if leaves_line(c) {
+            line.extend(c.escape_default());
+        } else {
+            line.push(c);
+        }
+        if line.len() > LONGEST_LINE {
+            line.truncate(before);
+            line.push_str("..");
+            break;
+        }
+    }
+    line
 }
 
 /// The place in the source that a line is from. Lines of one place are of one kind.
@@ -153,6 +179,19 @@ mod tests {
         assert_eq!(due, ["1480 more such lines, the last: line 1499"]);
         assert_eq!(limits.due(later), []);
         assert_eq!(admitted(&mut limits, 7, "again", later), ["again"]);
+    }
+
+    #[test]
+    fn a_name_stays_on_its_line() {
+        let (mut limits, now) = (Limits::default(), Instant::now());
+        let lines = admitted(&mut limits, 1, "gone (/a\nb\u{1b}[31m\u{2028}\u{e4}\\n)", now);
+        assert_eq!(lines, ["gone (/a\\nb\\u{1b}[31m\\u{2028}\u{e4}\\n)"]);
+        let line = |text: &str| admitted(&mut Limits::default(), 1, text, now).remove(0);
+        assert_eq!(line(&"n".repeat(1024)), "n".repeat(1024));
+        assert_eq!(line(&"n".repeat(1025)), "n".repeat(1024) + "..");
+        // an escape isn't cut
+        assert_eq!(line(&("n".repeat(1023) + "\n")), "n".repeat(1023) + "..");
+        assert_eq!(line(&"\n".repeat(80_000)), "\\n".repeat(512) + "..");
     }
 
     #[test]
