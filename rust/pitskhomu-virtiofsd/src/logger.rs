@@ -241,6 +241,7 @@ pub fn write_at_the_end(bytes: &[u8]) {
 mod tests {
     use super::*;
     use crate::notifier::{tests::full_pipe, Notifier};
+    use std::iter;
     use std::sync::mpsc::{channel, Sender};
     use virtiofsd::seccomp::{enable_seccomp, SeccompAction};
 
@@ -297,8 +298,7 @@ mod tests {
                 None => count += 1,
             }
         };
-        let rest = lines.recv_timeout(Duration::from_millis(300)).into_iter();
-        count += rest.chain(lines.try_iter()).count();
+        count += iter::from_fn(|| lines.recv_timeout(Duration::from_millis(300)).ok()).count();
         assert_eq!(count + lost, 3000);
         assert!((MOST_WAITING..=MOST_WAITING + 2).contains(&count), "{count}");
     }
