@@ -50,8 +50,9 @@ static void lay_entry(size_t at, uint64_t address, uint32_t len, uint16_t flags,
     put(at + 14, next, 2);
 }
 
-/* Memory as a hostile guest might have it, chosen so that most chains go some way. */
-static void lay_chance(void) {
+/* Memory as a hostile guest might have it, chosen so that most chains go some way. `next_avail`
+ * is the position of the next available chain. */
+static void lay_chance(uint16_t next_avail) {
     size_t count = 1 + below(ENTRIES);
     memset(memory, 0, sizeof memory);
     for (size_t k = 0; k < SIZE; k++) {
@@ -71,7 +72,7 @@ static void lay_chance(void) {
                   (uint16_t)(below(50) ? k + 1 : below(ENTRIES)));
     for (size_t k = 0; k < SIZE; k++)
         put(AVAIL + 4 + 2 * k, below(40) ? below(SIZE) : SIZE, 2);
-    put(AVAIL + 2, below(30) ? 1 + below(SIZE) : SIZE + 1, 2);
+    put(AVAIL + 2, next_avail + (below(30) ? 1 + below(SIZE) : SIZE + 1), 2);
 }
 
 static void make_handle(struct pk_chain *chain) {
@@ -104,10 +105,11 @@ static void spoil(struct loads *loads, size_t from, uint64_t way) {
     switch (way) {
     case 0: loads->count = from; break;                     /* cut short */
     case 1: one->at += 2; break;                            /* another place */
-    case 2: one->len -= 1; break;                           /* a part of it */
-    case 3: one->len += 1; break;                           /* and a byte behind it */
-    case 4: one->len = SIZE_MAX - 1; break;                 /* no bytes can be so many */
-    case 5: *one = loads->ahead[(from + 1) % loads->count]; /* another one, or it twice */
+    case 2: one->at -= 2; break;                            /* one before it */
+    case 3: one->len -= 1; break;                           /* a part of it */
+    case 4: one->len += 1; break;                           /* and a byte behind it */
+    case 5: one->len = SIZE_MAX - 1; break;                 /* no bytes can be so many */
+    case 6: *one = loads->ahead[(from + 1) % loads->count]; /* another one, or it twice */
             if (one->at == 0 || loads->count == 1) one->at += 2;
             break;
     default: one->at = 0, one->len = 0; break;
@@ -160,14 +162,21 @@ static size_t pop_by_list(struct pk_chain *chain, struct pk_queue *queue, const 
 static const struct pk_queue fresh = {
     .desc = DESC, .avail = AVAIL, .used = USED, .size = SIZE, .max_in_flight = SIZE};
 
+/* A queue in which so many chains were popped, and up to SIZE - 1 are in flight. */
+static struct pk_queue after_pops(uint16_t count) {
+    struct pk_queue queue = fresh;
+    queue.next_avail = count, queue.next_used = (uint16_t)(count - below(SIZE));
+    return queue;
+}
+
 static void try_one(void) {
     static struct loads loads, list;
-    struct pk_queue queue = fresh, second = fresh, third = fresh;
+    struct pk_queue queue = after_pops((uint16_t)below(0x10000)), second = queue, third = queue;
     struct pk_chain chain, other, ringing;
     struct pk_pop pop, step;
     struct pk_ring ring = {0};
     uint32_t status, found;
-    lay_chance();
+    lay_chance(queue.next_avail);
     make_handle(&chain);
     make_handle(&other);
     make_handle(&ringing);
@@ -177,7 +186,7 @@ static void try_one(void) {
         list = loads;
         if (loads.count && below(4)) {
             from = below(loads.count);
-            spoil(&list, from, below(7));
+            spoil(&list, from, below(8));
         }
         calls = pop_by_list(&other, &second, &list, &step, &found);
         expect("the status", found, status);

@@ -134,6 +134,26 @@ static void ended_early(void) {
     after("no chain", PK_DONE, PK_DONE, PK_STATE_FREE);
 }
 
+/* A drop comes too late once the request was decoded: the chain stays as it is. So it does with
+ * another queue. */
+static void dropped_too_late(void) {
+    struct pk_queue other = queue;
+    request(GETATTR, 56);
+    after("the pop", pop(), PK_DONE, PK_STATE_POPPED);
+    other.next_used = other.next_avail;
+    after("the other queue", pk_drop(&chain, &other), PK_OTHER_QUEUE, PK_STATE_POPPED);
+    after("the request", decode(), PK_DONE, PK_STATE_DECODED);
+    after("a late drop", pk_drop(&chain, &queue), PK_WRONG_ORDER, PK_STATE_DECODED);
+    after("the answer", pk_reply_err(&chain, call.ticket, 5), PK_DONE, PK_STATE_REPLIED);
+    after("a later drop", pk_drop(&chain, &queue), PK_WRONG_ORDER, PK_STATE_REPLIED);
+    push();
+    request(GETATTR, 56);
+    describe(1, 0x100000, 0x100, 2, 0); /* past the guest's memory */
+    after("the faulty chain", pop(), PK_DONE, PK_STATE_REPLIED);
+    after("its drop", pk_drop(&chain, &queue), PK_WRONG_ORDER, PK_STATE_REPLIED);
+    push();
+}
+
 static void names(void) {
     static const struct {
         const char *name;
@@ -157,6 +177,7 @@ int main(void) {
     a_listing();
     without_an_answer();
     by_own_bytes();
+    dropped_too_late();
     ended_early();
     names();
     pk_chain_free(&chain);
