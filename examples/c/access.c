@@ -91,21 +91,25 @@ uint32_t ask(struct pk_chain *chain, const struct pk_device *device, uint8_t *re
     return status;
 }
 
-static void mark_room(struct pk_chain *chain, const struct marker *marker, uint64_t len) {
+void mark_data(struct pk_chain *chain, uint64_t from, uint64_t len, const struct marker *marker) {
     struct pk_window windows[WINDOWS];
-    for (uint64_t from = 0; from < len;) {
-        size_t count = pk_reply_windows(chain, from, len - from, windows, WINDOWS);
-        if (count == 0) return;
+    size_t count;
+    while (len > 0 && (count = pk_reply_windows(chain, from, len, windows, WINDOWS)) > 0)
         for (size_t k = 0; k < count; k++) {
             marker->mark(marker->log, windows[k].at, windows[k].len);
-            from += windows[k].len;
+            from += windows[k].len, len -= windows[k].len;
         }
-    }
+}
+
+void put_data(struct pk_chain *chain, uint64_t from, const void *bytes, uint64_t len,
+              const struct marker *marker) {
+    scatter(chain, from, bytes, len);
+    if (marker) mark_data(chain, from, len, marker);
 }
 
 static void mark_stores(struct pk_chain *chain, const struct marker *marker,
                         const struct pk_stores *stores) {
-    mark_room(chain, marker, stores->len);
+    mark_data(chain, 0, stores->len, marker);
     marker->mark(marker->log, stores->id_at, 4);
     marker->mark(marker->log, stores->len_at, 4);
     marker->mark(marker->log, stores->index_at, 2);

@@ -38,8 +38,16 @@ uint32_t take_chain(struct pk_chain *chain, struct pk_queue *queue, struct offer
 /* Copies `len` bytes out of the request, from its byte `from` on. */
 void gather(struct pk_chain *chain, uint64_t from, void *to, uint64_t len);
 
-/* Copies `len` bytes into the reply buffer, from its byte `from` on. */
+/* Copies `len` bytes into the reply buffer, from its byte `from` on, and marks none. */
 void scatter(struct pk_chain *chain, uint64_t from, const void *bytes, uint64_t len);
+
+/* Marks `len` bytes of the reply buffer, from its byte `from` on. Call it at once after each store
+ * of yours there: later the chain may get an error as its reply, or be abandoned. */
+void mark_data(struct pk_chain *chain, uint64_t from, uint64_t len, const struct marker *marker);
+
+/* Copies an answer's data into the reply buffer, and marks it. `marker` may be NULL. */
+void put_data(struct pk_chain *chain, uint64_t from, const void *bytes, uint64_t len,
+              const struct marker *marker);
 
 /* Loads the request's first bytes, at most PK_FIRST, and returns their number. */
 size_t load_front(struct pk_chain *chain, const struct pk_pop *pop, uint8_t *request);
@@ -51,8 +59,7 @@ uint32_t ask(struct pk_chain *chain, const struct pk_device *device, uint8_t *re
              struct pk_call *call);
 
 /* Pushes a chain, in the order of VIRTIO 1.2, 2.7.8. Marks the stores and the reply's part of the
- * reply buffer; mark other bytes that you put there yourself. `marker` may be NULL. `notify`
- * becomes true if the driver is to be notified. */
+ * reply buffer. `marker` may be NULL. `notify` becomes true if the driver is to be notified. */
 uint32_t give_back(struct pk_chain *chain, struct pk_queue *queue, const struct marker *marker,
                    bool *notify);
 

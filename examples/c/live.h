@@ -8,7 +8,8 @@
 
 /* Answers a call, and returns PK_DONE, PK_NO_ROOM, or an error: then the reply is EIO. A
  * READDIRPLUS that has entries isn't left to that (PK_ENTRIES). `device` is a copy of the device's
- * numbers, whose options INIT may change. Threads of other queues answer meanwhile. */
+ * numbers, whose options INIT may change. Threads of other queues answer meanwhile. Put data into
+ * the reply buffer by put_data, with the marker. */
 typedef uint32_t answerer(void *files, struct pk_chain *chain, struct pk_device *device,
                           const struct pk_call *call, const uint8_t *request);
 

@@ -28,6 +28,18 @@ static uint8_t list[PAGE]; /* READDIR's entries */
 
 static uint64_t least(uint64_t a, uint64_t b) { return a < b ? a : b; }
 
+/* A migration's log: whether this VMM stored to a page. */
+static bool written[MEMORY / PAGE];
+
+static void mark(void *log, uintptr_t at, uint64_t len) {
+    bool *pages = log;
+    size_t from = at - (uintptr_t)memory;
+    for (size_t page = from / PAGE; page < MEMORY / PAGE && page * PAGE < from + len; page++)
+        pages[page] = true;
+}
+
+static const struct marker marker = {mark, written};
+
 /* ------------------------------------------------------------- 1. a file system in memory
  * File k is node k + 2; all files are in the root, node 1. An unlinked file exists as long as the
  * guest holds its node. */
@@ -147,7 +159,7 @@ static uint32_t do_read(const struct pk_call *call) {
     if (!f) return pk_reply_err(&chain, call->ticket, ENOENT);
     uint64_t from = least(call->offset, f->attr.size);
     uint64_t len = least(f->attr.size - from, least(call->size, call->data_len));
-    scatter(&chain, call->data_at, f->contents + from, len);
+    put_data(&chain, call->data_at, f->contents + from, len, &marker);
     return pk_reply_data(&chain, call->ticket, len);
 }
 
@@ -182,23 +194,11 @@ static uint32_t do_readdir(const struct pk_call *call) {
     /* an empty list would end the directory */
     if (len == 0 && used > 0) return pk_reply_err(&chain, call->ticket, EINVAL);
     uint32_t status = pk_reply_entries(&chain, call->ticket, &len);
-    scatter(&chain, call->data_at, list, len);
+    put_data(&chain, call->data_at, list, len, &marker);
     return status;
 }
 
 /* ------------------------------------------------------------- 2. the VMM */
-
-/* A migration's log: whether this VMM stored to a page. */
-static bool written[MEMORY / PAGE];
-
-static void mark(void *log, uintptr_t at, uint64_t len) {
-    bool *pages = log;
-    size_t from = at - (uintptr_t)memory;
-    for (size_t page = from / PAGE; page < MEMORY / PAGE && page * PAGE < from + len; page++)
-        pages[page] = true;
-}
-
-static const struct marker marker = {mark, written};
 
 static void print_written(void) {
     printf("The pages that were written:");
@@ -250,8 +250,8 @@ static uint32_t reply_capitals(const struct pk_pop *pop, const struct fuse_in_he
     gather(&chain, have, request + have, pop->request_len - have);
     for (uint64_t k = sizeof *in; k < pop->request_len; k++)
         request[k] = (uint8_t)toupper(request[k]);
-    scatter(&chain, 0, &out, sizeof out);
-    scatter(&chain, sizeof out, request + sizeof *in, len);
+    put_data(&chain, 0, &out, sizeof out, &marker);
+    put_data(&chain, sizeof out, request + sizeof *in, len, &marker);
     return pk_reply_bytes(&chain, pop->ticket, out.len);
 }
 
