@@ -12,6 +12,7 @@ use crate::serve::{Core, QueueWorker, ServedFs};
 use log::{debug, error, info};
 use std::fs::File;
 use std::io;
+use std::os::fd::RawFd;
 use std::sync::Arc;
 #[allow(clippy::wildcard_imports, reason = "the module is the protocol's messages")]
 use vhost::vhost_user::message::*;
@@ -52,19 +53,19 @@ fn no_queue() -> Error {
 
 impl<F: ServedFs> FrontEnd<F> {
     /// `scratch` is the file of `state::scratch`.
-    pub fn new(core: Arc<Core<F>>, tag: Option<String>, scratch: File) -> FrontEnd<F> {
+    pub fn new(core: Arc<Core<F>>, tag: Option<String>, scratch: File) -> io::Result<FrontEnd<F>> {
         let (migration, worker) =
-            (Migration::new(core.clone(), scratch), QueueWorker::new(core.clone(), 0));
-        FrontEnd { core, tag, features: 0, log: None, migration, worker }
+            (Migration::new(core.clone(), scratch)?, QueueWorker::new(core.clone(), 0));
+        Ok(FrontEnd { core, tag, features: 0, log: None, migration, worker })
+    }
+
+    /// The front-end is connected by this socket.
+    pub fn connect(&self, socket: RawFd) -> io::Result<()> {
+        self.migration.watch(socket)
     }
 
     fn ring(&self, index: impl Into<u32>) -> Result<&Ring> {
         self.core.rings.get(index.into() as usize).ok_or_else(no_queue)
-    }
-
-    /// How long a message that came now waits for chains.
-    fn patience(&self) -> Patience {
-        Patience::new(self.logs())
     }
 
     /// Enables or disables all rings.
@@ -89,7 +90,7 @@ impl<F: ServedFs> FrontEnd<F> {
     }
 
     fn set_memory(&mut self, table: io::Result<Table>) -> Result<()> {
-        self.core.set_memory(table.map_err(told)?, self.patience());
+        self.core.set_memory(table.map_err(told)?, Patience::new());
         Ok(())
     }
 
@@ -114,7 +115,7 @@ impl<F: ServedFs> VhostUserBackendReqHandlerMut for FrontEnd<F> {
     }
 
     fn reset_device(&mut self) -> Result<()> {
-        let patience = Patience::new(false);
+        let patience = Patience::new();
         self.enable_all(false, patience);
         let memory = self.core.memory();
         self.core.rings.iter().for_each(|ring| ring.reset(&memory));
@@ -144,7 +145,7 @@ impl<F: ServedFs> VhostUserBackendReqHandlerMut for FrontEnd<F> {
             .iter()
             .for_each(|ring| ring.tell(|numbers| numbers.has_event_index = has_event_index));
         if features & VhostUserVirtioFeatures::PROTOCOL_FEATURES.bits() == 0 {
-            self.enable_all(true, self.patience());
+            self.enable_all(true, Patience::new());
         }
         if self.logs() {
             self.migration.prepare();
@@ -214,7 +215,7 @@ impl<F: ServedFs> VhostUserBackendReqHandlerMut for FrontEnd<F> {
     }
 
     fn get_vring_base(&mut self, index: u32) -> Result<VhostUserVringState> {
-        let patience = self.patience();
+        let patience = Patience::new();
         // The reply has only the base, so it can't report an error.
         let ring = self.core.rings.get(index as usize).ok_or(Error::InvalidParam)?;
         let memory = self.core.memory();
@@ -273,7 +274,7 @@ impl<F: ServedFs> VhostUserBackendReqHandlerMut for FrontEnd<F> {
         if self.features & VhostUserVirtioFeatures::PROTOCOL_FEATURES.bits() == 0 {
             return Err(unsupported("SET_VRING_ENABLE without the protocol's features"));
         }
-        let patience = self.patience();
+        let patience = Patience::new();
         let ring = self.core.rings.get(index as usize).ok_or_else(no_queue)?;
         let memory = self.core.memory();
         if !enable {

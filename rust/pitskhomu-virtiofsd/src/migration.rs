@@ -5,13 +5,29 @@ use crate::state;
 use log::warn;
 use std::fs::File;
 use std::io;
+use std::os::fd::{AsRawFd, RawFd};
+use std::panic::{catch_unwind, AssertUnwindSafe};
 use std::sync::atomic::{AtomicBool, Ordering};
-use std::sync::Arc;
-use std::thread::{self, JoinHandle};
+use std::sync::mpsc::{sync_channel, Receiver, RecvTimeoutError, TryRecvError, TrySendError};
+use std::sync::{Arc, Mutex, MutexGuard, TryLockError};
+use std::thread;
+use std::time::{Duration, Instant};
+use vmm_sys_util::epoll::{ControlOperation, Epoll, EpollEvent, EventSet};
+use vmm_sys_util::eventfd::EventFd;
+
+/// The time that a transfer waits for a preparation. Its length is the number of the guest's files,
+/// but a host that holds one of its calls mustn't hold the front-end.
+const LONGEST_PREPARATION: Duration = Duration::from_secs(60);
+/// The time between two looks whether the turn has come.
+const A_MOMENT: Duration = Duration::from_millis(10);
+
+/// One thread at a time prepares or transfers a state: they use the same file, and the same part of
+/// the file system.
+type Turn = Mutex<()>;
 
 /// The file system's preparation, on a thread of its own.
 struct Preparation {
-    thread: JoinHandle<()>,
+    done: Receiver<()>,
     is_cancelled: Arc<AtomicBool>,
 }
 
@@ -19,90 +35,164 @@ struct Preparation {
 pub struct Migration<F> {
     core: Arc<Core<F>>,
     scratch: Arc<File>,
+    turn: Arc<Turn>,
     preparation: Option<Preparation>,
-    /// A preparation that was cancelled. The host may hold it.
-    cancelled: Option<JoinHandle<()>>,
-    transfer: Option<JoinHandle<io::Result<()>>>,
+    /// The transfer's result.
+    transfer: Option<Receiver<io::Result<()>>>,
+    /// Ready when a transfer has ended, or the front-end has left.
+    events: Epoll,
+    has_ended: Arc<EventFd>,
 }
 
-fn joined<T>(thread: JoinHandle<T>) -> io::Result<T> {
-    thread.join().map_err(|_| io::Error::other("a thread of the migration panicked"))
+/// A preparation or transfer has ended without a result.
+fn panicked() -> io::Error {
+    io::Error::other("a thread of the migration panicked")
 }
 
-/// Waits for the end of a preparation that was cancelled.
-fn end_preparation(cancelled: Option<JoinHandle<()>>) {
-    if let Some(Err(e)) = cancelled.map(joined) {
-        warn!("{e}");
+fn not_asked_about(result: io::Result<()>) {
+    if let Err(e) = result {
+        warn!("a transfer failed that the front-end didn't ask about: {e}");
     }
+}
+
+fn spawn(work: impl FnOnce() + Send + 'static) -> io::Result<()> {
+    thread::Builder::new().name("migration".into()).spawn(work).map(|_| ())
+}
+
+/// Waits until the threads before have ended.
+fn take_turn(turn: &Turn) -> io::Result<MutexGuard<'_, ()>> {
+    let end = Instant::now() + LONGEST_PREPARATION;
+    loop {
+        match turn.try_lock() {
+            Ok(taken) => return Ok(taken),
+            Err(TryLockError::Poisoned(e)) => return Ok(e.into_inner()),
+            Err(TryLockError::WouldBlock) if Instant::now() < end => thread::park_timeout(A_MOMENT),
+            Err(TryLockError::WouldBlock) => {
+                return Err(io::Error::other("an earlier migration hasn't ended yet"));
+            }
+        }
+    }
+}
+
+impl Preparation {
+    fn cancel(&self) {
+        self.is_cancelled.store(true, Ordering::Relaxed);
+    }
+
+    /// Waits for its end. It is cancelled if that takes too long.
+    fn wait(&self) -> io::Result<()> {
+        self.done.recv_timeout(LONGEST_PREPARATION).map_err(|e| match e {
+            RecvTimeoutError::Disconnected => panicked(),
+            RecvTimeoutError::Timeout => {
+                self.cancel();
+                io::Error::other("the state isn't prepared yet: the host may hold a call for it")
+            }
+        })
+    }
+}
+
+/// Sends the state, once it is prepared and no call of the guest's may change it.
+fn save<F: ServedFs>(
+    core: &Core<F>,
+    preparation: Option<&Preparation>,
+    turn: &Turn,
+    scratch: &File,
+    pipe: File,
+) -> io::Result<()> {
+    if let Err(e) = state::may_be_saved(core) {
+        if let Some(preparation) = preparation {
+            preparation.cancel();
+        }
+        return Err(e);
+    }
+    if let Some(preparation) = preparation {
+        preparation.wait()?;
+    }
+    let _turn = take_turn(turn)?;
+    if preparation.is_none() {
+        core.fs.prepare_serialization(Arc::default());
+    }
+    state::save(core, scratch, pipe)
 }
 
 impl<F: ServedFs> Migration<F> {
     /// No migration.
-    pub fn new(core: Arc<Core<F>>, scratch: File) -> Migration<F> {
-        Migration {
+    pub fn new(core: Arc<Core<F>>, scratch: File) -> io::Result<Migration<F>> {
+        let has_ended = EventFd::new(libc::EFD_NONBLOCK | libc::EFD_CLOEXEC)?;
+        let events = Epoll::new()?;
+        let ended = EpollEvent::new(EventSet::IN, has_ended.as_raw_fd() as u64);
+        events.ctl(ControlOperation::Add, has_ended.as_raw_fd(), ended)?;
+        Ok(Migration {
             core,
             scratch: Arc::new(scratch),
+            turn: Arc::default(),
             preparation: None,
-            cancelled: None,
             transfer: None,
-        }
+            events,
+            has_ended: Arc::new(has_ended),
+        })
+    }
+
+    /// From here on the end of this socket ends each wait for a transfer.
+    pub fn watch(&self, front_end: RawFd) -> io::Result<()> {
+        let hung_up = EpollEvent::new(EventSet::empty(), front_end as u64);
+        self.events.ctl(ControlOperation::Add, front_end, hung_up)
     }
 
     /// Begins to prepare the state. The guest will move, and still runs.
     pub fn prepare(&mut self) {
-        if self.preparation.is_none() {
-            let is_cancelled = Arc::new(AtomicBool::new(false));
-            let (core, is_over) = (self.core.clone(), is_cancelled.clone());
-            let before = self.cancelled.take();
-            let thread = thread::spawn(move || {
-                end_preparation(before);
-                core.fs.prepare_serialization(is_over);
-            });
-            self.preparation = Some(Preparation { thread, is_cancelled });
+        if self.preparation.is_some() {
+            return;
+        }
+        let is_cancelled: Arc<AtomicBool> = Arc::default();
+        let (core, is_over, turn) = (self.core.clone(), is_cancelled.clone(), self.turn.clone());
+        let (end, done) = sync_channel(1);
+        let spawned = spawn(move || {
+            let Ok(_turn) = take_turn(&turn) else { return };
+            if !is_over.load(Ordering::Relaxed) {
+                core.fs.prepare_serialization(is_over); // this forgets what was prepared before
+                let _ = end.try_send(());
+            }
+        });
+        match spawned {
+            Ok(()) => self.preparation = Some(Preparation { done, is_cancelled }),
+            Err(e) => warn!("the state is prepared when the guest stops, without a thread: {e}"),
         }
     }
 
     /// Cancels the preparation, since the guest stays. Nobody waits for its end, but the next
     /// preparation and the next transfer. Returns whether there was one.
     pub fn cancel(&mut self) -> bool {
-        let Some(preparation) = self.preparation.take() else { return false };
-        preparation.is_cancelled.store(true, Ordering::Relaxed);
-        self.cancelled = Some(preparation.thread);
-        true
+        let preparation = self.preparation.take();
+        preparation.as_ref().inspect(|preparation| preparation.cancel()).is_some()
     }
 
-    /// Begins a transfer. One that the front-end hasn't asked about ends first: both would use the
-    /// file in memory.
+    /// Begins a transfer. Nobody asks any more about the one before.
     fn begin(&mut self, transfer: impl FnOnce() -> io::Result<()> + Send + 'static) {
-        let before = self.transfer.take();
-        self.transfer = Some(thread::spawn(move || {
-            if let Some(Err(e)) = before.map(|before| joined(before).and_then(|result| result)) {
-                warn!("a transfer failed that the front-end didn't ask about: {e}");
+        let (end, result) = sync_channel(1);
+        let (ended, has_ended) = (end.clone(), self.has_ended.clone());
+        let spawned = spawn(move || {
+            let result =
+                catch_unwind(AssertUnwindSafe(transfer)).unwrap_or_else(|_| Err(panicked()));
+            if let Err(TrySendError::Disconnected(result)) = ended.try_send(result) {
+                not_asked_about(result);
             }
-            transfer()
-        }));
+            let _ = has_ended.write(1);
+        });
+        if let Err(e) = spawned {
+            let why = format!("there is no thread for the state: {e}");
+            let _ = end.try_send(Err(io::Error::other(why)));
+        }
+        if let Some(Ok(result)) = self.transfer.replace(result).map(|before| before.try_recv()) {
+            not_asked_about(result);
+        }
     }
 
     /// Sends the state by this pipe, unless the host holds a call of the guest's.
     pub fn save(&mut self, pipe: File) {
-        if let Err(e) = state::may_be_saved(&self.core) {
-            self.cancel();
-            self.begin(move || {
-                drop(pipe);
-                Err(e)
-            });
-            return;
-        }
-        let (core, scratch) = (self.core.clone(), self.scratch.clone());
-        let (preparation, cancelled) = (self.preparation.take(), self.cancelled.take());
-        self.begin(move || {
-            end_preparation(cancelled);
-            match preparation {
-                Some(preparation) => joined(preparation.thread)?,
-                None => core.fs.prepare_serialization(Arc::new(AtomicBool::new(false))),
-            }
-            state::save(&core, &scratch, pipe)
-        });
+        let (core, scratch, turn) = (self.core.clone(), self.scratch.clone(), self.turn.clone());
+        let preparation = self.preparation.take();
+        self.begin(move || save(&core, preparation.as_ref(), &turn, &scratch, pipe));
     }
 
     /// Receives the state by this pipe.
@@ -110,18 +200,35 @@ impl<F: ServedFs> Migration<F> {
         if self.cancel() {
             warn!("a state comes in, so what was prepared to go out is given up");
         }
-        let (core, scratch, cancelled) =
-            (self.core.clone(), self.scratch.clone(), self.cancelled.take());
+        let (core, scratch, turn) = (self.core.clone(), self.scratch.clone(), self.turn.clone());
         self.begin(move || {
-            end_preparation(cancelled);
+            let _turn = take_turn(&turn)?;
             state::load(&core, &scratch, pipe)
         });
     }
 
-    /// Waits for the transfer, and returns its result.
+    /// Waits for the transfer, and returns its result. An error if the front-end leaves before.
     pub fn finish(&mut self) -> io::Result<()> {
         let transfer =
             self.transfer.take().ok_or_else(|| io::Error::other("no state was transferred"))?;
-        joined(transfer)?
+        loop {
+            match transfer.try_recv() {
+                Ok(result) => return result,
+                Err(TryRecvError::Disconnected) => return Err(panicked()),
+                Err(TryRecvError::Empty) => {}
+            }
+            let mut events = [EpollEvent::default(); 2];
+            let count = match self.events.wait(-1, &mut events) {
+                Err(e) if e.kind() == io::ErrorKind::Interrupted => 0,
+                counted => counted?,
+            };
+            let ended = self.has_ended.as_raw_fd() as u64;
+            if events[..count].iter().any(|event| event.data() != ended) {
+                return Err(io::Error::other(
+                    "the front-end left before the state was transferred",
+                ));
+            }
+            let _ = self.has_ended.read(); // of this transfer, or of one before
+        }
     }
 }

@@ -16,8 +16,11 @@ use std::sync::atomic::{AtomicBool, AtomicUsize, Ordering};
 use std::sync::mpsc::sync_channel;
 use std::sync::{Arc, PoisonError, RwLock};
 use std::thread;
-use std::time::Instant;
+use std::time::{Duration, Instant};
 use virtiofsd::filesystem::{FileSystem, SerializableFileSystem};
+
+/// The time between two looks whether a call has ended.
+const A_MOMENT: Duration = Duration::from_millis(10);
 
 /// A file system with all traits that the daemon needs.
 pub trait ServedFs: FileSystem + SerializableFileSystem + Send + Sync + 'static {}
@@ -127,6 +130,19 @@ impl<F: ServedFs> Core<F> {
             held.push("one of an earlier session".into());
         }
         (!held.is_empty()).then(|| held.join("; "))
+    }
+
+    /// Waits for the calls of `held_calls`, at most `LAST_CHAINS`, and returns those that are left.
+    /// The chains of a ring that stands don't end before it goes on, so nobody waits for them.
+    pub fn calls_left(&self) -> Option<String> {
+        let end = Instant::now() + LAST_CHAINS;
+        loop {
+            let held = self.held_calls()?;
+            if self.rings.iter().any(Ring::holds) || Instant::now() >= end {
+                return Some(held);
+            }
+            thread::park_timeout(A_MOMENT); // virtiofsd's filter allows no sleep by the clock
+        }
     }
 
     /// Waits until the host has no call, after the connection has ended. It waits at most

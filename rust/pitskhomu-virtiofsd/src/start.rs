@@ -14,7 +14,7 @@ use std::fs::File;
 use std::io;
 use std::os::fd::AsRawFd;
 use std::path::Path;
-use std::sync::{Arc, Mutex};
+use std::sync::{Arc, Mutex, PoisonError};
 use std::thread;
 use std::time::Duration;
 use vhost::vhost_user::{BackendListener, BackendReqHandler, Error as FrontEndError, Listener};
@@ -283,8 +283,9 @@ impl Serving {
                 start_thread(core.clone(), index)?;
             }
         }
-        let front_end = Arc::new(Mutex::new(FrontEnd::new(core.clone(), self.tag, self.scratch)));
-        let mut listener = BackendListener::new(self.listener, front_end)?;
+        let front_end = FrontEnd::new(core.clone(), self.tag, self.scratch)?;
+        let front_end = Arc::new(Mutex::new(front_end));
+        let mut listener = BackendListener::new(self.listener, front_end.clone())?;
         info!("Waiting for vhost-user socket connection...");
         let handler = loop {
             if let Some(handler) = listener.accept()? {
@@ -293,6 +294,8 @@ impl Serving {
         };
         drop(listener); // a second front-end can't connect
         info!("Client connected, servicing requests");
+        front_end.lock().unwrap_or_else(PoisonError::into_inner).connect(handler.as_raw_fd())?;
+        drop(front_end);
         let ended = answer(handler, &core);
         core.wait_for_calls();
         info!("Client disconnected, shutting down");

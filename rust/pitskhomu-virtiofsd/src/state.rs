@@ -57,8 +57,9 @@ fn sum(bytes: &[u8]) -> [u8; 8] {
 }
 
 /// Refuses to save a state while the host holds a call of the guest's: its reply would be lost.
+/// Waits a while for those that may end.
 pub fn may_be_saved<F: ServedFs>(core: &Core<F>) -> io::Result<()> {
-    core.held_calls().map_or(Ok(()), |held| {
+    core.calls_left().map_or(Ok(()), |held| {
         Err(io::Error::other(format!(
             "the guest can't move now, and goes on here, since the host holds a call of its: {held}"
         )))
@@ -67,7 +68,7 @@ pub fn may_be_saved<F: ServedFs>(core: &Core<F>) -> io::Result<()> {
 
 /// Refuses to load a state while the host holds a call of the guest's: it may change that state.
 fn may_be_loaded<F: ServedFs>(core: &Core<F>) -> io::Result<()> {
-    core.held_calls().map_or(Ok(()), |held| {
+    core.calls_left().map_or(Ok(()), |held| {
         Err(io::Error::other(format!(
             "no state can be loaded now, since the host holds a call: {held}"
         )))

@@ -9,38 +9,35 @@ use std::sync::atomic::Ordering;
 use std::sync::{Arc, MutexGuard, PoisonError};
 use std::time::{Duration, Instant};
 
-/// The time that the end of a session waits for its last chains.
+/// The time that a state waits for calls, and the end of the daemon.
 pub const LAST_CHAINS: Duration = Duration::from_secs(5);
 /// The time that a message waits for chains in flight. The rest of 100 ms is for its answer.
-const LONGEST: Duration = Duration::from_millis(80);
+pub(super) const LONGEST: Duration = Duration::from_millis(80);
+/// In the first part of that time available chains are taken. Those have the rest of it to end.
+const TAKING: Duration = Duration::from_millis(50);
+/// If none is taken or returned for so long, the next one may take too long, and isn't taken.
+const QUICK: Duration = Duration::from_millis(15);
 
-/// How long a message waits for chains.
+/// How long a message waits for chains, of all its rings.
 #[derive(Debug, Clone, Copy)]
 pub struct Patience {
-    end: Instant,
-    /// The time between two chains in which a ring of a guest that moves counts as alive.
-    last: Instant,
+    begun: Instant,
 }
 
 impl Patience {
-    /// For a message that came now. If the guest moves, chains are waited for longer, as long as
-    /// one is taken or returned now and then: the back-end that continues the ring may not look for
-    /// those that are left. (virtiofsd looks only after a kick, and drops QEMU's one kick at the
-    /// start if it reads that before the ring is enabled.)
-    pub fn new(is_moving: bool) -> Patience {
-        let now = Instant::now();
-        let last = now + if is_moving { LAST_CHAINS } else { LONGEST };
-        Patience { end: now + LONGEST, last }
+    /// For a message that came now.
+    pub fn new() -> Patience {
+        Patience { begun: Instant::now() }
     }
 
     /// The time that is left.
     pub fn left(&self) -> Duration {
-        self.end.saturating_duration_since(Instant::now())
+        LONGEST.saturating_sub(self.begun.elapsed())
     }
 
-    /// A chain was taken or returned.
-    fn go_on(&mut self) {
-        self.end = self.end.max(self.last.min(Instant::now() + LONGEST));
+    /// The time until the next chain must be taken or returned, so that further ones are taken.
+    fn left_to_take(&self) -> Duration {
+        QUICK.min(TAKING.saturating_sub(self.begun.elapsed()))
     }
 }
 
@@ -57,34 +54,46 @@ impl Ring {
         (state, timeout.timed_out())
     }
 
-    /// Waits until the chains that are available now are taken, and none is in flight, but only a
-    /// while. From here on no later chain is taken, until `go_on`.
-    pub(super) fn settle(&self, memory: &Table, mut patience: Patience) -> MutexGuard<'_, State> {
+    /// Has the chains taken that are available now, as long as they are quick. The others are for
+    /// the back-end that continues the ring. (virtiofsd may not look for them before the next kick:
+    /// it drops QEMU's one kick at the start if it reads that before the ring is enabled.) A slow
+    /// one would be in flight when the ring stops, and so no state could be saved.
+    fn take_quick_ones<'a>(
+        &'a self,
+        mut state: MutexGuard<'a, State>,
+        memory: &Table,
+        patience: Patience,
+    ) -> MutexGuard<'a, State> {
+        let first = state.numbers.next_avail;
+        let end = memory.ring_index(state.numbers.layout.available).unwrap_or(first);
+        state.until = Some(if state.is_missing { first } else { end });
+        self.look();
+        let is_left = |state: &State| {
+            Some(state.numbers.next_avail) != state.until && !state.is_missing && state.is_live()
+        };
+        loop {
+            let (moved, time) = (state.moved(), patience.left_to_take());
+            let (waited, is_long) =
+                self.wait_a_while(state, time, |state| is_left(state) && state.moved() == moved);
+            state = waited;
+            if is_long || !is_left(&state) {
+                return state;
+            }
+        }
+    }
+
+    /// Waits until none of the ring's chains is in flight, but only a while. Until the ring is
+    /// closed no chain is taken from here on, but for those of `take_quick_ones`.
+    pub(super) fn settle(&self, memory: &Table, patience: Patience) -> MutexGuard<'_, State> {
         memory.iommu().cancel(self); // it answers nothing until this message is answered
         let mut state = self.lock();
         if !state.is_live() {
             return state;
         }
-        let first = state.numbers.next_avail;
-        let end = memory.ring_index(state.numbers.layout.available).unwrap_or(first);
-        let end = if state.is_missing { first } else { end };
-        (state.is_awaited, state.until) = (true, Some(end));
-        self.look();
-        let is_wanting = |state: &State| {
-            let is_left = state.numbers.next_avail != end && !state.is_missing && state.is_live();
-            is_left || state.queue.in_flight() > 0
-        };
-        loop {
-            let moved = state.moved();
-            let (waited, is_long) = self.wait_a_while(state, patience.left(), |state| {
-                is_wanting(state) && state.moved() == moved
-            });
-            state = waited;
-            if is_long || !is_wanting(&state) {
-                break;
-            }
-            patience.go_on();
-        }
+        state.is_awaited = true;
+        state = self.take_quick_ones(state, memory, patience);
+        state.until = Some(state.numbers.next_avail);
+        (state, _) = self.wait_a_while(state, patience.left(), |state| state.queue.in_flight() > 0);
         state.is_awaited = false;
         state
     }
@@ -119,6 +128,12 @@ impl Ring {
         let state = self.lock();
         (state.queue.in_flight() > 0)
             .then(|| format!("queue {}: {}", self.index, self.held_calls()))
+    }
+
+    /// Whether chains are in flight that don't end before the ring goes on.
+    pub fn holds(&self) -> bool {
+        let state = self.lock();
+        state.queue.in_flight() > 0 && self.is_closed.load(Ordering::SeqCst)
     }
 
     /// Waits until the host has no call, at most for this time. Then the log says which it has.

@@ -4,6 +4,9 @@ use crate::migration::Migration;
 use crate::state::scratch;
 use std::fs::File;
 use std::io::{Read, Seek, Write};
+use std::os::fd::{AsRawFd, OwnedFd};
+use std::os::unix::net::UnixStream;
+use std::process::Command;
 use std::sync::mpsc::{channel, Receiver, Sender};
 use std::sync::Mutex;
 use std::time::Duration;
@@ -73,11 +76,11 @@ fn core() -> (Arc<Core<Holding>>, Receiver<()>, Sender<()>) {
 #[test]
 fn a_session_that_does_not_end_has_one_thread() {
     let (core, has_begun, end) = core();
-    core.end_session(Patience::new(false));
+    core.end_session(Patience::new());
     has_begun.recv_timeout(SOON).expect("an end that begins");
     let before = Instant::now();
     for _ in 0..1000 {
-        core.end_session(Patience::new(false));
+        core.end_session(Patience::new());
     }
     assert!(before.elapsed() < SOON, "{:?}", before.elapsed());
     assert!(core.held_calls().is_some());
@@ -90,7 +93,7 @@ fn a_session_that_does_not_end_has_one_thread() {
     }
     // the next session's end is one of its own
     end.send(()).expect("who waits");
-    core.end_session(Patience::new(false));
+    core.end_session(Patience::new());
     has_begun.recv_timeout(SOON).expect("an end that begins");
 }
 
@@ -105,7 +108,7 @@ fn bytes(mut file: &File) -> Vec<u8> {
 #[test]
 fn one_state_is_transferred_at_a_time() {
     let (core, has_begun, end) = core();
-    let mut migration = Migration::new(core, scratch().expect("a file"));
+    let mut migration = Migration::new(core, scratch().expect("a file")).expect("events");
     let pipes = [scratch().expect("a file"), scratch().expect("a file")];
     migration.save(pipes[0].try_clone().expect("a descriptor"));
     has_begun.recv_timeout(SOON).expect("a state that is written");
@@ -120,4 +123,62 @@ fn one_state_is_transferred_at_a_time() {
     let states = pipes.each_ref().map(bytes);
     assert_eq!(states[0], states[1]);
     assert_eq!(states[0][2..10], EMPTY[1..9]);
+}
+
+/// The end of a session that is under way may change the state that is saved.
+#[test]
+fn a_save_waits_for_the_end_of_a_session() {
+    let (core, has_begun, end) = core();
+    let mut migration = Migration::new(core.clone(), scratch().expect("a file")).expect("events");
+    core.end_session(Patience::new());
+    has_begun.recv_timeout(SOON).expect("an end that begins");
+    migration.save(scratch().expect("a file"));
+    thread::sleep(Duration::from_millis(200));
+    end.send(()).expect("who waits");
+    end.send(()).expect("who waits"); // for the state
+    migration.finish().expect("a state");
+}
+
+/// A pipe whose other end nobody closes, since a third process has it.
+#[test]
+fn nobody_waits_for_a_transfer_when_the_front_end_has_left() {
+    let (core, ..) = core();
+    let mut migration = Migration::new(core, scratch().expect("a file")).expect("events");
+    let (ours, theirs) = UnixStream::pair().expect("a socket");
+    let (pipe, others) = UnixStream::pair().expect("a pipe");
+    migration.watch(ours.as_raw_fd()).expect("a socket");
+    migration.load(File::from(OwnedFd::from(pipe)));
+    let (done, is_done) = channel();
+    thread::spawn(move || done.send(migration.finish()));
+    assert!(is_done.recv_timeout(Duration::from_millis(300)).is_err(), "nothing has come yet");
+    drop(theirs);
+    let left = is_done.recv_timeout(SOON).expect("an end");
+    assert!(left.expect_err("no state").to_string().starts_with("the front-end left"));
+    drop(others);
+}
+
+/// In a process of its own, whose user may have no further thread.
+#[test]
+fn a_transfer_without_a_thread_fails() {
+    const NAME: &str = "serve::tests::a_transfer_without_a_thread_fails";
+    const ALONE: &str = "PITSKHOMU_WITHOUT_THREADS";
+    if std::env::var_os(ALONE).is_none() {
+        let mut again = Command::new(std::env::current_exe().expect("this program"));
+        again.args(["--exact", NAME, "--test-threads=1", "--nocapture"]).env(ALONE, "");
+        let ended = again.output().expect("this program again");
+        assert!(ended.status.success(), "{}", String::from_utf8_lossy(&ended.stderr));
+        return;
+    }
+    let (core, ..) = core();
+    let mut migration = Migration::new(core, scratch().expect("a file")).expect("events");
+    let none = libc::rlimit { rlim_cur: 0, rlim_max: 0 };
+    // SAFETY: the limit is borrowed, and no other memory is touched.
+    unsafe {
+        assert_eq!(libc::setrlimit(libc::RLIMIT_NPROC, &raw const none), 0);
+        libc::setresuid(65534, 65534, 65534); // root's limit isn't looked at
+    }
+    migration.prepare();
+    migration.save(scratch().expect("a file"));
+    let failed = migration.finish().expect_err("no thread");
+    assert!(failed.to_string().starts_with("there is no thread"), "{failed}");
 }

@@ -4,6 +4,7 @@ use crate::iommu::Cancel;
 use crate::memory::tests::{table, HIGH};
 use crate::memory::PAGE;
 use crate::notifier::tests::full_pipe;
+use crate::ring::waits::LONGEST;
 use crate::ring::{Answered, Server};
 use pitskhomu::{
     Answer, Attributes, CStr, Context, Device, Entry, Errno, FileSystem, GuestMemory as _, Handle,
@@ -142,7 +143,7 @@ impl Tried {
         let tried = Tried { ring, memory, begins: begun, ends: end, offered: 0 };
         tried.draw();
         tried.start(0);
-        tried.ring.enable(true, &mut Silent, &tried.memory, Patience::new(false));
+        tried.ring.enable(true, &mut Silent, &tried.memory, Patience::new());
         tried
     }
 
@@ -171,7 +172,7 @@ impl Tried {
     }
 
     fn stop(&self) -> u16 {
-        self.ring.stop(&mut Silent, &self.memory, Patience::new(false))
+        self.ring.stop(&mut Silent, &self.memory, Patience::new())
     }
 
     /// Offers the chain, and waits until the host has its call.
@@ -238,9 +239,72 @@ fn is_answered(tried: &Tried) -> bool {
     let (ring, memory) = (tried.ring.clone(), tried.memory.clone());
     let (answer, answered) = channel();
     thread::spawn(move || {
-        let _ = answer.send(ring.stop(&mut Silent, &memory, Patience::new(false)));
+        let _ = answer.send(ring.stop(&mut Silent, &memory, Patience::new()));
     });
     answered.recv_timeout(Duration::from_millis(100)).is_ok()
+}
+
+/// Offers as many chains as the ring has room for, and the first one's call is held.
+fn offered_many() -> Tried {
+    let mut tried = Tried::new();
+    store(&tried.memory, LAYOUT.available + 2, &LAYOUT.size.to_le_bytes());
+    tried.ring.look();
+    tried.begins.recv_timeout(SOON).expect("a call");
+    tried.offered = LAYOUT.size;
+    tried
+}
+
+/// Stops the ring in time, without a chain in flight. The other chains are served when it goes on.
+fn settles(tried: &Tried) -> Option<u16> {
+    let before = Instant::now();
+    let base = tried.stop();
+    let is_soon = before.elapsed() < Duration::from_millis(100);
+    let is_settled = tried.ring.held().is_none();
+    tried.start(base);
+    assert!(tried.waits_for(tried.offered));
+    (is_soon && is_settled).then_some(base)
+}
+
+/// Each call takes 30 ms. If more chains were taken, one would be in flight when the message is
+/// answered, and the state couldn't be saved. On a busy machine a call may take longer.
+#[test]
+fn slow_chains_are_left_when_a_ring_stops() {
+    let is_right = |_| {
+        let tried = offered_many();
+        let ends = tried.ends.clone();
+        thread::spawn(move || {
+            while ends.send(()).is_ok() {
+                thread::sleep(Duration::from_millis(30));
+            }
+        });
+        settles(&tried).is_some_and(|base| base < tried.offered)
+    };
+    assert!((0..9).any(is_right));
+}
+
+/// virtiofsd wouldn't look for chains that are left before the next kick.
+#[test]
+fn quick_chains_are_served_before_a_ring_stops() {
+    let is_right = |_| {
+        let mut tried = offered_many();
+        let (begins, ends) =
+            (std::mem::replace(&mut tried.begins, channel().1), tried.ends.clone());
+        thread::spawn(move || while ends.send(()).is_ok() && begins.recv().is_ok() {});
+        settles(&tried) == Some(tried.offered)
+    };
+    assert!((0..9).any(is_right));
+}
+
+/// A message that ends all rings waits for them together.
+#[test]
+fn all_held_rings_are_waited_for_at_once() {
+    let mut tried = [Tried::new(), Tried::new(), Tried::new(), Tried::new()];
+    tried.iter_mut().for_each(Tried::hold);
+    let (before, patience) = (Instant::now(), Patience::new());
+    for tried in &tried {
+        tried.ring.enable(false, &mut Silent, &tried.memory, patience);
+    }
+    assert!(before.elapsed() < 2 * LONGEST, "each ring has a time of its own");
 }
 
 /// The call descriptor is a full pipe that blocks.
@@ -274,9 +338,9 @@ fn a_reset_drops_what_the_host_holds() {
         let mut tried = Tried::new();
         tried.hold();
         if has_message {
-            tried.ring.enable(false, &mut Silent, &tried.memory, Patience::new(false));
+            tried.ring.enable(false, &mut Silent, &tried.memory, Patience::new());
             tried.ring.reset(&tried.memory);
-            tried.ring.enable(true, &mut Silent, &tried.memory, Patience::new(false));
+            tried.ring.enable(true, &mut Silent, &tried.memory, Patience::new());
         }
         tried.stop();
         store(&tried.memory, LAYOUT.available, &[0; 0x200]);
@@ -315,7 +379,7 @@ fn a_ring_goes_on_when_its_memory_is_back() {
             tried.hold();
         }
         let without = tried.memory.without(HIGH, 2 * PAGE).expect("a table");
-        tried.ring.leave_memory(&tried.memory, &without, Patience::new(false));
+        tried.ring.leave_memory(&tried.memory, &without, Patience::new());
         tried.ring.enter_memory(&mut tried.ring.lock(), &without);
         if holds {
             tried.end_call_unseen();
