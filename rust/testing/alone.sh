@@ -123,6 +123,7 @@ alone() {
     try state full
     try state cut
     try state turned
+    try state idle
     try state flags
     try state writeback
     try state lost

@@ -1,5 +1,5 @@
 /* Migration streams of one's own: state DAEMON DIR
- * SECONDS|full|lost|cut|turned|flags|writeback. A state is taken out of the daemon, changed by
+ * SECONDS|full|lost|cut|turned|flags|writeback|idle. A state is taken out of the daemon, changed by
  * chance, and handed in, again and again, as the daemon's own or as virtiofsd's. Each time the
  * daemon says whether it takes it; no node and no handle that came so leads out of DIR, beside
  * which a file has the word `secret`; and a device that is reset after it serves as a new one. With
@@ -8,7 +8,7 @@
  * leads to: such a state isn't taken. With `cut` the last bytes of a state are missing, one more
  * each time. With `turned` each bit of a state is turned, and the state is there twice. With
  * `flags`, and with `writeback` by a daemon that has this option, files are open with flags that
- * don't hold on the host. */
+ * don't hold on the host. With `idle` the front-end leaves while no byte of a state comes. */
 #define _GNU_SOURCE
 #include "chance.h"
 #include "front.h"
@@ -248,10 +248,24 @@ static void turned(void) {
            8 * len);
 }
 
+/* Another process keeps the pipe of a state, and sends nothing: the daemon ends with its front-end
+ * all the same. */
+static void idle(void) {
+    begin_anew();
+    stop();
+    int pipe = begin_transfer(LOAD);
+    front_say(&front, CHECK_DEVICE_STATE, NULL, 0);
+    usleep(300000);
+    alarm(30);
+    front_leave(&front);
+    close(pipe);
+    printf("state: the daemon ends with a front-end that waits for a state\n");
+}
+
 int main(int argc, char **argv) {
     static const char *const few[] = {"--rlimit-nofile", "1600", NULL};
     static const char *const writeback[] = {"--writeback", NULL};
-    if (argc < 4) die("usage: state DAEMON DIR SECONDS|full|lost|cut|turned|flags|writeback");
+    if (argc < 4) die("usage: state DAEMON DIR SECONDS|full|lost|cut|turned|flags|writeback|idle");
     bool is_full = !strcmp(argv[3], "full"), writes_back = !strcmp(argv[3], "writeback");
     time_t now = time(NULL);
     chance_begin((uint64_t)now * 0x9e3779b97f4a7c15u | 1);
@@ -259,6 +273,7 @@ int main(int argc, char **argv) {
     front_begin(&front, argv[1], argv[2], is_full ? few : writes_back ? writeback : NULL);
     front_set_up(&front);
     front_start_ring(&front, 1, 0);
+    if (!strcmp(argv[3], "idle")) return idle(), 0;
     if (is_full)
         full();
     else if (!strcmp(argv[3], "lost"))

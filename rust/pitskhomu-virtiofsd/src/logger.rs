@@ -193,7 +193,9 @@ impl Shared {
                 Err(RecvTimeoutError::Timeout) => (self.limits().due(Instant::now()), None),
                 Err(RecvTimeoutError::Disconnected) => return,
             };
-            lines.iter().for_each(|line| self.write(line));
+            for line in &lines {
+                self.write(line);
+            }
             self.say_lost();
             if let Some(done) = done {
                 let _ = done.try_send(());
@@ -210,7 +212,9 @@ impl Log for Logger {
     fn log(&self, record: &Record<'_>) {
         if self.enabled(record.metadata()) {
             let lines = self.0.limits().admit(record, Instant::now());
-            lines.into_iter().for_each(|line| self.0.pass(line));
+            for line in lines {
+                self.0.pass(line);
+            }
         }
     }
 

@@ -199,7 +199,7 @@ mod tests {
         let (file, log) = log(4096);
         let logging: Arc<Logging> = Arc::default();
         logging.set(Some(log));
-        marks(&logging, 8 * 4096 * 4096 - 4096).mark_dirty(0, 0x100000);
+        marks(&logging, 8 * 4096 * 4096 - 4096).mark_dirty(0, 0x10_0000);
         assert_eq!(bytes(&file, 4096)[4094..], [0, 0x80]);
         let marks = marks(&logging, u64::MAX - 0xfff);
         marks.mark_dirty(0xfff, 1);

@@ -21,6 +21,10 @@ const LONGEST_PREPARATION: Duration = Duration::from_secs(60);
 /// The time between two looks whether the turn has come.
 const A_MOMENT: Duration = Duration::from_millis(10);
 
+/// The sources of the events that end a wait for a transfer.
+const ENDED: u64 = 0;
+const HUNG_UP: u64 = 1;
+
 /// One thread at a time prepares or transfers a state: they use the same file, and the same part of
 /// the file system.
 type Turn = Mutex<()>;
@@ -120,7 +124,7 @@ impl<F: ServedFs> Migration<F> {
     pub fn new(core: Arc<Core<F>>, scratch: File) -> io::Result<Migration<F>> {
         let has_ended = EventFd::new(libc::EFD_NONBLOCK | libc::EFD_CLOEXEC)?;
         let events = Epoll::new()?;
-        let ended = EpollEvent::new(EventSet::IN, has_ended.as_raw_fd() as u64);
+        let ended = EpollEvent::new(EventSet::IN, ENDED);
         events.ctl(ControlOperation::Add, has_ended.as_raw_fd(), ended)?;
         Ok(Migration {
             core,
@@ -135,7 +139,7 @@ impl<F: ServedFs> Migration<F> {
 
     /// From here on the end of this socket ends each wait for a transfer.
     pub fn watch(&self, front_end: RawFd) -> io::Result<()> {
-        let hung_up = EpollEvent::new(EventSet::empty(), front_end as u64);
+        let hung_up = EpollEvent::new(EventSet::empty(), HUNG_UP);
         self.events.ctl(ControlOperation::Add, front_end, hung_up)
     }
 
@@ -222,8 +226,7 @@ impl<F: ServedFs> Migration<F> {
                 Err(e) if e.kind() == io::ErrorKind::Interrupted => 0,
                 counted => counted?,
             };
-            let ended = self.has_ended.as_raw_fd() as u64;
-            if events[..count].iter().any(|event| event.data() != ended) {
+            if events[..count].iter().any(|event| event.data() == HUNG_UP) {
                 return Err(io::Error::other(
                     "the front-end left before the state was transferred",
                 ));

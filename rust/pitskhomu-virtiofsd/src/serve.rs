@@ -13,8 +13,8 @@ use std::collections::BTreeSet;
 use std::io;
 use std::panic::{catch_unwind, AssertUnwindSafe};
 use std::sync::atomic::{AtomicBool, AtomicUsize, Ordering};
-use std::sync::mpsc::sync_channel;
-use std::sync::{Arc, PoisonError, RwLock};
+use std::sync::mpsc::{sync_channel, Receiver, SyncSender};
+use std::sync::{Arc, OnceLock, PoisonError, RwLock};
 use std::thread;
 use std::time::{Duration, Instant};
 use virtiofsd::filesystem::{FileSystem, SerializableFileSystem};
@@ -44,6 +44,8 @@ pub struct Core<F> {
     late: Arc<AtomicUsize>,
     /// The end of a session is under way.
     is_ending: AtomicBool,
+    /// To the thread that ends sessions, once it runs.
+    ending: OnceLock<SyncSender<SyncSender<()>>>,
     memory: RwLock<Arc<Table>>,
     /// The same memory for each ring, so that threads of different rings share no lock and no
     /// count.
@@ -90,6 +92,7 @@ impl<F: ServedFs> Core<F> {
             always_agreed,
             late,
             is_ending: AtomicBool::new(false),
+            ending: OnceLock::new(),
             memory: RwLock::new(Arc::new(memory)),
             of_rings,
         })
@@ -154,21 +157,32 @@ impl<F: ServedFs> Core<F> {
         }
     }
 
+    /// Starts the thread that ends sessions, with the caller's filter and capabilities. It is there
+    /// from the start, so that no reset needs a thread that can't be made.
+    pub fn start(self: &Arc<Self>) -> io::Result<()> {
+        let (sender, asked): (_, Receiver<SyncSender<()>>) = sync_channel(1);
+        let core = self.clone();
+        thread::Builder::new().name("session".into()).spawn(move || {
+            for done in asked {
+                core.forget_session();
+                let _ = done.try_send(());
+            }
+        })?;
+        let _ = self.ending.set(sender);
+        Ok(())
+    }
+
     /// Ends the session without DESTROY: then no node is held, no file is open, and no options are
     /// agreed on. The host may hold the close of a file, or a call that has locked the file system.
     /// Then the session ends when it does, and no chain is taken before. So if an end is under way
-    /// it is this session's too: a guest that is reset again and again makes no more threads.
-    pub fn end_session(self: &Arc<Self>, patience: Patience) {
+    /// it is this session's too.
+    pub fn end_session(&self, patience: Patience) {
         if self.is_ending.swap(true, Ordering::SeqCst) {
             return;
         }
         self.late.fetch_add(1, Ordering::SeqCst);
-        let (core, (done, is_done)) = (self.clone(), sync_channel(1));
-        let ending = thread::Builder::new().spawn(move || {
-            core.forget_session();
-            let _ = done.try_send(());
-        });
-        if ending.is_ok() {
+        let (done, is_done) = sync_channel(1);
+        if self.ending.get().is_some_and(|ending| ending.try_send(done).is_ok()) {
             let _ = is_done.recv_timeout(patience.left());
         } else {
             self.forget_session();

@@ -278,6 +278,7 @@ impl Serving {
             enable_seccomp(action, self.syslog)?; // new threads inherit it
         }
         logger.start()?;
+        core.start()?;
         for (index, ring) in core.rings.iter().enumerate() {
             for _ in 0..ring.threads {
                 start_thread(core.clone(), index)?;

@@ -234,9 +234,9 @@ impl Channel {
         state.lose();
         if state.events.is_none() {
             let events = Arc::new(Epoll::new()?);
-            state.events = Some(events.clone());
-            let channel = self.clone();
-            thread::Builder::new().name("IOMMU".into()).spawn(move || channel.listen(&events))?;
+            let (channel, heard) = (self.clone(), events.clone());
+            thread::Builder::new().name("IOMMU".into()).spawn(move || channel.listen(&heard))?;
+            state.events = Some(events);
         }
         if let Some(events) = &state.events {
             let event = EpollEvent::new(EventSet::IN, 0);

@@ -31,9 +31,14 @@ impl Line {
     }
 }
 
-/// Whether a character would end a line, or move a terminal's cursor.
+/// Whether a character would end a line, move a terminal's cursor, or turn the direction in which
+/// the rest of the line is shown (Unicode's `Bidi_Control`).
 fn leaves_line(c: char) -> bool {
-    c.is_control() || matches!(c, '\u{2028}' | '\u{2029}')
+    let is_turning = matches!(
+        c,
+        '\u{61c}' | '\u{200e}' | '\u{200f}' | '\u{202a}'..='\u{202e}' | '\u{2066}'..='\u{2069}'
+    );
+    c.is_control() || is_turning || matches!(c, '\u{2028}' | '\u{2029}')
 }
 
 /// A text on one line, of at most `LONGEST_LINE` bytes. A guest's names may have any bytes.
@@ -187,6 +192,8 @@ mod tests {
         let lines = admitted(&mut limits, 1, "gone (/a\nb\u{1b}[31m\u{2028}\u{e4}\\n)", now);
         assert_eq!(lines, ["gone (/a\\nb\\u{1b}[31m\\u{2028}\u{e4}\\n)"]);
         let line = |text: &str| admitted(&mut Limits::default(), 1, text, now).remove(0);
+        // the rest would be shown from right to left
+        assert_eq!(line("/a\u{202e}on :rorre(\u{2066}"), "/a\\u{202e}on :rorre(\\u{2066}");
         assert_eq!(line(&"n".repeat(1024)), "n".repeat(1024));
         assert_eq!(line(&"n".repeat(1025)), "n".repeat(1024) + "..");
         // an escape isn't cut

@@ -69,7 +69,9 @@ fn core() -> (Arc<Core<Holding>>, Receiver<()>, Sender<()>) {
         descriptors: Descriptors::new(None).expect("/proc/self/fd"),
         always_agreed: pitskhomu::Options::empty(),
     });
-    (Arc::new(core.expect("a core")), has_begun, end)
+    let core = Arc::new(core.expect("a core"));
+    core.start().expect("a thread");
+    (core, has_begun, end)
 }
 
 /// A guest may be reset as often as it likes while the host holds the close of its files.
@@ -157,10 +159,11 @@ fn nobody_waits_for_a_transfer_when_the_front_end_has_left() {
     drop(others);
 }
 
-/// In a process of its own, whose user may have no further thread.
+/// In a process of its own, whose user may have no further thread: a transfer fails, and a reset
+/// doesn't wait for a session whose end the host holds.
 #[test]
-fn a_transfer_without_a_thread_fails() {
-    const NAME: &str = "serve::tests::a_transfer_without_a_thread_fails";
+fn no_message_needs_a_thread() {
+    const NAME: &str = "serve::tests::no_message_needs_a_thread";
     const ALONE: &str = "PITSKHOMU_WITHOUT_THREADS";
     if std::env::var_os(ALONE).is_none() {
         let mut again = Command::new(std::env::current_exe().expect("this program"));
@@ -169,11 +172,12 @@ fn a_transfer_without_a_thread_fails() {
         assert!(ended.status.success(), "{}", String::from_utf8_lossy(&ended.stderr));
         return;
     }
-    let (core, ..) = core();
-    let mut migration = Migration::new(core, scratch().expect("a file")).expect("events");
+    let (core, has_begun, _end) = core();
+    let mut migration = Migration::new(core.clone(), scratch().expect("a file")).expect("events");
     let none = libc::rlimit { rlim_cur: 0, rlim_max: 0 };
     // SAFETY: the limit is borrowed, and no other memory is touched.
     unsafe {
+        libc::alarm(30); // it ends the process
         assert_eq!(libc::setrlimit(libc::RLIMIT_NPROC, &raw const none), 0);
         libc::setresuid(65534, 65534, 65534); // root's limit isn't looked at
     }
@@ -181,4 +185,7 @@ fn a_transfer_without_a_thread_fails() {
     migration.save(scratch().expect("a file"));
     let failed = migration.finish().expect_err("no thread");
     assert!(failed.to_string().starts_with("there is no thread"), "{failed}");
+    core.end_session(Patience::new());
+    has_begun.recv_timeout(SOON).expect("an end that begins");
+    assert!(core.held_calls().is_some());
 }
