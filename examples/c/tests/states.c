@@ -1,4 +1,5 @@
-/* The state of a handle, after each call that changes it (pk_chain_state). Good names and bad ones
+/* The state of a handle, after each call that changes it (pk_chain_state). The ticket of each pop;
+ * a chain that is dropped while another handle pops; a reset amid a push. Good names and bad ones
  * (pk_is_name). */
 #include <pitskhomu.h>
 #include <stdio.h>
@@ -154,6 +155,68 @@ static void dropped_too_late(void) {
     push();
 }
 
+/* Each pop takes the next ticket, modulo 2^32, however its chain ended. So a late answer for a
+ * chain that was dropped isn't taken for the next one. */
+static void tickets(void) {
+    expect("the first ticket", pk_chain_set_ticket(&chain, 0xfffffffe), PK_DONE);
+    request(GETATTR, 56);
+    after("the pop", pop(), PK_DONE, PK_STATE_POPPED);
+    expect("its ticket", step.ticket, 0xfffffffe);
+    after("the drop", pk_drop(&chain, &queue), PK_DONE, PK_STATE_FREE);
+    after("the next pop", pop(), PK_DONE, PK_STATE_POPPED);
+    expect("the next ticket", step.ticket, 0xffffffff);
+    after("a late reply", pk_reply_bytes(&chain, 0xfffffffe, 0), PK_OTHER_CALL, PK_STATE_POPPED);
+    after("the request", decode(), PK_DONE, PK_STATE_DECODED);
+    expect("the call's ticket", call.ticket, 0xffffffff);
+    after("the answer", pk_reply_err(&chain, call.ticket, 5), PK_DONE, PK_STATE_REPLIED);
+    push();
+    request(FORGET, 48);
+    after("the third pop", pop(), PK_DONE, PK_STATE_POPPED);
+    expect("the ticket around", step.ticket, 0);
+    after("the third request", decode(), PK_DONE, PK_STATE_REPLIED);
+    push();
+}
+
+/* A pop that began before another chain of the queue was popped and dropped doesn't go on, though
+ * the queue's position is the same again. */
+static void dropped_meanwhile(void) {
+    static uint8_t bytes[PK_LOAD_MAX];
+    const struct pk_region region = {.guest = 0, .len = sizeof memory, .host = (uintptr_t)memory};
+    struct pk_chain other = {0};
+    struct pk_pop early = {0};
+    expect("its memory", pk_chain_set_memory(&other, &device, &region, 1), PK_DONE);
+    request(GETATTR, 56);
+    expect("an early pop", pk_pop(&other, &queue, bytes, 0, &early), PK_LOAD);
+    memcpy(bytes, (const void *)early.load_at, early.load_len);
+    after("the pop", pop(), PK_DONE, PK_STATE_POPPED);
+    after("the drop", pk_drop(&chain, &queue), PK_DONE, PK_STATE_FREE);
+    expect("its load", pk_pop(&other, &queue, bytes, early.load_len, &early), PK_OTHER_QUEUE);
+    pk_chain_free(&other);
+    after("the pop", pop(), PK_DONE, PK_STATE_POPPED);
+    after("the request", decode(), PK_DONE, PK_STATE_DECODED);
+    after("the answer", pk_reply_err(&chain, call.ticket, 5), PK_DONE, PK_STATE_REPLIED);
+    push();
+}
+
+/* A reset between pk_push and pk_pushed: the queue's next chain is pushed as any other. */
+static void reset_amid_a_push(void) {
+    static uint8_t front[PK_FRONT_MAX];
+    struct pk_stores stores;
+    uint8_t notify = 1;
+    request(FORGET, 48);
+    after("the pop", pop(), PK_DONE, PK_STATE_POPPED);
+    after("the request", decode(), PK_DONE, PK_STATE_REPLIED);
+    after("the push", pk_push(&chain, &queue, front, sizeof front, &stores), PK_DONE,
+          PK_STATE_PUSHING);
+    expect("a push is under way", queue.pushing, 1);
+    expect("the reset", pk_queue_begin(&queue, queue.next_avail), PK_DONE);
+    expect("none after it", queue.pushing, 0);
+    after("its end", pk_pushed(&chain, &queue, 0, &notify), PK_OTHER_QUEUE, PK_STATE_PUSHING);
+    expect("no notification", notify, 0);
+    pk_abandon(&chain);
+    an_answer();
+}
+
 static void names(void) {
     static const struct {
         const char *name;
@@ -178,6 +241,9 @@ int main(void) {
     without_an_answer();
     by_own_bytes();
     dropped_too_late();
+    tickets();
+    dropped_meanwhile();
+    reset_amid_a_push();
     ended_early();
     names();
     pk_chain_free(&chain);
