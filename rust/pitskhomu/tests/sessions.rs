@@ -45,19 +45,62 @@ fn a_session_that_has_ended_agrees_on_nothing() {
     }
 }
 
+/// The entries of a READDIRPLUS by values, whose names a directory has, and the request's reply.
+fn entries_of(guest: &mut Guest, names: &[&'static [u8]]) -> (Entries, Reply) {
+    let read = args().q(3).q(0).d(480).bytes(&[0; 20]);
+    guest.offer_request(&request(44, 5, &read.0), 496);
+    let OwnedRequest { call, reply, .. } = take(guest).into_owned().unwrap();
+    let names = names.iter().map(|name| CStr::from_bytes_with_nul(name).unwrap()).collect();
+    let recorder = Recorder { names, ..Recorder::default() };
+    match by_values::call(&recorder, &call.context, call.operation()) {
+        Ok(Response::Entries(entries)) => (entries, reply),
+        other => panic!("{other:?}"),
+    }
+}
+
+/// Each look-up of a list that the guest doesn't get is given back once: of an answer that is late,
+/// that is of another kind, or whose chain is abandoned before or after its reply is made.
+#[test]
+fn look_ups_of_a_list_that_is_not_told_are_given_back() {
+    let undo = [Undo::Forget(entry().node), Undo::Forget(entry().node)];
+    let names: [&[u8]; 3] = [b".\0", b"one\0", b"two\0"];
+    for k in 0..4 {
+        let mut guest = Guest::new();
+        let (entries, reply) = entries_of(&mut guest, &names);
+        assert_eq!(entries.len(), 3);
+        let (status, cancelled) = match k {
+            0 => {
+                assert_eq!(guest.worker.abandon().expect("a call").undo, []);
+                let late = reply.send(entries).expect_err("the chain was abandoned");
+                (Some(late.status()), late.cancelled().clone())
+            }
+            1 => {
+                drop(reply);
+                assert_eq!(guest.worker.finish(&guest.device, &guest.memory), Ok(true));
+                guest.worker.push(&mut guest.queue, &guest.memory).unwrap();
+                guest.offer_request(&request(1, 5, b"name\0"), 144);
+                let other = take(&mut guest).reply.send(entries).expect_err("LOOKUP has no list");
+                (Some(other.status()), other.cancelled().clone())
+            }
+            _ => {
+                reply.send(entries).unwrap();
+                if k == 3 {
+                    assert_eq!(guest.worker.finish(&guest.device, &guest.memory), Ok(true));
+                }
+                (None, guest.worker.abandon().expect("a call"))
+            }
+        };
+        assert_eq!(status, [Some(Status::OtherCall), Some(Status::OtherKind), None, None][k]);
+        assert_eq!(cancelled.undo, undo, "{k}");
+    }
+}
+
 /// The entries of a READDIRPLUS, given to a READDIR: the guest gets the names, and no node.
 #[test]
 fn entries_of_another_request_give_no_node() {
     let mut guest = Guest::new();
     let read = args().q(3).q(0).d(480).bytes(&[0; 20]);
-    guest.offer_request(&request(44, 5, &read.0), 496);
-    let OwnedRequest { call, reply, .. } = take(&mut guest).into_owned().unwrap();
-    let name = CStr::from_bytes_with_nul(b"name\0").unwrap();
-    let recorder = Recorder { names: vec![name], ..Recorder::default() };
-    let entries = match by_values::call(&recorder, &call.context, call.operation()) {
-        Ok(Response::Entries(entries)) => entries,
-        other => panic!("{other:?}"),
-    };
+    let (entries, reply) = entries_of(&mut guest, &[b"name\0"]);
     reply.error(Errno::EAGAIN).unwrap();
     assert_eq!(guest.worker.finish(&guest.device, &guest.memory), Ok(true));
     guest.worker.push(&mut guest.queue, &guest.memory).unwrap();
