@@ -155,6 +155,99 @@ fn a_buffer_may_lie_in_several_mappings() {
     assert_eq!((number(&reply, 0, 4), number(&reply, 8, 8)), (144, UNIQUE));
 }
 
+/// As many pages of a buffer, each in a mapping of its own.
+const PAGES: u64 = 70;
+/// Where they begin, by I/O addresses and by the guest's.
+const MANY: u64 = SHIFT + 0x10_0000;
+
+/// Where the guest has page `k` of the buffer: none lies behind the one before.
+fn place(k: u64) -> u64 {
+    0x20_0000 + (PAGES - k) * PAGE
+}
+
+fn read_or_write(opcode: u32) -> Vec<u8> {
+    let size = (PAGES * PAGE) as u32;
+    let mut bytes = request(opcode, 1, &args().q(3).q(0).d(size).d(0).q(0).d(0).d(0).0);
+    let len = bytes.len() as u32 + if opcode == 16 { size } else { 0 };
+    bytes[..4].copy_from_slice(&len.to_le_bytes());
+    bytes
+}
+
+/// A guest that offers a request of 80 bytes, and a buffer of 70 pages behind other bytes of its
+/// kind: the chain's windows are more than are looked for at once.
+fn many(opcode: u32) -> (Guest, Iotlb) {
+    let (mut guest, mut iotlb) = guest();
+    map_rings(&mut iotlb);
+    map(&mut iotlb, SHIFT + REQUEST, REQUEST);
+    map(&mut iotlb, SHIFT + ROOM, ROOM);
+    (0..PAGES).for_each(|k| map(&mut iotlb, MANY + k * PAGE, place(k)));
+    guest.memory.write(REQUEST, &read_or_write(opcode));
+    let is_read = opcode == 15;
+    let pages = Buffer(MANY, (PAGES * PAGE) as u32, is_read);
+    let room = Buffer(SHIFT + ROOM, if is_read { 16 } else { 24 }, true);
+    let request = Buffer(SHIFT + REQUEST, 80, false);
+    let parts = if is_read { [request, room, pages] } else { [request, pages, room] };
+    guest.draw(DESCRIPTORS, 0, &parts);
+    guest.offer(0);
+    assert_eq!(pop(&mut guest, &mut iotlb), Ok(Popped::Chain));
+    (guest, iotlb)
+}
+
+/// The byte of a buffer at an offset.
+fn byte_at(offset: u64) -> u8 {
+    (offset / PAGE * 3 + offset) as u8
+}
+
+#[test]
+fn data_of_many_mappings_is_read_and_marked() {
+    let (mut guest, mut iotlb) = many(15);
+    guest.memory.is_logging.set(true);
+    let bytes: Vec<u8> = (0..PAGES * PAGE).map(byte_at).collect();
+    let asked = guest.worker.decode(&guest.device, &guest.memory).unwrap();
+    asked.reply.send(bytes.clone()).unwrap();
+    assert_eq!(guest.worker.finish(&guest.device, &guest.memory), Ok(true));
+    assert_eq!(push(&mut guest, &mut iotlb).unwrap().reply_len, 16 + bytes.len() as u32);
+    let marks = guest.memory.marks.take();
+    assert_eq!(marks[0], GuestRange { guest: ROOM, len: 16 });
+    for (k, page) in (0..).zip(bytes.chunks(PAGE as usize)) {
+        assert!(guest.memory.read(place(k), page.len()) == page, "page {k}");
+        assert_eq!(marks[1 + k as usize], GuestRange { guest: place(k), len: PAGE });
+    }
+}
+
+#[test]
+fn data_of_many_mappings_is_written() {
+    let (mut guest, mut iotlb) = many(16);
+    for k in 0..PAGES {
+        let page: Vec<u8> = (0..PAGE).map(|at| byte_at(k * PAGE + at)).collect();
+        guest.memory.write(place(k), &page);
+    }
+    let asked = guest.worker.decode(&guest.device, &guest.memory).unwrap();
+    let mut found = vec![0; (PAGES * PAGE) as usize];
+    match asked.operation {
+        Operation::Write { mut data, .. } => assert_eq!(data.take(&mut found), found.len()),
+        other => panic!("{other:?}"),
+    }
+    assert!(found == (0..PAGES * PAGE).map(byte_at).collect::<Vec<u8>>());
+    asked.reply.send(Response::Written(PAGES * PAGE)).unwrap();
+    assert_eq!(guest.worker.finish(&guest.device, &guest.memory), Ok(true));
+    assert_eq!(push(&mut guest, &mut iotlb).unwrap().reply_len, 24);
+}
+
+/// A page that has a part of the request and the reply buffer is one miss, of both accesses.
+#[test]
+fn a_page_that_is_read_and_written_is_one_miss() {
+    let (mut guest, mut iotlb) = guest();
+    map_rings(&mut iotlb);
+    guest.memory.write(REQUEST, &request(1, 1, b"hello\0"));
+    let room = SHIFT + REQUEST + 0x100;
+    guest.draw(DESCRIPTORS, 0, &[Buffer(SHIFT + REQUEST, 46, false), Buffer(room, 144, true)]);
+    guest.offer(0);
+    assert_eq!(take_by_misses(&mut guest, &mut iotlb), [vec![miss(REQUEST, RW)]]);
+    answer(&mut guest);
+    assert_eq!(push(&mut guest, &mut iotlb).unwrap().reply_len, 144);
+}
+
 #[test]
 fn what_is_refused_is_no_miss() {
     let (mut guest, mut iotlb) = guest();

@@ -26,6 +26,27 @@ fn a_log_hears_what_was_written() {
     assert_eq!(guest.memory.marks.take()[..2], [range(ROOM, 16), range(ROOM + 0x1000, 9)]);
 }
 
+/// A reply over more buffers than are asked for at once is marked whole.
+#[test]
+fn a_log_hears_of_each_of_many_buffers() {
+    let (mut guest, recorder) = (Guest::new(), Recorder::default());
+    let (first, size) = (guest.offered, 32);
+    guest.queue = Queue::new(QueueLayout { size, ..layout() }, first).unwrap();
+    guest.memory.is_logging.set(true);
+    guest.memory.write(REQUEST, &request(1, 1, HELLO));
+    let mut parts = vec![Buffer(REQUEST, 46, false)];
+    parts.extend((0..18).map(|k| Buffer(ROOM + 0x1000 * k, 8, true)));
+    guest.draw(DESCRIPTORS, 0, &parts);
+    guest.memory.write(AVAILABLE + 4 + 2 * u64::from(first % size), &[0, 0]);
+    guest.memory.write(AVAILABLE + 2, &first.wrapping_add(1).to_le_bytes());
+    let served = guest.worker.serve(&mut guest.queue, &guest.device, &recorder, &guest.memory);
+    assert_eq!(served.unwrap().expect("a chain waits").reply_len, 144);
+    let range = |guest, len| GuestRange { guest, len };
+    let mut wanted: Vec<_> = (0..18).map(|k| range(ROOM + 0x1000 * k, 8)).collect();
+    wanted.extend([range(USED + 4 + 8 * u64::from(first % size), 8), range(USED + 2, 2)]);
+    assert_eq!(guest.memory.marks.take(), wanted);
+}
+
 /// Writes to the reply buffer of a READ, and panics or fails before it has said how far.
 struct Breaks {
     by_windows: bool,
