@@ -17,7 +17,7 @@ use vmm_sys_util::eventfd::EventFd;
 
 /// The time that a transfer waits for a preparation. Its length is the number of the guest's files,
 /// but a host that holds one of its calls mustn't hold the front-end.
-const LONGEST_PREPARATION: Duration = Duration::from_secs(60);
+const LONGEST_PREPARATION: Duration = Duration::from_secs(if cfg!(test) { 4 } else { 60 });
 /// The time between two looks whether the turn has come.
 const A_MOMENT: Duration = Duration::from_millis(10);
 
@@ -31,7 +31,7 @@ type Turn = Mutex<()>;
 
 /// The file system's preparation, on a thread of its own.
 struct Preparation {
-    done: Receiver<()>,
+    done: Receiver<io::Result<()>>,
     is_cancelled: Arc<AtomicBool>,
 }
 
@@ -85,11 +85,13 @@ impl Preparation {
 
     /// Waits for its end. It is cancelled if that takes too long.
     fn wait(&self) -> io::Result<()> {
-        self.done.recv_timeout(LONGEST_PREPARATION).map_err(|e| match e {
-            RecvTimeoutError::Disconnected => panicked(),
+        self.done.recv_timeout(LONGEST_PREPARATION).unwrap_or_else(|e| match e {
+            RecvTimeoutError::Disconnected => Err(panicked()),
             RecvTimeoutError::Timeout => {
                 self.cancel();
-                io::Error::other("the state isn't prepared yet: the host may hold a call for it")
+                Err(io::Error::other(
+                    "the state isn't prepared yet: the host may hold a call for it",
+                ))
             }
         })
     }
@@ -152,11 +154,12 @@ impl<F: ServedFs> Migration<F> {
         let (core, is_over, turn) = (self.core.clone(), is_cancelled.clone(), self.turn.clone());
         let (end, done) = sync_channel(1);
         let spawned = spawn(move || {
-            let Ok(_turn) = take_turn(&turn) else { return };
-            if !is_over.load(Ordering::Relaxed) {
-                core.fs.prepare_serialization(is_over); // this forgets what was prepared before
-                let _ = end.try_send(());
-            }
+            let prepared = take_turn(&turn).map(|_turn| {
+                if !is_over.load(Ordering::Relaxed) {
+                    core.fs.prepare_serialization(is_over); // this forgets an earlier preparation
+                }
+            });
+            let _ = end.try_send(prepared);
         });
         match spawned {
             Ok(()) => self.preparation = Some(Preparation { done, is_cancelled }),

@@ -30,6 +30,8 @@ const EMPTY: [u8; 10] = [1, 0, 2, 0, 0, 0, 0, 0, 0, 0];
 struct Holding {
     begins: Mutex<Sender<()>>,
     ends: Mutex<Receiver<()>>,
+    /// Its preparation too.
+    is_prepared: AtomicBool,
 }
 
 impl Holding {
@@ -50,6 +52,12 @@ impl FileSystem for Holding {
 }
 
 impl SerializableFileSystem for Holding {
+    fn prepare_serialization(&self, _is_over: Arc<AtomicBool>) {
+        if !self.is_prepared.load(Ordering::SeqCst) {
+            self.hold();
+        }
+    }
+
     fn serialize(&self, mut file: File) -> io::Result<()> {
         file.write_all(&EMPTY[..4])?;
         self.hold();
@@ -60,7 +68,8 @@ impl SerializableFileSystem for Holding {
 /// A core over it, and the ends of its channels.
 fn core() -> (Arc<Core<Holding>>, Receiver<()>, Sender<()>) {
     let ((begins, has_begun), (end, ends)) = (channel(), channel());
-    let fs = Holding { begins: Mutex::new(begins), ends: Mutex::new(ends) };
+    let (begins, ends, is_prepared) = (Mutex::new(begins), Mutex::new(ends), true.into());
+    let fs = Holding { begins, ends, is_prepared };
     let core = Core::new(Parts {
         fs,
         request_queues: 1,
@@ -137,6 +146,30 @@ fn a_save_waits_for_the_end_of_a_session() {
     migration.save(scratch().expect("a file"));
     thread::sleep(Duration::from_millis(200));
     end.send(()).expect("who waits");
+    end.send(()).expect("who waits"); // for the state
+    migration.finish().expect("a state");
+}
+
+/// The host may hold a call of the preparation's. A later state is prepared once that has ended.
+#[test]
+fn a_save_does_not_wait_for_ever_for_its_preparation() {
+    let (core, has_begun, end) = core();
+    core.fs.is_prepared.store(false, Ordering::SeqCst);
+    let mut migration = Migration::new(core.clone(), scratch().expect("a file")).expect("events");
+    migration.prepare();
+    has_begun.recv_timeout(SOON).expect("a preparation");
+    migration.save(scratch().expect("a file"));
+    let (done, is_done) = channel();
+    thread::spawn(move || {
+        let failed = migration.finish().expect_err("a preparation that is held");
+        let _ = done.send((migration, failed.to_string()));
+    });
+    let (mut migration, failed) = is_done.recv_timeout(SOON).expect("an end");
+    assert!(failed.starts_with("the state isn't prepared yet"), "{failed}");
+    core.fs.is_prepared.store(true, Ordering::SeqCst);
+    migration.prepare();
+    end.send(()).expect("who waits");
+    migration.save(scratch().expect("a file"));
     end.send(()).expect("who waits"); // for the state
     migration.finish().expect("a state");
 }
