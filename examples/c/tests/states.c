@@ -177,6 +177,65 @@ static void tickets(void) {
     push();
 }
 
+/* A listing that is abandoned: after the queue's reset the next pop has the next ticket, and takes
+ * no late entry. */
+static void ticket_of_an_abandoned_listing(void) {
+    static uint8_t list[0x80];
+    const uint8_t name[] = {'a'};
+    request(READDIR, 80);
+    after("the pop", pop(), PK_DONE, PK_STATE_POPPED);
+    after("the request", decode(), PK_DONE, PK_STATE_LISTING);
+    uint32_t late = call.ticket;
+    pk_abandon(&chain);
+    expect("the reset", pk_queue_begin(&queue, queue.next_avail), PK_DONE);
+    request(READDIR, 80);
+    after("the next pop", pop(), PK_DONE, PK_STATE_POPPED);
+    expect("the next ticket", step.ticket, late + 1);
+    after("the next request", decode(), PK_DONE, PK_STATE_LISTING);
+    after("a late entry", pk_add_direntry(&chain, late, list, sizeof list, name, 1, 2, 1, 8),
+          PK_OTHER_CALL, PK_STATE_LISTING);
+    after("the answer", pk_reply_err(&chain, call.ticket, 5), PK_DONE, PK_STATE_REPLIED);
+    push();
+}
+
+/* A pop that began before a reset of its queue doesn't go on, though position and addresses are the
+ * same. */
+static void reset_amid_a_pop(void) {
+    static uint8_t bytes[PK_LOAD_MAX];
+    request(GETATTR, 56);
+    memset(&step, 0, sizeof step);
+    after("a pop", pk_pop(&chain, &queue, bytes, 0, &step), PK_LOAD, PK_STATE_POPPING);
+    memcpy(bytes, (const void *)step.load_at, step.load_len);
+    expect("the reset", pk_queue_begin(&queue, queue.next_avail), PK_DONE);
+    after("its load", pk_pop(&chain, &queue, bytes, step.load_len, &step), PK_OTHER_QUEUE,
+          PK_STATE_POPPING);
+    pk_abandon(&chain);
+    after("the pop", pop(), PK_DONE, PK_STATE_POPPED);
+    after("the request", decode(), PK_DONE, PK_STATE_DECODED);
+    after("the answer", pk_reply_err(&chain, call.ticket, 5), PK_DONE, PK_STATE_REPLIED);
+    push();
+}
+
+/* A record is restored between pk_push and pk_pushed: that resets the queue, so no push is under
+ * way. */
+static void restored_amid_a_push(void) {
+    static uint8_t front[PK_FRONT_MAX], record[0x80];
+    struct pk_stores stores;
+    size_t len = 0, count = 0;
+    expect("the record", pk_save(&device, &queue, 1, record, sizeof record, &len), PK_DONE);
+    request(FORGET, 48);
+    after("the pop", pop(), PK_DONE, PK_STATE_POPPED);
+    after("the request", decode(), PK_DONE, PK_STATE_REPLIED);
+    after("the push", pk_push(&chain, &queue, front, sizeof front, &stores), PK_DONE,
+          PK_STATE_PUSHING);
+    expect("a restore", pk_restore(&device, &queue, 1, record, len, &count), PK_DONE);
+    expect("no push is under way", queue.pushing, 0);
+    pk_abandon(&chain);
+    after("the chain again", pop(), PK_DONE, PK_STATE_POPPED);
+    after("its request", decode(), PK_DONE, PK_STATE_REPLIED);
+    push();
+}
+
 /* A pop that began before another chain of the queue was popped and dropped doesn't go on, though
  * the queue's position is the same again. */
 static void dropped_meanwhile(void) {
@@ -244,6 +303,9 @@ int main(void) {
     tickets();
     dropped_meanwhile();
     reset_amid_a_push();
+    ticket_of_an_abandoned_listing();
+    reset_amid_a_pop();
+    restored_amid_a_push();
     ended_early();
     names();
     pk_chain_free(&chain);
