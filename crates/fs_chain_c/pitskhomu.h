@@ -378,12 +378,15 @@ uint32_t pk_pop(struct pk_chain *chain, struct pk_queue *queue, const uint8_t *l
 /* A load that was made ahead of a pop: its host address, and how many bytes it has. */
 struct pk_load_ahead { uintptr_t at; size_t len; };
 
-/* Pops the next available chain in one call, by loads that you made ahead in the order in which a
- * pop asks for them; `bytes` has their bytes, one load's behind the other's. It is as if pk_pop
- * were called without bytes, and then with each load. A load is taken only if its address and
- * length are those that pk_pop would return next. At the first other one, at the end of the list,
- * or without room for a load's descriptors, the result is PK_LOAD: go on by pk_pop. So any list is
- * allowed, and a wrong one costs a call. pk_pop_ring makes the loads, too.
+/* Pops the next available chain in one call, by loads that you made ahead, under the queue's lock,
+ * in the order in which a pop asks for them; `bytes` has their bytes, one load's behind the
+ * other's. It is as if pk_pop were called without bytes, and then with each load. A load is taken
+ * only if its address and length are those that pk_pop would return next. At the first other one,
+ * at the end of the list or of the bytes, at a part of an entry that lies in two regions or
+ * mappings, or without room for a load's descriptors, the result is PK_LOAD: go on by pk_pop. So
+ * any addresses and lengths are allowed, and a wrong one costs a call. Older bytes do what they do
+ * with pk_pop: an older available index stops the queue. Each load that is taken needs up to 450
+ * bytes of stack. pk_pop_ring makes the loads, too: five at most.
  * Errors: PK_WRONG_ORDER (no memory was set); PK_BAD_ARGUMENT (the queue's fields are invalid);
  * PK_WRONG_ORDER (a pop is under way, or the chain in flight); PK_CHAIN_IN_FLIGHT; 1 to 8,
  * PK_NOT_MAPPED. */
@@ -576,9 +579,11 @@ uint32_t pk_reply_statfs(struct pk_chain *chain, uint32_t ticket, const struct p
 uint32_t pk_reply_lseek(struct pk_chain *chain, uint32_t ticket, uint64_t offset) PK_CHECK;
 
 /* INIT: `wanted` are options (FUSE_ bits) to agree on, if the guest supports them, besides the
- * server's own. Sets device->options. The rest of struct fuse_init_out is as virtiofsd sends it:
- * 7.38, max_readahead as the guest's, max_background 65535, congestion_threshold 49149, max_write
- * 0x100000, time_gran 1, max_pages 0xfffff / page_size + 1. */
+ * server's own: ASYNC_READ, ATOMIC_O_TRUNC, BIG_WRITES, HAS_IOCTL_DIR, AUTO_INVAL_DATA, ASYNC_DIO,
+ * PARALLEL_DIROPS, MAX_PAGES, SUBMOUNTS, INIT_EXT, CREATE_SUPP_GROUP, ALLOW_IDMAP. So a guest sends
+ * READDIRPLUS only if FUSE_DO_READDIRPLUS is wanted. Sets device->options. The rest of struct
+ * fuse_init_out is virtiofsd's: 7.38, the guest's max_readahead, max_background 65535, max_write
+ * 0x100000, congestion_threshold 49149, time_gran 1, max_pages 0xfffff / page_size + 1. */
 uint32_t pk_reply_init(struct pk_chain *chain, uint32_t ticket, struct pk_device *device,
                        uint64_t wanted) PK_CHECK;
 
@@ -620,7 +625,8 @@ uint32_t pk_reply_bytes(struct pk_chain *chain, uint32_t ticket, uint64_t len) P
 
 /* ---------------------------------------------------------------- push */
 /* The stores of a push, then its load, in this order (rule 4; VIRTIO 1.2, 2.7.8 and 2.7.7). All
- * numbers are little-endian in memory. */
+ * numbers are little-endian in memory. The reply has `len` bytes: the front, and behind it the
+ * `len - front_len` bytes of data, of each kind of reply; both are 0 without a reply. */
 struct pk_stores {
     size_t front_len;        /* bytes of `front`, for the start of the reply buffer; may be 0 */
     uintptr_t id_at, len_at; /* host addresses of the used element's halves, 4 bytes each */

@@ -138,7 +138,7 @@ static inline void pk_ring_guess(const struct pk_queue *queue, struct pk_ring *r
 }
 
 /* Pops the next available chain, with its loads: pk_pop_ahead, and pk_pop for what is left. Returns
- * any status of pk_pop but PK_LOAD. */
+ * any status of pk_pop but PK_LOAD. The first pop after PK_IDLE loads the available index again. */
 static inline uint32_t pk_pop_ring(struct pk_chain *chain, struct pk_queue *queue,
                                    struct pk_ring *ring, struct pk_pop *pop) {
     struct pk_ring_loads loads;
