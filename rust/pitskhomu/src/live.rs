@@ -11,8 +11,9 @@
 //! its own, and the thread goes on. So more chains may be in flight than there are threads
 //! ([`Builder::in_flight`]).
 //!
-//! The guest's addresses are physical. A queue behind an IOMMU needs a loop of its own, with
-//! [`Worker::lend`].
+//! The guest's addresses are physical with a [`Builder`]. A device that needs more runs the same
+//! loop with threads of its own ([`Loop`], [`Server`]): behind an IOMMU, or if the queue's numbers
+//! come and go, or messages wait only a while for chains ([`Loop::settle`]).
 //!
 //! The driver's side notifies by adding to the counter of `kick`, as ioeventfd does. A test writes
 //! `1u64.to_ne_bytes()`. The threads never read that counter. They interrupt the driver by adding
@@ -78,7 +79,10 @@
 //! }
 //! ```
 mod events;
-mod threads;
+mod loops;
+mod seats;
+mod settling;
+mod turns;
 
 use crate::cancelled::Cancelled;
 use crate::device::Device;
@@ -93,13 +97,13 @@ use alloc::sync::Arc;
 use alloc::vec::Vec;
 use core::fmt;
 pub use events::new_event;
-use events::Waits;
+use events::Events;
+pub use loops::{Asked, Locked, Loop, Queued, Server};
+use seats::{Answered, Hand, Seat};
 use std::fs::File;
 use std::io;
 use std::panic::{catch_unwind, AssertUnwindSafe};
-use std::sync::{Mutex, MutexGuard, PoisonError};
 use std::thread::JoinHandle;
-use threads::{Answered, Seat};
 
 /// Why a queue isn't served.
 #[derive(Debug)]
@@ -239,13 +243,6 @@ struct State {
     idle: Vec<Seat>,
     /// Those whose chain waits for an answer, by their numbers.
     waiting: Vec<Option<Seat>>,
-    /// Whether notifications of the driver are enabled, and with an event index at which position.
-    /// Unknown at first.
-    told: Option<(bool, u16)>,
-    /// The number of threads that sleep until an event.
-    sleeping: usize,
-    /// A sleeping thread was woken to pop a chain, and doesn't have the lock yet.
-    is_woken: bool,
     refused: Option<Status>,
     /// No chain is popped any more.
     is_ending: bool,
@@ -255,8 +252,7 @@ struct State {
 
 /// A queue, shared by its threads and the VMM's.
 struct Shared {
-    state: Mutex<State>,
-    waits: Waits,
+    threads: Loop<State>,
     call: File,
     err: Option<File>,
     device: Arc<Device>,
@@ -266,8 +262,9 @@ struct Shared {
 }
 
 impl Shared {
-    fn lock(&self) -> MutexGuard<'_, State> {
-        self.state.lock().unwrap_or_else(PoisonError::into_inner)
+    /// The loop of a thread.
+    fn run(&self) {
+        let _ = self.threads.run(&mut Hand::new(self)); // without events no thread can go on
     }
 
     /// Has an answer undone. A panic there ends no thread, and loses no chain.
@@ -370,8 +367,8 @@ impl Builder {
         let size = queue.layout().size;
         let in_flight = self.in_flight.max(self.threads).min(size);
         let queue = queue.with_max_in_flight(in_flight)?;
-        let (waits, mapped) = (Waits::new(kick)?, Arc::new(self.mapped));
-        let answered = Arc::new(Answered::new(waits.waker()?));
+        let (events, mapped) = (Events::new()?, Arc::new(self.mapped));
+        let answered = Arc::new(Answered::new(events.waker()?));
         let seat = |number| Seat::new(number, &self.device, &mapped, &answered);
         let idle = (0..usize::from(in_flight)).map(seat).collect::<Result<Vec<_>, _>>()?;
         let state = State {
@@ -379,21 +376,20 @@ impl Builder {
             queue,
             mapped,
             idle,
-            told: None,
-            sleeping: usize::from(self.threads),
-            is_woken: false,
             refused: None,
             is_ending: false,
             is_reset: false,
         };
-        let (state, err) = (Mutex::new(state), self.err);
+        let (threads, err) = (Loop::over(events, state), self.err);
+        threads.set_kick(&mut threads.lock(), Some(kick))?;
         let shared =
-            Arc::new(Shared { state, waits, call, err, device: self.device, service, answered });
+            Arc::new(Shared { threads, call, err, device: self.device, service, answered });
         let mut serving = Serving { shared, threads: Vec::new() };
         for _ in 0..self.threads {
             let shared = serving.shared.clone();
             let thread = std::thread::Builder::new().name("virtio-fs".into());
-            serving.threads.push(thread.spawn(move || shared.run())?); // else it is dropped: reset
+            // an error here drops the others: a reset
+            serving.threads.push(thread.spawn(move || shared.run())?);
         }
         Ok(serving)
     }
@@ -416,13 +412,13 @@ impl Serving {
     /// The refusal that stopped the queue, if any: set `DEVICE_NEEDS_RESET`, and reset it.
     #[must_use]
     pub fn refused(&self) -> Option<Status> {
-        self.shared.lock().refused
+        self.shared.threads.lock().refused
     }
 
     /// The number of chains in flight.
     #[must_use]
     pub fn in_flight(&self) -> u16 {
-        self.shared.lock().queue.in_flight()
+        self.shared.threads.lock().queue.in_flight()
     }
 
     /// Sets the guest's memory for the next chains. The queue's rings lie in the new regions too.
@@ -436,7 +432,7 @@ impl Serving {
         regions: &[Region],
     ) -> Result<(), Status> {
         let mapped = Arc::new(Mapped { memory, regions: regions.to_vec() });
-        let mut state = self.shared.lock();
+        let mut state = self.shared.threads.lock();
         // So no worker without a chain keeps the old memory.
         let set = |seat: &mut Seat| seat.use_memory(&self.shared.device, &mapped);
         state.idle.iter_mut().try_for_each(set)?;
@@ -448,7 +444,7 @@ impl Serving {
 
     /// Has a thread look for chains, as the driver's notification does.
     pub fn look(&self) {
-        self.shared.waits.wake();
+        self.shared.threads.look();
     }
 
     /// Takes no more chains, waits until all in flight are answered and pushed, and returns the
@@ -456,7 +452,7 @@ impl Serving {
     /// of the driver are enabled then, unless the queue was refused.
     pub fn stop(mut self) -> Queue {
         self.end(false);
-        core::mem::take(&mut self.shared.lock().queue)
+        core::mem::take(&mut self.shared.threads.lock().queue)
     }
 
     /// The driver reset the queue, or the device: nothing is stored into the guest's rings any
@@ -464,11 +460,11 @@ impl Serving {
     pub fn reset(self) {}
 
     fn end(&mut self, is_reset: bool) {
-        let mut state = self.shared.lock();
+        let mut state = self.shared.threads.lock();
         state.is_ending = true;
         state.is_reset |= is_reset;
         drop(state);
-        self.shared.waits.wake();
+        self.shared.threads.look();
         for thread in self.threads.drain(..) {
             let _ = thread.join(); // it panics only if the memory does
         }
@@ -478,7 +474,7 @@ impl Serving {
 impl Drop for Serving {
     fn drop(&mut self) {
         self.end(true);
-        let mut state = self.shared.lock();
+        let mut state = self.shared.threads.lock();
         let waiting = state.waiting.iter_mut().filter_map(Option::take).collect::<Vec<_>>();
         drop(state);
         for mut seat in waiting {

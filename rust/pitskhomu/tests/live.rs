@@ -4,187 +4,16 @@
 mod guest;
 
 use guest::recorder::{entry, opened, Recorder};
+use guest::running::*;
 use guest::{args, number, request};
 use pitskhomu::live::{new_event, Builder, Handler, Serving};
 use pitskhomu::*;
-use std::cell::UnsafeCell;
-use std::collections::HashMap;
-use std::fs::File;
 use std::io::{Read as _, Write as _};
-use std::sync::atomic::{fence, AtomicU16, AtomicUsize, Ordering};
+use std::sync::atomic::{AtomicUsize, Ordering};
 use std::sync::mpsc::{channel, Sender};
 use std::sync::{Arc, Mutex};
 use std::thread;
-use std::time::{Duration, Instant};
-
-const SIZE: u16 = 16;
-const LEN: usize = 0x2_0000;
-const DESCRIPTORS: u64 = 0x1000;
-const AVAILABLE: u64 = 0x2000;
-const USED: u64 = 0x3000;
-const REQUESTS: u64 = 0x1_0000;
-const REPLIES: u64 = 0x1_8000;
-/// A test waits for at most so long.
-const PATIENCE: Duration = Duration::from_secs(60);
-
-/// Memory that the guest and the device share, by words where that is possible.
-#[repr(align(4096))]
-struct Shared([UnsafeCell<u8>; LEN]);
-
-// SAFETY: all access it by `GuestSlice`, or by atomic numbers.
-unsafe impl Sync for Shared {}
-unsafe impl Send for Shared {}
-
-struct Memory(Box<Shared>);
-
-impl GuestMemory for Memory {
-    fn get_slice(&self, at: usize, len: usize) -> Option<GuestSlice<'_>> {
-        if at.checked_add(len)? > LEN {
-            return None;
-        }
-        // SAFETY: the bytes are in the memory, and nobody has a reference to them.
-        Some(unsafe { GuestSlice::new(self.0 .0[0].get().add(at), len) })
-    }
-}
-
-impl Memory {
-    fn new() -> Arc<Memory> {
-        // SAFETY: zeros are such bytes.
-        Arc::new(Memory(unsafe { Box::new(std::mem::zeroed()) }))
-    }
-
-    fn write(&self, at: u64, bytes: &[u8]) {
-        self.get_slice(at as usize, bytes.len()).unwrap().store(bytes);
-    }
-
-    fn read(&self, at: u64, len: usize) -> Vec<u8> {
-        let mut bytes = vec![0; len];
-        self.get_slice(at as usize, len).unwrap().load(&mut bytes);
-        bytes
-    }
-
-    /// A number of a ring.
-    fn half(&self, at: u64) -> &AtomicU16 {
-        // SAFETY: it is aligned, in the memory, and accessed as an atomic number alone.
-        unsafe { &*self.0 .0[at as usize].get().cast::<AtomicU16>() }
-    }
-}
-
-fn region() -> Region {
-    Region { guest: 0, len: LEN as u64, host: 0 }
-}
-
-fn layout() -> QueueLayout {
-    QueueLayout { size: SIZE, descriptors: DESCRIPTORS, available: AVAILABLE, used: USED }
-}
-
-/// A moment between two looks: other threads run, also on one processor.
-fn pause(turn: u32) {
-    thread::sleep(Duration::from_micros(if turn < 100 { 0 } else { 100 }));
-}
-
-/// The driver.
-struct Driver {
-    memory: Arc<Memory>,
-    has_event_index: bool,
-    kick: File,
-    call: File,
-    offered: u16,
-    seen: u16,
-    kicks: usize,
-}
-
-impl Driver {
-    fn new(memory: &Arc<Memory>, has_event_index: bool) -> (Driver, File, File) {
-        let (kick, call) = (new_event().unwrap(), new_event().unwrap());
-        let device = (kick.try_clone().unwrap(), call.try_clone().unwrap());
-        let memory = memory.clone();
-        let driver = Driver { memory, has_event_index, kick, call, offered: 0, seen: 0, kicks: 0 };
-        (driver, device.0, device.1)
-    }
-
-    /// Offers a request at a place of its own, and notifies the device if it asks for that (VIRTIO
-    /// 1.2, 2.7.13).
-    fn offer(&mut self, slot: u16, request: &[u8], room: u32) {
-        let (at, reply) = (REQUESTS + 0x100 * u64::from(slot), REPLIES + 0x100 * u64::from(slot));
-        self.memory.write(at, request);
-        for (index, at, len, flags) in
-            [(2 * slot, at, request.len() as u32, 1), (2 * slot + 1, reply, room, 2)]
-        {
-            let bytes = args().q(at).d(len).w(flags).w(index + 1).0;
-            self.memory.write(DESCRIPTORS + 16 * u64::from(index), &bytes);
-        }
-        let place = AVAILABLE + 4 + 2 * u64::from(self.offered % SIZE);
-        self.memory.half(place).store(2 * slot, Ordering::Relaxed);
-        let old = self.offered;
-        self.offered = old.wrapping_add(1);
-        self.memory.half(AVAILABLE + 2).store(self.offered, Ordering::Release);
-        fence(Ordering::SeqCst);
-        let is_asked = if self.has_event_index {
-            let event = USED + 4 + 8 * u64::from(SIZE);
-            self.memory.half(event).load(Ordering::Relaxed) == old
-        } else {
-            self.memory.half(USED).load(Ordering::Relaxed) & 1 == 0
-        };
-        if is_asked {
-            self.kicks += 1;
-            (&self.kick).write_all(&1u64.to_ne_bytes()).unwrap();
-        }
-    }
-
-    /// The next used element, if there is one: the slot, and the reply's length.
-    fn used(&mut self) -> Option<(u16, u32)> {
-        if self.memory.half(USED + 2).load(Ordering::Acquire) == self.seen {
-            return None;
-        }
-        let element = self.memory.read(USED + 4 + 8 * u64::from(self.seen % SIZE), 8);
-        self.seen = self.seen.wrapping_add(1);
-        Some((number(&element, 0, 4) as u16 / 2, number(&element, 4, 4) as u32))
-    }
-
-    /// Sleeps until the device interrupts (2.7.14).
-    fn wait(&mut self) -> (u16, u32) {
-        let end = Instant::now() + PATIENCE;
-        loop {
-            if let Some(used) = self.used() {
-                return used;
-            }
-            if self.has_event_index {
-                self.memory
-                    .half(AVAILABLE + 4 + 2 * u64::from(SIZE))
-                    .store(self.seen, Ordering::Relaxed);
-            }
-            fence(Ordering::SeqCst);
-            if let Some(used) = self.used() {
-                return used;
-            }
-            // The event doesn't block: a lost interrupt is seen as a test that fails.
-            for turn in 0.. {
-                if (&self.call).read(&mut [0; 8]).is_ok() {
-                    break;
-                }
-                assert!(Instant::now() < end, "no interrupt came");
-                pause(turn);
-            }
-        }
-    }
-
-    fn reply(&self, slot: u16, len: u32) -> Vec<u8> {
-        self.memory.read(REPLIES + 0x100 * u64::from(slot), len as usize)
-    }
-}
-
-fn read_request(unique: u64, offset: u64) -> Vec<u8> {
-    let read = args().q(3).q(offset).d(100).bytes(&[0; 20]);
-    let mut bytes = request(15, 5, &read.0);
-    bytes[8..16].copy_from_slice(&unique.to_le_bytes());
-    bytes
-}
-
-/// The data of a READ from this offset on.
-fn data_at(offset: u64) -> Vec<u8> {
-    format!("the data at {offset}").into_bytes()
-}
+use std::time::Duration;
 
 /// Reads by methods.
 struct Files;
@@ -236,30 +65,6 @@ fn later() -> Arc<Later> {
         }
     });
     Arc::new(Later(Mutex::new(send)))
-}
-
-/// Reads so often, with up to so many requests at a time; each gets its own data.
-fn run(driver: &mut Driver, count: u64, at_a_time: u16) {
-    let (mut asked, mut free): (HashMap<u16, u64>, Vec<u16>) =
-        (HashMap::new(), (0..at_a_time).collect());
-    let (mut next, mut done) = (0, 0);
-    while done < count {
-        while next < count {
-            let slot = match free.pop() {
-                Some(slot) => slot,
-                None => break,
-            };
-            asked.insert(slot, next);
-            driver.offer(slot, &read_request(next, next), 116);
-            next += 1;
-        }
-        let (slot, len) = driver.wait();
-        let offset = asked.remove(&slot).expect("it was asked");
-        let reply = driver.reply(slot, len);
-        assert_eq!((number(&reply, 8, 8), &reply[16..]), (offset, &data_at(offset)[..]));
-        free.push(slot);
-        done += 1;
-    }
 }
 
 fn start(
@@ -443,15 +248,6 @@ impl Handler for Keeps {
         self.cancelled.fetch_add(1, Ordering::Relaxed);
         self.undone.lock().unwrap().extend(&cancelled.undo);
         assert!(!self.panics, "the handler panics, as the test wants it");
-    }
-}
-
-/// Waits until something holds.
-fn until(what: impl Fn() -> bool) {
-    let end = Instant::now() + PATIENCE;
-    for turn in (0..).take_while(|_| !what()) {
-        assert!(Instant::now() < end);
-        pause(turn);
     }
 }
 

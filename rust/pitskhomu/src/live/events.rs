@@ -4,7 +4,7 @@
 use std::fs::File;
 use std::io::{self, ErrorKind, Write};
 use std::os::raw::{c_int, c_uint};
-use std::os::unix::io::{AsRawFd, FromRawFd, OwnedFd, RawFd};
+use std::os::unix::io::{AsRawFd, FromRawFd, OwnedFd};
 
 /// `EFD_CLOEXEC | EFD_NONBLOCK` of sys/eventfd.h.
 const EFD_FLAGS: c_int = 0o2_000_000 | 0o4_000;
@@ -62,33 +62,45 @@ pub(super) fn signal(mut event: &File) -> io::Result<()> {
 
 /// The events that a queue's threads wait for.
 #[derive(Debug)]
-pub(super) struct Waits {
+pub(super) struct Events {
     epoll: OwnedFd,
-    kick: File,
     /// Written by the queue's own threads, and by those who want something of them.
     wake: File,
 }
 
-impl Waits {
-    /// Each event wakes one thread, and no thread reads its counter: so none blocks in the read of
-    /// a counter that another thread has read.
-    pub fn new(kick: File) -> io::Result<Waits> {
+/// The source of an event: the driver.
+const KICK: u64 = 0;
+/// Or `Events::wake`.
+const WAKE: u64 = 1;
+
+impl Events {
+    pub fn new() -> io::Result<Events> {
         // SAFETY: it takes no pointer.
         let epoll = descriptor(unsafe { epoll_create1(EPOLL_CLOEXEC) })?;
-        let waits = Waits { epoll, kick, wake: new_event()? };
-        waits.control(EPOLL_CTL_ADD, waits.wake.as_raw_fd())?;
-        waits.control(EPOLL_CTL_ADD, waits.kick.as_raw_fd())?;
-        Ok(waits)
+        let events = Events { epoll, wake: new_event()? };
+        events.control(EPOLL_CTL_ADD, &events.wake, WAKE)?;
+        Ok(events)
     }
 
-    fn control(&self, operation: c_int, fd: RawFd) -> io::Result<()> {
-        let mut event =
-            EpollEvent { events: EPOLLIN | EPOLLET, data: u64::from(fd.unsigned_abs()) };
+    /// Adds or removes an event. Each wakes one thread, and no thread reads its counter: so none
+    /// blocks in the read of a counter that another thread has read.
+    fn control(&self, operation: c_int, event: &File, data: u64) -> io::Result<()> {
+        let (fd, mut wanted) = (event.as_raw_fd(), EpollEvent { events: EPOLLIN | EPOLLET, data });
         // SAFETY: the event is valid for the call, which keeps no pointer.
-        match unsafe { epoll_ctl(self.epoll.as_raw_fd(), operation, fd, &mut event) } {
+        match unsafe { epoll_ctl(self.epoll.as_raw_fd(), operation, fd, &mut wanted) } {
             0 => Ok(()),
             _ => Err(io::Error::last_os_error()),
         }
+    }
+
+    /// Waits for the driver's notifications too.
+    pub fn add(&self, kick: &File) -> io::Result<()> {
+        self.control(EPOLL_CTL_ADD, kick, KICK)
+    }
+
+    pub fn remove(&self, kick: &File) {
+        // This fails if it was removed already, because it ended.
+        let _ = self.control(EPOLL_CTL_DEL, kick, KICK);
     }
 
     /// The event that wakes one thread, for others.
@@ -101,23 +113,21 @@ impl Waits {
         let _ = signal(&self.wake); // it can't fail otherwise than by a full counter
     }
 
-    /// Waits for an event, at most so many milliseconds, or for ever if they are negative.
-    pub fn wait(&self, milliseconds: c_int) -> io::Result<()> {
-        let mut event = EpollEvent { events: 0, data: 0 };
-        // SAFETY: there is room for one event, and the call keeps no pointer.
-        let count = unsafe { epoll_wait(self.epoll.as_raw_fd(), &mut event, 1, milliseconds) };
+    /// Waits for an event, at most so many milliseconds, or for ever if they are negative. Returns
+    /// whether the driver's has ended, and is to be removed.
+    pub fn wait(&self, milliseconds: c_int) -> io::Result<bool> {
+        let mut events = [EpollEvent { events: 0, data: 0 }; 2];
+        // SAFETY: there is room for two events, and the call keeps no pointer.
+        let count =
+            unsafe { epoll_wait(self.epoll.as_raw_fd(), events.as_mut_ptr(), 2, milliseconds) };
         if count < 0 {
             let error = io::Error::last_os_error();
-            return if error.kind() == ErrorKind::Interrupted { Ok(()) } else { Err(error) };
+            return if error.kind() == ErrorKind::Interrupted { Ok(false) } else { Err(error) };
         }
-        let (events, data) = (event.events, event.data);
-        let kick = self.kick.as_raw_fd();
-        if count == 1
-            && events & (EPOLLERR | EPOLLHUP) != 0
-            && data == u64::from(kick.unsigned_abs())
-        {
-            let _ = self.control(EPOLL_CTL_DEL, kick); // it has ended: no kick is heard any more
-        }
-        Ok(())
+        let has_ended = |event: &EpollEvent| {
+            let (events, data) = (event.events, event.data);
+            data == KICK && events & (EPOLLERR | EPOLLHUP) != 0
+        };
+        Ok(events[..usize::try_from(count).unwrap_or(0)].iter().any(has_ended))
     }
 }

@@ -3,6 +3,7 @@
 #![allow(dead_code)]
 pub mod by_values;
 pub mod recorder;
+pub mod running;
 
 use pitskhomu::*;
 use std::cell::{Cell, RefCell};

@@ -1,0 +1,381 @@
+//! A queue under its lock, and what its threads and its device do with it.
+use super::events::Events;
+use crate::queue::Queue;
+use crate::status::Status;
+use crate::worker::Popped;
+use core::ops::{Deref, DerefMut};
+use std::fs::File;
+use std::io;
+use std::sync::{Condvar, Mutex, MutexGuard, PoisonError};
+use std::time::Duration;
+
+/// What a device keeps of a queue under the queue's lock. A [`Queue`] by itself is enough for a
+/// device that keeps nothing else.
+pub trait Queued {
+    /// The queue.
+    fn queue(&self) -> &Queue;
+
+    /// How often the queue has begun, and the position of the next chain. It differs once a thread
+    /// has popped that chain, or the queue has begun again ([`Queue::begin`]).
+    fn next_chain(&self) -> (u64, u16) {
+        (0, self.queue().next_avail())
+    }
+
+    /// Whether chains are popped: nothing has refused, stopped or ended the queue.
+    fn is_live(&self) -> bool {
+        true
+    }
+
+    /// Whether notifications of the driver may be enabled and disabled, which is a store into the
+    /// guest's memory.
+    fn may_tell(&self) -> bool {
+        self.is_live()
+    }
+
+    /// Whether another thread can pop a chain now: there is a worker for it.
+    fn has_room(&self) -> bool {
+        true
+    }
+}
+
+impl Queued for Queue {
+    fn queue(&self) -> &Queue {
+        self
+    }
+}
+
+/// The IOMMU's answer to the misses of a call.
+#[derive(Clone, Copy, Debug, PartialEq, Eq)]
+pub enum Asked {
+    /// Each miss is answered.
+    All,
+    /// Each miss is answered, and a page is refused.
+    Refused,
+    /// Not each miss is answered. The thread asks again in a moment.
+    NotAll,
+}
+
+/// Serves chains, on one of a queue's threads: it has a worker. Methods with an argument `queued`
+/// are called under the queue's lock, so none of these waits.
+pub trait Server<Q> {
+    /// A look for a chain begins. `is_same` says that it is for the chain whose misses were asked
+    /// for; else forget what the IOMMU refused.
+    fn looks(&mut self, _queued: &Q, _is_same: bool) {}
+
+    /// Takes up a chain that waited for its answer, if one has it by now. The default has no such
+    /// chain.
+    fn resumes(&mut self, _queued: &mut Q) -> bool {
+        false
+    }
+
+    /// Pops the next chain, if one is available.
+    ///
+    /// # Errors
+    /// - `ChainInFlight`: no chain can be popped now. Who changes that looks again, as a thread
+    ///   does that returns a chain, or others by [`Loop::look`].
+    /// - `OutOfMemory`: it is tried again in a moment.
+    /// - Any other is a refusal: `refuse` is called.
+    fn pop(&mut self, queued: &mut Q) -> Result<Popped, Status>;
+
+    /// The chain that was popped is the queue's `number`th.
+    fn begins(&mut self, _queued: &mut Q, _number: u64) {}
+
+    /// Makes the reply of the chain that was popped or resumed, without the lock. `false` if it
+    /// waits for its answer: then the worker is left with it.
+    fn answer(&mut self) -> bool;
+
+    /// Pushes the chain, which has its reply, and remembers whether the driver is to be
+    /// interrupted. Returns whether `undo` is to be called.
+    fn push(&mut self, queued: &mut Q) -> bool;
+
+    /// Undoes what the guest doesn't get, without the lock.
+    fn undo(&mut self) {}
+
+    /// Interrupts the driver, if that is owed: an earlier push wanted it. It is called without the
+    /// lock after the next chain was popped, so that other threads don't wait for the system call;
+    /// or with it, if there is none.
+    fn interrupt(&mut self);
+
+    /// Enables or disables notifications of the driver ([`Worker::set_notification`]). Returns
+    /// whether something was stored.
+    ///
+    /// # Errors
+    /// - `NotMapped`: the table of the IOMMU lacks the page, and `ask` is called.
+    /// - `ChainInFlight`: there is no worker for it. Who returns a chain looks again.
+    /// - After any other it is tried again in a moment.
+    ///
+    /// [`Worker::set_notification`]: crate::Worker::set_notification
+    fn set_notification(&mut self, queued: &mut Q, enabled: bool) -> Result<bool, Status>;
+
+    /// The index of the available ring, if it is mapped: a load, with what an acquire fence orders
+    /// after it.
+    fn available_index(&mut self, queued: &Q) -> Option<u16>;
+
+    /// Asks the IOMMU for the misses of the last `pop` or `set_notification`, and waits for its
+    /// answer, without the lock.
+    fn ask(&mut self) -> Asked {
+        Asked::NotAll
+    }
+
+    /// The queue is refused: nothing more is popped until it is reset.
+    fn refuse(&mut self, queued: &mut Q, why: Status);
+
+    /// Notifications couldn't be enabled, and the thread tries it again in a moment.
+    fn tells_later(&mut self, _why: Status) {}
+
+    /// The driver's event has ended, and was removed.
+    fn loses_kick(&mut self) {}
+
+    /// The thread found no chain, and sleeps from now on. Returns whether it ends instead.
+    fn rests(&mut self, _queued: &mut Q) -> bool {
+        false
+    }
+}
+
+/// What lies under a queue's lock: the device's own, to which this dereferences, and the loop's.
+#[derive(Debug)]
+pub struct Locked<Q> {
+    queued: Q,
+    pub(super) kick: Option<File>,
+    /// Whether notifications of the driver are enabled, and with an event index at which position,
+    /// since the queue has begun. Unknown at first.
+    pub(super) told: Option<(u64, bool, u16)>,
+    /// The number of threads that sleep until an event.
+    pub(super) sleeping: usize,
+    /// A sleeping thread was woken to pop a chain, and doesn't have the lock yet.
+    pub(super) is_woken: bool,
+    /// The number of chains popped, and of those pushed or given up.
+    pub(super) popped: u64,
+    pub(super) returned: u64,
+    /// No chain from this position on is popped (`Loop::settle`).
+    pub(super) until: Option<u16>,
+    /// Another thread waits until chains are popped or pushed.
+    pub(super) is_awaited: bool,
+    /// The next chain has addresses that the IOMMU's table doesn't map.
+    pub(super) is_missing: bool,
+}
+
+impl<Q> Deref for Locked<Q> {
+    type Target = Q;
+
+    fn deref(&self) -> &Q {
+        &self.queued
+    }
+}
+
+impl<Q> DerefMut for Locked<Q> {
+    fn deref_mut(&mut self) -> &mut Q {
+        &mut self.queued
+    }
+}
+
+impl<Q: Queued> Locked<Q> {
+    /// Enables or disables notifications of the driver by `set`, unless memory has this setting
+    /// already. Returns whether something was stored: then a chain may have become available
+    /// before.
+    ///
+    /// # Errors
+    /// Those of `set`. The next call tries it again.
+    pub fn tell(
+        &mut self,
+        enabled: bool,
+        set: impl FnOnce(&mut Q) -> Result<bool, Status>,
+    ) -> Result<bool, Status> {
+        let (begun, next) = self.queued.next_chain();
+        let has_place = enabled && self.queued.queue().has_event_index();
+        let telling = Some((begun, enabled, if has_place { next } else { 0 }));
+        if !self.queued.may_tell() || self.told == telling {
+            return Ok(false); // [OmitsWish], if it is wanted
+        }
+        // [Wishes, WishIsThere], or [Silences]: a store of avail_event or of the used ring's flags,
+        // and a full barrier
+        let is_stored = set(&mut self.queued)?;
+        self.told = telling;
+        Ok(is_stored)
+    }
+
+    /// A number that changes when a chain is popped or returned.
+    pub(super) fn moved(&self) -> u64 {
+        self.popped + self.returned
+    }
+
+    /// Whether a thread waits by [`Loop::settle`], [`Loop::close`] or [`Loop::wait_at_most`]. Call
+    /// [`Loop::notify_waiting`] after a change that may end its wait.
+    #[must_use]
+    pub fn is_awaited(&self) -> bool {
+        self.is_awaited
+    }
+}
+
+/// The loop of a queue's threads, and the queue's lock, for a device that needs more than a
+/// [`Builder`](super::Builder) has: an IOMMU, numbers that a front-end sets while the guest runs,
+/// messages that wait only a while for chains. A thread calls `run` with a [`Server`] of its own.
+///
+/// # Examples
+/// Behind an IOMMU: a pop waits until the misses are mapped.
+/// ```
+/// use pitskhomu::live::{Asked, Loop, Server};
+/// use pitskhomu::*;
+/// use std::sync::atomic::{fence, Ordering};
+/// use std::sync::{Arc, Mutex};
+///
+/// /// The server of a thread.
+/// struct Translated<'d, F, M> {
+///     device: &'d Device,
+///     files: &'d F,
+///     memory: &'d M,
+///     worker: Worker, // with the memory's regions
+///     table: &'d Mutex<Iotlb>,
+///     /// Asks the IOMMU for an address: the guest's, or `None`.
+///     ask: &'d dyn Fn(&Miss) -> Option<u64>,
+///     /// The available index, at an I/O address.
+///     index: &'d dyn Fn() -> Option<u16>,
+///     call: &'d dyn Fn(),
+///     owed: bool,
+/// }
+///
+/// impl<F: FileSystem, M: GuestMemory> Server<Queue> for Translated<'_, F, M> {
+///     fn pop(&mut self, queue: &mut Queue) -> Result<Popped, Status> {
+///         let mut table = self.table.lock().unwrap();
+///         let mut lent = self.worker.lend(&mut table)?;
+///         lent.pop(queue, self.memory)
+///     }
+///
+///     fn ask(&mut self) -> Asked {
+///         for miss in self.worker.misses() {
+///             let mut table = self.table.lock().unwrap();
+///             let mapped = match (self.ask)(miss) {
+///                 Some(guest) => table.map(miss.iova, miss.len, guest, miss.access),
+///                 None => return Asked::NotAll,
+///             };
+///             if mapped.is_err() {
+///                 return Asked::NotAll;
+///             }
+///         }
+///         Asked::All
+///     }
+///
+///     fn answer(&mut self) -> bool {
+///         let _ = self.worker.answer(self.device, self.files, self.memory);
+///         true
+///     }
+///
+///     fn push(&mut self, queue: &mut Queue) -> bool {
+///         let mut table = self.table.lock().unwrap();
+///         let lent = self.worker.lend(&mut table);
+///         let pushed = lent.and_then(|mut lent| lent.push(queue, self.memory));
+///         self.owed |= pushed.map_or(false, |served| served.notify);
+///         false
+///     }
+///
+///     fn interrupt(&mut self) {
+///         if std::mem::take(&mut self.owed) {
+///             (self.call)();
+///         }
+///     }
+///
+///     fn set_notification(&mut self, queue: &mut Queue, enabled: bool) -> Result<bool, Status> {
+///         let mut table = self.table.lock().unwrap();
+///         let mut lent = self.worker.lend(&mut table)?;
+///         lent.set_notification(queue, enabled, self.memory)
+///     }
+///
+///     fn available_index(&mut self, _queue: &Queue) -> Option<u16> {
+///         let index = (self.index)();
+///         fence(Ordering::Acquire);
+///         index
+///     }
+///
+///     fn refuse(&mut self, _queue: &mut Queue, _why: Status) {
+///         // set DEVICE_NEEDS_RESET
+///     }
+/// }
+/// ```
+#[derive(Debug)]
+pub struct Loop<Q> {
+    state: Mutex<Locked<Q>>,
+    /// Notified when a chain is popped or returned while somebody waits, and by `notify_waiting`.
+    changed: Condvar,
+    pub(super) events: Events,
+}
+
+impl<Q: Queued> Loop<Q> {
+    /// A queue that no thread serves yet, and for which no event of the driver's is set.
+    ///
+    /// # Errors
+    /// The system's: too many open files, or too little memory.
+    pub fn new(queued: Q) -> io::Result<Loop<Q>> {
+        Ok(Loop::over(Events::new()?, queued))
+    }
+
+    pub(super) fn over(events: Events, queued: Q) -> Loop<Q> {
+        let state = Locked {
+            queued,
+            kick: None,
+            told: None,
+            sleeping: 0,
+            is_woken: false,
+            popped: 0,
+            returned: 0,
+            until: None,
+            is_awaited: false,
+            is_missing: false,
+        };
+        Loop { state: Mutex::new(state), changed: Condvar::new(), events }
+    }
+
+    /// Locks the queue. Chains may be in flight.
+    pub fn lock(&self) -> MutexGuard<'_, Locked<Q>> {
+        self.state.lock().unwrap_or_else(PoisonError::into_inner)
+    }
+
+    /// Sets or removes the event of the driver's notifications. Then call `look`, since chains may
+    /// be available already.
+    ///
+    /// # Errors
+    /// The system's. Then there is none.
+    pub fn set_kick(&self, state: &mut Locked<Q>, kick: Option<File>) -> io::Result<()> {
+        if let Some(old) = state.kick.take() {
+            self.events.remove(&old);
+        }
+        if let Some(kick) = kick {
+            self.events.add(&kick)?;
+            state.kick = Some(kick);
+        }
+        Ok(())
+    }
+
+    /// Has a thread look for chains, as the driver's notification does.
+    pub fn look(&self) {
+        self.events.wake(); // [Signals]
+    }
+
+    /// Has who waits look at its condition again.
+    pub fn notify_waiting(&self) {
+        self.changed.notify_all();
+    }
+
+    /// Waits while a condition holds, without the lock meanwhile. Who changes that calls
+    /// `notify_waiting`.
+    pub fn wait_while<'a>(
+        &self,
+        state: MutexGuard<'a, Locked<Q>>,
+        condition: impl FnMut(&mut Locked<Q>) -> bool,
+    ) -> MutexGuard<'a, Locked<Q>> {
+        self.changed.wait_while(state, condition).unwrap_or_else(PoisonError::into_inner)
+    }
+
+    /// The same, for this time at most. Returns whether the condition still holds.
+    pub fn wait_at_most<'a>(
+        &self,
+        mut state: MutexGuard<'a, Locked<Q>>,
+        time: Duration,
+        condition: impl FnMut(&mut Locked<Q>) -> bool,
+    ) -> (MutexGuard<'a, Locked<Q>>, bool) {
+        state.is_awaited = true;
+        let waited = self.changed.wait_timeout_while(state, time, condition);
+        let (mut state, timeout) = waited.unwrap_or_else(PoisonError::into_inner);
+        state.is_awaited = false;
+        (state, timeout.timed_out())
+    }
+}

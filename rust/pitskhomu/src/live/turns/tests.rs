@@ -1,0 +1,331 @@
+//! Threads over a ring that is two numbers, with an IOMMU and calls that end when the test says so.
+use super::*;
+use crate::queue::{Queue, QueueLayout};
+use alloc::boxed::Box;
+use alloc::sync::Arc;
+use alloc::vec;
+use alloc::vec::Vec;
+use std::sync::mpsc::{channel, Receiver, Sender};
+use std::thread;
+use std::time::{Duration, Instant};
+
+const SOON: Duration = Duration::from_secs(20);
+const MOMENT: Duration = Duration::from_millis(200);
+
+/// The queue, and the driver's available index.
+#[derive(Debug)]
+struct Ring {
+    queue: Queue,
+    available: u16,
+    refused: Option<Status>,
+}
+
+impl Queued for Ring {
+    fn queue(&self) -> &Queue {
+        &self.queue
+    }
+
+    fn is_live(&self) -> bool {
+        self.refused.is_none()
+    }
+}
+
+/// A loop with so many chains available, and the state of so many threads that sleep.
+fn ring(available: u16, sleeping: usize) -> Loop<Ring> {
+    let layout = QueueLayout { size: 64, descriptors: 0, available: 0x1000, used: 0x2000 };
+    let queue = Queue::new(layout, 0).and_then(|queue| queue.with_max_in_flight(64)).unwrap();
+    let looping = Loop::new(Ring { queue, available, refused: None }).unwrap();
+    looping.lock().sleeping = sleeping;
+    looping
+}
+
+/// What a test has its server do, and what it counts.
+#[derive(Default)]
+struct Fake {
+    /// So many looks miss addresses.
+    missing: u32,
+    /// So many times notifications can't be enabled or disabled, for this reason.
+    untold: Vec<Status>,
+    asked: Option<Asked>,
+    /// A call begins and ends by these.
+    calls: Option<(Sender<()>, Receiver<()>)>,
+    /// It ends instead of sleeping.
+    ends: bool,
+    pops: u32,
+    asks: u32,
+    later: u32,
+    /// After so many pops refusals were forgotten.
+    forgotten: Vec<u32>,
+    /// What happens while it asks.
+    meanwhile: Option<Box<dyn FnMut() + Send>>,
+}
+
+impl Server<Ring> for Fake {
+    fn looks(&mut self, _: &Ring, is_same: bool) {
+        if !is_same {
+            self.forgotten.push(self.pops);
+        }
+    }
+
+    fn pop(&mut self, ring: &mut Ring) -> Result<Popped, Status> {
+        self.pops += 1;
+        if self.missing > 0 {
+            self.missing -= 1;
+            return Ok(Popped::Missing);
+        }
+        if ring.queue.next_avail() == ring.available {
+            return Ok(Popped::Idle);
+        }
+        let numbers = ring.queue.numbers_mut();
+        numbers.next_avail = numbers.next_avail.wrapping_add(1);
+        Ok(Popped::Chain)
+    }
+
+    fn answer(&mut self) -> bool {
+        if let Some((begins, ends)) = &self.calls {
+            begins.send(()).unwrap();
+            ends.recv().unwrap();
+        }
+        true
+    }
+
+    fn push(&mut self, ring: &mut Ring) -> bool {
+        let numbers = ring.queue.numbers_mut();
+        numbers.next_used = numbers.next_used.wrapping_add(1);
+        false
+    }
+
+    fn interrupt(&mut self) {}
+
+    fn set_notification(&mut self, _: &mut Ring, _: bool) -> Result<bool, Status> {
+        self.untold.pop().map_or(Ok(true), Err)
+    }
+
+    fn available_index(&mut self, ring: &Ring) -> Option<u16> {
+        Some(ring.available)
+    }
+
+    fn ask(&mut self) -> Asked {
+        self.asks += 1;
+        self.meanwhile.iter_mut().for_each(|happens| happens());
+        self.asked.unwrap_or(Asked::NotAll)
+    }
+
+    fn refuse(&mut self, ring: &mut Ring, why: Status) {
+        ring.refused = Some(why);
+    }
+
+    fn tells_later(&mut self, _: Status) {
+        self.later += 1;
+    }
+
+    fn rests(&mut self, _: &mut Ring) -> bool {
+        self.ends
+    }
+}
+
+#[test]
+fn what_could_not_be_said_is_said_again() {
+    let looping = ring(0, 1);
+    let mut server = Fake { untold: vec![Status::OutOfMemory], ..Fake::default() };
+    assert_eq!(looping.serve_all(&mut server), Rest::Again);
+    assert_eq!((looping.lock().told, server.later), (None, 1));
+    assert_eq!(looping.serve_all(&mut server), Rest::Event);
+    assert_eq!((looping.lock().told, server.later), (Some((0, true, 0)), 1));
+}
+
+#[test]
+fn one_thread_at_a_time_is_woken() {
+    let (looping, mut server) = (ring(1, 2), Fake::default());
+    assert!(looping.lock().hand_on(&mut server) && !looping.lock().hand_on(&mut server));
+    looping.lock().available = 0;
+    assert_eq!(looping.serve_all(&mut server), Rest::Event); // it has come
+    assert!(!looping.lock().hand_on(&mut server), "no chain is available");
+    looping.lock().available = 1;
+    assert!(looping.lock().hand_on(&mut server));
+    looping.lock().sleeping = 0;
+    looping.lock().is_woken = false;
+    assert!(!looping.lock().hand_on(&mut server), "nobody sleeps");
+    assert_eq!(looping.lock().told, Some((0, false, 0)));
+}
+
+/// While a thread asks, another one pops the chain, or none does.
+#[test]
+fn a_refusal_is_for_one_chain() {
+    for (is_popped, forgotten) in [(false, vec![0, 2]), (true, vec![0, 1, 2])] {
+        let looping = Arc::new(ring(1, 1));
+        let other = looping.clone();
+        let meanwhile = move || {
+            if is_popped {
+                other.lock().queue.numbers_mut().next_avail += 1;
+            }
+        };
+        let mut server = Fake {
+            missing: 1,
+            asked: Some(Asked::All),
+            meanwhile: Some(Box::new(meanwhile)),
+            ..Fake::default()
+        };
+        assert_eq!(looping.serve_all(&mut server), Rest::Event);
+        let pops = if is_popped { 3 } else { 4 };
+        assert_eq!((server.asks, server.pops), (1, pops));
+        assert!(server.forgotten.starts_with(&forgotten), "{:?}", server.forgotten);
+    }
+}
+
+/// An IOMMU that answers, and unmaps again, holds no thread.
+#[test]
+fn misses_are_asked_for_a_while() {
+    let looping = ring(1, 1);
+    let mut server = Fake { missing: 1000, asked: Some(Asked::All), ..Fake::default() };
+    assert_eq!(looping.serve_all(&mut server), Rest::Again);
+    assert_eq!((server.asks, server.pops), (MOST_ROUNDS, MOST_ROUNDS + 1));
+    server.missing = 1;
+    assert_eq!(looping.serve_all(&mut server), Rest::Event);
+    assert_eq!(looping.lock().queue.next_used(), 1);
+}
+
+/// A thread that isn't answered looks again in a moment.
+#[test]
+fn a_miss_without_an_answer_is_asked_again_later() {
+    let looping = ring(1, 1);
+    let mut server = Fake { missing: 2, ..Fake::default() };
+    for asks in 1..=2 {
+        assert_eq!((looping.serve_all(&mut server), server.asks), (Rest::Again, asks));
+        assert!(looping.lock().is_missing);
+    }
+    assert_eq!(looping.serve_all(&mut server), Rest::Event);
+    let state = looping.lock();
+    assert!(!state.is_missing && state.queue.next_used() == 1);
+}
+
+/// The page of a ring's notification is missed, and mapped or refused.
+#[test]
+fn a_refused_notification_refuses_the_queue() {
+    for (asked, refused) in [(Asked::All, None), (Asked::Refused, Some(Status::NotMapped))] {
+        let looping = ring(0, 1);
+        let untold = vec![Status::NotMapped];
+        let mut server = Fake { untold, asked: Some(asked), ..Fake::default() };
+        assert_eq!(looping.serve_all(&mut server), Rest::Event);
+        assert_eq!((looping.lock().refused, server.asks), (refused, 1));
+    }
+}
+
+/// A loop with a thread whose calls begin and end by the test's channels.
+fn held(available: u16) -> (Arc<Loop<Ring>>, Receiver<()>, Sender<()>) {
+    let (looping, (begins, has_begun), (end, ends)) =
+        (Arc::new(ring(available, 0)), channel(), channel());
+    let mut server = Fake { calls: Some((begins, ends)), ..Fake::default() };
+    let threads = looping.clone();
+    thread::spawn(move || threads.run(&mut server)); // it ends with the process
+    (looping, has_begun, end)
+}
+
+#[test]
+fn a_call_that_goes_on_is_waited_for_a_while() {
+    let (looping, has_begun, end) = held(3);
+    has_begun.recv_timeout(SOON).unwrap();
+    let before = Instant::now();
+    let state = looping.settle(looping.lock(), MOMENT);
+    assert!(before.elapsed() >= MOMENT && before.elapsed() < SOON);
+    assert_eq!((state.queue.in_flight(), state.queue.next_avail()), (1, 1));
+    drop(state);
+    end.send(()).unwrap();
+    while looping.lock().queue.next_used() == 0 {
+        assert!(before.elapsed() < SOON, "the chain isn't returned");
+        thread::yield_now();
+    }
+    assert!(has_begun.recv_timeout(MOMENT).is_err(), "a chain from the end on is popped");
+    looping.go_on(&mut looping.lock());
+    has_begun.recv_timeout(SOON).unwrap();
+}
+
+#[test]
+fn chains_before_the_end_are_waited_for() {
+    let (looping, has_begun, end) = held(3);
+    let ending = thread::spawn(move || {
+        for _ in 0..3 {
+            has_begun.recv_timeout(SOON).unwrap();
+            end.send(()).unwrap();
+        }
+        (has_begun, end)
+    });
+    let before = Instant::now();
+    let mut state = looping.lock();
+    state.available = 5;
+    let state = looping.pop_until(state, 3, || SOON);
+    assert_eq!((state.queue.next_avail(), state.until), (3, Some(3)));
+    let state = looping.settle(state, SOON);
+    assert!(before.elapsed() < SOON);
+    assert_eq!((state.queue.in_flight(), state.queue.next_used()), (0, 3));
+    let (has_begun, _end) = ending.join().unwrap();
+    drop(looping.close(state, || false));
+    looping.look();
+    has_begun.recv_timeout(SOON).unwrap();
+}
+
+/// After a slow chain no further one is popped.
+#[test]
+fn chains_behind_a_slow_one_are_left() {
+    let (looping, has_begun, end) = held(5);
+    has_begun.recv_timeout(SOON).unwrap();
+    let state = looping.pop_until(looping.lock(), 5, || MOMENT);
+    assert_eq!((state.queue.next_avail(), state.until), (1, Some(1)));
+    drop(state);
+    end.send(()).unwrap();
+    assert!(has_begun.recv_timeout(MOMENT).is_err(), "a chain is popped that was to be left");
+    looping.go_on(&mut looping.lock());
+    has_begun.recv_timeout(SOON).unwrap();
+}
+
+/// A close waits until each thread is out of the guest's memory.
+#[test]
+fn a_close_waits_for_who_is_within() {
+    let looping = Arc::new(ring(0, 0));
+    let (leaving, is_within) = (looping.clone(), Arc::new(std::sync::Mutex::new(true)));
+    let within = is_within.clone();
+    let leaver = thread::spawn(move || {
+        while !leaving.lock().is_awaited() {
+            thread::yield_now();
+        }
+        *within.lock().unwrap() = false;
+        leaving.notify_waiting();
+    });
+    let mut state = looping.lock();
+    state.until = Some(7);
+    let state = looping.close(state, || *is_within.lock().unwrap());
+    assert_eq!((state.until, state.is_awaited()), (None, false));
+    leaver.join().unwrap();
+}
+
+/// What misses addresses isn't waited for, nor a queue that isn't live.
+#[test]
+fn who_stops_does_not_wait_for_an_iommu() {
+    let looping = ring(2, 1);
+    let mut server = Fake { missing: 1, ..Fake::default() };
+    assert_eq!(looping.serve_all(&mut server), Rest::Again);
+    let before = Instant::now();
+    let mut state = looping.pop_until(looping.lock(), 2, || SOON);
+    assert_eq!(state.until, Some(0));
+    state.refused = Some(Status::NotMapped);
+    state.until = None;
+    let state = looping.pop_until(state, 2, || SOON);
+    assert_eq!(state.until, None);
+    assert!(before.elapsed() < SOON);
+}
+
+/// One thread's end wakes the next.
+#[test]
+fn threads_end_one_after_another() {
+    let looping = Arc::new(ring(0, 0));
+    let (ended, ends) = channel();
+    for _ in 0..3 {
+        let (looping, ended) = (looping.clone(), ended.clone());
+        thread::spawn(move || {
+            let server = &mut Fake { ends: true, ..Fake::default() };
+            ended.send(looping.run(server).is_ok()).unwrap();
+        });
+    }
+    (0..3).for_each(|_| assert_eq!(ends.recv_timeout(SOON), Ok(true)));
+    assert_eq!(looping.lock().sleeping, 0);
+}
