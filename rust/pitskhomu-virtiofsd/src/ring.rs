@@ -1,16 +1,11 @@
-//! A queue: its numbers, its descriptors, and the threads that serve it. A thread takes and returns
-//! chains under the queue's lock, and answers them without it. Each thread has one chain at a time.
+//! A queue: its numbers, its descriptors, and the threads that serve it by the loop of
+//! `pitskhomu::live`. A thread takes and returns chains under the queue's lock, and answers them
+//! without it. Each thread has one chain at a time.
 //! A message that changes a ring only takes the lock: chains in flight continue over the memory
 //! that they were taken from, and new ones use the new numbers. A message that ends something waits
 //! a while until none of the ring's chains is in flight (`waits`), and then closes the ring
 //! (`held`): `GET_VRING_BASE`, a ring that is disabled, and memory that maps or unmaps the ring's
 //! parts.
-//!
-//! Comments in brackets name the steps of the notification model (crate notify). For the available
-//! ring, whose giver is the driver, they are those of `specs/Threads.antt`; for the used ring,
-//! whose giver is this device, those of `specs/Kicks.antt`. The threads' own event is `wake`: a
-//! write to it is `Signals`. The calls of `Server` make the loads and stores, with their barriers
-//! (`Worker` in crate pitskhomu).
 mod held;
 mod threads;
 mod waits;
@@ -20,28 +15,16 @@ use crate::iommu::Cancel;
 use crate::memory::Table;
 use crate::notifier::Notifier;
 use log::warn;
+use pitskhomu::live::{Asked, Locked, Loop, Queued};
 use pitskhomu::{Popped as Taken, Queue, QueueLayout, Status};
 use std::fs::File;
 use std::io;
-use std::os::fd::AsRawFd;
 use std::sync::atomic::{AtomicBool, AtomicUsize};
-use std::sync::{Arc, Condvar, Mutex, MutexGuard, PoisonError};
-use vmm_sys_util::epoll::{ControlOperation, Epoll, EpollEvent, EventSet};
-use vmm_sys_util::eventfd::EventFd;
+use std::sync::{Arc, MutexGuard};
 pub use waits::{Patience, LAST_CHAINS};
 
 /// The greatest queue size that the library allows.
 pub const SIZE_MAX: u16 = 32768;
-
-/// The source of an event.
-#[derive(Debug, Clone, Copy, PartialEq, Eq)]
-enum Source {
-    /// The driver.
-    Kick = 0,
-    /// The front-end's thread, after a change. Or another of the ring's threads, for an available
-    /// chain.
-    Wake = 1,
-}
 
 /// A ring's numbers, as the front-end sets them.
 #[derive(Debug, Clone, Copy, Default, PartialEq, Eq)]
@@ -54,7 +37,8 @@ pub struct Numbers {
     pub has_event_index: bool,
 }
 
-/// A ring's state under its lock, for its threads and the front-end's.
+/// A ring's state under its lock, for its threads and the front-end's. The loop has a part of its
+/// own (`Locked`).
 #[derive(Debug, Default)]
 #[allow(clippy::struct_excessive_bools, reason = "messages change each by itself")]
 pub struct State {
@@ -72,27 +56,10 @@ pub struct State {
     is_mapped: bool,
     /// The library refused it. It isn't served until it is reset.
     is_refused: bool,
-    /// Whether kicks are enabled in the driver, and with an event index at which position. Unknown
-    /// for a ring that begins.
-    told: Option<(bool, u16)>,
-    /// The number of threads that sleep until an event.
-    sleeping: u16,
-    /// A sleeping thread was woken to take a chain, and doesn't have the lock yet.
-    is_woken: bool,
-    /// The number of chains taken, and of those returned, since the daemon began.
-    taken: u64,
-    returned: u64,
     /// The number of threads that serve the ring.
     served_by: usize,
-    /// While a message waits for the ring's chains, none from this position on is taken.
-    until: Option<u16>,
     /// The memory over which chains were in flight when the ring was closed.
     over: Option<Arc<Table>>,
-    /// The front-end's thread waits until chains are taken or returned.
-    is_awaited: bool,
-    /// The next chain has addresses that the IOMMU's table doesn't map.
-    is_missing: bool,
-    kick: Option<File>,
     call: Option<Arc<Notifier>>,
     /// The driver wasn't interrupted, since there was no call descriptor. QEMU sets it after it has
     /// started a ring with available chains.
@@ -103,7 +70,7 @@ pub struct State {
 impl State {
     /// Sets numbers for the front-end, and returns whether they differ. If so, the queue is reset
     /// with them as soon as none of its chains is in flight.
-    fn tell(&mut self, change: impl FnOnce(&mut Numbers)) -> bool {
+    fn set(&mut self, change: impl FnOnce(&mut Numbers)) -> bool {
         let before = self.numbers;
         change(&mut self.numbers);
         self.is_new |= self.numbers != before;
@@ -127,56 +94,13 @@ impl State {
             .with_max_in_flight(threads.min(layout.size))?
             .with_event_index(has_event_index);
         self.queue.begin(queue)?;
-        (self.is_new, self.told, self.begun) = (false, None, self.begun + 1);
+        (self.is_new, self.begun) = (false, self.begun + 1);
         Ok(())
-    }
-
-    /// Enables or disables kicks, unless `told` has this setting already. Returns whether something
-    /// was stored: then a chain may have become available before. An error leaves `told` unchanged.
-    fn want_kicks(
-        &mut self,
-        wanted: bool,
-        server: &mut impl Server,
-        memory: &Arc<Table>,
-    ) -> Result<bool, Status> {
-        let Numbers { next_avail, has_event_index, .. } = self.numbers;
-        let telling = Some((wanted, if wanted && has_event_index { next_avail } else { 0 }));
-        if !self.is_live() || self.is_new || self.told == telling {
-            return Ok(false); // [OmitsWish], if it is wanted
-        }
-        // [Wishes, WishIsThere], or [Silences]: a store of avail_event or of the used ring's flags,
-        // and a full barrier
-        let is_stored = server.set_notification(&self.queue, wanted, memory)?;
-        self.told = telling;
-        Ok(is_stored)
-    }
-
-    /// The next chain. It differs once a thread has taken it, or the ring has begun again.
-    fn next_chain(&self) -> (u64, u16) {
-        (self.begun + u64::from(self.is_new), self.numbers.next_avail)
     }
 
     /// Whether chains may be returned.
     fn runs(&self) -> bool {
         self.is_started && self.is_enabled && self.is_mapped
-    }
-
-    /// Whether chains may be taken, too.
-    fn is_live(&self) -> bool {
-        self.runs() && !self.is_refused
-    }
-
-    /// A number that changes when a chain is taken or returned.
-    fn moved(&self) -> u64 {
-        self.taken + self.returned
-    }
-
-    /// Whether a chain is available, as a hint: the driver may write to the ring at any time. The
-    /// ring's index is loaded only if the last one shows no available chain.
-    fn has_more(&self, memory: &Table) -> bool {
-        // the look once more of [GoesBusy] and [CallsOne]: a load of the available index
-        self.queue.knows_more()
-            || memory.ring_index(self.numbers.layout.available) != Some(self.numbers.next_avail)
     }
 
     /// The event that interrupts the driver. Without a call descriptor the driver is interrupted
@@ -200,23 +124,40 @@ impl State {
     }
 }
 
-/// Interrupts the driver, if an interrupt is owed.
-fn send(owed: &mut Option<Arc<Notifier>>) {
-    // [Notifies] of the used ring
-    if let Some(Err(e)) = owed.take().map(|call| call.notify()) {
-        warn!("the driver isn't notified: {e}");
+impl Queued for State {
+    fn queue(&self) -> &Queue {
+        &self.queue
+    }
+
+    fn next_chain(&self) -> (u64, u16) {
+        (self.begun + u64::from(self.is_new), self.numbers.next_avail)
+    }
+
+    /// Whether chains may be taken, and not only returned.
+    fn is_live(&self) -> bool {
+        self.runs() && !self.is_refused
+    }
+
+    fn may_tell(&self) -> bool {
+        self.is_live() && !self.is_new
     }
 }
 
-/// The IOMMU's answer to the misses of a call.
-#[derive(Debug, Clone, Copy, PartialEq, Eq)]
-pub enum Answered {
-    /// Each miss is answered.
-    All,
-    /// Each miss is answered, and a page is refused.
-    Refused,
-    /// Not each miss is answered.
-    NotAll,
+/// Enables kicks, on the front-end's thread.
+fn want_kicks(
+    state: &mut Locked<State>,
+    server: &mut impl Server,
+    memory: &Arc<Table>,
+) -> Result<bool, Status> {
+    state.tell(true, |state| server.set_notification(&state.queue, true, memory))
+}
+
+/// Interrupts the driver, if an interrupt is owed.
+fn send(owed: &mut Option<Arc<Notifier>>) {
+    // [Notifies] of the used ring (crate notify, specs/Kicks.antt)
+    if let Some(Err(e)) = owed.take().map(|call| call.notify()) {
+        warn!("the driver isn't notified: {e}");
+    }
 }
 
 /// Serves chains, on a ring's thread.
@@ -226,7 +167,7 @@ pub trait Server {
 
     /// Asks the IOMMU for the misses of the last call, and waits for the answer, unless that is
     /// cancelled. The ring isn't locked.
-    fn ask(&mut self, memory: &Table, cancel: &Cancel) -> Answered;
+    fn ask(&mut self, memory: &Table, cancel: &Cancel) -> Asked;
 
     /// Forgets the IOMMU's refusals: the next call is for another chain.
     fn forget_refusals(&mut self);
@@ -264,17 +205,13 @@ pub struct Ring {
     index: usize,
     /// The number of threads that serve it.
     pub threads: u16,
-    state: Mutex<State>,
+    served: Loop<State>,
     /// Whether threads that return from the host wait: the ring doesn't run. It changes under the
     /// ring's lock.
     is_closed: AtomicBool,
     /// The number of calls of an earlier session that may change the next one, of all rings. While
     /// there is one no chain is taken.
     late: Arc<AtomicUsize>,
-    /// Notified when a chain is taken, returned or dropped, and when the ring is opened.
-    changed: Condvar,
-    events: Epoll,
-    wake: EventFd,
     doing: Vec<Doing>,
     /// Whether its threads wait for the IOMMU.
     pub asking: Cancel,
@@ -283,73 +220,45 @@ pub struct Ring {
 impl Ring {
     /// A ring that isn't started, for `threads` threads.
     pub fn new(index: usize, threads: u16, late: Arc<AtomicUsize>) -> io::Result<Ring> {
-        let (events, wake) = (Epoll::new()?, EventFd::new(libc::EFD_NONBLOCK | libc::EFD_CLOEXEC)?);
-        let doing = (0..threads).map(|_| Doing::default()).collect();
-        let ring = Ring {
+        Ok(Ring {
             index,
             threads,
-            state: Mutex::new(State { is_mapped: true, ..State::default() }),
+            served: Loop::new(State { is_mapped: true, ..State::default() })?,
             is_closed: AtomicBool::new(true),
             late,
-            changed: Condvar::new(),
-            events,
-            wake,
-            doing,
+            doing: (0..threads).map(|_| Doing::default()).collect(),
             asking: Cancel::default(),
-        };
-        ring.listen(ring.wake.as_raw_fd(), Source::Wake)?;
-        Ok(ring)
-    }
-
-    /// Adds an event source. Each event wakes one thread, and no thread reads its counter. So no
-    /// thread blocks in a read of a counter that another has read.
-    fn listen(&self, fd: i32, source: Source) -> io::Result<()> {
-        let event = EpollEvent::new(EventSet::IN | EventSet::EDGE_TRIGGERED, source as u64);
-        self.events.ctl(ControlOperation::Add, fd, event)
+        })
     }
 
     /// Locks the ring. Chains may be in flight.
-    pub fn lock(&self) -> MutexGuard<'_, State> {
-        self.state.lock().unwrap_or_else(PoisonError::into_inner)
-    }
-
-    fn wait_while<'a>(
-        &self,
-        state: MutexGuard<'a, State>,
-        condition: impl FnMut(&mut State) -> bool,
-    ) -> MutexGuard<'a, State> {
-        self.changed.wait_while(state, condition).unwrap_or_else(PoisonError::into_inner)
+    pub fn lock(&self) -> MutexGuard<'_, Locked<State>> {
+        self.served.lock()
     }
 
     /// Sets numbers for the front-end. If they differ, a thread looks for chains: kicks may not be
     /// enabled yet.
     pub fn tell(&self, change: impl FnOnce(&mut Numbers)) {
         let mut state = self.lock();
-        if state.tell(change) && state.is_live() {
+        if state.set(change) && state.is_live() {
             self.look();
         }
     }
 
     /// Has a thread look for chains.
     pub fn look(&self) {
-        let _ = self.wake.write(1); // [Signals]; a full counter wakes too
+        self.served.look();
     }
 
-    fn forget_kick(&self, state: &mut State) {
-        if let Some(kick) = state.kick.take() {
-            // This fails if the descriptor was removed already, because it ended.
-            let _ =
-                self.events.ctl(ControlOperation::Delete, kick.as_raw_fd(), EpollEvent::default());
-        }
+    fn forget_kick(&self, state: &mut Locked<State>) {
+        let _ = self.served.set_kick(state, None); // a removal can't fail
     }
 
     /// Sets the kick descriptor. A ring that wasn't started begins, or continues with its chains in
     /// flight.
     pub fn start(&self, kick: File, memory: &Table) -> io::Result<()> {
         let mut state = self.lock();
-        self.forget_kick(&mut state);
-        self.listen(kick.as_raw_fd(), Source::Kick)?;
-        state.kick = Some(kick);
+        self.served.set_kick(&mut state, Some(kick))?;
         if !state.is_started {
             if !Ring::continues(&state, memory) {
                 self.drop_chains(&mut state, memory);
@@ -367,7 +276,7 @@ impl Ring {
     pub fn stop(&self, server: &mut impl Server, memory: &Arc<Table>, patience: Patience) -> u16 {
         let state = self.settle(memory, patience);
         let mut state = self.close(state, memory, "GET_VRING_BASE is answered");
-        if let Err(status) = state.want_kicks(true, server, memory) {
+        if let Err(status) = want_kicks(&mut state, server, memory) {
             warn!(
                 "queue {}: it ends, and the driver may not kick who goes on with it: {status}",
                 self.index
@@ -420,7 +329,7 @@ impl Ring {
             let state = self.settle(memory, patience);
             self.close(state, memory, "the ring is disabled")
         };
-        let _ = state.want_kicks(true, server, memory); // a thread repeats it before it sleeps
+        let _ = want_kicks(&mut state, server, memory); // a thread repeats it before it sleeps
         state.is_enabled = enabled;
         self.open(&mut state, memory);
         self.asking.resume();

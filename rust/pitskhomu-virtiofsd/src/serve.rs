@@ -6,8 +6,9 @@ use crate::in_flight::Doing;
 use crate::iommu::Cancel;
 use crate::memory::Table;
 use crate::open_flags::{Descriptors, OpenFlags};
-use crate::ring::{Answered, Patience, Ring, Server, LAST_CHAINS};
+use crate::ring::{Patience, Ring, Server, LAST_CHAINS};
 use log::{debug, error};
+use pitskhomu::live::Asked;
 use pitskhomu::{Cancelled, Popped as Taken, Queue, Status};
 use std::collections::BTreeSet;
 use std::io;
@@ -274,8 +275,12 @@ impl<F: ServedFs> Server for QueueWorker<F> {
         Ok(taken)
     }
 
-    fn ask(&mut self, memory: &Table, cancel: &Cancel) -> Answered {
-        self.ask_for_misses(memory, cancel)
+    fn ask(&mut self, memory: &Table, cancel: &Cancel) -> Asked {
+        if memory.iommu().is_on() {
+            return self.ask_for_misses(memory, cancel);
+        }
+        debug!("queue {}: the driver isn't told yet to kick: {}", self.index, Status::NotMapped);
+        Asked::NotAll
     }
 
     fn forget_refusals(&mut self) {

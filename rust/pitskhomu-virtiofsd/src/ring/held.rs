@@ -16,8 +16,8 @@ use std::sync::Arc;
 impl Ring {
     fn go_away(&self, doing: &Doing) {
         doing.set_away(true);
-        if self.is_closed.load(Ordering::SeqCst) && self.lock().is_awaited {
-            self.changed.notify_all(); // a message may wait for this thread to be away
+        if self.is_closed.load(Ordering::SeqCst) && self.lock().is_awaited() {
+            self.served.notify_waiting(); // a message may wait for this thread to be away
         }
     }
 
@@ -54,10 +54,10 @@ impl Ring {
             doing.set_away(true);
             let state = self.lock();
             doing.set_waiting(true);
-            if state.is_awaited {
-                self.changed.notify_all();
+            if state.is_awaited() {
+                self.served.notify_waiting();
             }
-            let state = self.wait_while(state, |_| {
+            let state = self.served.wait_while(state, |_| {
                 self.is_closed.load(Ordering::SeqCst) && !doing.is_dropped()
             });
             doing.set_waiting(false);
@@ -81,7 +81,7 @@ impl Ring {
             state.refuse();
         }
         self.is_closed.store(false, Ordering::SeqCst);
-        self.changed.notify_all();
+        self.served.notify_waiting();
     }
 
     /// Whether a ring that starts is the one that stopped, with the chains that are in flight: the
@@ -102,7 +102,7 @@ impl Ring {
             let late = self.doing.iter().filter(|doing| doing.is_in_flight() && doing.drop_chain());
             self.late.fetch_add(late.count(), Ordering::SeqCst);
             (state.queue, state.is_new, state.over) = (Queue::default(), true, None);
-            self.changed.notify_all();
+            self.served.notify_waiting();
         }
     }
 

@@ -5,8 +5,9 @@ use super::{Ring, State};
 use crate::in_flight::Doing;
 use crate::memory::Table;
 use log::warn;
+use pitskhomu::live::{Locked, Queued as _};
 use std::sync::atomic::Ordering;
-use std::sync::{Arc, MutexGuard, PoisonError};
+use std::sync::{Arc, MutexGuard};
 use std::time::{Duration, Instant};
 
 /// The time that a state waits for calls, and the end of the daemon.
@@ -42,75 +43,39 @@ impl Patience {
 }
 
 impl Ring {
-    /// As `wait_while`, at most for this time. Returns whether the condition still holds.
-    fn wait_a_while<'a>(
+    /// Waits until none of the ring's chains is in flight, but only a while. Until the ring is
+    /// closed no chain is taken from here on, but for those that are available now, as long as they
+    /// are quick. The others are for the back-end that continues the ring. (virtiofsd may not look
+    /// for them before the next kick: it drops QEMU's one kick at the start if it reads that before
+    /// the ring is enabled.) A slow one would be in flight when the ring stops, and so no state
+    /// could be saved.
+    pub(super) fn settle(
         &self,
-        state: MutexGuard<'a, State>,
-        time: Duration,
-        condition: impl FnMut(&mut State) -> bool,
-    ) -> (MutexGuard<'a, State>, bool) {
-        let waited = self.changed.wait_timeout_while(state, time, condition);
-        let (state, timeout) = waited.unwrap_or_else(PoisonError::into_inner);
-        (state, timeout.timed_out())
-    }
-
-    /// Has the chains taken that are available now, as long as they are quick. The others are for
-    /// the back-end that continues the ring. (virtiofsd may not look for them before the next kick:
-    /// it drops QEMU's one kick at the start if it reads that before the ring is enabled.) A slow
-    /// one would be in flight when the ring stops, and so no state could be saved.
-    fn take_quick_ones<'a>(
-        &'a self,
-        mut state: MutexGuard<'a, State>,
         memory: &Table,
         patience: Patience,
-    ) -> MutexGuard<'a, State> {
-        let first = state.numbers.next_avail;
-        let end = memory.ring_index(state.numbers.layout.available).unwrap_or(first);
-        state.until = Some(if state.is_missing { first } else { end });
-        self.look();
-        let is_left = |state: &State| {
-            Some(state.numbers.next_avail) != state.until && !state.is_missing && state.is_live()
-        };
-        loop {
-            let (moved, time) = (state.moved(), patience.left_to_take());
-            let (waited, is_long) =
-                self.wait_a_while(state, time, |state| is_left(state) && state.moved() == moved);
-            state = waited;
-            if is_long || !is_left(&state) {
-                return state;
-            }
-        }
-    }
-
-    /// Waits until none of the ring's chains is in flight, but only a while. Until the ring is
-    /// closed no chain is taken from here on, but for those of `take_quick_ones`.
-    pub(super) fn settle(&self, memory: &Table, patience: Patience) -> MutexGuard<'_, State> {
+    ) -> MutexGuard<'_, Locked<State>> {
         memory.iommu().cancel(self); // it answers nothing until this message is answered
-        let mut state = self.lock();
+        let state = self.lock();
         if !state.is_live() {
             return state;
         }
-        state.is_awaited = true;
-        state = self.take_quick_ones(state, memory, patience);
-        state.until = Some(state.numbers.next_avail);
-        (state, _) = self.wait_a_while(state, patience.left(), |state| state.queue.in_flight() > 0);
-        state.is_awaited = false;
-        state
+        let first = state.numbers.next_avail;
+        let end = memory.ring_index(state.numbers.layout.available).unwrap_or(first);
+        let state = self.served.pop_until(state, end, || patience.left_to_take());
+        self.served.settle(state, patience.left())
     }
 
     /// Closes the ring: when this returns, no thread accesses the guest's memory for its chains,
     /// until the ring is open again. The caller says why it doesn't run.
     pub(super) fn close<'a>(
         &'a self,
-        mut state: MutexGuard<'a, State>,
+        state: MutexGuard<'a, Locked<State>>,
         memory: &Arc<Table>,
         message: &str,
-    ) -> MutexGuard<'a, State> {
+    ) -> MutexGuard<'a, Locked<State>> {
         let was_closed = self.is_closed.swap(true, Ordering::SeqCst);
-        state.is_awaited = true;
         // each is a moment away from the host, or from the return of its chain
-        state = self.wait_while(state, |_| self.doing.iter().any(Doing::is_within));
-        (state.is_awaited, state.until) = (false, None);
+        let mut state = self.served.close(state, || self.doing.iter().any(Doing::is_within));
         if !was_closed && state.queue.in_flight() > 0 {
             state.over = Some(memory.clone());
             warn!("queue {}: {message}, and the host holds {}", self.index, self.held_calls());
@@ -139,11 +104,8 @@ impl Ring {
     /// Waits until the host has no call, at most for this time. Then the log says which it has.
     /// This waits for a condition: virtiofsd's filter of system calls allows no sleep by the clock.
     pub fn wait_for_its_calls(&self, time: Duration) {
-        let mut state = self.lock();
-        state.is_awaited = true;
-        let (mut state, is_long) =
-            self.wait_a_while(state, time, |_| self.doing.iter().any(Doing::is_at_the_host));
-        state.is_awaited = false;
+        let is_called = |_: &mut Locked<State>| self.doing.iter().any(Doing::is_at_the_host);
+        let (_state, is_long) = self.served.wait_at_most(self.lock(), time, is_called);
         if is_long {
             warn!(
                 "queue {}: the end of the daemon no longer waits for chains in flight: {}",

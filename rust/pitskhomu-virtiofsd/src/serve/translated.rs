@@ -3,7 +3,7 @@
 use super::{QueueWorker, ServedFs};
 use crate::iommu::{Cancel, Mappings, LAST_PAGE};
 use crate::memory::Table;
-use crate::ring::Answered;
+use pitskhomu::live::Asked;
 use pitskhomu::{Miss, Popped as Taken, Queue, Served, Status};
 use std::collections::BTreeSet;
 
@@ -78,13 +78,13 @@ impl<F: ServedFs> QueueWorker<F> {
     }
 
     /// Asks for the misses of the last call, without a lock.
-    pub(super) fn ask_for_misses(&mut self, memory: &Table, cancel: &Cancel) -> Answered {
+    pub(super) fn ask_for_misses(&mut self, memory: &Table, cancel: &Cancel) -> Asked {
         match memory.iommu().ask(self.worker.misses(), cancel) {
-            None => Answered::NotAll,
-            Some(refused) if refused.is_empty() => Answered::All,
+            None => Asked::NotAll,
+            Some(refused) if refused.is_empty() => Asked::All,
             Some(refused) => {
                 self.refused.extend(refused);
-                Answered::Refused
+                Asked::Refused
             }
         }
     }

@@ -5,7 +5,8 @@ use crate::memory::tests::{table, HIGH};
 use crate::memory::PAGE;
 use crate::notifier::tests::full_pipe;
 use crate::ring::waits::LONGEST;
-use crate::ring::{Answered, Server};
+use crate::ring::Server;
+use pitskhomu::live::Asked;
 use pitskhomu::{
     Answer, Attributes, CStr, Context, Device, Entry, Errno, FileSystem, GuestMemory as _, Handle,
     Node, Popped, QueueLayout, Status, Worker,
@@ -52,8 +53,8 @@ impl Server for Holding {
         Ok(if is_taken { Popped::Chain } else { Popped::Idle })
     }
 
-    fn ask(&mut self, _memory: &Table, _cancel: &Cancel) -> Answered {
-        Answered::NotAll
+    fn ask(&mut self, _memory: &Table, _cancel: &Cancel) -> Asked {
+        Asked::NotAll
     }
 
     fn forget_refusals(&mut self) {}
@@ -95,8 +96,8 @@ impl Server for Silent {
     fn take(&mut self, _queue: &mut Queue, _memory: &Arc<Table>) -> Result<Popped, Status> {
         Ok(Popped::Idle)
     }
-    fn ask(&mut self, _memory: &Table, _cancel: &Cancel) -> Answered {
-        Answered::NotAll
+    fn ask(&mut self, _memory: &Table, _cancel: &Cancel) -> Asked {
+        Asked::NotAll
     }
     fn forget_refusals(&mut self) {}
     fn answer(&mut self, _doing: &Doing) {}
