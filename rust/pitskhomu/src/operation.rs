@@ -3,10 +3,11 @@
 use crate::chain::Chain;
 use crate::data::{at_most, Counts, ReadData, WriteData};
 use crate::errno::{Answer, Errno};
+use crate::file_system::FileSystem;
 use crate::flags::{AccessMask, Options, RenameFlags, SetAttributesValid};
 use crate::listing::Listing;
 use crate::memory::GuestMemory;
-use crate::reply::Reply;
+use crate::reply::{Reply, Unsent};
 use crate::requests::{
     Allocate, Child, CopyFileRange, Create, FilePlace, Forgets, Init, Label, MakeDirectory,
     MakeNode, Open, ReadDirectory, ReadFile, Release, SeekFile, SetAttributes, SetValues, SetXattr,
@@ -415,6 +416,14 @@ pub struct Request<'w> {
 }
 
 impl Request<'_> {
+    /// Answers by the methods of a file system ([`Operation::call`]).
+    ///
+    /// # Errors
+    /// Those of [`Reply::answer`].
+    pub fn answer_by(self, file_system: &dyn FileSystem) -> Result<(), Unsent> {
+        self.reply.answer(self.operation.call(file_system, &self.context))
+    }
+
     /// The request with copies of its bytes. Of a WRITE, the data that wasn't taken yet is copied;
     /// what was put into a READ's data or a list stays in the reply.
     ///
@@ -480,6 +489,17 @@ pub struct OwnedRequest {
     pub call: OwnedCall,
     /// Takes the answer.
     pub reply: Reply,
+}
+
+impl OwnedRequest {
+    /// Answers by the methods of a file system ([`Operation::call`]).
+    ///
+    /// # Errors
+    /// Those of [`Reply::answer`].
+    pub fn answer_by(self, file_system: &dyn FileSystem) -> Result<(), Unsent> {
+        let OwnedRequest { call, reply } = self;
+        reply.answer(call.operation().call(file_system, &call.context))
+    }
 }
 
 /// A call with all its bytes.

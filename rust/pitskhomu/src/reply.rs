@@ -1,6 +1,6 @@
 //! Answers as values, and the object that takes a call's one answer.
 use crate::cancelled::{Asked, Cancelled, Given};
-use crate::data::ReadData;
+use crate::data::{ReadData, WriteData};
 use crate::errno::{Answer, Errno};
 use crate::flags::Options;
 use crate::listing::{Entries, Listing};
@@ -18,8 +18,8 @@ use core::time::Duration;
 
 /// The answer to a call that succeeded, as a value. Most are made by `From`, so
 /// [`send`](Reply::send) takes an [`Entry`], an [`Opened`] or a pair of an entry and a file as it
-/// is. `()` is `Done`, bytes and a [`ReadData`] are `Data`, and a [`Listing`] is `Entries`. Numbers
-/// need a name, for example `Response::Written(data.done())`.
+/// is. `()` is `Done`, bytes and a [`ReadData`] are `Data`, a [`WriteData`] is `Written`, and a
+/// [`Listing`] is `Entries`. Numbers need a name, for example `Response::Offset(0)`.
 #[derive(Clone, Debug, PartialEq)]
 #[non_exhaustive]
 pub enum Response {
@@ -105,6 +105,7 @@ responses! {
     Options, options => Response::Options(options);
     Entries, entries => Response::Entries(entries);
     ReadData<'_>, data => Response::Data(data.into_bytes());
+    WriteData<'_>, data => Response::Written(data.done());
     Listing<'_>, listing => Response::Entries(listing.into_entries());
 }
 

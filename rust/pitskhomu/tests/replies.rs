@@ -393,7 +393,7 @@ fn an_owned_request_has_its_own_bytes() {
                 assert_eq!((data.take(&mut bytes), &bytes), (2, b"he"));
                 data.advance(1);
                 assert_eq!((data.take(&mut bytes), &bytes), (2, b"lo"));
-                reply.send(Response::Written(data.done())).unwrap();
+                reply.send(data).unwrap();
             }
             other => panic!("{other:?}"),
         }
@@ -442,9 +442,9 @@ fn entries_are_undone() {
         let request = take(&mut guest);
         let sent = if is_owned {
             let OwnedRequest { call, reply, .. } = request.into_owned().unwrap();
-            reply.answer(by_values::call(&recorder, &call.context, call.operation()))
+            reply.answer(call.operation().call(&recorder, &call.context))
         } else {
-            let answer = by_values::call(&recorder, &request.context, request.operation);
+            let answer = request.operation.call(&recorder, &request.context);
             request.reply.answer(answer)
         };
         sent.unwrap();

@@ -52,7 +52,7 @@ fn entries_of(guest: &mut Guest, names: &[&'static [u8]]) -> (Entries, Reply) {
     let OwnedRequest { call, reply, .. } = take(guest).into_owned().unwrap();
     let names = names.iter().map(|name| CStr::from_bytes_with_nul(name).unwrap()).collect();
     let recorder = Recorder { names, ..Recorder::default() };
-    match by_values::call(&recorder, &call.context, call.operation()) {
+    match call.operation().call(&recorder, &call.context) {
         Ok(Response::Entries(entries)) => (entries, reply),
         other => panic!("{other:?}"),
     }

@@ -4,6 +4,44 @@ use crate::file_system::FileSystem;
 use crate::operation::Operation;
 use crate::reply::Response;
 use crate::values::Context;
+use alloc::vec::Vec;
+
+impl Operation<'_> {
+    /// Makes the call by the methods of a file system. What they return is the answer
+    /// ([`Reply::answer`](crate::Reply::answer)). `FileSystem::reply_by_bytes` isn't asked.
+    ///
+    /// # Errors
+    /// That of the method. `ERANGE`: it returned a length that its buffer doesn't have. `ENOMEM`:
+    /// an allocation failed.
+    pub fn call(self, file_system: &dyn FileSystem, context: &Context) -> Answer<Response> {
+        let room = match self {
+            Operation::ReadLink { size, .. } => Some(size),
+            Operation::GetXattr { size, .. } | Operation::ListXattr { size, .. } => size,
+            Operation::None => return Ok(Response::Done),
+            Operation::ReadDirectory { node, read, mut list } => {
+                return match file_system.readdir(context, node, read, &mut list) {
+                    Ok(()) => Ok(list.into()),
+                    Err(error) => list.fail(error),
+                };
+            }
+            _ => None,
+        };
+        let mut buffer = Vec::new();
+        buffer.try_reserve_exact(room.unwrap_or(0)).map_err(|_| Errno::ENOMEM)?;
+        buffer.resize(room.unwrap_or(0), 0);
+        match dispatch(file_system, context, self, &mut buffer)? {
+            Made::Response(response) => Ok(response),
+            Made::InBuffer(len) if room.is_none() => {
+                u32::try_from(len).map(Response::Size).map_err(|_| Errno::ERANGE)
+            }
+            Made::InBuffer(len) if len > buffer.len() => Err(Errno::ERANGE),
+            Made::InBuffer(len) => {
+                buffer.truncate(len);
+                Ok(buffer.into())
+            }
+        }
+    }
+}
 
 /// An answer of the file system.
 pub(super) enum Made {
@@ -49,7 +87,7 @@ pub(super) fn dispatch(
         }
         Operation::Write { node, write, mut data } => {
             fs.write(x, node, write, &mut data)?;
-            Response::Written(data.done()).into()
+            data.into()
         }
         Operation::ReadDirectory { node, read, mut list } => {
             fs.readdir(x, node, read, &mut list)?;
