@@ -19,12 +19,14 @@
 //! ```
 #![allow(clippy::cast_possible_truncation)] // lengths are at most those of MAX_DATA
 mod calls;
+#[cfg(target_os = "linux")]
+mod live;
 mod wire;
 
 use crate::device::Device;
 use crate::errno::{Answer, Errno};
 use crate::file_system::FileSystem;
-use crate::memory::{GuestMemory, Region};
+use crate::memory::{self, GuestMemory, Region};
 use crate::operation::Request;
 use crate::queue::{Queue, QueueLayout};
 use crate::slice::GuestSlice;
@@ -36,7 +38,7 @@ use alloc::sync::Arc;
 use alloc::vec::Vec;
 pub use calls::{ListedEntry, MAX_DATA};
 use core::fmt;
-use core::sync::atomic::AtomicU8;
+use core::sync::atomic::{fence, AtomicU8, Ordering};
 use std::task::Wake;
 use std::thread::{self, Thread};
 use std::vec;
@@ -51,16 +53,37 @@ const REPLY: usize = REQUEST + ROOM;
 const ROOM: usize = MAX_DATA + 0x1000;
 const LEN: usize = REPLY + ROOM;
 const SIZE: u16 = 8;
+const LAYOUT: QueueLayout = QueueLayout {
+    size: SIZE,
+    descriptors: DESCRIPTORS as u64,
+    available: AVAILABLE as u64,
+    used: USED as u64,
+};
+
+/// All of the memory.
+fn region() -> Region {
+    Region { guest: 0, len: (LEN as u64 + 0xfff) & !0xfff, host: 0 }
+}
 
 /// The bytes of struct `fuse_in_header` and of struct `fuse_out_header`.
 const IN_HEADER: usize = 40;
 const OUT_HEADER: usize = 16;
 
-struct Memory(Vec<AtomicU8>);
+struct Memory {
+    bytes: Vec<AtomicU8>,
+    /// Other threads access a ring's numbers meanwhile, so each access is a single one.
+    is_shared: bool,
+}
 
+#[allow(unsafe_code)]
 impl GuestMemory for Memory {
     fn get_slice(&self, at: usize, len: usize) -> Option<GuestSlice<'_>> {
-        self.0.get(at..)?.get(..len).map(GuestSlice::from)
+        let bytes = self.bytes.get(at..)?.get(..len)?;
+        if !self.is_shared {
+            return Some(bytes.into());
+        }
+        // SAFETY: the bytes may change while they are shared, and live as long as `self`.
+        Some(unsafe { GuestSlice::new((bytes.as_ptr() as *mut AtomicU8).cast(), len) })
     }
 }
 
@@ -83,6 +106,9 @@ impl Memory {
 enum Service<'f> {
     Methods(&'f dyn FileSystem),
     Values(Box<dyn FnMut(Request<'_>) + 'f>),
+    /// By threads beside the guest.
+    #[cfg(target_os = "linux")]
+    Live(live::Live),
 }
 
 /// Wakes the thread that waits for an answer.
@@ -102,8 +128,8 @@ impl Wake for Unpark {
 pub struct Guest<'f> {
     /// The user, group and process that ask.
     pub caller: (u32, u32, u32),
-    memory: Memory,
-    device: Device,
+    memory: Arc<Memory>,
+    device: Arc<Device>,
     queue: Queue,
     worker: Worker,
     service: Service<'f>,
@@ -124,7 +150,7 @@ impl<'f> Guest<'f> {
     /// A guest whose requests are answered by the methods of a file system.
     #[must_use]
     pub fn new(file_system: &'f dyn FileSystem) -> Guest<'f> {
-        Guest::with(Service::Methods(file_system))
+        Guest::with(Service::Methods(file_system), false)
     }
 
     /// A guest whose requests are answered by values, at once or later. The guest waits for each
@@ -152,24 +178,18 @@ impl<'f> Guest<'f> {
     /// ```
     #[must_use]
     pub fn by_values(handler: impl FnMut(Request<'_>) + 'f) -> Guest<'f> {
-        Guest::with(Service::Values(Box::new(handler)))
+        Guest::with(Service::Values(Box::new(handler)), false)
     }
 
-    fn with(service: Service<'f>) -> Guest<'f> {
+    fn with(service: Service<'f>, is_shared: bool) -> Guest<'f> {
         let (device, mut worker) = (Device::default(), Worker::new());
-        let len = (LEN as u64 + 0xfff) & !0xfff;
-        let layout = QueueLayout {
-            size: SIZE,
-            descriptors: DESCRIPTORS as u64,
-            available: AVAILABLE as u64,
-            used: USED as u64,
-        };
-        let set = worker.set_memory(&device, &[Region { guest: 0, len, host: 0 }]);
-        let queue = set.and_then(|()| Queue::new(layout, 0));
+        let set = worker.set_memory(&device, &[region()]);
+        let queue = set.and_then(|()| Queue::new(LAYOUT, 0));
+        let bytes = (0..region().len).map(|_| AtomicU8::new(0)).collect();
         Guest {
             caller: (1000, 1000, 1),
-            memory: Memory((0..len).map(|_| AtomicU8::new(0)).collect()),
-            device,
+            memory: Arc::new(Memory { bytes, is_shared }),
+            device: Arc::new(device),
             queue: queue.expect("these numbers are allowed, and there is memory"),
             worker,
             service,
@@ -205,13 +225,11 @@ impl<'f> Guest<'f> {
         room: usize,
     ) -> Answer<Vec<u8>> {
         self.offer(opcode, node, arguments, OUT_HEADER + room);
-        let served = self.serve();
-        let (len, has_reply) = (served.reply_len as usize, served.reply_len > 0);
-        self.last = Some(served);
-        let reply = self.memory.read(REPLY, len);
-        if !has_reply || len < OUT_HEADER {
+        let len = self.serve();
+        if len < OUT_HEADER {
             return Err(Errno::EIO);
         }
+        let reply = self.memory.read(REPLY, len);
         match i32::from_le_bytes([reply[4], reply[5], reply[6], reply[7]]) {
             0 => Ok(reply[OUT_HEADER..].to_vec()),
             error => Err(Errno::from_raw_os_error(-error)),
@@ -221,8 +239,7 @@ impl<'f> Guest<'f> {
     /// Asks a request that gets no reply.
     pub(crate) fn tell(&mut self, opcode: u32, node: Node, arguments: &[u8]) {
         self.offer(opcode, node, arguments, 0);
-        let served = self.serve();
-        self.last = Some(served);
+        self.serve();
     }
 
     /// Offers a request, in a chain of one buffer for it and one for the reply.
@@ -242,25 +259,31 @@ impl<'f> Guest<'f> {
         let place = AVAILABLE + 4 + 2 * usize::from(self.offered % SIZE);
         self.memory.write(place, &0u16.to_le_bytes());
         self.offered = self.offered.wrapping_add(1);
-        self.memory.write(AVAILABLE + 2, &self.offered.to_le_bytes());
+        fence(Ordering::Release); // threads that see the index see the request
+        memory::store_u16(&*self.memory, AVAILABLE + 2, self.offered);
     }
 
-    fn serve(&mut self) -> Served {
+    /// The reply's length.
+    fn serve(&mut self) -> usize {
         let served = match &mut self.service {
             Service::Methods(file_system) => {
-                self.worker.serve(&mut self.queue, &self.device, *file_system, &self.memory)
+                self.worker.serve(&mut self.queue, &self.device, *file_system, &*self.memory)
             }
             Service::Values(_) => self.serve_by_values().map(Some),
+            #[cfg(target_os = "linux")]
+            Service::Live(live) => return live.serve(&self.memory, self.offered),
         };
-        match served {
-            Ok(Some(served)) => served,
+        self.last = match served {
+            Ok(Some(served)) => Some(served),
             Ok(None) => panic!("no chain is available"),
             Err(status) => panic!("the queue is refused: {status}"),
-        }
+        };
+        self.last.map_or(0, |served| served.reply_len as usize)
     }
 
     fn serve_by_values(&mut self) -> Result<Served, Status> {
-        let Guest { worker, queue, device, memory, service, .. } = self;
+        let Guest { worker, queue, device, service, .. } = self;
+        let memory = &*self.memory;
         worker.set_waker(Some(Arc::new(Unpark(thread::current())).into()))?;
         let request = worker.take(queue, device, memory)?;
         if let (Service::Values(handler), Some(request)) = (service, request) {

@@ -232,3 +232,54 @@ fn answers_by_values() {
     drop(guest);
     other.join().unwrap();
 }
+
+/// By threads beside the guest. The ring's numbers become longer than a byte meanwhile.
+#[cfg(target_os = "linux")]
+#[test]
+fn methods_are_called_beside_the_guest() {
+    for threads in [1, 3] {
+        let files = std::sync::Arc::new(recorder());
+        let mut guest = Guest::live(|builder, queue, kick, call| {
+            builder.threads(threads).start(queue, kick, call, files.clone())
+        })
+        .unwrap();
+        guest.init().unwrap();
+        for _ in 0..700 {
+            assert_eq!(guest.lookup(NODE, "a"), Ok(entry()));
+        }
+        assert_eq!(guest.read(NODE, HANDLE, 7, 100), Ok(b"some data".to_vec()));
+        assert_eq!(guest.write(NODE, HANDLE, 7, b"hello"), Ok(5));
+        guest.forget(NODE, 1);
+        assert!(guest.last().is_none());
+        drop(guest);
+        assert_eq!(files.taken().len(), 704);
+    }
+}
+
+/// A handler of values, whose answers come from another thread.
+#[cfg(target_os = "linux")]
+#[test]
+fn answers_come_beside_the_guest() {
+    let (jobs, taken) = channel::<OwnedRequest>();
+    let answering = thread::spawn(move || {
+        let files = recorder();
+        taken.iter().for_each(|request| request.answer_by(&files).unwrap());
+        files.taken().len()
+    });
+    let jobs = std::sync::Mutex::new(jobs);
+    let handler = move |request: Request<'_>| {
+        jobs.lock().unwrap().send(request.into_owned().unwrap()).unwrap();
+    };
+    let mut guest = Guest::live(|builder, queue, kick, call| {
+        builder.in_flight(4).start_by_values(queue, kick, call, std::sync::Arc::new(handler))
+    })
+    .unwrap();
+    guest.init().unwrap();
+    for _ in 0..300 {
+        assert_eq!(guest.lookup(NODE, "a"), Ok(entry()));
+    }
+    assert_eq!(guest.read(NODE, HANDLE, 7, 100), Ok(b"some data".to_vec()));
+    assert_eq!(guest.write(NODE, HANDLE, 7, b"hello"), Ok(5));
+    drop(guest);
+    assert_eq!(answering.join().unwrap(), 303);
+}
