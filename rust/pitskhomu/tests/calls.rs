@@ -452,3 +452,27 @@ fn calls_that_are_not_told() {
     }
     assert_eq!(recorder.taken(), [""; 0]);
 }
+
+/// A count of bytes has 32 bits in the reply (struct fuse_write_out): a greater one is the greatest,
+/// and COPY_FILE_RANGE's is at most the length that was asked for.
+#[test]
+fn counts_of_more_than_32_bits() {
+    for (len, count, told) in [
+        (1 << 33, 1 << 33, u32::MAX),
+        (1 << 33, (1 << 32) + 5, u32::MAX),
+        (1 << 33, u64::from(u32::MAX), u32::MAX),
+        (0x1234_5678, 1 << 33, 0x1234_5678),
+        (u64::MAX, u64::MAX, u32::MAX),
+    ] {
+        let mut guest = Guest::new();
+        let args = args().q(3).q(0).q(2).q(4).q(0).q(len).q(0);
+        guest.offer_request(&guest::request(47, 1, &args.0), 24);
+        let taken = guest.worker.take(&mut guest.queue, &guest.device, &guest.memory);
+        let reply = taken.unwrap().expect("a chain waits").reply;
+        reply.send(Response::Written(count)).unwrap();
+        assert_eq!(guest.worker.finish(&guest.device, &guest.memory), Ok(true));
+        let served = guest.worker.push(&mut guest.queue, &guest.memory).unwrap();
+        let data = guest.reply(served.reply_len as usize).data();
+        assert_eq!((data.len(), number(&data, 0, 4)), (8, u64::from(told)), "{len:#x} {count:#x}");
+    }
+}

@@ -248,6 +248,28 @@ fn a_page_that_is_read_and_written_is_one_miss() {
     assert_eq!(push(&mut guest, &mut iotlb).unwrap().reply_len, 144);
 }
 
+/// A buffer in a page, and one that goes on in the next page, are one miss of two pages.
+#[test]
+fn misses_that_overlap_are_one() {
+    let (mut guest, mut iotlb) = guest();
+    map_rings(&mut iotlb);
+    map(&mut iotlb, SHIFT + ROOM, ROOM);
+    let (bytes, at) = (request(1, 1, b"hello\0"), [REQUEST + 0x800, REQUEST + PAGE - 4]);
+    guest.memory.write(at[0], &bytes[..30]);
+    guest.memory.write(at[1], &bytes[30..]);
+    let parts = [
+        Buffer(SHIFT + at[0], 30, false),
+        Buffer(SHIFT + at[1], 16, false),
+        Buffer(SHIFT + ROOM, 144, true),
+    ];
+    guest.draw(DESCRIPTORS, 0, &parts);
+    guest.offer(0);
+    let wanted = Miss { iova: SHIFT + REQUEST, len: 2 * PAGE, access: Access::Read };
+    assert_eq!(take_by_misses(&mut guest, &mut iotlb), [vec![wanted]]);
+    answer(&mut guest);
+    assert_eq!(push(&mut guest, &mut iotlb).unwrap().reply_len, 144);
+}
+
 #[test]
 fn what_is_refused_is_no_miss() {
     let (mut guest, mut iotlb) = guest();

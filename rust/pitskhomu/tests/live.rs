@@ -137,7 +137,9 @@ impl FileSystem for InOrder {
             self.1.notify_all();
         } else {
             let waited = self.1.wait_timeout_while(is_read, PATIENCE, |is_read| !*is_read);
-            assert!(!waited.unwrap().1.timed_out(), "the second chain isn't served");
+            let (mut is_read, outcome) = waited.unwrap();
+            assert!(!outcome.timed_out(), "the second chain isn't served");
+            *is_read = false;
         }
         data.put(&data_at(read.offset));
         Ok(())
@@ -169,7 +171,7 @@ fn a_chain_before_the_last_store_is_found() {
 }
 
 /// A thread that has popped a chain can't take the next one, which the driver offers before it can
-/// see that it is to notify for it. Another thread is woken.
+/// see that it is to notify for it. Another thread is woken, each time.
 #[test]
 fn a_chain_is_handed_on() {
     let (memory, at) = (Memory::new(), USED + 4 + 8 * u64::from(SIZE));
@@ -184,15 +186,18 @@ fn a_chain_is_handed_on() {
         .threads(2)
         .start(queue, kick, call, files)
         .unwrap();
-    until(|| memory.half(at).load(Ordering::Relaxed) == 0);
-    thread::sleep(Duration::from_millis(200)); // both threads sleep
-    let second = driver.clone();
-    *hooked.hook.lock().unwrap() =
-        Some(Box::new(move || second.lock().unwrap().offer(1, &read_request(2, 2), 116)));
-    driver.lock().unwrap().offer(0, &read_request(1, 1), 116);
-    until(|| driver.lock().unwrap().offered == 2);
-    let mut driver = driver.lock().unwrap();
-    assert_eq!((driver.wait().0 + driver.wait().0, driver.kicks), (1, 1));
+    for round in 0..3 {
+        until(|| memory.half(at).load(Ordering::Relaxed) == 2 * round);
+        thread::sleep(Duration::from_millis(200)); // both threads sleep
+        let second = driver.clone();
+        *hooked.hook.lock().unwrap() =
+            Some(Box::new(move || second.lock().unwrap().offer(1, &read_request(2, 2), 116)));
+        driver.lock().unwrap().offer(0, &read_request(1, 1), 116);
+        until(|| driver.lock().unwrap().offered == 2 * round + 2);
+        let mut driver = driver.lock().unwrap();
+        assert_eq!(driver.wait().0 + driver.wait().0, 1);
+        assert_eq!(u16::try_from(driver.kicks), Ok(round + 1));
+    }
 }
 
 /// After `stop` another loop goes on, without a kick: it looks at its start.
