@@ -453,8 +453,8 @@ fn calls_that_are_not_told() {
     assert_eq!(recorder.taken(), [""; 0]);
 }
 
-/// A count of bytes has 32 bits in the reply (struct fuse_write_out): a greater one is the greatest,
-/// and COPY_FILE_RANGE's is at most the length that was asked for.
+/// A count of bytes has 32 bits in the reply (struct fuse_write_out), where a greater one is the
+/// greatest. COPY_FILE_RANGE's is at most the length that was asked for.
 #[test]
 fn counts_of_more_than_32_bits() {
     for (len, count, told) in [
