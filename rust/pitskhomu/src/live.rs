@@ -96,6 +96,7 @@ use alloc::boxed::Box;
 use alloc::sync::Arc;
 use alloc::vec::Vec;
 use core::fmt;
+use core::time::Duration;
 pub use events::new_event;
 use events::Events;
 pub use loops::{Asked, Locked, Loop, Queued, Server};
@@ -248,6 +249,13 @@ struct State {
     is_ending: bool,
     /// Nor is one pushed.
     is_reset: bool,
+}
+
+impl State {
+    /// Whether no worker has a chain. One that couldn't be pushed stays in flight without a worker.
+    fn is_quiet(&self) -> bool {
+        self.idle.len() == self.waiting.len()
+    }
 }
 
 /// A queue, shared by its threads and the VMM's.
@@ -453,6 +461,24 @@ impl Serving {
     pub fn stop(mut self) -> Queue {
         self.end(false);
         core::mem::take(&mut self.shared.threads.lock().queue)
+    }
+
+    /// Stops as `stop` does, if all chains in flight are pushed within this time. None is popped
+    /// meanwhile.
+    ///
+    /// # Errors
+    /// The queue, which is served on: an answer hasn't come.
+    pub fn stop_within(self, time: Duration) -> Result<Queue, Serving> {
+        let threads = &self.shared.threads;
+        let mut state = threads.settle(threads.lock(), time);
+        if !state.is_quiet() {
+            threads.go_on(&mut state);
+            drop(state);
+            return Err(self);
+        }
+        state.is_ending = true; // so no chain is popped between
+        drop(state);
+        Ok(self.stop())
     }
 
     /// The driver reset the queue, or the device: nothing is stored into the guest's rings any

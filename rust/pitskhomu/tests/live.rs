@@ -314,6 +314,30 @@ fn a_stop_waits_for_answers() {
     (0..3).for_each(|_| assert_eq!(driver.wait().1, 144));
 }
 
+/// A stop that is bounded: the queue goes on, and stops once the answers have come.
+#[test]
+fn a_stop_waits_only_a_while() {
+    let (memory, keeps) = (Memory::new(), Arc::new(Keeps::default()));
+    let (mut driver, kick, call) = Driver::new(&memory, true);
+    let queue = Queue::new(layout(), 0).unwrap().with_event_index(true);
+    let serving = Builder::new(Arc::default(), memory, &[region()])
+        .in_flight(4)
+        .start_by_values(queue, kick, call, keeps.clone())
+        .unwrap();
+    let kept = |count| until(|| keeps.replies.lock().unwrap().len() == count);
+    driver.offer(0, &request(1, 1, b"hello\0"), 144);
+    kept(1);
+    let serving = serving.stop_within(Duration::from_millis(20)).expect_err("an answer is wanting");
+    driver.offer(1, &request(1, 1, b"hello\0"), 144);
+    kept(2);
+    for reply in std::mem::take(&mut *keeps.replies.lock().unwrap()) {
+        reply.send(entry()).unwrap();
+    }
+    let queue = serving.stop_within(PATIENCE).expect("all answers have come");
+    assert_eq!((queue.in_flight(), queue.next_used()), (0, 2));
+    (0..2).for_each(|_| assert_eq!(driver.wait().1, 144));
+}
+
 /// An answer without room is undone. A panic there ends no thread, and loses no chain.
 #[test]
 fn an_answer_without_room_is_undone() {

@@ -271,11 +271,9 @@ impl Server<State> for Hand<'_> {
         self.shared.refuse(state, why);
     }
 
-    /// It ends if nothing is left for it. A chain that can't be pushed stays in flight, without a
-    /// worker.
+    /// It ends if nothing is left for it.
     fn rests(&mut self, state: &mut State) -> bool {
         state.idle.extend(self.seat.take());
-        let is_quiet = state.idle.len() == state.waiting.len();
-        state.is_ending && (state.is_reset || is_quiet)
+        state.is_ending && (state.is_reset || state.is_quiet())
     }
 }
