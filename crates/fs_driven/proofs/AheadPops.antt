@@ -1,0 +1,160 @@
+-- A pop by loads ahead drives the run.
+use Rattle.std.proofs.Common.{inl, inr, ◌≡◌, ℕ, Bool, false, List, [], ◌∷◌, ◌++◌, length, Option, Some, None}
+use Rattle.std.proofs.Common.{slice_get}
+use Rattle.std.proofs.Common.{refl, subst, sym, ap, ◌∙◌}
+use Rattle.std.specs.Prelude.{Result, Ok, Err, IfErr, IfOk, OnErr, OnOk, if◌then◌else◌}
+use Rattle.std.proofs.Common.{true, ◌⊎◌}
+use Rattle.std.specs.Borrow.{Bor}
+use Rattle.fs_chain.specs.declared.error.ChainError.{ChainError}
+use Rattle.fs_chain.specs.declared.error.ChainError.TheVariants.{WrongOrder}
+use Rattle.fs_chain.specs.Events.{event_fault, event_miss}
+use Rattle.std.specs.Prelude.{◌+◌, ◌<◌}
+use Rattle.std.proofs.Common.{arith}
+use Rattle.std.proofs.lemmas.Bool.{eq-eqb}
+use Rattle.vm_iotlb.specs.declared.iova.IovaRange.{IovaRange}
+use Rattle.vm_iotlb.specs.declared.permissions.Permissions.{Permissions}
+use Rattle.fs_queue.specs.declared.fault.QueueError.{QueueError}
+use Rattle.fs_chain.specs.Ahead.{PopsAhead, WalksAhead, ahead_error}
+use Rattle.fs_driven.specs.Ahead.{PopsAheadBy}
+use Rattle.fs_driven.proofs.Ahead.{pops_ahead}
+use Rattle.fs_chain.specs.Loads.{GoesSo, IsSame, RefusesWalk, came, whole}
+use Rattle.fs_chain.specs.Orders.{load_len}
+use Rattle.fs_chain.specs.Walks.{BeginsUnless, BeginsWhere, GoesOnUnless, KeepsStep, LacksEvents, WalksFrom, course_of}
+use Rattle.fs_chain.specs.Walks.{queue_after, state_after, told_of}
+use Rattle.fs_chain.specs.Queues.{pop_id_of}
+use Rattle.fs_queue.specs.Chain.{Descriptor}
+use Rattle.fs_chain.specs.Whole.{AddsSo}
+use Rattle.vm_memory_core.specs.Host.{changed_at}
+use Rattle.fs_queue.specs.declared.fault.ChainFault.{ChainFault}
+use Rattle.fs_queue.specs.Queue.{Queue, with_stop}
+use Rattle.fs_queue.specs.Returning.{stores_after_reply}
+use Rattle.fs_queue.specs.Taking.{after_refusal, stops_queue}
+use Rattle.fs_regions.specs.Ahead.{AheadBytes, last_first, loads_ahead}
+use Rattle.fs_regions.specs.declared.ahead.LoadAhead.{LoadAhead}
+use Rattle.fs_regions.specs.Walks.{Loaded, nothing}
+use Rattle.fs_regions.specs.declared.course.Course.{Course}
+use Rattle.fs_regions.specs.declared.step.CourseStep as comes
+use Rattle.fs_regions.specs.declared.step.CourseStep.TheVariants as step
+use Rattle.fs_regions.specs.declared.walk.QueueWalk.{QueueWalk}
+use Rattle.plain_machine.specs.Step.{faulty}
+use Rattle.live_machine.specs.Several as several
+use Rattle.live_machine.specs.Live.{EndsPop, RefusesPop, after_pop, new_chain, phase_by, with_live}
+use Rattle.live_machine.proofs.Queues.{same_some, there_same}
+use Rattle.fs_chain.specs.Holds.{BeginsAPop, ContinuesAPop, EndsBy, HasPopped, PopIs, PopsBy, RefusedBy}
+use Rattle.fs_chain.specs.declared.loads.LoadOutcome as went
+use Rattle.fs_chain.specs.declared.loads.LoadOutcome.TheVariants as wents
+use Rattle.fs_chain.specs.declared.popping.PopOutcome as walked
+use Rattle.fs_chain.specs.declared.popping.PopOutcome.TheVariants as says
+use Rattle.fs_chain.specs.declared.state.PopId.{PopId}
+use Rattle.vm_memory.specs.Memory.{Memory}
+use Rattle.fs_regions.specs.Places.{places_in}
+use Rattle.server_phases.specs.declared.session.Session.{Session}
+use Rattle.live_machine.specs.Several.{LiveQueue, returning}
+use Rattle.live_machine.specs.Live.{EndsPopIn, InFlightChain, LiveEvent}
+use Rattle.live_machine.specs.Live.{Phase}
+use Rattle.live_machine.specs.Live.{PushedWith}
+use Rattle.live_machine.specs.Live.{Happens}
+use Rattle.fs_driven.specs.Desks.{Begun, Desk, Driven, FitsRun, IsReady, Leads, MayPop, desk, no_pop, own, with_pop}
+use Rattle.fs_driven.specs.Told.{DrivesOne, IsLoadedBy, PopTells, Tells, Turn, Unseen, turn}
+use Rattle.fs_driven.specs.Kept.{KeepsMemory}
+use Rattle.fs_chain.specs.Holds.{IsHeldIn, IsQueue}
+use Rattle.fs_chain.specs.Holds.{Machine, Pop}
+use Rattle.fs_chain.specs.Holds.{any_files, live_of}
+use Rattle.fs_chain.specs.Orders.{is_out}
+use Rattle.fs_chain.specs.Together.{Owned, with_handle}
+use Rattle.fs_chain.specs.declared.chain_handle.ChainHandle.{ChainHandle}
+use Rattle.fs_driven.specs.declared.commands.Command.TheVariants as does
+use Rattle.fs_driven.specs.declared.commands.Returned.TheVariants as gives
+use Rattle.fs_chain.specs.declared.queue.QueueState.{QueueState}
+use Rattle.fs_chain.specs.declared.state.ChainState as state
+use Rattle.fs_chain.specs.declared.state.ChainState.TheVariants as at
+use Rattle.fs_driven.proofs.Handles.{Moves, SamePlaces, held_out, idles, joins, others_same}
+use Rattle.fs_driven.proofs.Calls.{HasNoPush, fetched_ready, fits_out, no_error, refuses, same_held, stays_put}
+use Rattle.fs_driven.proofs.Calls.{still}
+use Rattle.fs_driven.proofs.Pops.{Popping, begun_keeps, gone_keeps, no_part, part_keeps, popped}
+
+goes_at : (old new : ChainHandle) (q q' : QueueState) (bytes : List ℕ) (told : went.LoadOutcome)
+    (st : state.ChainState) → old.state ≡ st → GoesSo old q bytes told new q' → Popping old new q q'
+goes_at old new q q' bytes wents.Part (at.Walking course pop_id walk) is goes =
+    part_keeps old new q q' bytes course pop_id walk is goes
+goes_at old new q q' bytes (wents.On told) at.Free is goes =
+    begun_keeps old new q q' told q.stopped is
+    (subst (λ (st : state.ChainState). WalksFrom st (whole old bytes) old new q q' told) is goes.4)
+goes_at old new q q' bytes (wents.On told) (at.Walking course pop_id walk) is goes =
+    gone_keeps old new q q' (whole old bytes) told course pop_id walk q.stopped
+    (subst (λ (st : state.ChainState). WalksFrom st (whole old bytes) old new q q' told) is goes.4)
+goes_at old new q q' bytes wents.Part at.Free is goes = absurd (no_part old bytes goes.1 (ap load_len is))
+goes_at old new q q' bytes wents.Part (at.Taken o) is goes = absurd (no_part old bytes goes.1 (ap load_len is))
+goes_at old new q q' bytes (wents.On told) (at.Taken o) is goes =
+    absurd (subst (λ (st : state.ChainState). WalksFrom st (whole old bytes) old new q q' told) is goes.4)
+goes_at old new q q' bytes wents.Part (at.Waits o w) is goes = absurd (no_part old bytes goes.1 (ap load_len is))
+goes_at old new q q' bytes (wents.On told) (at.Waits o w) is goes =
+    absurd (subst (λ (st : state.ChainState). WalksFrom st (whole old bytes) old new q q' told) is goes.4)
+goes_at old new q q' bytes wents.Part (at.Lists o l) is goes = absurd (no_part old bytes goes.1 (ap load_len is))
+goes_at old new q q' bytes (wents.On told) (at.Lists o l) is goes =
+    absurd (subst (λ (st : state.ChainState). WalksFrom st (whole old bytes) old new q q' told) is goes.4)
+goes_at old new q q' bytes wents.Part (at.HasReply o kept) is goes = absurd (no_part old bytes goes.1 (ap load_len is))
+goes_at old new q q' bytes (wents.On told) (at.HasReply o kept) is goes =
+    absurd (subst (λ (st : state.ChainState). WalksFrom st (whole old bytes) old new q q' told) is goes.4)
+goes_at old new q q' bytes wents.Part (at.Pushing o) is goes = absurd (no_part old bytes goes.1 (ap load_len is))
+goes_at old new q q' bytes (wents.On told) (at.Pushing o) is goes =
+    absurd (subst (λ (st : state.ChainState). WalksFrom st (whole old bytes) old new q q' told) is goes.4)
+
+two_pops : (one two three : ChainHandle) (q q' q'' : QueueState) → Popping one two q q' →
+    Popping two three q' q'' → Popping one three q q''
+two_pops one two three q q' q'' first later =
+    record {
+      memory = (later.memory.0 ∙ first.memory.0, later.memory.1 ∙ first.memory.1);
+      pushing = later.pushing ∙ first.pushing;
+      quiet = later.quiet;
+    }
+
+ahead_keeps : (taken : List AheadBytes) (old new : ChainHandle) (q q' : QueueState) (told : went.LoadOutcome)
+    → WalksAhead taken old new q q' told → Popping old new q q'
+ahead_keeps [] old new q q' told walks = goes_at old new q q' [] told old.state refl walks.1
+ahead_keeps (l ∷ taken) old new q q' told (w, k, earlier, walks, wants, is, long, goes) =
+    two_pops old w new q k q' (ahead_keeps taken old w q k earlier walks)
+    (goes_at w new k q' l.bytes told w.state refl goes)
+
+ahead_drives : (page_size : ℕ) (old new : ChainHandle) (q q' : QueueState) (ahead : Bor (List LoadAhead))
+    (bytes : Bor (List ℕ)) (told : walked.PopOutcome) → old.state ≡ at.Free → Popping old new q q'
+    → (pop : PopsAhead (loads_ahead ahead.now bytes.now) old new q q' (wents.On told))
+    → DrivesOne page_size old new q q' (does.PopAhead ahead bytes) (gives.PoppedAhead (Ok told))
+unfolding DrivesOne PopsAheadBy
+ahead_drives page_size old new q q' ahead bytes told free same pop ws k there u s i os pops push all =
+    let was = all.fits k old there in
+    let by = pops_ahead (loads_ahead ahead.now bytes.now) old new q q' told pop s i all.queue was.0 was.1
+    all.small in
+    popped s i page_size k q q' ws os pops push old new
+    (record { loaded = by.0; event_index = q.event_index }) told
+    (λ es d. Tells (turn i page_size k (desk s ws q os pops push) d old new) (does.PopAhead ahead bytes) u
+    (gives.PoppedAhead (Ok told)) es)
+    all there (ap is_out free) same refl
+    (λ after os' loads' es tells. (pop, by.0, by.1, tells))
+    by.2
+
+may_begin : (st : state.ChainState) (q : QueueState) → ahead_error st q ≡ None → st ≡ at.Free
+may_begin at.Free q is = refl
+may_begin (at.Walking course pop_id walk) q is = absurd (no_error WrongOrder is)
+may_begin (at.Taken out) q is = absurd (no_error WrongOrder is)
+may_begin (at.Waits out w) q is = absurd (no_error WrongOrder is)
+may_begin (at.Lists out l) q is = absurd (no_error WrongOrder is)
+may_begin (at.HasReply out kept) q is = absurd (no_error WrongOrder is)
+may_begin (at.Pushing out) q is = absurd (no_error WrongOrder is)
+
+pub ahead_result : (old new : ChainHandle) (q q' : QueueState) (ahead : Bor (List LoadAhead))
+    (bytes : Bor (List ℕ)) (result : Result walked.PopOutcome ChainError)
+    → IfErr result (λ e. ahead_error old.state q ≡ Some e)
+    → OnOk result (ahead_error old.state q ≡ None)
+    → OnErr result ((new ≡ old) × (q' ≡ q))
+    → IfOk result (λ told. PopsAhead (loads_ahead ahead.now bytes.now) old new q q' (wents.On told))
+    → (page_size : ℕ) → DrivesOne page_size old new q q' (does.PopAhead ahead bytes) (gives.PoppedAhead result)
+ahead_result old new q q' ahead bytes (Ok told) err ok same by page_size =
+    ahead_drives page_size old new q q' ahead bytes told (may_begin old.state q ok)
+    (ahead_keeps (last_first by.first []) old new q q' (wents.On told) by.walks) by
+ahead_result old new q q' ahead bytes (Err e) err ok same by page_size =
+    subst (λ (r : QueueState). DrivesOne page_size old new q r (does.PopAhead ahead bytes)
+    (gives.PoppedAhead (Err e))) (sym same.1)
+    (refuses page_size old new q (does.PopAhead ahead bytes) (gives.PoppedAhead (Err e))
+    (same_held old new same.0)
+    (λ i k d d' u is. (refl, subst (λ (r : QueueState). ahead_error old.state r ≡ Some e) (sym is) err)))

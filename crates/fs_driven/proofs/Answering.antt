@@ -1,0 +1,247 @@
+-- An answer drives the run.
+use Rattle.std.proofs.Common.{◌≡◌, ℕ, Bool, true, false, List, [], ◌∷◌, ◌++◌, length, Option, Some, None}
+use Rattle.std.proofs.Common.{slice_get}
+use Rattle.std.proofs.Common.{refl, subst, sym, ap, ◌∙◌, ◌≤◌, ◌-◌, zero, suc, arith, eqb-true, ◌==◌, take, length-append}
+use Rattle.std.proofs.lemmas.Bool.{ltb-false}
+use Rattle.std.specs.Borrow.{Bor}
+use Rattle.std.specs.Prelude.{drop, Result, Ok, Err, IfErr, IfOk, OnOk, OnErr, if◌then◌else◌, nat_lt}
+use Rattle.fs_chain.specs.declared.error.ChainError.{ChainError}
+use Rattle.fs_chain.specs.declared.error.ChainError.TheVariants.{BadArgument, WrongOrder}
+use Rattle.fs_chain.specs.Walks.{IsAllBut}
+use Rattle.server_phases.specs.Asking.{IsRequestFront}
+use Rattle.std.specs.Prelude.{◌+◌}
+use Rattle.fs_chain.specs.Loads.{whole}
+use Rattle.vm_memory.specs.Memory.{Memory}
+use Rattle.fs_queue.specs.Chain.{Descriptor}
+use Rattle.fs_queue.specs.Returning.{stores_after_reply}
+use Rattle.fs_queue.specs.Taking.{addresses_of, readable, total_len, writable}
+use Rattle.fs_regions.specs.Places.{places_in}
+use Rattle.fs_regions.specs.Walks.{IsLongestStretch, IsThere, IsWalkAt, queue_of}
+use Rattle.fuse_fs.specs.declared.answers.Context.{Context}
+use Rattle.fuse_values.specs.Answers.{answer_of}
+use Rattle.fuse_values.specs.declared.answer.FileAnswer as made_answer
+use Rattle.fuse_values.specs.declared.answer.FileAnswer.TheVariants as value
+use Rattle.virtiofsd_fuse.specs.Grammar.{Meaning, meaning}
+use Rattle.virtiofsd_fuse.specs.Serving.{Setting, setting}
+use Rattle.plain_machine.specs.Step.{Calls, calls_alone, served_exchange}
+use Rattle.server_phases.specs.Answering.{TellsBytes, forget_calls}
+use Rattle.fuse_fs.specs.Calls.{Done, FileAnswer, FileCall, Forget}
+use Rattle.server_phases.specs.declared.session.Session.{Session}
+use Rattle.live_machine.specs.Several.{LiveQueue, returning}
+use Rattle.live_machine.specs.Live.{Abandoned, Asked, DecodesRequest, Fetched, InFlightChain, LoadsAreMapped}
+use Rattle.live_machine.specs.Live.{LiveEvent, LiveRun, Own}
+use Rattle.live_machine.specs.Live.{Phase, PoppedFaulty}
+use Rattle.live_machine.specs.Live.{ReceivesAnswer, SetsOptions, after_answer}
+use Rattle.live_machine.specs.Live.{after_decoding}
+use Rattle.live_machine.specs.Live.{asked_chain, pop_refusal}
+use Rattle.live_machine.specs.Live.{Happens, room_of, room_of_phase, serving}
+use Rattle.fuse_values.specs.declared.call.FileCall as made_call
+use Rattle.fs_chain.specs.Answers.{CanBeGiven, IfWaits, IsGiven, IsNotTaken, IsWaiting}
+use Rattle.fs_chain.specs.Decoding.{IfUndecoded, KeepsCall, KeepsReply, TellsMeaning, wanted_after, wanted_by}
+use Rattle.fs_driven.specs.Desks.{Begun, Desk, Driven, FitsRun, In, IsReady, Leads, MayPop, desk, own, with_pop}
+use Rattle.fs_driven.specs.Told.{DrivesOne, Tells, Unseen, asked_len_of, data_of, exactly, forgetting}
+use Rattle.fs_driven.specs.Told.{request_of, setting_of, turn}
+use Rattle.fs_driven.specs.Kept.{IsSameHeld, KeepsMemory}
+use Rattle.fs_chain.specs.Holds.{Answers, Decodes, ForgettingIs, DecodingIs, HoldsChain, IsRepliedWith, served_so}
+use Rattle.fs_chain.specs.Holds.{HoldsPop, IsHeldIn, IsOutAs, IsQueue}
+use Rattle.fs_chain.specs.Holds.{Machine, Pop}
+use Rattle.fs_chain.specs.Holds.{any_files, calls_decoded, live_of, queue_with}
+use Rattle.fs_chain.specs.Orders.{ask_error, is_out}
+use Rattle.fs_chain.specs.Together.{Owned, with_handle}
+use Rattle.fs_chain.specs.declared.answering.Replied.{Replied}
+use Rattle.fs_chain.specs.declared.chain_handle.ChainHandle.{ChainHandle}
+use Rattle.fs_driven.specs.declared.commands.Command.{Command}
+use Rattle.fs_driven.specs.declared.commands.Command.TheVariants as does
+use Rattle.fs_driven.specs.declared.commands.Returned.{Returned}
+use Rattle.fs_driven.specs.declared.commands.Returned.TheVariants as gives
+use Rattle.fs_chain.specs.declared.decoding.Decoded.{Decoded}
+use Rattle.fs_chain.specs.declared.decoding.Decoded.TheVariants as asks
+use Rattle.fs_chain.specs.declared.queue.QueueState.{QueueState}
+use Rattle.fs_chain.specs.declared.state.ChainState as state
+use Rattle.fs_chain.specs.declared.state.ChainState.TheVariants as at
+use Rattle.fs_chain.specs.declared.state.InFlight.{InFlight}
+use Rattle.live_machine.proofs.Moved.{joined}
+use Rattle.fs_driven.proofs.Handles.{Moves, SamePlaces, has_own, held_out, here, idles, keeps, not_free, others_same}
+use Rattle.fs_chain.proofs.Together.{chains_of}
+use Rattle.fs_driven.proofs.Calls.{HasNoPush, done_ready, fits_out, length_exactly, refuses}
+use Rattle.fs_driven.proofs.Calls.{replied_no_push, same_held, still}
+
+-- ---- answer
+
+abbrev Asking : InFlightChain → Phase → Type 0
+Asking c p = (request : List ℕ) × (options : ℕ) × (p ≡ Asked request options [])
+
+waits_asked : (page_size : ℕ) (c : InFlightChain) (p : Phase) (st : state.ChainState) (session : Session) →
+    IsWaiting st →
+    IsHeldIn page_size c p st session → Asking c p
+waits_asked page_size c (Asked request options calls) (at.Waits out w) session is held =
+    (request, options, ap (λ (l : Calls). Asked request options l) held.1)
+waits_asked page_size c Fetched (at.Waits out w) session is held = absurd held
+waits_asked page_size c (PoppedFaulty why) (at.Waits out w) session is held = absurd held
+waits_asked page_size c (Own request reply) (at.Waits out w) session is held = absurd held
+waits_asked page_size c (Abandoned fault) (at.Waits out w) session is held = absurd held
+waits_asked page_size c p at.Free session is held = absurd is
+waits_asked page_size c p (at.Walking course pop_id walk) session is held = absurd is
+waits_asked page_size c p (at.Taken out) session is held = absurd is
+waits_asked page_size c p (at.Lists out l) session is held = absurd is
+waits_asked page_size c p (at.HasReply out kept) session is held = absurd is
+waits_asked page_size c p (at.Pushing out) session is held = absurd is
+
+waits_out : (st : state.ChainState) → IsWaiting st → is_out st ≡ true
+waits_out (at.Waits out w) is = refl
+waits_out at.Free is = absurd is
+waits_out (at.Walking course pop_id walk) is = absurd is
+waits_out (at.Taken out) is = absurd is
+waits_out (at.Lists out l) is = absurd is
+waits_out (at.HasReply out kept) is = absurd is
+waits_out (at.Pushing out) is = absurd is
+
+-- T tells of the answer's events
+abbrev AnsweredTells : QueueState → List ChainHandle → Option Begun → List LiveEvent →
+    (T : List LiveEvent → Desk → Type 0) → Type 0
+AnsweredTells q ws push es T =
+    (after : Machine) (os : List Owned) (pops : ℕ → Pop) → T es (desk after ws q os pops push)
+
+-- once no call is pending
+answered_all : (s : Machine) (i page_size k : ℕ) (q : QueueState) (ws : List ChainHandle) (ob oh : List Owned)
+    (pops : ℕ → Pop) (push : Option Begun) (old new : ChainHandle) (c : InFlightChain) (request : List ℕ)
+    (options : ℕ) (calls : Calls) (after : Machine) (es : List LiveEvent) (T : List LiveEvent → Desk → Type 0)
+    → Driven s i page_size q ws (ob ++ own k c ∷ oh) pops push → slice_get ws k ≡ Some old → c.queue ≡ i →
+    KeepsMemory old new
+    → HoldsChain s.page_size (asked_chain c request options calls) new
+    → HasNoPush new.state
+    → (serving s.page_size options options request (room_of (asked_chain c request options calls))
+    calls).calls ≡ calls_alone calls
+    → LiveRun any_files s es after → after.page_size ≡ s.page_size → after.limit ≡ s.limit →
+    after.places ≡ s.places
+    → after.queues ≡ s.queues → after.chains ≡ chains_of ob ++ asked_chain c request options calls ∷ chains_of
+    oh
+    → AnsweredTells q (with_handle ws k new) push es T
+    → Leads s i page_size q (with_handle ws k new) T
+answered_all s i page_size k q ws ob oh pops push old new c request options calls after es T all there queue
+    same holds quiet done run page limit places queues chains tells =
+    let c' : InFlightChain = asked_chain c request options calls in
+    let ready : IsReady page_size k q push c' new.state =
+    subst (λ (n : ℕ). IsReady n k q push c' new.state) all.page
+    (done_ready s.page_size k q push c request options calls new.state done quiet) in
+    let moves : Moves s after i page_size k q q (pops k) push push new = record {
+      page = page;
+      limit = limit;
+      places = places;
+      queue = subst (λ (l : List LiveQueue). slice_get l i ≡ Some (live_of q)) (sym queues) all.queue;
+      event = refl;
+      fits = fits_out s.places s.limit q.event_index (pops k) (pops k) old new same
+          (held_out s.page_size c' c'.phase new.state new.session holds) (all.fits k old there);
+      others = others_same page_size k q q push (λ head len. refl);
+      still = all.still;
+    } in (
+      es,
+      after,
+      ob ++ own k c' ∷ oh,
+      with_pop pops k (pops k),
+      push,
+      run,
+      keeps s after i page_size q q ws ob oh k old new c c' (pops k) pops push push all there
+          moves chains holds (queue, ready),
+      tells after (ob ++ own k c' ∷ oh) (with_pop pops k (pops k)),
+    )
+
+-- a FORGET that is owed is answered next
+answered_by : (s : Machine) (i page_size k : ℕ) (q : QueueState) (ws : List ChainHandle) (ob oh : List Owned)
+    (pops : ℕ → Pop) (push : Option Begun) (old new : ChainHandle) (c : InFlightChain) (request : List ℕ)
+    (options : ℕ) (call : FileCall) (x : FileAnswer) (owed : Option (Context × ℕ))
+    (T : List LiveEvent → Desk → Type 0)
+    → Driven s i page_size q ws (ob ++ own k c ∷ oh) pops push → slice_get ws k ≡ Some old → c.queue ≡ i →
+    KeepsMemory old new
+    → Happens any_files s (ReceivesAnswer c call x)
+    (after_answer s (chains_of ob) (chains_of oh) c request options ((call, x) ∷ []) tt)
+    → HoldsChain s.page_size (asked_chain c request options ((call, x) ∷ [])) new
+    → HasNoPush new.state
+    → (serving s.page_size options options request (room_of (asked_chain c request options ((call, x) ∷ [])))
+    ((call, x) ∷ [])).calls
+    ≡ call ∷ forget_calls owed
+    → ForgettingIs (after_answer s (chains_of ob) (chains_of oh) c request options ((call, x) ∷ []) tt)
+    (chains_of ob) (chains_of oh)
+    (asked_chain c request options ((call, x) ∷ [])) request options ((call, x) ∷ []) new owed
+    → AnsweredTells q (with_handle ws k new) push
+    (ReceivesAnswer c call x ∷ forgetting (asked_chain c request options ((call, x) ∷ [])) owed) T
+    → Leads s i page_size q (with_handle ws k new) T
+answered_by s i page_size k q ws ob oh pops push old new c request options call x None T all there queue same
+    happens holds quiet calls forgets tells =
+    let after = after_answer s (chains_of ob) (chains_of oh) c request options ((call, x) ∷ []) tt in
+    answered_all s i page_size k q ws ob oh pops push old new c request options ((call, x) ∷ []) after
+    (ReceivesAnswer c call x ∷ []) T all there queue
+    same holds quiet calls (after, happens, refl) refl refl refl refl refl tells
+answered_by s i page_size k q ws ob oh pops push old new c request options call x (Some node) T all there queue
+    same happens holds quiet calls forgets tells =
+    let after = after_answer s (chains_of ob) (chains_of oh) c request options ((call, x) ∷ []) tt in
+    let forget : FileCall = Forget node.0 node.1 1 in
+    let both : Calls = (call, x) ∷ (forget, Done) ∷ [] in
+    let c' : InFlightChain = asked_chain c request options ((call, x) ∷ []) in
+    let end = after_answer after (chains_of ob) (chains_of oh) c' request options both tt in
+    answered_all s i page_size k q ws ob oh pops push old new c request options both end
+    (ReceivesAnswer c call x ∷ ReceivesAnswer c' forget Done ∷ []) T
+    all there queue same forgets.1 quiet forgets.2 (after, happens, (end, forgets.0, refl)) refl refl refl refl
+    refl tells
+
+-- the data of an answer
+data_told : (a : made_answer.FileAnswer) (u : Unseen) → TellsBytes (data_of a u) a
+data_told (value.Bytes len) u = sym (length_exactly len u.bytes)
+data_told (value.Failed errno) u = refl
+data_told value.Done u = refl
+data_told (value.HasEntry entry) u = refl
+data_told (value.HasAttr attr timeout) u = refl
+data_told (value.Opened handle options) u = refl
+data_told (value.Created entry handle options) u = refl
+data_told (value.Count n) u = refl
+data_told (value.Stats stats) u = refl
+data_told (value.Wrote n) u = refl
+data_told (value.Offset offset) u = refl
+data_told (value.Wants options) u = refl
+
+abbrev GivenSo : (old new : ChainHandle) → made_answer.FileAnswer → Replied → Type 0
+GivenSo old new a told =
+    IfWaits old.state (λ out w. IsGiven (setting old.session.page_size old.session.options.0 w.room) w a out
+    new.session.options.0 told new.state)
+
+answer_drives : (page_size : ℕ) (old new : ChainHandle) (q : QueueState) (serial : ℕ)
+    (a : made_answer.FileAnswer) (told : Replied)
+    → IsWaiting old.state → GivenSo old new a told → Answers old new a told → KeepsMemory old new
+    → DrivesOne page_size old new q q (does.Answer serial a) (gives.Answered (Ok told))
+unfolding DrivesOne Answers
+answer_drives page_size old new q serial a told waits given answers same ws k there u s i os pops push all =
+    let own_one = all.outs k old there (waits_out old.state waits) in
+    let c = own_one.0 in
+    let has = has_own s i page_size q ws os k old c pops push all there own_one.1 in
+    let asked = waits_asked s.page_size c c.phase old.state old.session waits has.holds in
+    let bytes : List ℕ = data_of a u in
+    let an = answers s (chains_of has.ob) (chains_of has.oh) c asked.0 bytes asked.1 has.chains asked.2
+    has.holds (data_told a u) in
+    answered_by s i page_size k q ws has.ob has.oh pops push old new c asked.0 asked.1 an.0 (answer_of bytes a)
+    told.forget
+    (λ es d. Tells (turn i page_size k (desk s ws q os pops push) d old new) (does.Answer serial a) u
+    (gives.Answered (Ok told)) es)
+    has.driven there
+    (all.mine k old c there own_one.1).0 same an.1.0 an.1.1
+    (replied_no_push (served_so s.page_size asked.1 asked.0
+    (length (addresses_of (writable c.descriptors))) ((an.0, answer_of bytes a) ∷ [])).reply bytes new.state
+    an.1.4)
+    an.1.2 an.1.5
+    (λ after os' loads'. (given, c, an.0, asked.0, asked.1, own_one.1, asked.2, refl))
+
+-- ---- by what the call ensures
+
+pub answer_result : (old new : ChainHandle) (q : QueueState) (serial : ℕ) (a : made_answer.FileAnswer)
+    (result : Result Replied ChainError)
+    → IfOk result (λ told. GivenSo old new a told)
+    → OnOk result (IsWaiting old.state × IfWaits old.state (λ out w. CanBeGiven w a))
+    → IfErr result (λ e. IsNotTaken old serial a e)
+    → OnErr result (new ≡ old)
+    → IsAllBut old new
+    → IfOk result (λ told. Answers old new a told)
+    → (page_size : ℕ) → DrivesOne page_size old new q q (does.Answer serial a) (gives.Answered result)
+answer_result old new q serial a (Ok told) given taken err same stay step page_size =
+    answer_drives page_size old new q serial a told taken.0 given step (stay.0, stay.1)
+answer_result old new q serial a (Err e) given taken err same stay step page_size =
+    refuses page_size old new q (does.Answer serial a) (gives.Answered (Err e)) (same_held old new same)
+    (λ i k d d' u is. (refl, err))

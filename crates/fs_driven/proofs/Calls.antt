@@ -1,0 +1,372 @@
+-- A call of a handle among others that is refused, or changes nothing of the run.
+use Rattle.std.proofs.Common.{◌≡◌, ℕ, Bool, true, false, List, [], ◌∷◌, ◌++◌, length, Option, Some, None}
+use Rattle.std.proofs.Common.{slice_get}
+use Rattle.std.proofs.Common.{refl, subst, sym, ap, ◌∙◌, ◌≤◌, ◌-◌, zero, suc, arith, eqb-true, ◌==◌, take, length-append}
+use Rattle.std.proofs.lemmas.Bool.{ltb-false}
+use Rattle.std.specs.Borrow.{Bor}
+use Rattle.std.specs.Prelude.{drop, Result, Ok, Err, IfErr, IfOk, OnOk, OnErr, if◌then◌else◌, nat_lt}
+use Rattle.fs_chain.specs.declared.error.ChainError.{ChainError}
+use Rattle.fs_chain.specs.declared.error.ChainError.TheVariants.{BadArgument, WrongOrder}
+use Rattle.fs_chain.specs.Walks.{IsAllBut}
+use Rattle.server_phases.specs.Asking.{IsRequestFront}
+use Rattle.std.specs.Prelude.{◌+◌}
+use Rattle.fs_chain.specs.Loads.{whole}
+use Rattle.vm_memory.specs.Memory.{Memory}
+use Rattle.fs_queue.specs.Chain.{Descriptor}
+use Rattle.fs_queue.specs.Returning.{stores_after_reply}
+use Rattle.fs_queue.specs.Taking.{addresses_of, readable, total_len, writable}
+use Rattle.fs_regions.specs.Places.{places_in}
+use Rattle.fs_regions.specs.Walks.{IsLongestStretch, IsThere, IsWalkAt, queue_of}
+use Rattle.fuse_fs.specs.declared.answers.Context.{Context}
+use Rattle.fuse_values.specs.Answers.{answer_of}
+use Rattle.fuse_values.specs.declared.answer.FileAnswer as made_answer
+use Rattle.fuse_values.specs.declared.answer.FileAnswer.TheVariants as value
+use Rattle.virtiofsd_fuse.specs.Grammar.{Meaning, meaning}
+use Rattle.virtiofsd_fuse.specs.Serving.{Setting, setting}
+use Rattle.plain_machine.specs.Step.{Calls, calls_alone, served_exchange}
+use Rattle.server_phases.specs.Answering.{TellsBytes, forget_calls}
+use Rattle.fuse_fs.specs.Calls.{Done, FileAnswer, FileCall, Forget}
+use Rattle.server_phases.specs.declared.session.Session.{Session}
+use Rattle.live_machine.specs.Several.{LiveQueue, returning}
+use Rattle.live_machine.specs.Live.{Abandoned, Asked, DecodesRequest, Fetched, InFlightChain, LoadsAreMapped}
+use Rattle.live_machine.specs.Live.{LiveEvent, LiveRun, Own}
+use Rattle.live_machine.specs.Live.{Phase, PoppedFaulty}
+use Rattle.live_machine.specs.Live.{ReceivesAnswer, SetsOptions, after_answer}
+use Rattle.live_machine.specs.Live.{after_decoding}
+use Rattle.live_machine.specs.Live.{asked_chain, pop_refusal}
+use Rattle.live_machine.specs.Live.{Happens, room_of, room_of_phase, serving}
+use Rattle.fuse_values.specs.declared.call.FileCall as made_call
+use Rattle.fs_chain.specs.Answers.{CanBeGiven, IfWaits, IsGiven, IsNotTaken, IsWaiting}
+use Rattle.fs_chain.specs.Decoding.{IfUndecoded, KeepsCall, KeepsReply, TellsMeaning, wanted_after, wanted_by}
+use Rattle.fs_driven.specs.Desks.{Begun, Desk, Driven, FitsRun, In, IsReady, Leads, MayPop, desk, own, with_pop}
+use Rattle.fs_driven.specs.Told.{DrivesOne, Tells, Unseen, asked_len_of, data_of, exactly, forgetting}
+use Rattle.fs_driven.specs.Told.{request_of, setting_of, turn}
+use Rattle.fs_driven.specs.Kept.{IsSameHeld, KeepsMemory}
+use Rattle.fs_chain.specs.Holds.{Answers, Decodes, ForgettingIs, DecodingIs, HoldsChain, IsRepliedWith, served_so}
+use Rattle.fs_chain.specs.Holds.{HoldsPop, IsHeldIn, IsOutAs, IsQueue}
+use Rattle.fs_chain.specs.Holds.{Machine, Pop}
+use Rattle.fs_chain.specs.Holds.{any_files, calls_decoded, live_of, queue_with}
+use Rattle.fs_chain.specs.Orders.{ask_error, is_out}
+use Rattle.fs_chain.specs.Together.{Owned, with_handle}
+use Rattle.fs_chain.specs.declared.answering.Replied.{Replied}
+use Rattle.fs_chain.specs.declared.chain_handle.ChainHandle.{ChainHandle}
+use Rattle.fs_driven.specs.declared.commands.Command.{Command}
+use Rattle.fs_driven.specs.declared.commands.Command.TheVariants as does
+use Rattle.fs_driven.specs.declared.commands.Returned.{Returned}
+use Rattle.fs_driven.specs.declared.commands.Returned.TheVariants as gives
+use Rattle.fs_chain.specs.declared.decoding.Decoded.{Decoded}
+use Rattle.fs_chain.specs.declared.decoding.Decoded.TheVariants as asks
+use Rattle.fs_chain.specs.declared.queue.QueueState.{QueueState}
+use Rattle.fs_chain.specs.declared.state.ChainState as state
+use Rattle.fs_chain.specs.declared.state.ChainState.TheVariants as at
+use Rattle.fs_chain.specs.declared.state.InFlight.{InFlight}
+use Rattle.live_machine.proofs.Moved.{joined}
+use Rattle.fs_driven.proofs.Handles.{Moves, SamePlaces, has_own, held_out, here, idles, keeps, not_free, others_same}
+use Rattle.fs_chain.proofs.Together.{chains_of}
+
+-- ---- a call that is refused
+
+holds_same : (page_size : ℕ) (c : InFlightChain) (old new : ChainHandle) → IsSameHeld old new →
+    HoldsChain page_size c old →
+    HoldsChain page_size c new
+holds_same page_size c old new same held =
+    subst (λ (st : state.ChainState). IsHeldIn page_size c c.phase st new.session) (sym same.0)
+    (subst (λ (x : Session). IsHeldIn page_size c c.phase old.state x) (sym same.1) held)
+
+pop_same : (limit : ℕ) (p : Pop) (old new : ChainHandle) → IsSameHeld old new → HoldsPop limit p old →
+    HoldsPop limit p new
+pop_same limit p old new same h =
+    let places : places_in old.regions ≡ places_in new.regions = ap places_in (sym same.2) in
+    record {
+      course = h.course;
+      pop_id = h.pop_id;
+      walk = h.walk;
+      state = same.0 ∙ h.state;
+      limit_is = h.limit_is;
+      comes = subst (λ (m : Memory). IsWalkAt m (queue_of h.course) p.loaded new.descriptors.items h.walk)
+          places (subst (λ (ds : List Descriptor). IsWalkAt (places_in old.regions) (queue_of h.course)
+          p.loaded ds h.walk) (sym same.4) h.comes);
+      there = subst (λ (m : Memory). IsThere m h.walk) places h.there;
+      longest = subst (λ (m : Memory). IsLongestStretch m (queue_of h.course) new.descriptors.items h.walk)
+          places (subst (λ (ds : List Descriptor). IsLongestStretch (places_in old.regions)
+          (queue_of h.course) ds h.walk) (sym same.4) h.longest);
+      mapped = subst (λ (m : Memory). LoadsAreMapped m (queue_of h.course) p.loaded) places h.mapped;
+      events = subst (λ (m : Memory). pop_refusal m (queue_with (queue_of h.course) p.event_index) ≡ None)
+          places h.events;
+    }
+
+may_same : (limit : ℕ) (event_index : Bool) (p : Pop) (old new : ChainHandle) (st : state.ChainState) →
+    IsSameHeld old new →
+    MayPop limit event_index p old st
+    → MayPop limit event_index p new st
+may_same limit event_index p old new (at.Walking course pop_id walk) same may =
+    (pop_same limit p old new same may.0, may.1)
+may_same limit event_index p old new at.Free same may = tt
+may_same limit event_index p old new (at.Taken out) same may = tt
+may_same limit event_index p old new (at.Waits out w) same may = tt
+may_same limit event_index p old new (at.Lists out l) same may = tt
+may_same limit event_index p old new (at.HasReply out kept) same may = tt
+may_same limit event_index p old new (at.Pushing out) same may = tt
+
+fits_same : (places : Memory) (limit : ℕ) (event_index : Bool) (p : Pop) (old new : ChainHandle) → IsSameHeld old new
+    → FitsRun places limit event_index p old → FitsRun places limit event_index p new
+fits_same places limit event_index p old new same fits = (
+  fits.0 ∙ ap places_in (sym same.2),
+  fits.1 ∙ sym same.3,
+  subst (λ (st : state.ChainState). MayPop limit event_index p new st) (sym same.0)
+      (may_same limit event_index p old new old.state same fits.2),
+)
+
+may_out : (limit : ℕ) (event_index : Bool) (p : Pop) (w : ChainHandle) (st : state.ChainState) → is_out st ≡ true →
+    MayPop limit event_index p w st
+may_out limit event_index p w (at.Walking course pop_id walk) out = absurd (not_free false out refl)
+may_out limit event_index p w at.Free out = tt
+may_out limit event_index p w (at.Taken o) out = tt
+may_out limit event_index p w (at.Waits o k) out = tt
+may_out limit event_index p w (at.Lists o l) out = tt
+may_out limit event_index p w (at.HasReply o kept) out = tt
+may_out limit event_index p w (at.Pushing o) out = tt
+
+pub fits_out : (places : Memory) (limit : ℕ) (event_index : Bool) (p r : Pop) (old new : ChainHandle) →
+    KeepsMemory old new → is_out new.state ≡ true
+    → FitsRun places limit event_index p old → FitsRun places limit event_index r new
+fits_out places limit event_index p r old new same out fits =
+    (fits.0 ∙ ap places_in (sym same.0), fits.1 ∙ sym same.1, may_out limit event_index r new new.state out)
+
+-- nothing happens, but the queue may be in a push
+pub stays_put : (s : Machine) (i page_size k : ℕ) (q q' : QueueState) (p : Pop) (push : Option Begun)
+    (new : ChainHandle) → IsQueue s i q' → q'.event_index ≡ q.event_index → SamePlaces q q' →
+    q'.pushing ≡ q.pushing → (q.pushing ≡ false → push ≡ None)
+    → FitsRun s.places s.limit q.event_index p new → Moves s s i page_size k q q' p push push new
+stays_put s i page_size k q q' p push new there event same pushing still fits =
+    record {
+      page = refl;
+      limit = refl;
+      places = refl;
+      queue = there;
+      event = event;
+      fits = fits;
+      others = others_same page_size k q q' push same;
+      still = λ none. still (sym pushing ∙ none);
+    }
+
+-- T tells of no events, whatever the handles hold
+abbrev pub TellsNone : Machine → QueueState → List ChainHandle → Option Begun →
+    (T : List LiveEvent → Desk → Type 0) → Type 0
+TellsNone s q ws push T = (os : List Owned) (pops : ℕ → Pop) → T [] (desk s ws q os pops push)
+
+pub stays : (s : Machine) (i page_size k : ℕ) (q : QueueState) (ws : List ChainHandle) (os : List Owned)
+    (pops : ℕ → Pop) (push : Option Begun) (old new : ChainHandle) (T : List LiveEvent → Desk → Type 0)
+    → Driven s i page_size q ws os pops push → slice_get ws k ≡ Some old → IsSameHeld old new
+    → TellsNone s q (with_handle ws k new) push T
+    → Leads s i page_size q (with_handle ws k new) T
+stays s i page_size k q ws os pops push old new T all there same tells = by_out (is_out old.state) refl
+  where
+    moves : Moves s s i page_size k q q (pops k) push push new
+    moves =
+        stays_put s i page_size k q q (pops k) push new all.queue refl (λ head len. refl) refl all.still
+        (fits_same s.places s.limit q.event_index (pops k) old new same (all.fits k old there))
+
+    by_out : (b : Bool) → is_out old.state ≡ b → Leads s i page_size q (with_handle ws k new) T
+    by_out true out =
+        let own_one = all.outs k old there out in
+        let c = own_one.0 in
+        let has = has_own s i page_size q ws os k old c pops push all there own_one.1 in
+        let mine = all.mine k old c there own_one.1 in
+        let holds = holds_same s.page_size c old new same has.holds in
+        let ready : IsReady page_size k q push c new.state =
+        subst (λ (st : state.ChainState). IsReady page_size k q push c st) (sym same.0) mine.1 in (
+          [],
+          s,
+          has.ob ++ own k c ∷ has.oh,
+          with_pop pops k (pops k),
+          push,
+          refl,
+          keeps s s i page_size q q ws has.ob has.oh k old new c c (pops k) pops push push has.driven there
+              moves has.chains holds (mine.0, ready),
+          tells (has.ob ++ own k c ∷ has.oh) (with_pop pops k (pops k)),
+        )
+    by_out false free = (
+      [],
+      s,
+      os,
+      with_pop pops k (pops k),
+      push,
+      refl,
+      idles s s i page_size q q ws os k old new (pops k) pops push push all there moves refl free
+          (ap is_out same.0 ∙ free),
+      tells os (with_pop pops k (pops k)),
+    )
+
+-- a call that is refused, or not made
+pub refuses : (page_size : ℕ) (old new : ChainHandle) (q : QueueState) (command : Command)
+    (returned : Returned)
+    → IsSameHeld old new
+    → ((i k : ℕ) (d d' : Desk) (u : Unseen) → d.queue ≡ q →
+    Tells (turn i page_size k d d' old new) command u returned [])
+    → DrivesOne page_size old new q q command returned
+unfolding DrivesOne
+refuses page_size old new q command returned same tells ws k there u s i os pops push all =
+    stays s i page_size k q ws os pops push old new
+    (λ es d. Tells (turn i page_size k (desk s ws q os pops push) d old new) command u returned es) all there
+    same
+    (λ after loads'. tells i k (desk s ws q os pops push) (desk s (with_handle ws k new) q after loads' push) u
+    refl)
+
+pub same_held : (old new : ChainHandle) → new ≡ old → IsSameHeld old new
+same_held old new same = (
+  ap (λ (w : ChainHandle). w.state) same,
+  ap (λ (w : ChainHandle). w.session) same,
+  ap (λ (w : ChainHandle). w.regions) same,
+  ap (λ (w : ChainHandle). w.limit) same,
+  ap (λ (w : ChainHandle). w.descriptors.items) same,
+)
+
+-- ---- decode
+
+abbrev pub OutOf : InFlightChain → Phase → InFlight → Type 0
+OutOf c p out = (p ≡ Fetched) × IsOutAs c out
+
+pub taken_out : (page_size : ℕ) (c : InFlightChain) (p : Phase) (st : state.ChainState) (session : Session)
+    (out : InFlight) →
+    st ≡ at.Taken out →
+    IsHeldIn page_size c p st session → OutOf c p out
+taken_out page_size c p st session out is held =
+    by_phase page_size c p session out (subst (λ (x : state.ChainState). IsHeldIn page_size c p x session) is
+    held)
+  where
+    by_phase : (page_size : ℕ) (c : InFlightChain) (p : Phase) (session : Session) (out : InFlight) →
+        IsHeldIn page_size c p (at.Taken out) session
+        → OutOf c p out
+    by_phase page_size c Fetched session out held = (refl, held)
+    by_phase page_size c (PoppedFaulty why) session out held = absurd held
+    by_phase page_size c (Asked request options calls) session out held = absurd held
+    by_phase page_size c (Own request reply) session out held = absurd held
+    by_phase page_size c (Abandoned fault) session out held = absurd held
+
+-- a chain that isn't decoded yet is in a handle without a reply
+pub fetched_ready : (page_size n k : ℕ) (q : QueueState) (push : Option Begun) (c : InFlightChain) (p : Phase)
+    (st : state.ChainState) (session : Session) → p ≡ Fetched →
+    IsHeldIn n c p st session → IsReady page_size k q push c st
+fetched_ready page_size n k q push c p st session is held =
+    by_state page_size n c st session (subst (λ (x : Phase). IsHeldIn n c x st session) is held)
+  where
+    by_state : (page_size n : ℕ) (c : InFlightChain) (st : state.ChainState) (session : Session) →
+        IsHeldIn n c Fetched st session
+        → IsReady page_size k q push c st
+    by_state page_size n c (at.HasReply out kept) session held = absurd held
+    by_state page_size n c (at.Pushing out) session held = absurd held
+    by_state page_size n c at.Free session held = tt
+    by_state page_size n c (at.Walking course pop_id walk) session held = tt
+    by_state page_size n c (at.Taken out) session held = tt
+    by_state page_size n c (at.Waits out w) session held = tt
+    by_state page_size n c (at.Lists out l) session held = tt
+
+-- ---- a handle that pushes nothing
+
+abbrev pub HasNoPush : state.ChainState → Type 0
+HasNoPush (at.Pushing out) = ⊥
+HasNoPush _ = Unit {0}
+
+call_no_push : (s : Setting) (m : Meaning) (bytes : List ℕ) (made : made_call.FileCall) (out : InFlight)
+    (st : state.ChainState) → KeepsCall s m bytes made out st → HasNoPush st
+call_no_push s m bytes made out (at.Pushing o) keeps = absurd keeps
+call_no_push s m bytes made out (at.HasReply o kept) keeps = tt
+call_no_push s m bytes made out at.Free keeps = tt
+call_no_push s m bytes made out (at.Walking course pop_id walk) keeps = tt
+call_no_push s m bytes made out (at.Taken o) keeps = tt
+call_no_push s m bytes made out (at.Waits o w) keeps = tt
+call_no_push s m bytes made out (at.Lists o l) keeps = tt
+
+pub reply_no_push : (s : Setting) (m : Meaning) (bytes : List ℕ) (out : InFlight) (st : state.ChainState) →
+    KeepsReply s m bytes out st → HasNoPush st
+reply_no_push s m bytes out (at.Pushing o) keeps = absurd keeps
+reply_no_push s m bytes out (at.HasReply o kept) keeps = tt
+reply_no_push s m bytes out at.Free keeps = tt
+reply_no_push s m bytes out (at.Walking course pop_id walk) keeps = tt
+reply_no_push s m bytes out (at.Taken o) keeps = tt
+reply_no_push s m bytes out (at.Waits o w) keeps = tt
+reply_no_push s m bytes out (at.Lists o l) keeps = tt
+
+pub replied_no_push : (reply bytes : List ℕ) (st : state.ChainState) → IsRepliedWith reply bytes st → HasNoPush st
+replied_no_push reply bytes (at.Pushing o) is = absurd is
+replied_no_push reply bytes (at.HasReply o kept) is = tt
+replied_no_push reply bytes at.Free is = tt
+replied_no_push reply bytes (at.Walking course pop_id walk) is = tt
+replied_no_push reply bytes (at.Taken o) is = tt
+replied_no_push reply bytes (at.Waits o w) is = tt
+replied_no_push reply bytes (at.Lists o l) is = tt
+
+-- a chain without a pending call can be pushed
+pub done_ready : (page_size k : ℕ) (q : QueueState) (push : Option Begun) (c : InFlightChain)
+    (request : List ℕ) (options : ℕ) (calls : Calls) (st : state.ChainState)
+    → (serving page_size options options request (room_of (asked_chain c request options calls))
+    calls).calls ≡ calls_alone calls
+    → HasNoPush st → IsReady page_size k q push (asked_chain c request options calls) st
+done_ready page_size k q push c request options calls (at.HasReply out kept) done quiet = (
+  served_exchange c.head request
+      (serving page_size options options request (room_of (asked_chain c request options calls)) calls),
+  (done, refl),
+)
+done_ready page_size k q push c request options calls (at.Pushing out) done quiet = absurd quiet
+done_ready page_size k q push c request options calls at.Free done quiet = tt
+done_ready page_size k q push c request options calls (at.Walking course pop_id walk) done quiet = tt
+done_ready page_size k q push c request options calls (at.Taken out) done quiet = tt
+done_ready page_size k q push c request options calls (at.Waits out w) done quiet = tt
+done_ready page_size k q push c request options calls (at.Lists out l) done quiet = tt
+
+pub call_waits : (page_size k : ℕ) (q : QueueState) (push : Option Begun) (c : InFlightChain) (s : Setting)
+    (m : Meaning) (bytes : List ℕ) (made : made_call.FileCall) (out : InFlight) (st : state.ChainState)
+    → KeepsCall s m bytes made out st → IsReady page_size k q push c st
+call_waits page_size k q push c s m bytes made out (at.HasReply o kept) keeps = absurd keeps
+call_waits page_size k q push c s m bytes made out (at.Pushing o) keeps = absurd keeps
+call_waits page_size k q push c s m bytes made out at.Free keeps = tt
+call_waits page_size k q push c s m bytes made out (at.Walking course pop_id walk) keeps = tt
+call_waits page_size k q push c s m bytes made out (at.Taken o) keeps = tt
+call_waits page_size k q push c s m bytes made out (at.Waits o w) keeps = tt
+call_waits page_size k q push c s m bytes made out (at.Lists o l) keeps = tt
+
+-- ---- small lemmas
+
+pub length_exactly : (n : ℕ) (bytes : List ℕ) → length (exactly n bytes) ≡ n
+length_exactly zero bytes = refl
+length_exactly (suc n) [] = ap suc (length_exactly n [])
+length_exactly (suc n) (b ∷ bytes) = ap suc (length_exactly n bytes)
+
+abbrev IsNone : {A : Type 0} → Option A → Type 0
+IsNone None = Unit {0}
+IsNone (Some b) = ⊥
+
+pub no_error : {A : Type 0} (x : A) → Some x ≡ None → ⊥
+no_error {A} x e = subst (λ (o : Option A). IsNone o) (sym e) tt
+
+-- a pop that asks for more, or got a part of a load
+pub still : (s : Machine) (i page_size k : ℕ) (q q' : QueueState) (ws : List ChainHandle) (os : List Owned)
+    (pops : ℕ → Pop) (push : Option Begun) (old new : ChainHandle) (p : Pop)
+    (T : List LiveEvent → Desk → Type 0)
+    → Driven s i page_size q ws os pops push → slice_get ws k ≡ Some old → is_out old.state ≡ false →
+    KeepsMemory old new
+    → p.event_index ≡ q.event_index
+    → HoldsPop s.limit p new × (q' ≡ q)
+    → T [] (desk s (with_handle ws k new) q' os (with_pop pops k p) push)
+    → Leads s i page_size q' (with_handle ws k new) T
+still s i page_size k q q' ws os pops push old new p T all there free same event is tells =
+    let was = all.fits k old there in
+    let may : MayPop s.limit q.event_index p new new.state =
+    subst (λ (st : state.ChainState). MayPop s.limit q.event_index p new st) (sym is.0.state)
+    (is.0, event) in (
+      [],
+      s,
+      os,
+      with_pop pops k p,
+      push,
+      refl,
+      idles s s i page_size q q' ws os k old new p pops push push all there
+          (stays_put s i page_size k q q' p push new
+          (subst (λ (r : QueueState). IsQueue s i r) (sym is.1) all.queue)
+          (ap (λ (r : QueueState). r.event_index) is.1)
+          (λ head len. ap (λ (r : QueueState). stores_after_reply (returning (live_of r)) head len) is.1)
+          (ap (λ (r : QueueState). r.pushing) is.1) all.still
+          (was.0 ∙ ap places_in (sym same.0), was.1 ∙ sym same.1, may)) refl free (ap is_out is.0.state),
+      tells,
+    )

@@ -1,0 +1,366 @@
+-- A decoding drives the run.
+use Rattle.std.proofs.Common.{◌≡◌, ℕ, Bool, true, false, List, [], ◌∷◌, ◌++◌, length, Option, Some, None}
+use Rattle.std.proofs.Common.{slice_get}
+use Rattle.std.proofs.Common.{refl, subst, sym, ap, ◌∙◌, ◌≤◌, ◌-◌, zero, suc, arith, eqb-true, ◌==◌, take, length-append}
+use Rattle.std.proofs.lemmas.Bool.{ltb-false}
+use Rattle.std.specs.Borrow.{Bor}
+use Rattle.std.specs.Prelude.{drop, Result, Ok, Err, IfErr, IfOk, OnOk, OnErr, if◌then◌else◌, nat_lt}
+use Rattle.fs_chain.specs.declared.error.ChainError.{ChainError}
+use Rattle.fs_chain.specs.declared.error.ChainError.TheVariants.{BadArgument, WrongOrder}
+use Rattle.fs_chain.specs.Walks.{IsAllBut}
+use Rattle.server_phases.specs.Asking.{IsRequestFront}
+use Rattle.std.specs.Prelude.{◌+◌}
+use Rattle.fs_chain.specs.Loads.{whole}
+use Rattle.vm_memory.specs.Memory.{Memory}
+use Rattle.fs_queue.specs.Chain.{Descriptor}
+use Rattle.fs_queue.specs.Returning.{stores_after_reply}
+use Rattle.fs_queue.specs.Taking.{addresses_of, readable, total_len, writable}
+use Rattle.fs_regions.specs.Places.{places_in}
+use Rattle.fs_regions.specs.Walks.{IsLongestStretch, IsThere, IsWalkAt, queue_of}
+use Rattle.fuse_fs.specs.declared.answers.Context.{Context}
+use Rattle.fuse_values.specs.Answers.{answer_of}
+use Rattle.fuse_values.specs.declared.answer.FileAnswer as made_answer
+use Rattle.fuse_values.specs.declared.answer.FileAnswer.TheVariants as value
+use Rattle.virtiofsd_fuse.specs.Grammar.{Meaning, meaning}
+use Rattle.virtiofsd_fuse.specs.Serving.{Setting, setting}
+use Rattle.plain_machine.specs.Step.{Calls, calls_alone, served_exchange}
+use Rattle.server_phases.specs.Answering.{TellsBytes, forget_calls}
+use Rattle.fuse_fs.specs.Calls.{Done, FileAnswer, FileCall, Forget}
+use Rattle.server_phases.specs.declared.session.Session.{Session}
+use Rattle.live_machine.specs.Several.{LiveQueue, returning}
+use Rattle.live_machine.specs.Live.{Abandoned, Asked, DecodesRequest, Fetched, InFlightChain, LoadsAreMapped}
+use Rattle.live_machine.specs.Live.{LiveEvent, LiveRun, Own}
+use Rattle.live_machine.specs.Live.{Phase, PoppedFaulty}
+use Rattle.live_machine.specs.Live.{ReceivesAnswer, SetsOptions, after_answer}
+use Rattle.live_machine.specs.Live.{after_decoding}
+use Rattle.live_machine.specs.Live.{asked_chain, pop_refusal}
+use Rattle.live_machine.specs.Live.{Happens, room_of, room_of_phase, serving}
+use Rattle.fuse_values.specs.declared.call.FileCall as made_call
+use Rattle.fs_chain.specs.Answers.{CanBeGiven, IfWaits, IsGiven, IsNotTaken, IsWaiting}
+use Rattle.fs_chain.specs.Decoding.{IfUndecoded, KeepsCall, KeepsReply, TellsMeaning, wanted_after, wanted_by}
+use Rattle.fs_driven.specs.Desks.{Begun, Desk, Driven, FitsRun, In, IsReady, Leads, MayPop, desk, own, with_pop}
+use Rattle.fs_driven.specs.Told.{DrivesOne, Tells, Unseen, asked_len_of, data_of, exactly, forgetting}
+use Rattle.fs_driven.specs.Told.{request_of, setting_of, turn}
+use Rattle.fs_driven.specs.Kept.{IsSameHeld, KeepsMemory}
+use Rattle.fs_chain.specs.Holds.{Answers, Decodes, ForgettingIs, DecodingIs, HoldsChain, IsRepliedWith, served_so}
+use Rattle.fs_chain.specs.Holds.{HoldsPop, IsHeldIn, IsOutAs, IsQueue}
+use Rattle.fs_chain.specs.Holds.{Machine, Pop}
+use Rattle.fs_chain.specs.Holds.{any_files, calls_decoded, live_of, queue_with}
+use Rattle.fs_chain.specs.Orders.{ask_error, is_out}
+use Rattle.fs_chain.specs.Together.{Owned, with_handle}
+use Rattle.fs_chain.specs.declared.answering.Replied.{Replied}
+use Rattle.fs_chain.specs.declared.chain_handle.ChainHandle.{ChainHandle}
+use Rattle.fs_driven.specs.declared.commands.Command.{Command}
+use Rattle.fs_driven.specs.declared.commands.Command.TheVariants as does
+use Rattle.fs_driven.specs.declared.commands.Returned.{Returned}
+use Rattle.fs_driven.specs.declared.commands.Returned.TheVariants as gives
+use Rattle.fs_chain.specs.declared.decoding.Decoded.{Decoded}
+use Rattle.fs_chain.specs.declared.decoding.Decoded.TheVariants as asks
+use Rattle.fs_chain.specs.declared.queue.QueueState.{QueueState}
+use Rattle.fs_chain.specs.declared.state.ChainState as state
+use Rattle.fs_chain.specs.declared.state.ChainState.TheVariants as at
+use Rattle.fs_chain.specs.declared.state.InFlight.{InFlight}
+use Rattle.live_machine.proofs.Moved.{joined}
+use Rattle.fs_driven.proofs.Handles.{Moves, SamePlaces, has_own, held_out, here, idles, keeps, not_free, others_same}
+use Rattle.fs_chain.proofs.Together.{chains_of}
+use Rattle.fs_driven.proofs.Calls.{taken_out}
+use Rattle.fs_driven.proofs.Calls.{HasNoPush, TellsNone, call_waits, done_ready, fetched_ready}
+use Rattle.fs_driven.proofs.Calls.{fits_out, length_exactly, no_error, refuses, reply_no_push}
+use Rattle.fs_driven.proofs.Calls.{same_held, stays_put, still}
+
+-- ---- the events of a decoding
+
+-- the caller sets the options
+sets_run : (s : Machine) (o : ℕ) → LiveRun any_files s (setting_of o s.options) (record s { options = o })
+sets_run s o = by_test (o == s.options) refl
+  where
+    by_test : (b : Bool) → (o == s.options) ≡ b →
+        LiveRun any_files s (if b then [] else SetsOptions o ∷ []) (record s { options = o })
+    by_test true is = ap (λ (n : ℕ). record s { options = n }) (eqb-true o s.options is)
+    by_test false is = (record s { options = o }, record { state = refl }, refl)
+
+decoding : (options now : ℕ) (c : InFlightChain) (request : List ℕ) (told : Decoded) → List LiveEvent
+decoding options now c request told =
+    setting_of options now ++ DecodesRequest c request (calls_decoded (drop 80 request) told) ∷ []
+
+-- T tells of the events of a decoding
+abbrev DecodedTells : Machine → QueueState → List ChainHandle → ℕ → Option Begun → InFlightChain →
+    (request : List ℕ) → (options : ℕ) → Decoded → (T : List LiveEvent → Desk → Type 0) → Type 0
+DecodedTells s q ws k push c request options told T =
+    (after : Machine) (os : List Owned) (pops : ℕ → Pop) →
+    In (own k (asked_chain c request options [])) os →
+    T (setting_of options s.options ++ DecodesRequest c request (calls_decoded (drop 80 request) told) ∷ [])
+    (desk after ws q os pops push)
+
+decoded_so : (s : Machine) (i page_size k : ℕ) (q : QueueState) (ws : List ChainHandle) (ob oh : List Owned)
+    (pops : ℕ → Pop) (push : Option Begun) (old new : ChainHandle) (c : InFlightChain) (request : List ℕ)
+    (options : ℕ) (told : Decoded) (T : List LiveEvent → Desk → Type 0)
+    → Driven s i page_size q ws (ob ++ own k c ∷ oh) pops push → slice_get ws k ≡ Some old → c.queue ≡ i →
+    KeepsMemory old new
+    → FitsRun s.places s.limit q.event_index (pops k) old
+    → Happens any_files (record s { options = options })
+    (DecodesRequest c request (calls_decoded (drop 80 request) told))
+    (after_decoding (record s { options = options }) (chains_of ob) (chains_of oh) c request)
+    × HoldsChain s.page_size (asked_chain c request options []) new
+    → IsReady page_size k q push (asked_chain c request options []) new.state
+    → DecodedTells s q (with_handle ws k new) k push c request options told T
+    → Leads s i page_size q (with_handle ws k new) T
+decoded_so s i page_size k q ws ob oh pops push old new c request options told T all there queue same fits goes
+    ready tells =
+    let mid : Machine = record s { options = options } in
+    let after : Machine = after_decoding mid (chains_of ob) (chains_of oh) c request in
+    let c' = asked_chain c request options [] in
+    let e : LiveEvent = DecodesRequest c request (calls_decoded (drop 80 request) told) in
+    let moves : Moves s after i page_size k q q (pops k) push push new = record {
+      page = refl;
+      limit = refl;
+      places = refl;
+      queue = all.queue;
+      event = refl;
+      fits = fits_out s.places s.limit q.event_index (pops k) (pops k) old new same
+          (held_out s.page_size c' c'.phase new.state new.session goes.1) fits;
+      others = others_same page_size k q q push (λ head len. refl);
+      still = all.still;
+    } in (
+      setting_of options s.options ++ e ∷ [],
+      after,
+      ob ++ own k c' ∷ oh,
+      with_pop pops k (pops k),
+      push,
+      joined any_files s mid after (setting_of options s.options) (e ∷ []) (sets_run s options)
+          (after, goes.0, refl),
+      keeps s after i page_size q q ws ob oh k old new c c' (pops k) pops push push all there moves refl goes.1
+          (queue, ready),
+      tells after (ob ++ own k c' ∷ oh) (with_pop pops k (pops k)) (here ob oh (own k c')),
+    )
+
+-- a decoding that needs more bytes
+decodes_more : (s : Machine) (i page_size k : ℕ) (q : QueueState) (ws : List ChainHandle) (ob oh : List Owned)
+    (pops : ℕ → Pop) (push : Option Begun) (old new : ChainHandle) (c : InFlightChain)
+    (T : List LiveEvent → Desk → Type 0)
+    → Driven s i page_size q ws (ob ++ own k c ∷ oh) pops push → slice_get ws k ≡ Some old → c.queue ≡ i →
+    c.phase ≡ Fetched →
+    KeepsMemory old new
+    → FitsRun s.places s.limit q.event_index (pops k) old
+    → HoldsChain s.page_size c new
+    → s.chains ≡ chains_of ob ++ c ∷ chains_of oh
+    → TellsNone s q (with_handle ws k new) push T
+    → Leads s i page_size q (with_handle ws k new) T
+decodes_more s i page_size k q ws ob oh pops push old new c T all there queue fresh same fits holds chains
+    tells =
+    let moves : Moves s s i page_size k q q (pops k) push push new =
+    stays_put s i page_size k q q (pops k) push new all.queue refl (λ head len. refl) refl all.still
+    (fits_out s.places s.limit q.event_index (pops k) (pops k) old new same
+    (held_out s.page_size c c.phase new.state new.session holds) fits) in (
+      [],
+      s,
+      ob ++ own k c ∷ oh,
+      with_pop pops k (pops k),
+      push,
+      refl,
+      keeps s s i page_size q q ws ob oh k old new c c (pops k) pops push push all there moves chains holds
+          (queue, fetched_ready page_size s.page_size k q push c c.phase new.state new.session fresh holds),
+      tells (ob ++ own k c ∷ oh) (with_pop pops k (pops k)),
+    )
+
+-- what a decoding's result is owed, by the result
+abbrev DecodingTells : Machine → QueueState → List ChainHandle → ℕ → Option Begun → InFlightChain →
+    (request : List ℕ) → (options : ℕ) → Decoded → (T : List LiveEvent → Desk → Type 0) → Type 0
+DecodingTells s q ws k push c request options (asks.More n) T = TellsNone s q ws push T
+DecodingTells s q ws k push c request options told T =
+    DecodedTells s q ws k push c request options told T
+
+decoded_by : (s : Machine) (i page_size k : ℕ) (q : QueueState) (ws : List ChainHandle) (ob oh : List Owned)
+    (pops : ℕ → Pop) (push : Option Begun) (old new : ChainHandle) (c : InFlightChain) (request : List ℕ)
+    (options : ℕ) (told : Decoded) (st : Setting) (m : Meaning) (bytes : List ℕ) (out : InFlight)
+    (T : List LiveEvent → Desk → Type 0)
+    → Driven s i page_size q ws (ob ++ own k c ∷ oh) pops push → slice_get ws k ≡ Some old → c.queue ≡ i →
+    c.phase ≡ Fetched →
+    KeepsMemory old new
+    → FitsRun s.places s.limit q.event_index (pops k) old
+    → DecodingIs (record s { options = options }) (chains_of ob) (chains_of oh) c request new told
+    → s.chains ≡ chains_of ob ++ c ∷ chains_of oh
+    → TellsMeaning st m bytes out told new.state
+    → DecodingTells s q (with_handle ws k new) k push c request options told T
+    → Leads s i page_size q (with_handle ws k new) T
+decoded_by s i page_size k q ws ob oh pops push old new c request options (asks.More n) st m bytes out T all
+    there queue fresh same fits holds chains means tells =
+    decodes_more s i page_size k q ws ob oh pops push old new c T all there queue fresh same fits holds chains
+    tells
+decoded_by s i page_size k q ws ob oh pops push old new c request options (asks.Call made) st m bytes out T all
+    there queue fresh same fits goes chains means tells =
+    decoded_so s i page_size k q ws ob oh pops push old new c request options (asks.Call made) T all there
+    queue same fits goes
+    (call_waits page_size k q push (asked_chain c request options []) st m bytes made out new.state means)
+    tells
+decoded_by s i page_size k q ws ob oh pops push old new c request options asks.Nothing st m bytes out T all
+    there queue fresh same fits goes chains means tells =
+    decoded_so s i page_size k q ws ob oh pops push old new c request options asks.Nothing T all there queue
+    same fits goes
+    (subst (λ (n : ℕ). IsReady n k q push (asked_chain c request options []) new.state) all.page
+    (done_ready s.page_size k q push c request options [] new.state
+    (sym (goes.0.tells ∙ ap (λ (r : List ℕ). (serving s.page_size options options request r []).calls)
+    (ap (λ (p : Phase). room_of_phase p c.descriptors) fresh)))
+    (reply_no_push st m bytes out new.state means)))
+    tells
+decoded_by s i page_size k q ws ob oh pops push old new c request options (asks.Fault e) st m bytes out T all
+    there queue fresh same fits goes chains means tells =
+    decoded_so s i page_size k q ws ob oh pops push old new c request options (asks.Fault e) T all there queue
+    same fits goes
+    (subst (λ (n : ℕ). IsReady n k q push (asked_chain c request options []) new.state) all.page
+    (done_ready s.page_size k q push c request options [] new.state
+    (sym (goes.0.tells ∙ ap (λ (r : List ℕ). (serving s.page_size options options request r []).calls)
+    (ap (λ (p : Phase). room_of_phase p c.descriptors) fresh)))
+    (subst (λ (x : state.ChainState). HasNoPush x) (sym means.0) tt)))
+    tells
+
+-- the whole request
+length_request : (front : List ℕ) (u : Unseen) (len : ℕ) → length front ≤ len →
+    length (request_of front u len) ≡ len
+length_request front u len fits =
+    let one : length (request_of front u len) ≡ length front + length (exactly (len - length front) u.bytes) =
+    length-append front (exactly (len - length front) u.bytes) in
+    let two : length (exactly (len - length front) u.bytes) ≡ len - length front =
+    length_exactly (len - length front) u.bytes in
+    omega (arith, fits, one, two)
+
+front_first : (front more : List ℕ) → take (length front) (front ++ more) ≡ front
+front_first [] more = refl
+front_first (b ∷ front) more = ap (λ (l : List ℕ). b ∷ l) (front_first front more)
+
+-- a request that is decoded
+abbrev DecodesAt : state.ChainState → (len : ℕ) → Type 0
+DecodesAt (at.Taken out) len = len ≤ out.request_len
+DecodesAt _ len = ⊥
+
+may_decode : (st : state.ChainState) (len : ℕ) → ask_error st len ≡ None → DecodesAt st len
+may_decode (at.Taken out) len is = by_test (nat_lt out.request_len len) refl is
+  where
+    by_test : (b : Bool) → nat_lt out.request_len len ≡ b → (if b then Some BadArgument else None) ≡ None →
+        len ≤ out.request_len
+    by_test true test none = absurd (no_error BadArgument none)
+    by_test false test none = ltb-false out.request_len len test
+may_decode at.Free len is = absurd (no_error WrongOrder is)
+may_decode (at.Walking course pop_id walk) len is = absurd (no_error WrongOrder is)
+may_decode (at.Waits out w) len is = absurd (no_error WrongOrder is)
+may_decode (at.Lists out l) len is = absurd (no_error WrongOrder is)
+may_decode (at.HasReply out kept) len is = absurd (no_error WrongOrder is)
+may_decode (at.Pushing out) len is = absurd (no_error WrongOrder is)
+
+abbrev pub TellsWhole : Session → (front : List ℕ) → Decoded → (new : ChainHandle) → InFlight → Type 0
+TellsWhole session front told new out =
+    (whole : List ℕ) → out.request_len ≡ length whole → IsRequestFront front whole →
+    TellsMeaning (setting session.page_size session.options.0 out.room_len)
+    (meaning session.options.0 whole out.room_len) (drop 80 whole) out told new.state
+
+abbrev TellsRequest : Session → (request : List ℕ) → Decoded → (new : ChainHandle) → InFlight → Type 0
+TellsRequest session request told new out =
+    TellsMeaning (setting session.page_size session.options.0 out.room_len)
+    (meaning session.options.0 request out.room_len) (drop 80 request) out told new.state
+
+decode_tells : (s : Machine) (i page_size k : ℕ) (q : QueueState) (ws ws' : List ChainHandle) (os : List Owned)
+    (pops : ℕ → Pop) (push : Option Begun) (old new : ChainHandle) (c : InFlightChain) (session : Session)
+    (front : Bor (List ℕ)) (u : Unseen) (told : Decoded)
+    → In (own k c) os → wanted_by told ≡ wanted_after front.now (asked_len_of old.state)
+    → IfUndecoded old.state
+    (TellsRequest session (request_of front.now u (asked_len_of old.state)) told new)
+    → DecodingTells s q ws' k push c (request_of front.now u (asked_len_of old.state)) session.options.0 told
+    (λ es d. Tells (turn i page_size k (desk s ws q os pops push) d old new) (does.Decode session front) u
+    (gives.Decoded (Ok told)) es)
+decode_tells s i page_size k q ws ws' os pops push old new c session front u (asks.More n) mine wanted means =
+    λ after loads'. (wanted, means, refl)
+decode_tells s i page_size k q ws ws' os pops push old new c session front u (asks.Call made) mine wanted
+    means = λ after os' loads' is. (wanted, means, (c, mine, refl, is))
+decode_tells s i page_size k q ws ws' os pops push old new c session front u asks.Nothing mine wanted means =
+    λ after os' loads' is. (wanted, means, (c, mine, refl, is))
+decode_tells s i page_size k q ws ws' os pops push old new c session front u (asks.Fault e) mine wanted means =
+    λ after os' loads' is. (wanted, means, (c, mine, refl, is))
+
+decode_taken : (old new : ChainHandle) (q : QueueState) (session : Session) (front : Bor (List ℕ))
+    (told : Decoded) (out : InFlight) → old.state ≡ at.Taken out → length front.now ≤ out.request_len
+    → TellsWhole session front.now told new out
+    → wanted_by told ≡ wanted_after front.now out.request_len
+    → KeepsMemory old new
+    → Decodes old new session front.now told
+    → DrivesOne session.page_size old new q q (does.Decode session front) (gives.Decoded (Ok told))
+unfolding DrivesOne Decodes
+decode_taken old new q session front told out is fits means wanted same decodes ws k there u s i os pops push
+    all =
+    let own_one = all.outs k old there (ap is_out is) in
+    let c = own_one.0 in
+    let has = has_own s i session.page_size q ws os k old c pops push all there own_one.1 in
+    let o = taken_out s.page_size c c.phase old.state old.session out is has.holds in
+    let len_is : asked_len_of old.state ≡ out.request_len = ap asked_len_of is in
+    let n : ℕ = asked_len_of old.state in
+    let request : List ℕ = request_of front.now u n in
+    let fits_so : length front.now ≤ n = subst (λ (m : ℕ). length front.now ≤ m) (sym len_is) fits in
+    let len : length request ≡ out.request_len = length_request front.now u n fits_so ∙ len_is in
+    let whole : length request ≡ total_len (readable c.descriptors) = len ∙ o.1.request_len in
+    let options : ℕ = session.options.0 in
+    let starts : IsRequestFront front.now request =
+    front_first front.now (exactly (n - length front.now) u.bytes) in
+    let d = decodes (record s { options = options }) (chains_of has.ob) (chains_of has.oh) c request
+    has.chains has.holds (sym all.page, refl) whole starts in
+    let so : TellsRequest session request told new out = means request (sym len) starts in
+    let so_if : IfUndecoded old.state (TellsRequest session request told new) =
+    subst (λ (st : state.ChainState). IfUndecoded st (TellsRequest session request told new)) (sym is) so in
+    let wanted_if : wanted_by told ≡ wanted_after front.now n =
+    wanted ∙ ap (λ (m : ℕ). wanted_after front.now m) (sym len_is) in
+    decoded_by s i session.page_size k q ws has.ob has.oh pops push old new c request options told
+    (setting session.page_size options out.room_len)
+    (meaning options request out.room_len) (drop 80 request) out
+    (λ es d. Tells (turn i session.page_size k (desk s ws q os pops push) d old new)
+    (does.Decode session front) u (gives.Decoded (Ok told)) es)
+    has.driven there (all.mine k old c there own_one.1).0 o.0 same (all.fits k old there) d has.chains so
+    (decode_tells s i session.page_size k q ws (with_handle ws k new) os pops push old new c session front u
+    told own_one.1 wanted_if so_if)
+
+decode_at : (old new : ChainHandle) (q : QueueState) (session : Session) (front : Bor (List ℕ))
+    (told : Decoded) (st : state.ChainState) → old.state ≡ st → DecodesAt st (length front.now)
+    → IfUndecoded st (TellsWhole session front.now told new)
+    → IfUndecoded st (λ out. wanted_by told ≡ wanted_after front.now out.request_len)
+    → KeepsMemory old new
+    → Decodes old new session front.now told
+    → DrivesOne session.page_size old new q q (does.Decode session front) (gives.Decoded (Ok told))
+decode_at old new q session front told (at.Taken out) is fits means wanted same decodes =
+    decode_taken old new q session front told out is fits means wanted same decodes
+decode_at old new q session front told at.Free is fits means wanted same decodes = absurd fits
+decode_at old new q session front told (at.Walking course pop_id walk) is fits means wanted same decodes =
+    absurd fits
+decode_at old new q session front told (at.Waits out w) is fits means wanted same decodes = absurd fits
+decode_at old new q session front told (at.Lists out l) is fits means wanted same decodes = absurd fits
+decode_at old new q session front told (at.HasReply out kept) is fits means wanted same decodes = absurd fits
+decode_at old new q session front told (at.Pushing out) is fits means wanted same decodes = absurd fits
+
+-- ---- by what the call ensures
+
+items_same : (old new : ChainHandle) → new.descriptors ≡ old.descriptors →
+    new.descriptors.items ≡ old.descriptors.items
+items_same old new e = cc
+
+pub decode_result : (old new : ChainHandle) (q : QueueState) (session : Session) (front : Bor (List ℕ))
+    (result : Result Decoded ChainError)
+    → IfErr result (λ e. ask_error old.state (length front.now) ≡ Some e)
+    → OnOk result (ask_error old.state (length front.now) ≡ None)
+    → IfOk result (λ told. IfUndecoded old.state (TellsWhole session front.now told new))
+    → IfOk result
+    (λ told. IfUndecoded old.state (λ out. wanted_by told ≡ wanted_after front.now out.request_len))
+    → IsAllBut old new × (new.descriptors ≡ old.descriptors) × (new.part ≡ old.part)
+    → OnErr result ((new.state ≡ old.state) × (new.session ≡ old.session))
+    → IfOk result (λ told. Decodes old new session front.now told)
+    → (page_size : ℕ) → session.page_size ≡ page_size
+    → DrivesOne page_size old new q q (does.Decode session front) (gives.Decoded result)
+decode_result old new q session front (Ok told) err ok tells wanted same stay step page_size page =
+    subst (λ (n : ℕ). DrivesOne n old new q q (does.Decode session front) (gives.Decoded (Ok told))) page
+    (decode_at old new q session front told old.state refl (may_decode old.state (length front.now) ok) tells
+    wanted (same.0.0, same.0.1) step)
+decode_result old new q session front (Err e) err ok tells wanted same stay step page_size page =
+    refuses page_size old new q (does.Decode session front) (gives.Decoded (Err e))
+    (stay.0, stay.1, same.0.0, same.0.1, items_same old new same.1) (λ i k d d' u is. (refl, err))
+
+pub other_session : (page_size : ℕ) (old : ChainHandle) (q : QueueState) (session : Session)
+    (front : Bor (List ℕ)) → (session.page_size ≡ page_size → ⊥)
+    → DrivesOne page_size old old q q (does.Decode session front) gives.OtherSession
+other_session page_size old q session front other =
+    refuses page_size old old q (does.Decode session front) gives.OtherSession (same_held old old refl)
+    (λ i k d d' u is. (refl, refl, other))

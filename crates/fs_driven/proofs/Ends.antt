@@ -1,0 +1,561 @@
+-- The end of a chain by a handle drives the run: a push in two calls, and a drop.
+use Rattle.std.proofs.Common.{◌≡◌, ℕ, Bool, true, false, List, [], ◌∷◌, ◌++◌, length, Option, Some, None}
+use Rattle.std.proofs.Common.{refl, subst, sym, ap, ◌∙◌, slice_get}
+use Rattle.std.specs.Prelude.{if◌then◌else◌, not, nat_lt, take, drop, Result, Ok, Err, IfErr, IfOk, OnOk, OnErr}
+use Rattle.fs_chain.specs.declared.error.ChainError.{ChainError}
+use Rattle.fs_chain.specs.declared.error.ChainError.TheVariants.{OtherQueue, ShortBuffer, WrongOrder}
+use Rattle.fs_chain.specs.declared.error.ChainError.TheVariants as error
+use Rattle.fs_chain.specs.Queues.{gave, gave_up, is_in_flight_of}
+use Rattle.fs_chain.specs.Serials.{freed}
+use Rattle.fs_chain.specs.Orders.{end_error, front_len, front_of, give_up_error, return_error}
+use Rattle.fs_chain.specs.Pushes.{IfHasReply, PushesBy, put_front}
+use Rattle.fs_queue.specs.Returning.{Store, stores_after_reply}
+use Rattle.fs_queue.specs.ReturningView.{stores_of}
+use Rattle.fs_regions.specs.Places.{places_in}
+use Rattle.plain_machine.specs.Step.{Exchange}
+use Rattle.live_machine.specs.Several.{returning}
+use Rattle.live_machine.specs.Live.{InFlightChain, LiveEvent}
+use Rattle.live_machine.specs.Live.{PushedWith, PushesChain}
+use Rattle.live_machine.specs.Live.{after_push}
+use Rattle.live_machine.specs.Live.{GivesUpChain, after_giving_up}
+use Rattle.fs_driven.specs.Desks.{Begun, Desk, Driven, FitsRun, In, IsReady, IsUnderWay, Leads, MayPop, desk, own}
+use Rattle.fs_driven.specs.Desks.{no_pop, with_pop}
+use Rattle.fs_driven.specs.Told.{DrivesOne, GiveUpTells, Tells, Unseen, asked_len_of, exactly, replied_to}
+use Rattle.fs_driven.specs.Told.{turn}
+use Rattle.fs_driven.specs.Kept.{KeepsMemory}
+use Rattle.live_machine.specs.Live.{Abandoned, Asked, Fetched, IsUnreplied, Own, Phase, PoppedFaulty}
+use Rattle.live_machine.specs.Live.{RepliesOwnBytes, after_own, own_exchange}
+use Rattle.server_phases.specs.declared.session.Session.{Session}
+use Rattle.fs_chain.specs.Held.{IsWithoutReply}
+use Rattle.fs_chain.specs.OwnReplies.{IfUnanswered, own_error, own_reply}
+use Rattle.fs_chain.proofs.Held.{held_is_unreplied}
+use Rattle.fs_chain.specs.Holds.{EndsPush, GivesUp, IsHeldIn, RepliesOwn}
+use Rattle.fs_chain.specs.Holds.{IsQueue, Pop}
+use Rattle.fs_chain.specs.Holds.{Machine, Pushes}
+use Rattle.fs_chain.specs.Holds.{live_of}
+use Rattle.fs_chain.specs.Orders.{is_out}
+use Rattle.fs_chain.specs.Together.{Owned, with_handle}
+use Rattle.fs_chain.specs.declared.chain_handle.ChainHandle.{ChainHandle}
+use Rattle.fs_driven.specs.declared.commands.Command.TheVariants as does
+use Rattle.fs_driven.specs.declared.commands.Returned.TheVariants as gives
+use Rattle.fs_chain.specs.declared.pushing.PushStores.{PushStores}
+use Rattle.fs_chain.specs.declared.queue.QueueState.{QueueState}
+use Rattle.fs_chain.specs.declared.state.ChainReply.{ChainReply}
+use Rattle.fs_chain.specs.declared.state.ChainState as state
+use Rattle.fs_chain.specs.declared.state.ChainState.TheVariants as at
+use Rattle.fs_chain.specs.declared.state.InFlight.{InFlight}
+use Rattle.fs_driven.proofs.Handles.{IsOnlyOf, Moves, has_own, idles, keeps, leaves, not_free, others_none, others_same}
+use Rattle.fs_chain.proofs.Together.{chains_of}
+use Rattle.fs_driven.proofs.Calls.{fits_out, length_exactly, no_error, refuses, same_held, stays_put}
+
+-- ---- push and pushed
+
+ready_reply : (page_size k : ℕ) (q : QueueState) (push : Option Begun) (c : InFlightChain)
+    (st : state.ChainState) (out : InFlight) (kept : ChainReply)
+    → st ≡ at.HasReply out kept →
+    IsReady page_size k q push c st → (x : Exchange) × PushedWith page_size c c.phase x
+ready_reply page_size k q push c st out kept is ready =
+    subst (λ (s : state.ChainState). IsReady page_size k q push c s) is ready
+
+ready_pushing : (page_size k : ℕ) (q : QueueState) (push : Option Begun) (c : InFlightChain)
+    (st : state.ChainState) (out : InFlight) →
+    st ≡ at.Pushing out →
+    IsReady page_size k q push c st →
+    (x : Exchange) × PushedWith page_size c c.phase x × IsUnderWay k q c x push
+ready_pushing page_size k q push c st out is ready =
+    subst (λ (s : state.ChainState). IsReady page_size k q push c s) is ready
+
+-- a push that isn't refused
+abbrev pub HasFree : state.ChainState → QueueState → Type 0
+HasFree (at.HasReply out kept) q = q.pushing ≡ false
+HasFree _ q = ⊥
+
+may_push : (st : state.ChainState) (q : QueueState) (len : ℕ) → return_error st q len ≡ None → HasFree st q
+may_push (at.HasReply out kept) q len is = by_flight (is_in_flight_of q out) is
+  where
+    by_pushing : (b : Bool) (rest : Option ChainError) →
+        (if b then Some error.Pushing else rest) ≡ None → b ≡ false
+    by_pushing true rest none = absurd (no_error error.Pushing none)
+    by_pushing false rest none = refl
+
+    by_flight : (b : Bool) → (if not b then Some OtherQueue
+        else if q.pushing then Some error.Pushing
+        else if nat_lt len (front_len kept) then Some ShortBuffer
+        else None) ≡ None → q.pushing ≡ false
+    by_flight true none =
+        by_pushing q.pushing (if nat_lt len (front_len kept) then Some ShortBuffer else None) none
+    by_flight false none = absurd (no_error OtherQueue none)
+may_push at.Free q len is = absurd (no_error WrongOrder is)
+may_push (at.Walking course pop_id walk) q len is = absurd (no_error WrongOrder is)
+may_push (at.Taken out) q len is = absurd (no_error WrongOrder is)
+may_push (at.Waits out w) q len is = absurd (no_error WrongOrder is)
+may_push (at.Lists out l) q len is = absurd (no_error WrongOrder is)
+may_push (at.Pushing out) q len is = absurd (no_error WrongOrder is)
+
+only_none : (k : ℕ) (push : Option Begun) → push ≡ None → IsOnlyOf k push
+only_none k push is = subst (λ (p : Option Begun). IsOnlyOf k p) (sym is) tt
+
+-- what a push returns, by the reply that the handle kept
+abbrev PushedSo : QueueState → PushStores → (front : List ℕ) → InFlight → ChainReply → Type 0
+PushedSo q s front out reply =
+    PushesBy q out reply s × (behind : List ℕ) × (front ≡ front_of reply ++ behind)
+
+push_drives : (page_size : ℕ) (old new : ChainHandle) (q q' : QueueState) (front : List ℕ)
+    (stores : PushStores) (out : InFlight) (kept : ChainReply)
+    → old.state ≡ at.HasReply out kept → q.pushing ≡ false
+    → return_error old.state q (length front) ≡ None
+    → PushedSo q stores front out kept
+    → new ≡ record old { state = at.Pushing out } → q' ≡ record q { pushing = true }
+    → Pushes old new q front stores
+    → DrivesOne page_size old new q q' does.Push (gives.Began (Ok stores) front)
+unfolding DrivesOne Pushes
+push_drives page_size old new q q' front stores out kept is idle ok so made pushing pushes ws k there u s i os
+    pops push all =
+    let own_one = all.outs k old there (ap is_out is) in
+    let c = own_one.0 in
+    let has = has_own s i page_size q ws os k old c pops push all there own_one.1 in
+    let mine = all.mine k old c there own_one.1 in
+    let x = ready_reply page_size k q push c old.state out kept is mine.1 in
+    let goes : PushedWith s.page_size c c.phase x.0 =
+    subst (λ (n : ℕ). PushedWith n c c.phase x.0) (sym all.page) x.1 in
+    let p = pushes s.page_size c x.0 has.holds goes in
+    let state_is : new.state ≡ at.Pushing out = ap (λ (w : ChainHandle). w.state) made in
+    let same : KeepsMemory old new =
+    (ap (λ (w : ChainHandle). w.regions) made, ap (λ (w : ChainHandle). w.limit) made) in
+    let places : (head len : ℕ) → stores_after_reply (returning (live_of q')) head len
+    ≡ stores_after_reply (returning (live_of q)) head len =
+    λ head len. ap (λ (r : QueueState). stores_after_reply (returning (live_of r)) head len) pushing in
+    let b : Begun = record { handle = k; stores = stores; front = front } in
+    let now_pushing : q'.pushing ≡ true = ap (λ (r : QueueState). r.pushing) pushing in
+    let moves : Moves s s i page_size k q q' (pops k) push (Some b) new = record {
+      page = refl;
+      limit = refl;
+      places = refl;
+      queue = subst (λ (r : QueueState). IsQueue s i r) (sym pushing) all.queue;
+      event = ap (λ (r : QueueState). r.event_index) pushing;
+      fits = fits_out s.places s.limit q.event_index (pops k) (pops k) old new same (ap is_out state_is)
+          (all.fits k old there);
+      others = others_none page_size k q q' push (Some b) (only_none k push (all.still idle));
+      still = λ none. absurd (not_free q'.pushing now_pushing none);
+    } in
+    let under : IsUnderWay k q' c x.0 (Some b) =
+    (refl, (p.1 ∙ sym (places c.head (length x.0.reply)), p.3, p.4)) in (
+      [],
+      s,
+      has.ob ++ own k c ∷ has.oh,
+      with_pop pops k (pops k),
+      Some b,
+      refl,
+      keeps s s i page_size q q' ws has.ob has.oh k old new c c (pops k) pops push (Some b) has.driven there
+          moves has.chains p.0 (
+            mine.0,
+            subst (λ (st : state.ChainState). IsReady page_size k q' (Some b) c st) (sym state_is)
+                (x.0, x.1, under),
+          ),
+      (refl, ok, subst (λ (st : state.ChainState). IfHasReply st (PushedSo q stores front)) (sym is) so, refl),
+    )
+
+-- the push under way
+record UnderWay (k : ℕ) (q : QueueState) (c : InFlightChain) (x : Exchange) (push : Option Begun) :
+    Type 0 where
+  pub begun : Begun
+  pub is : push ≡ Some begun
+  pub mine : begun.handle ≡ k
+  pub used : stores_of begun.stores.used ≡ stores_after_reply (returning (live_of q)) c.head (length x.reply)
+  pub reply : (behind : List ℕ) × (x.reply ≡ take begun.stores.front_len begun.front ++ behind)
+  pub only : IsOnlyOf k push
+
+under_way : (k : ℕ) (q : QueueState) (c : InFlightChain) (x : Exchange) (push : Option Begun) →
+    IsUnderWay k q c x push → UnderWay k q c x push
+under_way k q c x None is = absurd is
+under_way k q c x (Some b) is =
+    record { begun = b; is = refl; mine = is.0; used = is.1.0; reply = (is.1.1, is.1.2); only = is.0 }
+
+end_drives : (page_size : ℕ) (old new : ChainHandle) (q q' : QueueState) (seen : List ℕ) (notice : Bool)
+    (out : InFlight)
+    → old.state ≡ at.Pushing out → new ≡ freed old → q' ≡ gave q → EndsPush old q q' seen notice
+    → DrivesOne page_size old new q q' (does.Pushed seen) (gives.Ended (Ok notice))
+unfolding DrivesOne EndsPush
+end_drives page_size old new q q' seen notice out is free gave ends ws k there u s i os pops push all =
+    let own_one = all.outs k old there (ap is_out is) in
+    let c = own_one.0 in
+    let has = has_own s i page_size q ws os k old c pops push all there own_one.1 in
+    let mine = all.mine k old c there own_one.1 in
+    let x = ready_pushing page_size k q push c old.state out is mine.1 in
+    let goes : PushedWith s.page_size c c.phase x.0 =
+    subst (λ (n : ℕ). PushedWith n c c.phase x.0) (sym all.page) x.1 in
+    let under = under_way k q c x.0 push x.2 in
+    let queue : IsQueue s c.queue q = subst (λ (n : ℕ). IsQueue s n q) (sym mine.0) all.queue in
+    let e = ends s (chains_of has.ob) (chains_of has.oh) c x.0 u.last has.chains queue has.holds goes in
+    let after : Machine = after_push s (chains_of has.ob) (chains_of has.oh) c (live_of q) in
+    let state_is : new.state ≡ at.Free = ap (λ (w : ChainHandle). w.state) free in
+    let was = all.fits k old there in
+    let moves : Moves s after i page_size k q q' no_pop push None new = record {
+      page = refl;
+      limit = refl;
+      places = refl;
+      queue = subst (λ (n : ℕ). IsQueue after n q') mine.0 e.1;
+      event = ap (λ (r : QueueState). r.event_index) gave;
+      fits = (
+        was.0 ∙ ap places_in (sym (ap (λ (w : ChainHandle). w.regions) free)),
+        was.1 ∙ sym (ap (λ (w : ChainHandle). w.limit) free),
+        subst (λ (st : state.ChainState). MayPop s.limit q.event_index no_pop new st) (sym state_is) tt,
+      );
+      others = others_none page_size k q q' push None under.only;
+      still = λ none. refl;
+    } in (
+      PushesChain c x.0 notice u.last
+          (stores_after_reply (returning (live_of q)) c.head (length x.0.reply)) seen ∷ [],
+      after,
+      has.ob ++ has.oh,
+      with_pop pops k no_pop,
+      None,
+      (after, e.0, refl),
+      leaves s after i page_size q q' ws has.ob has.oh k old new c no_pop pops push None has.driven there moves
+          refl (ap is_out state_is),
+      (
+        c,
+        x.0,
+        under.begun,
+        own_one.1,
+        under.is,
+        under.mine,
+        under.reply,
+        ap (λ (stores : List Store). PushesChain c x.0 notice u.last stores seen ∷ []) (sym under.used),
+      ),
+    )
+
+-- ---- give_up
+
+-- a handle that is free now
+fits_freed : (s : Machine) (q : QueueState) (p : Pop) (old new : ChainHandle) → new ≡ freed old
+    → FitsRun s.places s.limit q.event_index p old → FitsRun s.places s.limit q.event_index no_pop new
+fits_freed s q p old new free was = (
+  was.0 ∙ ap places_in (sym (ap (λ (w : ChainHandle). w.regions) free)),
+  was.1 ∙ sym (ap (λ (w : ChainHandle). w.limit) free),
+  subst (λ (st : state.ChainState). MayPop s.limit q.event_index no_pop new st)
+      (sym (ap (λ (w : ChainHandle). w.state) free)) tt,
+)
+
+-- the queue once a chain was given up, or none
+left_by : (q : QueueState) (b : Bool) (c : Bool) → b ≡ c →
+    (if b then gave_up q else q) ≡ (if c then gave_up q else q)
+left_by q b c is = ap (λ (x : Bool). if x then gave_up q else q) is
+
+give_up_drives : (page_size : ℕ) (old new : ChainHandle) (q q' : QueueState)
+    → give_up_error old.state q ≡ None → new ≡ freed old
+    → q' ≡ (if is_out old.state then gave_up q else q) → GivesUp old new q q'
+    → DrivesOne page_size old new q q' does.GiveUp (gives.GaveUp (Ok tt))
+unfolding DrivesOne GivesUp
+give_up_drives page_size old new q q' clear free left gives_up ws k there u s i os pops push all =
+    by_out (is_out old.state) refl
+  where
+    state_is : new.state ≡ at.Free
+    state_is = ap (λ (w : ChainHandle). w.state) free
+
+    by_out : (b : Bool) → is_out old.state ≡ b → Leads s i page_size q' (with_handle ws k new)
+        (λ es d. Tells (turn i page_size k (desk s ws q os pops push) d old new) does.GiveUp u
+        (gives.GaveUp (Ok tt)) es)
+    by_out false none =
+        let same : q' ≡ q = left ∙ left_by q (is_out old.state) false none in
+        let moves : Moves s s i page_size k q q' no_pop push push new =
+        stays_put s i page_size k q q' no_pop push new
+        (subst (λ (r : QueueState). IsQueue s i r) (sym same) all.queue)
+        (ap (λ (r : QueueState). r.event_index) same)
+        (λ head len. ap (λ (r : QueueState). stores_after_reply (returning (live_of r)) head len) same)
+        (ap (λ (r : QueueState). r.pushing) same) all.still
+        (fits_freed s q (pops k) old new free (all.fits k old there)) in (
+          [],
+          s,
+          os,
+          with_pop pops k no_pop,
+          push,
+          refl,
+          idles s s i page_size q q' ws os k old new no_pop pops push push all there moves refl none
+              (ap is_out state_is),
+          (
+            clear,
+            subst (λ (b : Bool). GiveUpTells (turn i page_size k (desk s ws q os pops push)
+                (desk s (with_handle ws k new) q' os (with_pop pops k no_pop) push) old new) b []) (sym none) refl,
+          ),
+        )
+    by_out true some =
+        let own_one = all.outs k old there some in
+        let c = own_one.0 in
+        let has = has_own s i page_size q ws os k old c pops push all there own_one.1 in
+        let mine = all.mine k old c there own_one.1 in
+        let queue : IsQueue s c.queue q = subst (λ (n : ℕ). IsQueue s n q) (sym mine.0) all.queue in
+        let e = gives_up s (chains_of has.ob) (chains_of has.oh) c has.chains queue has.holds in
+        let after : Machine = after_giving_up s (chains_of has.ob) (chains_of has.oh) c (live_of q) in
+        let now : q' ≡ gave_up q = left ∙ left_by q (is_out old.state) true some in
+        let moves : Moves s after i page_size k q q' no_pop push push new = record {
+          page = refl;
+          limit = refl;
+          places = refl;
+          queue = subst (λ (n : ℕ). IsQueue after n q') mine.0 e.1;
+          event = ap (λ (r : QueueState). r.event_index) now;
+          fits = fits_freed s q (pops k) old new free (all.fits k old there);
+          others = others_same page_size k q q' push
+              (λ head len. ap (λ (r : QueueState). stores_after_reply (returning (live_of r)) head len) now);
+          still = λ none. all.still (sym (ap (λ (r : QueueState). r.pushing) now) ∙ none);
+        } in (
+          GivesUpChain c ∷ [],
+          after,
+          has.ob ++ has.oh,
+          with_pop pops k no_pop,
+          push,
+          (after, e.0, refl),
+          leaves s after i page_size q q' ws has.ob has.oh k old new c no_pop pops push push has.driven there
+              moves refl (ap is_out state_is),
+          (
+            clear,
+            subst (λ (b : Bool). GiveUpTells (turn i page_size k (desk s ws q os pops push)
+                (desk after (with_handle ws k new) q' (has.ob ++ has.oh) (with_pop pops k no_pop) push) old new) b
+                (GivesUpChain c ∷ [])) (sym some) (c, own_one.1, refl),
+          ),
+        )
+
+-- ---- reply
+
+own_ready : (page_size k : ℕ) (q : QueueState) (push : Option Begun) (c : InFlightChain)
+    (request reply : List ℕ) (st : state.ChainState) (out : InFlight) (kept : ChainReply)
+    → st ≡ at.HasReply out kept
+    → IsReady page_size k q push (record c { phase = Own request reply }) st
+own_ready page_size k q push c request reply st out kept is =
+    subst (λ (s : state.ChainState). IsReady page_size k q push (record c { phase = Own request reply }) s)
+    (sym is) (own_exchange c.head request reply, refl)
+
+-- the request that the reply is for
+unreplied_by : (c : InFlightChain) (p : Phase) (st : state.ChainState) (session : Session) (page_size : ℕ)
+    (u : Unseen) → IsWithoutReply st → IsHeldIn page_size c p st session →
+    IsUnreplied c p (replied_to p u (asked_len_of st))
+unreplied_by c Fetched (at.Taken out) session page_size u is held =
+    length_exactly out.request_len u.request ∙ held.request_len
+unreplied_by c Fetched (at.Waits out w) session page_size u is held = absurd held
+unreplied_by c Fetched (at.Lists out l) session page_size u is held = absurd held
+unreplied_by c Fetched at.Free session page_size u is held = absurd is
+unreplied_by c Fetched (at.Walking course pop_id walk) session page_size u is held = absurd is
+unreplied_by c Fetched (at.HasReply out kept) session page_size u is held = absurd is
+unreplied_by c Fetched (at.Pushing out) session page_size u is held = absurd is
+unreplied_by c (Asked request options calls) st session page_size u is held = refl
+unreplied_by c (PoppedFaulty why) (at.Taken out) session page_size u is held = absurd held
+unreplied_by c (PoppedFaulty why) (at.Waits out w) session page_size u is held = absurd held
+unreplied_by c (PoppedFaulty why) (at.Lists out l) session page_size u is held = absurd held
+unreplied_by c (PoppedFaulty why) at.Free session page_size u is held = absurd is
+unreplied_by c (PoppedFaulty why) (at.Walking course pop_id walk) session page_size u is held = absurd is
+unreplied_by c (PoppedFaulty why) (at.HasReply out kept) session page_size u is held = absurd is
+unreplied_by c (PoppedFaulty why) (at.Pushing out) session page_size u is held = absurd is
+unreplied_by c (Own request reply) (at.Taken out) session page_size u is held = absurd held
+unreplied_by c (Own request reply) (at.Waits out w) session page_size u is held = absurd held
+unreplied_by c (Own request reply) (at.Lists out l) session page_size u is held = absurd held
+unreplied_by c (Own request reply) at.Free session page_size u is held = absurd is
+unreplied_by c (Own request reply) (at.Walking course pop_id walk) session page_size u is held = absurd is
+unreplied_by c (Own request reply) (at.HasReply out kept) session page_size u is held = absurd is
+unreplied_by c (Own request reply) (at.Pushing out) session page_size u is held = absurd is
+unreplied_by c (Abandoned fault) st session page_size u is held = absurd held
+
+without_out : (st : state.ChainState) → IsWithoutReply st → is_out st ≡ true
+without_out (at.Taken out) is = refl
+without_out (at.Waits out w) is = refl
+without_out (at.Lists out l) is = refl
+without_out at.Free is = absurd is
+without_out (at.Walking course pop_id walk) is = absurd is
+without_out (at.HasReply out kept) is = absurd is
+without_out (at.Pushing out) is = absurd is
+
+reply_drives : (page_size : ℕ) (old new : ChainHandle) (q : QueueState) (serial len : ℕ) (out : InFlight)
+    → IsWithoutReply old.state → own_error old.state old.serial serial len ≡ None
+    → new ≡ record old { state = at.HasReply out (own_reply len) }
+    → RepliesOwn old new len
+    → DrivesOne page_size old new q q (does.Reply serial len) (gives.Replied (Ok tt))
+unfolding DrivesOne RepliesOwn
+reply_drives page_size old new q serial len out without clear made replies ws k there u s i os pops push all =
+    let own_one = all.outs k old there (without_out old.state without) in
+    let c = own_one.0 in
+    let has = has_own s i page_size q ws os k old c pops push all there own_one.1 in
+    let mine = all.mine k old c there own_one.1 in
+    let request : List ℕ = replied_to c.phase u (asked_len_of old.state) in
+    let reply : List ℕ = exactly len u.bytes in
+    let r = replies s (chains_of has.ob) (chains_of has.oh) c request reply s.options has.chains
+    (held_is_unreplied s.page_size c old without has.holds)
+    (unreplied_by c c.phase old.state old.session s.page_size u without has.holds)
+    (length_exactly len u.bytes) in
+    let after : Machine = after_own s (chains_of has.ob) (chains_of has.oh) c request reply s.options in
+    let c' : InFlightChain = record c { phase = Own request reply } in
+    let state_is : new.state ≡ at.HasReply out (own_reply len) = ap (λ (w : ChainHandle). w.state) made in
+    let same : KeepsMemory old new =
+    (ap (λ (w : ChainHandle). w.regions) made, ap (λ (w : ChainHandle). w.limit) made) in
+    let moves : Moves s after i page_size k q q (pops k) push push new = record {
+      page = refl;
+      limit = refl;
+      places = refl;
+      queue = all.queue;
+      event = refl;
+      fits = fits_out s.places s.limit q.event_index (pops k) (pops k) old new same (ap is_out state_is)
+          (all.fits k old there);
+      others = others_same page_size k q q push (λ head len. refl);
+      still = all.still;
+    } in (
+      RepliesOwnBytes c request reply s.options ∷ [],
+      after,
+      has.ob ++ own k c' ∷ has.oh,
+      with_pop pops k (pops k),
+      push,
+      (after, r.0, refl),
+      keeps s after i page_size q q ws has.ob has.oh k old new c c' (pops k) pops push push has.driven there
+          moves refl r.1
+          (mine.0, own_ready page_size k q push c request reply new.state out (own_reply len) state_is),
+      (clear, c, own_one.1, refl),
+    )
+
+-- ---- by what each call ensures
+
+reply_at : (old new : ChainHandle) (q : QueueState) (serial len : ℕ) (st : state.ChainState) → old.state ≡ st
+    → own_error st old.serial serial len ≡ None
+    → IfUnanswered st (λ out. new ≡ record old { state = at.HasReply out (own_reply len) })
+    → RepliesOwn old new len
+    → (page_size : ℕ) → DrivesOne page_size old new q q (does.Reply serial len) (gives.Replied (Ok tt))
+reply_at old new q serial len (at.Taken out) is clear made step page_size =
+    reply_drives page_size old new q serial len out
+    (subst (λ (s : state.ChainState). IsWithoutReply s) (sym is) tt)
+    (ap (λ (s : state.ChainState). own_error s old.serial serial len) is ∙ clear) made step
+reply_at old new q serial len (at.Waits out w) is clear made step page_size =
+    reply_drives page_size old new q serial len out
+    (subst (λ (s : state.ChainState). IsWithoutReply s) (sym is) tt)
+    (ap (λ (s : state.ChainState). own_error s old.serial serial len) is ∙ clear) made step
+reply_at old new q serial len (at.Lists out l) is clear made step page_size =
+    reply_drives page_size old new q serial len out
+    (subst (λ (s : state.ChainState). IsWithoutReply s) (sym is) tt)
+    (ap (λ (s : state.ChainState). own_error s old.serial serial len) is ∙ clear) made step
+reply_at old new q serial len at.Free is clear made step page_size = absurd (no_error WrongOrder clear)
+reply_at old new q serial len (at.Walking course pop_id walk) is clear made step page_size =
+    absurd (no_error WrongOrder clear)
+reply_at old new q serial len (at.HasReply out kept) is clear made step page_size =
+    absurd (no_error WrongOrder clear)
+reply_at old new q serial len (at.Pushing out) is clear made step page_size =
+    absurd (no_error WrongOrder clear)
+
+pub reply_result : (old new : ChainHandle) (q : QueueState) (serial len : ℕ)
+    (result : Result (Unit {0}) ChainError)
+    → IfErr result (λ e. own_error old.state old.serial serial len ≡ Some e)
+    → OnOk result (own_error old.state old.serial serial len ≡ None)
+    → OnErr result (new ≡ old)
+    → OnOk result (IfUnanswered old.state
+    (λ out. new ≡ record old { state = at.HasReply out (own_reply len) }))
+    → OnOk result (RepliesOwn old new len)
+    → (page_size : ℕ) → DrivesOne page_size old new q q (does.Reply serial len) (gives.Replied result)
+reply_result old new q serial len (Ok done) err clear same made step page_size =
+    reply_at old new q serial len old.state refl clear made step page_size
+reply_result old new q serial len (Err e) err clear same made step page_size =
+    refuses page_size old new q (does.Reply serial len) (gives.Replied (Err e)) (same_held old new same)
+    (λ i k d d' u is. (refl, err))
+
+pub give_up_result : (old new : ChainHandle) (q q' : QueueState) (result : Result (Unit {0}) ChainError)
+    → IfErr result (λ e. give_up_error old.state q ≡ Some e)
+    → OnOk result (give_up_error old.state q ≡ None)
+    → OnErr result ((new ≡ old) × (q' ≡ q))
+    → OnOk result (new ≡ freed old)
+    → OnOk result (q' ≡ (if is_out old.state then gave_up q else q))
+    → OnOk result (GivesUp old new q q')
+    → (page_size : ℕ) → DrivesOne page_size old new q q' does.GiveUp (gives.GaveUp result)
+give_up_result old new q q' (Ok done) err clear same free left step page_size =
+    give_up_drives page_size old new q q' clear free left step
+give_up_result old new q q' (Err e) err clear same free left step page_size =
+    subst (λ (r : QueueState). DrivesOne page_size old new q r does.GiveUp (gives.GaveUp (Err e)))
+    (sym same.1)
+    (refuses page_size old new q does.GiveUp (gives.GaveUp (Err e)) (same_held old new same.0)
+    (λ i k d d' u is. (refl, subst (λ (r : QueueState). give_up_error old.state r ≡ Some e) (sym is) err)))
+
+push_at : (old new : ChainHandle) (q q' : QueueState) (front front' : List ℕ) (s : PushStores)
+    (st : state.ChainState) → old.state ≡ st → HasFree st q → length front' ≡ length front
+    → return_error old.state q (length front) ≡ None
+    → IfHasReply st (λ out reply. new ≡ record old { state = at.Pushing out })
+    → q' ≡ record q { pushing = true }
+    → IfHasReply st (λ out reply. PushesBy q out reply s)
+    → IfHasReply st (λ out reply. front' ≡ put_front reply front)
+    → Pushes old new q front' s
+    → (page_size : ℕ) → DrivesOne page_size old new q q' does.Push (gives.Began (Ok s) front')
+push_at old new q q' front front' s (at.HasReply out kept) is free len ok made pushing by put step page_size =
+    push_drives page_size old new q q' front' s out kept is free
+    (subst (λ (n : ℕ). return_error old.state q n ≡ None) (sym len) ok)
+    (by, drop (front_len kept) front, put) made pushing step
+push_at old new q q' front front' s at.Free is free len ok made pushing by put step page_size = absurd free
+push_at old new q q' front front' s (at.Walking course pop_id walk) is free len ok made pushing by put step
+    page_size = absurd free
+push_at old new q q' front front' s (at.Taken out) is free len ok made pushing by put step page_size =
+    absurd free
+push_at old new q q' front front' s (at.Waits out w) is free len ok made pushing by put step page_size =
+    absurd free
+push_at old new q q' front front' s (at.Lists out l) is free len ok made pushing by put step page_size =
+    absurd free
+push_at old new q q' front front' s (at.Pushing out) is free len ok made pushing by put step page_size =
+    absurd free
+
+pub push_result : (old new : ChainHandle) (q q' : QueueState) (front front' : List ℕ)
+    (result : Result PushStores ChainError)
+    → length front' ≡ length front
+    → IfErr result (λ e. return_error old.state q (length front) ≡ Some e)
+    → OnOk result (return_error old.state q (length front) ≡ None)
+    → OnErr result ((new ≡ old) × (front' ≡ front) × (q' ≡ q))
+    → OnOk result (IfHasReply old.state (λ out reply. new ≡ record old { state = at.Pushing out }))
+    → OnOk result (q' ≡ record q { pushing = true })
+    → IfOk result (λ s. IfHasReply old.state (λ out reply. PushesBy q out reply s))
+    → OnOk result (IfHasReply old.state (λ out reply. front' ≡ put_front reply front))
+    → IfOk result (λ s. Pushes old new q front' s)
+    → (page_size : ℕ) → DrivesOne page_size old new q q' does.Push (gives.Began result front')
+push_result old new q q' front front' (Ok s) len err ok same made pushing by put step page_size =
+    push_at old new q q' front front' s old.state refl (may_push old.state q (length front) ok) len ok made
+    pushing by put step page_size
+push_result old new q q' front front' (Err e) len err ok same made pushing by put step page_size =
+    subst (λ (r : QueueState). DrivesOne page_size old new q r does.Push (gives.Began (Err e) front'))
+    (sym same.2)
+    (refuses page_size old new q does.Push (gives.Began (Err e) front') (same_held old new same.0)
+    (λ i k d d' u is. (
+      refl,
+      subst (λ (r : QueueState). return_error old.state r (length front') ≡ Some e)
+          (sym is) (subst (λ (n : ℕ). return_error old.state q n ≡ Some e) (sym len) err),
+    )))
+
+-- a push that is ended
+abbrev IsBegun : state.ChainState → Type 0
+IsBegun (at.Pushing out) = Unit {0}
+IsBegun _ = ⊥
+
+may_end : (st : state.ChainState) (q : QueueState) → end_error st q ≡ None → IsBegun st
+may_end (at.Pushing out) q is = tt
+may_end at.Free q is = absurd (no_error WrongOrder is)
+may_end (at.Walking course pop_id walk) q is = absurd (no_error WrongOrder is)
+may_end (at.Taken out) q is = absurd (no_error WrongOrder is)
+may_end (at.Waits out w) q is = absurd (no_error WrongOrder is)
+may_end (at.Lists out l) q is = absurd (no_error WrongOrder is)
+may_end (at.HasReply out kept) q is = absurd (no_error WrongOrder is)
+
+end_at : (old new : ChainHandle) (q q' : QueueState) (seen : List ℕ) (notice : Bool) (st : state.ChainState)
+    → old.state ≡ st → IsBegun st → new ≡ freed old → q' ≡ gave q → EndsPush old q q' seen notice
+    → (page_size : ℕ) → DrivesOne page_size old new q q' (does.Pushed seen) (gives.Ended (Ok notice))
+end_at old new q q' seen notice (at.Pushing out) is begun free gives_it step page_size =
+    end_drives page_size old new q q' seen notice out is free gives_it step
+end_at old new q q' seen notice at.Free is begun free gives_it step page_size = absurd begun
+end_at old new q q' seen notice (at.Walking course pop_id walk) is begun free gives_it step page_size =
+    absurd begun
+end_at old new q q' seen notice (at.Taken out) is begun free gives_it step page_size = absurd begun
+end_at old new q q' seen notice (at.Waits out w) is begun free gives_it step page_size = absurd begun
+end_at old new q q' seen notice (at.Lists out l) is begun free gives_it step page_size = absurd begun
+end_at old new q q' seen notice (at.HasReply out kept) is begun free gives_it step page_size = absurd begun
+
+pub pushed_result : (old new : ChainHandle) (q q' : QueueState) (seen : List ℕ)
+    (result : Result Bool ChainError)
+    → IfErr result (λ e. end_error old.state q ≡ Some e)
+    → OnOk result (end_error old.state q ≡ None)
+    → OnErr result ((new ≡ old) × (q' ≡ q))
+    → OnOk result (new ≡ freed old)
+    → OnOk result (q' ≡ gave q)
+    → IfOk result (λ notice. EndsPush old q q' seen notice)
+    → (page_size : ℕ) → DrivesOne page_size old new q q' (does.Pushed seen) (gives.Ended result)
+pushed_result old new q q' seen (Ok notice) err ok same free gives_it step page_size =
+    end_at old new q q' seen notice old.state refl (may_end old.state q ok) free gives_it step page_size
+pushed_result old new q q' seen (Err e) err ok same free gives_it step page_size =
+    subst (λ (r : QueueState). DrivesOne page_size old new q r (does.Pushed seen) (gives.Ended (Err e)))
+    (sym same.1)
+    (refuses page_size old new q (does.Pushed seen) (gives.Ended (Err e)) (same_held old new same.0)
+    (λ i k d d' u is. (refl, subst (λ (r : QueueState). end_error old.state r ≡ Some e) (sym is) err)))

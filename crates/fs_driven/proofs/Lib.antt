@@ -1,0 +1,10 @@
+pub mod Ahead
+pub mod AheadPops
+pub mod Answering
+pub mod Calls
+pub mod Decoding
+pub mod End
+pub mod Ends
+pub mod Handles
+pub mod Lists
+pub mod Pops

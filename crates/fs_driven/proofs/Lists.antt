@@ -1,0 +1,253 @@
+-- A call of one of the handles in a list, and calls one behind another.
+use Rattle.std.proofs.Common.{inl, inr, ◌≡◌, ◌⊎◌, ◌<◌, ◌≤◌, ◌+◌, ℕ, zero, suc, List, [], ◌∷◌, ◌++◌, Some, None, arith}
+use Rattle.std.proofs.Common.{get_or, map}
+use Rattle.std.proofs.Common.{length, slice_get, refl}
+use Rattle.std.proofs.Common.{subst, sym, ap, ◌∙◌, append-nil}
+use Rattle.std.specs.Prelude.{slice_set, take, drop}
+use Rattle.fs_chain.specs.Orders.{is_out}
+use Rattle.fs_driven.proofs.Handles.{Seen, goes_first, goes_on, none_some, not_free, same_first, same_rest}
+use Rattle.fs_driven.proofs.Pops.{idle_may}
+use Rattle.vm_memory_core.specs.Host.{changed_at}
+use Rattle.live_machine.specs.Live.{LiveEvent}
+use Rattle.fs_driven.specs.Desks.{BeginsDriven, Begun, Desk, Driven, Leads, desk, no_pop}
+use Rattle.fs_driven.specs.Told.{Called, Drives, DrivesOne, TellsAll, Unseen, call_of, calls_of, seen_of}
+use Rattle.fs_chain.specs.Holds.{Machine, Pop}
+use Rattle.fs_chain.specs.Together.{Owned, with_handle}
+use Rattle.fs_chain.specs.declared.chain_handle.ChainHandle.{ChainHandle}
+use Rattle.fs_driven.specs.declared.commands.Command.{Command}
+use Rattle.fs_driven.specs.declared.commands.Returned.{Returned}
+use Rattle.fs_driven.specs.declared.commands.Returned.TheVariants as gives
+use Rattle.fs_chain.specs.declared.queue.QueueState.{QueueState}
+
+set_changed : {A : Type 0} (xs : List A) (k : ℕ) (x : A) → slice_set xs k x ≡ changed_at xs k (λ _. x)
+set_changed [] k x = refl
+set_changed (y ∷ ys) zero x = refl
+set_changed {A} (y ∷ ys) (suc k) x = ap (λ (l : List A). y ∷ l) (set_changed ys k x)
+
+-- one call
+single : (zs : List Seen) (c : Called) → seen_of zs ≡ c ∷ [] → (u : Unseen) × (zs ≡ (c, u) ∷ [])
+single [] c is = absurd (none_some c [] is)
+single (z ∷ []) c is = (z.1, ap (λ (x : Called). (x, z.1) ∷ []) (same_first z.0 c [] [] is))
+single (z ∷ y ∷ zs) c is =
+    absurd (none_some y.0 (seen_of zs) (sym (same_rest z.0 c (y.0 ∷ seen_of zs) [] is)))
+
+pub at_place : (page_size : ℕ) (ws : List ChainHandle) (k : ℕ) (w new : ChainHandle) (q q' : QueueState)
+    (command : Command) (returned : Returned) →
+    slice_get ws k ≡ Some w →
+    DrivesOne page_size w new q q' command returned →
+    Drives page_size ws (slice_set ws k new) q q'
+    (call_of k command returned ∷ [])
+unfolding DrivesOne Drives
+at_place page_size ws k w new q q' command returned there one zs is s i os pops push all =
+    let z = single zs (call_of k command returned) is in
+    let a = one ws k there z.0 s i os pops push all in
+    let d : Desk = desk s ws q os pops push in
+    let end : Desk = desk a.1 (with_handle ws k new) q' a.2 a.3 a.4 in
+    subst (λ (l : List ChainHandle). Leads s i page_size q' l (λ es e. TellsAll i page_size d zs es e))
+    (sym (set_changed ws k new)) (
+      a.0,
+      a.1,
+      a.2,
+      a.3,
+      a.4,
+      a.5,
+      a.6,
+      subst (λ (l : List Seen). TellsAll i page_size d l a.0 end) (sym z.1)
+          (a.0, [], end, sym (append-nil a.0), inl (w, new, there, refl, a.7), (refl, refl)),
+    )
+
+nowhere : {A : Type 0} (xs : List A) (k : ℕ) → length xs ≤ k → slice_get xs k ≡ None
+nowhere [] k past = refl
+nowhere {A} (y ∷ ys) zero past = absurd (omega arith)
+nowhere {A} (y ∷ ys) (suc k) past = let more : length ys ≤ k = omega arith in nowhere ys k more
+
+-- there is no such handle
+pub no_place : (page_size : ℕ) (ws : List ChainHandle) (k : ℕ) (q : QueueState) (command : Command)
+    → length ws ≤ k
+    → Drives page_size ws ws q q (call_of k command gives.NoHandle ∷ [])
+unfolding Drives
+no_place page_size ws k q command past zs is s i os pops push all =
+    let z = single zs (call_of k command gives.NoHandle) is in
+    let d : Desk = desk s ws q os pops push in (
+      [],
+      s,
+      os,
+      pops,
+      push,
+      refl,
+      all,
+      subst (λ (l : List Seen). TellsAll i page_size d l [] d) (sym z.1)
+          ([], [], d, refl, inr (nowhere ws k past, refl, refl, refl), (refl, refl)),
+    )
+
+-- no calls
+pub at_none : (page_size : ℕ) (ws : List ChainHandle) (q : QueueState) → Drives page_size ws ws q q []
+unfolding Drives
+at_none page_size ws q zs is s i os pops push all =
+    ([], s, os, pops, push, refl, all, by_list zs is)
+  where
+    by_list : (l : List Seen) → seen_of l ≡ [] →
+        TellsAll i page_size (desk s ws q os pops push) l [] (desk s ws q os pops push)
+    by_list [] none = (refl, refl)
+    by_list (z ∷ l) none = absurd (none_some z.0 (seen_of l) (sym none))
+
+-- the element at an index within a list
+pub got : {A : Type 0} (xs : List A) (k : ℕ) (x : A) → k < length xs → x ≡ get_or xs k x →
+    slice_get xs k ≡ Some x
+got {A} [] k x less is = absurd (omega arith)
+got {A} (y ∷ ys) zero x less is = ap (λ (z : A). Some z) (sym is)
+got {A} (y ∷ ys) (suc k) x less is = let more : k < length ys = omega arith in got ys k x more is
+
+-- ---- the loop
+
+-- the calls so far, and the commands that are left
+pub record SoFar (page_size : ℕ) (ws0 ws : List ChainHandle) (q0 q : QueueState) (ks : List ℕ)
+    (before now : List Command) (rs : List Returned) (n : ℕ) : Type 0 where
+  pub drives : Drives page_size ws0 ws q0 q (calls_of (take n ks) (take n before) (take n rs))
+  pub left : drop n now ≡ drop n before
+  pub whole : length now ≡ length before
+
+pub none_so_far : (page_size : ℕ) (ws : List ChainHandle) (q : QueueState) (ks : List ℕ)
+    (commands : List Command) (rs : List Returned) →
+    SoFar page_size ws ws q q ks commands commands rs 0
+none_so_far page_size ws q ks commands rs =
+    record { drives = at_none page_size ws q; left = refl; whole = refl }
+
+one_more : (ks : List ℕ) (before now : List Command) (rs : List Returned) (n k : ℕ) (x : Command)
+    (r : Returned) → n < length ks → n < length now → n < length rs → k ≡ get_or ks n k → x ≡ get_or now n x
+    → drop n now ≡ drop n before → length now ≡ length before
+    → calls_of (take (suc n) ks) (take (suc n) before) (take (suc n) (slice_set rs n r))
+    ≡ calls_of (take n ks) (take n before) (take n rs) ++ call_of k x r ∷ []
+one_more [] before now rs n k x r in_ks in_now in_rs is_k is_x left whole = absurd (omega arith)
+one_more (j ∷ ks) before [] rs n k x r in_ks in_now in_rs is_k is_x left whole = absurd (omega arith)
+one_more (j ∷ ks) [] (b ∷ now) rs n k x r in_ks in_now in_rs is_k is_x left whole =
+    absurd (omega (arith, whole))
+one_more (j ∷ ks) (a ∷ before) (b ∷ now) [] n k x r in_ks in_now in_rs is_k is_x left whole =
+    absurd (omega arith)
+one_more (j ∷ ks) (a ∷ before) (b ∷ now) (s ∷ rs) zero k x r in_ks in_now in_rs is_k is_x left whole =
+    let same : x ≡ a = is_x ∙ same_first b a now before left in
+    ap (λ (c : Command). call_of j c r ∷ []) (sym same) ∙ ap (λ (i : ℕ). call_of i x r ∷ []) (sym is_k)
+one_more (j ∷ ks) (a ∷ before) (b ∷ now) (s ∷ rs) (suc n) k x r in_ks in_now in_rs is_k is_x left whole =
+    let less_k : n < length ks = omega arith in
+    let less_now : n < length now = omega arith in
+    let less_r : n < length rs = omega arith in
+    let same : length now ≡ length before = omega (arith, whole) in
+    ap (λ (l : List Called). call_of j a s ∷ l)
+    (one_more ks before now rs n k x r less_k less_now less_r is_k is_x left same)
+
+left_then : (before now : List Command) (n : ℕ) (y : Command) → drop n now ≡ drop n before →
+    length now ≡ length before → drop (suc n) (slice_set now n y) ≡ drop (suc n) before
+left_then [] [] n y left whole = refl
+left_then (a ∷ before) [] n y left whole = absurd (omega (arith, whole))
+left_then [] (b ∷ now) n y left whole = absurd (omega (arith, whole))
+left_then (a ∷ before) (b ∷ now) zero y left whole = same_rest b a now before left
+left_then (a ∷ before) (b ∷ now) (suc n) y left whole =
+    let same : length now ≡ length before = omega (arith, whole) in left_then before now n y left same
+
+set_length : (now : List Command) (n : ℕ) (y : Command) → length (slice_set now n y) ≡ length now
+set_length [] n y = refl
+set_length (b ∷ now) zero y = refl
+set_length (b ∷ now) (suc n) y = ap suc (set_length now n y)
+
+pub more_so_far : (page_size : ℕ) (ws0 ws ws' : List ChainHandle) (q0 q q' : QueueState) (ks : List ℕ)
+    (before now : List Command) (rs : List Returned) (n k : ℕ) (x y : Command) (r : Returned)
+    → SoFar page_size ws0 ws q0 q ks before now rs n
+    → n < length ks → n < length now → n < length rs → k ≡ get_or ks n k → x ≡ get_or now n x
+    → Drives page_size ws ws' q q' (call_of k x r ∷ [])
+    → SoFar page_size ws0 ws' q0 q' ks before (slice_set now n y) (slice_set rs n r) (n + 1)
+more_so_far page_size ws0 ws ws' q0 q q' ks before now rs n k x y r so in_ks in_now in_rs is_k is_x one =
+    let next : suc n ≡ n + 1 = omega arith in
+    let more : SoFar page_size ws0 ws' q0 q' ks before (slice_set now n y) (slice_set rs n r) (suc n) = record {
+      drives = subst (λ (l : List Called). Drives page_size ws0 ws' q0 q' l)
+          (sym (one_more ks before now rs n k x r in_ks in_now in_rs is_k is_x so.left so.whole))
+          (goes_on page_size ws0 ws ws' q0 q q' (calls_of (take n ks) (take n before) (take n rs))
+          (call_of k x r ∷ []) so.drives one);
+      left = left_then before now n y so.left so.whole;
+      whole = set_length now n y ∙ so.whole;
+    } in
+    subst (λ (m : ℕ). SoFar page_size ws0 ws' q0 q' ks before (slice_set now n y) (slice_set rs n r) m) next
+    more
+
+-- a number at an index within a list
+pub number_at : (ks : List ℕ) (n : ℕ) → n < length ks → get_or ks n 0 ≡ get_or ks n (get_or ks n 0)
+number_at [] n less = absurd (omega arith)
+number_at (k ∷ ks) zero less = refl
+number_at (k ∷ ks) (suc n) less = let more : n < length ks = omega arith in number_at ks n more
+
+-- once one of the lists ends
+all_taken : (ks : List ℕ) (cs : List Command) (rs : List Returned) (n : ℕ)
+    → (length ks ≤ n) ⊎ ((length cs ≤ n) ⊎ (length rs ≤ n))
+    → calls_of (take n ks) (take n cs) (take n rs) ≡ calls_of ks cs rs
+all_taken [] cs rs zero past = refl
+all_taken [] cs rs (suc n) past = refl
+all_taken (k ∷ ks) [] rs zero past = refl
+all_taken (k ∷ ks) [] rs (suc n) past = refl
+all_taken (k ∷ ks) (c ∷ cs) [] zero past = refl
+all_taken (k ∷ ks) (c ∷ cs) [] (suc n) past = refl
+all_taken (k ∷ ks) (c ∷ cs) (r ∷ rs) zero (inl past) = absurd (omega arith)
+all_taken (k ∷ ks) (c ∷ cs) (r ∷ rs) zero (inr (inl past)) = absurd (omega arith)
+all_taken (k ∷ ks) (c ∷ cs) (r ∷ rs) zero (inr (inr past)) = absurd (omega arith)
+all_taken (k ∷ ks) (c ∷ cs) (r ∷ rs) (suc n) (inl past) =
+    let less : length ks ≤ n = omega arith in
+    ap (λ (l : List Called). call_of k c r ∷ l) (all_taken ks cs rs n (inl less))
+all_taken (k ∷ ks) (c ∷ cs) (r ∷ rs) (suc n) (inr (inl past)) =
+    let less : length cs ≤ n = omega arith in
+    ap (λ (l : List Called). call_of k c r ∷ l) (all_taken ks cs rs n (inr (inl less)))
+all_taken (k ∷ ks) (c ∷ cs) (r ∷ rs) (suc n) (inr (inr past)) =
+    let less : length rs ≤ n = omega arith in
+    ap (λ (l : List Called). call_of k c r ∷ l) (all_taken ks cs rs n (inr (inr less)))
+
+pub all_so_far : (page_size : ℕ) (ws0 ws : List ChainHandle) (q0 q : QueueState) (ks : List ℕ)
+    (before now : List Command) (rs : List Returned) (n : ℕ)
+    → SoFar page_size ws0 ws q0 q ks before now rs n
+    → (length ks ≤ n) ⊎ ((length now ≤ n) ⊎ (length rs ≤ n))
+    → Drives page_size ws0 ws q0 q (calls_of ks before rs)
+all_so_far page_size ws0 ws q0 q ks before now rs n so past =
+    subst (λ (l : List Called). Drives page_size ws0 ws q0 q l) (all_taken ks before rs n (by_end past))
+    so.drives
+  where
+    by_end : (length ks ≤ n) ⊎ ((length now ≤ n) ⊎ (length rs ≤ n))
+        → (length ks ≤ n) ⊎ ((length before ≤ n) ⊎ (length rs ≤ n))
+    by_end (inl past) = inl past
+    by_end (inr (inl past)) = inr (inl (subst (λ (m : ℕ). m ≤ n) so.whole past))
+    by_end (inr (inr past)) = inr (inr past)
+
+-- ---- two handles
+
+pub then_first : (page_size : ℕ) (a a' b : ChainHandle) (three : List ChainHandle) (q q' q'' : QueueState)
+    (command : Command) (returned : Returned) (more : List Called)
+    → DrivesOne page_size a a' q q' command returned
+    → Drives page_size (a' ∷ b ∷ []) three q' q'' more
+    → Drives page_size (a ∷ b ∷ []) three q q'' (call_of 0 command returned ∷ more)
+then_first page_size a a' b three q q' q'' command returned more one later =
+    goes_first page_size (a ∷ b ∷ []) (a' ∷ b ∷ []) three q q' q'' (call_of 0 command returned) more
+    (at_place page_size (a ∷ b ∷ []) 0 a a' q q' command returned refl one) later
+
+pub then_second : (page_size : ℕ) (a b b' : ChainHandle) (three : List ChainHandle) (q q' q'' : QueueState)
+    (command : Command) (returned : Returned) (more : List Called)
+    → DrivesOne page_size b b' q q' command returned
+    → Drives page_size (a ∷ b' ∷ []) three q' q'' more
+    → Drives page_size (a ∷ b ∷ []) three q q'' (call_of 1 command returned ∷ more)
+then_second page_size a b b' three q q' q'' command returned more one later =
+    goes_first page_size (a ∷ b ∷ []) (a ∷ b' ∷ []) three q q' q'' (call_of 1 command returned) more
+    (at_place page_size (a ∷ b ∷ []) 1 b b' q q' command returned refl one) later
+
+-- ---- the beginning
+
+-- free handles over the run's memory, while no chain is in flight
+pub starts : BeginsDriven
+starts s i page_size q ws none queue page small free =
+    record {
+      all = record { chains = none; held = tt; once = tt };
+      queue = queue;
+      page = page;
+      small = small;
+      mine = λ k w c there m. absurd m;
+      outs = λ k w there out. absurd (not_free (is_out w.state) out (ap is_out (free k w there).0));
+      fits = λ k w there. (
+        (free k w there).1,
+        (free k w there).2,
+        idle_may s.limit q.event_index no_pop w (free k w there).0,
+      );
+      still = λ pushing. refl;
+    }

@@ -1,0 +1,31 @@
+use Rattle.std.proofs.Common.{◌<◌, ◌∷◌, [], get_or, length, rules, subst, sym}
+use Rattle.fs_driven.specs.Told.{Drives, call_of}
+use Rattle.fs_driven.specs.declared.commands.Command.{Command}
+use Rattle.fs_driven.proofs.Lists.{more_so_far, none_so_far, number_at}
+use Rattle.fs_driven.proofs.commands.drive_all.Goals as goal
+
+pub loop-n-init : goal.loop-n-init
+loop-n-init c = record {
+  so_far = none_so_far c.args.page_size c.args.handles.now c.args.queue.now c.args.places.now c.args.commands.now
+      c.args.returned.now;
+}
+
+pub loop-n-preserved : goal.loop-n-preserved
+loop-n-preserved c =
+    let l = c.loop-n in
+    let in_places : l.n < length c.args.places.now = search rules in
+    let in_commands : l.n < length l.commands = search rules in
+    let in_returned : l.n < length l.returned = search rules in
+    let one : Drives c.args.page_size l.handles c.perform.new.handles l.queue c.perform.new.queue
+    (call_of (get_or c.args.places.now l.n 0) c.index-commands-n.result c.perform.new.returned ∷ []) =
+    subst
+    (λ (x : Command). Drives c.args.page_size l.handles c.perform.new.handles l.queue c.perform.new.queue
+    (call_of (get_or c.args.places.now l.n 0) x c.perform.new.returned ∷ []))
+    (sym c.index-commands-n.is) c.perform.ensures.step in
+    record {
+      so_far = more_so_far c.args.page_size c.args.handles.now l.handles c.perform.new.handles c.args.queue.now l.queue
+          c.perform.new.queue c.args.places.now c.args.commands.now l.commands l.returned l.n
+          (get_or c.args.places.now l.n 0) c.index-commands-n.result c.perform.new.command c.perform.new.returned
+          l.invariant.so_far in_places in_commands in_returned (number_at c.args.places.now l.n in_places)
+          c.index-commands-n.is one;
+    }

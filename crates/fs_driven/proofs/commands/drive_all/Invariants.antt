@@ -1,0 +1,12 @@
+use Rattle.std.proofs.Common.{◌≡◌, ◌-◌, ◌≤◌, ◌<◌, false, length}
+use Rattle.fs_driven.proofs.Lists.{SoFar}
+use Rattle.fs_driven.proofs.commands.drive_all.Given as goal
+
+abbrev pub invariant-loop-n : goal.invariant-loop-n
+invariant-loop-n l = record {
+  so_far : SoFar l.page_size l.initial.handles l.handles l.initial.queue l.queue l.places l.initial.commands l.commands
+      l.returned l.n;
+}
+
+abbrev pub decreases-loop-n : goal.decreases-loop-n
+decreases-loop-n l = length l.places - l.n

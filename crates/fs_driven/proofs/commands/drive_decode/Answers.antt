@@ -1,0 +1,10 @@
+use Rattle.fs_driven.proofs.Decoding.{decode_result}
+use Rattle.fs_driven.proofs.commands.drive_decode.Goals as goal
+
+pub returns : goal.returns
+returns c =
+    let e = c.decode.ensures in
+    record {
+      step = decode_result c.args.handle.now c.decode.new.self c.args.queue.now c.args.session c.args.request c.decode.result
+          e.error e.ok e.tells e.wanted e.same e.stays e.step;
+    }

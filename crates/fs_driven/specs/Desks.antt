@@ -1,0 +1,132 @@
+-- A driver of several handles over one queue of a run: its calls, one behind another, are a run of the live
+-- machine, and the run's events have what the calls returned.
+use Rattle.std.specs.Prelude.{◌≡◌, ◌⊎◌, ◌≤◌, ◌^◌, ◌==◌, ◌++◌, ℕ, Bool, true, false, List, [], ◌∷◌, Option}
+use Rattle.std.specs.Prelude.{Some, None, if◌then◌else◌, length, map, slice_get, take}
+use Rattle.vm_memory.specs.Memory.{Memory}
+use Rattle.fs_queue.specs.Returning.{stores_after_reply}
+use Rattle.fs_queue.specs.ReturningView.{stores_of}
+use Rattle.fs_regions.specs.Places.{places_in}
+use Rattle.fs_regions.specs.Walks.{nothing}
+use Rattle.plain_machine.specs.Step.{Exchange}
+use Rattle.live_machine.specs.Several.{returning}
+use Rattle.live_machine.specs.Live.{InFlightChain, LiveEvent, LiveRun, PushedWith}
+use Rattle.fs_chain.specs.Holds.{HoldsPop, IsQueue, Machine, Pop, any_files, live_of}
+use Rattle.fs_chain.specs.Orders.{is_out}
+use Rattle.fs_chain.specs.Together.{Owned, Together, with_handle}
+use Rattle.fs_chain.specs.declared.chain_handle.ChainHandle.{ChainHandle}
+use Rattle.fs_chain.specs.declared.pushing.PushStores.{PushStores}
+use Rattle.fs_chain.specs.declared.queue.QueueState.{QueueState}
+use Rattle.fs_chain.specs.declared.state.ChainState as state
+use Rattle.fs_chain.specs.declared.state.ChainState.TheVariants as at
+
+-- one of these chains
+abbrev pub In : Owned → List Owned → Type 0
+In o [] = ⊥
+In o (x ∷ xs) = (o ≡ x) ⊎ In o xs
+
+-- the chain of handle k
+abbrev pub own : ℕ → InFlightChain → Owned
+own k c = record { handle = Some k; chain = c }
+
+-- a push under way: its handle, the stores that it returned, and the buffer with the reply's front
+pub record Begun : Type 0 where
+  pub handle : ℕ
+  pub stores : PushStores
+  pub front : List ℕ
+
+-- the stores and the front are those of this exchange, at the queue's next used position
+abbrev pub IsBegunBy : QueueState → InFlightChain → Exchange → Begun → Type 0
+IsBegunBy q c x b =
+    (stores_of b.stores.used ≡ stores_after_reply (returning (live_of q)) c.head (length x.reply))
+    × (behind : List ℕ)
+    × (x.reply ≡ take b.stores.front_len b.front ++ behind)
+
+-- the push under way is handle k's, of this exchange
+abbrev pub IsUnderWay : ℕ → QueueState → InFlightChain → Exchange → Option Begun → Type 0
+IsUnderWay k q c x None = ⊥
+IsUnderWay k q c x (Some b) = (b.handle ≡ k) × IsBegunBy q c x b
+
+-- a chain whose reply is known can be pushed: each of its calls was answered
+abbrev pub IsReady :
+    (page_size k : ℕ) → QueueState → Option Begun → InFlightChain → state.ChainState → Type 0
+IsReady page_size k q push c (at.HasReply out kept) = (x : Exchange) × PushedWith page_size c c.phase x
+IsReady page_size k q push c (at.Pushing out) =
+    (x : Exchange) × PushedWith page_size c c.phase x × IsUnderWay k q c x push
+IsReady page_size k q push c _ = Unit {0}
+
+-- a pop that is under way has these loads, which lead to it
+abbrev pub MayPop : (limit : ℕ) → (event_index : Bool) → Pop → ChainHandle → state.ChainState → Type 0
+MayPop limit event_index p w (at.Walking course pop_id walk) =
+    HoldsPop limit p w × (p.event_index ≡ event_index)
+MayPop limit event_index p w _ = Unit {0}
+
+-- a handle over the run's memory
+abbrev pub FitsRun : Memory → (limit : ℕ) → (event_index : Bool) → Pop → ChainHandle → Type 0
+FitsRun places limit event_index p w =
+    (places ≡ places_in w.regions) × (limit ≡ w.limit) × MayPop limit event_index p w w.state
+
+-- the loads of the handles' pops, once handle k has made those
+abbrev pub with_pop : (ℕ → Pop) → ℕ → Pop → ℕ → Pop
+with_pop pops k p j = if k == j then p else pops j
+
+-- the handles hold the chains of a run, all of queue i, and no others. No FORGET is owed
+pub record Driven (s : Machine) (i page_size : ℕ) (q : QueueState) (ws : List ChainHandle)
+    (os : List Owned) (pops : ℕ → Pop) (push : Option Begun) : Type 0 where
+  pub all : Together s ws os
+  pub queue : IsQueue s i q
+  pub page : s.page_size ≡ page_size
+  pub small : s.limit ≤ 2 ^ 31
+  pub mine : (k : ℕ) (w : ChainHandle) (c : InFlightChain) → slice_get ws k ≡ Some w → In (own k c) os →
+      (c.queue ≡ i) × IsReady page_size k q push c w.state
+  pub outs : (k : ℕ) (w : ChainHandle) → slice_get ws k ≡ Some w → is_out w.state ≡ true →
+      (c : InFlightChain) × In (own k c) os
+  pub fits : (k : ℕ) (w : ChainHandle) → slice_get ws k ≡ Some w →
+      FitsRun s.places s.limit q.event_index (pops k) w
+  pub still : q.pushing ≡ false → push ≡ None
+
+-- what a driver has of a run: its state, the handles and their queue, the chain of each handle, the loads of
+-- its pop, and the push under way
+pub record Desk : Type 0 where
+  pub run : Machine
+  pub handles : List ChainHandle
+  pub queue : QueueState
+  pub owned : List Owned
+  pub pops : ℕ → Pop
+  pub push : Option Begun
+
+abbrev pub desk :
+    Machine → List ChainHandle → QueueState → List Owned → (ℕ → Pop) → Option Begun → Desk
+desk s ws q os pops push =
+    record { run = s; handles = ws; queue = q; owned = os; pops = pops; push = push }
+
+-- events lead to a state of which the handles hold the chains. They have what the calls returned, if T tells
+-- it
+abbrev pub Leads : Machine → (i page_size : ℕ) → QueueState → List ChainHandle →
+    (T : List LiveEvent → Desk → Type 0) → Type 0
+Leads s i page_size q ws T =
+    (es : List LiveEvent)
+    × (after : Machine)
+    × (os : List Owned)
+    × (pops : ℕ → Pop)
+    × (push : Option Begun)
+    × LiveRun any_files s es after
+    × Driven after i page_size q ws os pops push
+    × T es (desk after ws q os pops push)
+
+-- ---- the beginning
+
+-- no loads
+abbrev pub no_pop : Pop
+no_pop = record { loaded = nothing; event_index = false }
+
+-- free handles over the run's memory, while no chain is in flight
+abbrev pub BeginsDriven : Type 0
+BeginsDriven =
+    (s : Machine) (i page_size : ℕ) (q : QueueState) (ws : List ChainHandle) →
+    s.chains ≡ [] →
+    IsQueue s i q →
+    s.page_size ≡ page_size →
+    s.limit ≤ 2 ^ 31 →
+    ((k : ℕ) (w : ChainHandle) → slice_get ws k ≡ Some w →
+    (w.state ≡ at.Free) × (s.places ≡ places_in w.regions) × (s.limit ≡ w.limit)) →
+    Driven s i page_size q ws [] (λ _. no_pop) None

@@ -1,0 +1,4 @@
+pub mod Ahead
+pub mod Desks
+pub mod Kept
+pub mod Told

@@ -1,0 +1,320 @@
+-- The events of a driver's calls: of each, by its command and what it returned. A refused call has none.
+use Rattle.std.specs.Prelude.{◌≡◌, ◌⊎◌, ◌-◌, ◌==◌, ℕ, zero, suc, Bool, true, false, List, [], ◌∷◌, ◌++◌}
+use Rattle.std.specs.Prelude.{Option, Some, None, Result, Ok, Err, length, map, drop, take, slice_get}
+use Rattle.std.specs.Prelude.{if◌then◌else◌}
+use Rattle.fs_queue.specs.ReturningView.{stores_of}
+use Rattle.fs_regions.specs.Ahead.{AheadBytes, last_first, loads_ahead}
+use Rattle.fs_regions.specs.Walks.{Loaded, nothing}
+use Rattle.fs_regions.specs.declared.step.CourseStep.TheVariants as step
+use Rattle.fuse_fs.specs.Calls.{Done, FileCall, Forget}
+use Rattle.fuse_fs.specs.declared.answers.Context.{Context}
+use Rattle.fuse_values.specs.Answers.{answer_of}
+use Rattle.fuse_values.specs.declared.answer.FileAnswer as made_answer
+use Rattle.fuse_values.specs.declared.answer.FileAnswer.TheVariants as value
+use Rattle.plain_machine.specs.Step.{Exchange}
+use Rattle.virtiofsd_fuse.specs.Grammar.{meaning}
+use Rattle.virtiofsd_fuse.specs.Serving.{setting}
+use Rattle.server_phases.specs.declared.session.Session.{Session}
+use Rattle.live_machine.specs.Live.{Asked, DecodesRequest, EndsPop, GivesUpChain, InFlightChain}
+use Rattle.live_machine.specs.Live.{LiveEvent, Phase, RepliesOwnBytes}
+use Rattle.live_machine.specs.Live.{PushesChain, ReceivesAnswer, RefusesPop, SetsOptions, asked_chain}
+use Rattle.fs_chain.specs.Ahead.{PopsAhead, ahead_error}
+use Rattle.fs_driven.specs.Ahead.{AddsAhead}
+use Rattle.fs_chain.specs.Answers.{IfWaits, IsGiven, IsNotTaken}
+use Rattle.fs_chain.specs.Decoding.{IfUndecoded, TellsMeaning, wanted_after, wanted_by}
+use Rattle.fs_driven.specs.Desks.{Begun, Desk, Driven, In, Leads, desk, own}
+use Rattle.fs_chain.specs.Holds.{Machine, Pop, calls_decoded}
+use Rattle.fs_chain.specs.Loads.{GoesSo, RefusesWalk, whole}
+use Rattle.fs_chain.specs.Orders.{ask_error, end_error, front_of, give_up_error, is_out, return_error}
+use Rattle.fs_chain.specs.OwnReplies.{own_error}
+use Rattle.fs_chain.specs.Pushes.{IfHasReply, PushesBy}
+use Rattle.fs_chain.specs.Together.{Owned, with_handle}
+use Rattle.fs_chain.specs.Walks.{count}
+use Rattle.fs_chain.specs.Whole.{AddsSo}
+use Rattle.fs_chain.specs.declared.answering.Replied.{Replied}
+use Rattle.fs_chain.specs.declared.chain_handle.ChainHandle.{ChainHandle}
+use Rattle.fs_driven.specs.declared.commands.Command.{Command}
+use Rattle.fs_driven.specs.declared.commands.Command.TheVariants as does
+use Rattle.fs_driven.specs.declared.commands.Returned.{Returned}
+use Rattle.fs_driven.specs.declared.commands.Returned.TheVariants as gives
+use Rattle.fs_chain.specs.declared.decoding.Decoded.{Decoded}
+use Rattle.fs_chain.specs.declared.decoding.Decoded.TheVariants as asks
+use Rattle.fs_chain.specs.declared.error.ChainError.{ChainError}
+use Rattle.fs_chain.specs.declared.loads.LoadOutcome as went
+use Rattle.fs_chain.specs.declared.loads.LoadOutcome.TheVariants as wents
+use Rattle.fs_chain.specs.declared.popping.PopOutcome as walked
+use Rattle.fs_chain.specs.declared.popping.PopOutcome.TheVariants as says
+use Rattle.fs_chain.specs.declared.pushing.PushStores.{PushStores}
+use Rattle.fs_chain.specs.declared.queue.QueueState.{QueueState}
+use Rattle.fs_chain.specs.declared.state.ChainState as state
+use Rattle.fs_chain.specs.declared.state.ChainState.TheVariants as at
+
+-- ---- calls
+
+-- a call: the number of its handle, its command, and what it returned
+pub record Called : Type 0 where
+  pub place : ℕ
+  pub command : Command
+  pub returned : Returned
+
+-- a call of handle k
+abbrev pub call_of : ℕ → Command → Returned → Called
+call_of k command returned = record { place = k; command = command; returned = returned }
+
+-- what a call doesn't see: the rest of a request, an answer's data, or a reply of the caller's own; the
+-- request that such a reply is for, if it wasn't decoded; and how many bytes of a reply are stored last
+pub record Unseen : Type 0 where
+  pub bytes : List ℕ
+  pub request : List ℕ
+  pub last : ℕ
+
+-- the first n of these bytes, and zeros if they are fewer
+abbrev pub exactly : (n : ℕ) → List ℕ → List ℕ
+exactly zero bytes = []
+exactly (suc n) [] = 0 ∷ exactly n []
+exactly (suc n) (b ∷ bytes) = b ∷ exactly n bytes
+
+-- the whole request of `len` bytes that begins with these
+abbrev pub request_of : (front : List ℕ) → Unseen → (len : ℕ) → List ℕ
+request_of front u len = front ++ exactly (len - length front) u.bytes
+
+-- the length of a chain's request that wasn't decoded
+abbrev pub asked_len_of : state.ChainState → ℕ
+asked_len_of (at.Taken out) = out.request_len
+asked_len_of _ = 0
+
+-- the data of an answer
+abbrev pub data_of : made_answer.FileAnswer → Unseen → List ℕ
+data_of (value.Bytes len) u = exactly len u.bytes
+data_of _ u = []
+
+-- a call of handle `handle`, for queue `queue` of the run: the desk before and after it, and the handle
+pub record Turn : Type 0 where
+  pub queue : ℕ
+  pub page_size : ℕ
+  pub handle : ℕ
+  pub old : Desk
+  pub new : Desk
+  pub was : ChainHandle
+  pub now : ChainHandle
+
+abbrev pub turn : (i page_size k : ℕ) → (d d' : Desk) → (w w' : ChainHandle) → Turn
+turn i page_size k d d' w w' =
+    record { queue = i; page_size = page_size; handle = k; old = d; new = d'; was = w; now = w' }
+
+-- ---- pops
+
+-- the loads of a pop, by the state of its handle: none as it begins; with these bytes, if it goes on and
+-- the queue isn't stopped
+abbrev pub IsLoadedBy : state.ChainState → Turn → (bytes : List ℕ) → walked.PopOutcome → Loaded → Type 0
+IsLoadedBy at.Free t bytes told loaded = loaded ≡ nothing
+IsLoadedBy st t bytes told loaded =
+    t.old.queue.stopped ≡ None →
+    AddsSo st (wents.On told) t.now.descriptors.items (t.old.pops t.handle).loaded (whole t.was bytes) loaded
+
+-- the events of a pop's call with this result, after these loads
+abbrev pub PopTells : Turn → Loaded → walked.PopOutcome → List LiveEvent → Type 0
+PopTells t loaded (says.Load n) es = (es ≡ []) × ((t.new.pops t.handle).loaded ≡ loaded)
+PopTells t loaded (says.Missing range access) es = es ≡ []
+PopTells t loaded says.Idle es = es ≡ EndsPop t.queue loaded t.now.descriptors.items step.Idle ∷ []
+PopTells t loaded (says.Refused e) es =
+    (es ≡ EndsPop t.queue loaded t.now.descriptors.items (step.Refused e) ∷ [])
+    ⊎ (es ≡ RefusesPop t.queue e ∷ [])
+PopTells t loaded (says.Chain head request_len room_len) es =
+    (es ≡ EndsPop t.queue loaded t.now.descriptors.items (step.Chain head None) ∷ [])
+    × (request_len ≡ count false t.now.descriptors.items)
+    × (room_len ≡ count true t.now.descriptors.items)
+PopTells t loaded (says.Faulty head fault) es =
+    es ≡ EndsPop t.queue loaded t.now.descriptors.items (step.Chain head (Some fault)) ∷ []
+
+abbrev pub TellsPop : Turn → (bytes : List ℕ) → Result went.LoadOutcome ChainError → List LiveEvent → Type 0
+TellsPop t bytes (Err e) es = (es ≡ []) × RefusesWalk t.was t.old.queue bytes e
+TellsPop t bytes (Ok wents.Part) es = (es ≡ []) × GoesSo t.was t.old.queue bytes wents.Part t.now t.new.queue
+TellsPop t bytes (Ok (wents.On told)) es =
+    GoesSo t.was t.old.queue bytes (wents.On told) t.now t.new.queue
+    × (loaded : Loaded)
+    × IsLoadedBy t.was.state t bytes told loaded
+    × PopTells t loaded told es
+
+-- a pop by loads ahead has the loads that it took of them
+abbrev pub TellsAhead : Turn → List AheadBytes → Result walked.PopOutcome ChainError → List LiveEvent → Type 0
+TellsAhead t ahead (Err e) es = (es ≡ []) × (ahead_error t.was.state t.old.queue ≡ Some e)
+TellsAhead t ahead (Ok told) es =
+    (pop : PopsAhead ahead t.was t.now t.old.queue t.new.queue (wents.On told))
+    × (loaded : Loaded)
+    × AddsAhead (last_first pop.first []) t.was t.now t.old.queue t.new.queue (wents.On told) pop.walks loaded
+    × PopTells t loaded told es
+
+-- ---- decodes and answers
+
+-- the caller sets the options of the session, if they are others
+abbrev pub setting_of : (options now : ℕ) → List LiveEvent
+setting_of options now = if options == now then [] else SetsOptions options ∷ []
+
+-- the events of a decoding with this result: none if it needs more bytes
+abbrev pub DecodeTells : Turn → Session → (request : List ℕ) → Decoded → List LiveEvent → Type 0
+DecodeTells t session request (asks.More n) es = es ≡ []
+DecodeTells t session request told es =
+    (c : InFlightChain)
+    × In (own t.handle c) t.old.owned
+    × (es ≡ setting_of session.options.0 t.old.run.options
+    ++ DecodesRequest c request (calls_decoded (drop 80 request) told) ∷ [])
+    × In (own t.handle (asked_chain c request session.options.0 [])) t.new.owned
+
+abbrev pub TellsDecode : Turn → Session → (front : List ℕ) → Unseen → Result Decoded ChainError →
+    List LiveEvent → Type 0
+TellsDecode t session front u (Err e) es = (es ≡ []) × (ask_error t.was.state (length front) ≡ Some e)
+TellsDecode t session front u (Ok told) es =
+    let request = request_of front u (asked_len_of t.was.state) in
+    (wanted_by told ≡ wanted_after front (asked_len_of t.was.state))
+    × IfUndecoded t.was.state (λ out. TellsMeaning (setting session.page_size session.options.0 out.room_len)
+    (meaning session.options.0 request out.room_len) (drop 80 request) out told t.now.state)
+    × DecodeTells t session request told es
+
+-- the answer to a FORGET that is owed
+abbrev pub forgetting : InFlightChain → Option (Context × ℕ) → List LiveEvent
+forgetting c None = []
+forgetting c (Some node) = ReceivesAnswer c (Forget node.0 node.1 1) Done ∷ []
+
+abbrev pub TellsAnswer : Turn → (serial : ℕ) → made_answer.FileAnswer → Unseen → Result Replied ChainError →
+    List LiveEvent → Type 0
+TellsAnswer t serial answer u (Err e) es = (es ≡ []) × IsNotTaken t.was serial answer e
+TellsAnswer t serial answer u (Ok told) es =
+    let given = answer_of (data_of answer u) answer in
+    IfWaits t.was.state (λ out waiting.
+    IsGiven (setting t.was.session.page_size t.was.session.options.0 waiting.room) waiting answer out
+    t.now.session.options.0 told t.now.state)
+    × (c : InFlightChain)
+    × (call : FileCall)
+    × (request : List ℕ)
+    × (options : ℕ)
+    × In (own t.handle c) t.old.owned
+    × (c.phase ≡ Asked request options [])
+    × (es ≡ ReceivesAnswer c call given
+    ∷ forgetting (asked_chain c request options ((call, given) ∷ [])) told.forget)
+
+-- the request that a reply of the caller's own bytes is for
+abbrev pub replied_to : Phase → Unseen → (len : ℕ) → List ℕ
+replied_to (Asked request options calls) u len = request
+replied_to phase u len = exactly len u.request
+
+abbrev pub TellsReply : Turn → (serial len : ℕ) → Unseen → Result (Unit {0}) ChainError → List LiveEvent →
+    Type 0
+TellsReply t serial len u (Err e) es =
+    (es ≡ []) × (own_error t.was.state t.was.serial serial len ≡ Some e)
+TellsReply t serial len u (Ok done) es =
+    (own_error t.was.state t.was.serial serial len ≡ None)
+    × (c : InFlightChain)
+    × In (own t.handle c) t.old.owned
+    × (es ≡ RepliesOwnBytes c (replied_to c.phase u (asked_len_of t.was.state)) (exactly len u.bytes)
+    t.old.run.options ∷ [])
+
+-- ---- pushes, and chains that are given up
+
+-- a push begins: no event yet, but its stores are kept
+abbrev pub TellsPush : Turn → Result PushStores ChainError → (front : List ℕ) → List LiveEvent → Type 0
+TellsPush t (Err e) front es = (es ≡ []) × (return_error t.was.state t.old.queue (length front) ≡ Some e)
+TellsPush t (Ok stores) front es =
+    (es ≡ [])
+    × (return_error t.was.state t.old.queue (length front) ≡ None)
+    × IfHasReply t.was.state (λ out reply. PushesBy t.old.queue out reply stores
+    × (behind : List ℕ)
+    × (front ≡ front_of reply ++ behind))
+    × (t.new.push ≡ Some (record { handle = t.handle; stores = stores; front = front }))
+
+-- a push ends: its stores are those that its begin returned, and its reply begins with that front
+abbrev pub TellsPushed : Turn → (seen : List ℕ) → Unseen → Result Bool ChainError → List LiveEvent → Type 0
+TellsPushed t seen u (Err e) es = (es ≡ []) × (end_error t.was.state t.old.queue ≡ Some e)
+TellsPushed t seen u (Ok notice) es =
+    (c : InFlightChain)
+    × (x : Exchange)
+    × (b : Begun)
+    × In (own t.handle c) t.old.owned
+    × (t.old.push ≡ Some b)
+    × (b.handle ≡ t.handle)
+    × ((behind : List ℕ) × (x.reply ≡ take b.stores.front_len b.front ++ behind))
+    × (es ≡ PushesChain c x notice u.last (stores_of b.stores.used) seen ∷ [])
+
+abbrev pub GiveUpTells : Turn → (is_out : Bool) → List LiveEvent → Type 0
+GiveUpTells t false es = es ≡ []
+GiveUpTells t true es = (c : InFlightChain) × In (own t.handle c) t.old.owned × (es ≡ GivesUpChain c ∷ [])
+
+abbrev pub TellsGiveUp : Turn → Result (Unit {0}) ChainError → List LiveEvent → Type 0
+TellsGiveUp t (Err e) es = (es ≡ []) × (give_up_error t.was.state t.old.queue ≡ Some e)
+TellsGiveUp t (Ok done) es =
+    (give_up_error t.was.state t.old.queue ≡ None) × GiveUpTells t (is_out t.was.state) es
+
+-- ---- each call
+
+-- the events of a command of a handle, by what it returned. A request isn't decoded in a session of another
+-- page size
+abbrev pub Tells : Turn → Command → Unseen → Returned → List LiveEvent → Type 0
+Tells t (does.Pop bytes) u (gives.Popped r) es = TellsPop t bytes.now r es
+Tells t (does.PopAhead ahead bytes) u (gives.PoppedAhead r) es =
+    TellsAhead t (loads_ahead ahead.now bytes.now) r es
+Tells t (does.Decode session front) u (gives.Decoded r) es = TellsDecode t session front.now u r es
+Tells t (does.Decode session front) u gives.OtherSession es =
+    (es ≡ []) × (t.now ≡ t.was) × (session.page_size ≡ t.page_size → ⊥)
+Tells t (does.Answer serial answer) u (gives.Answered r) es = TellsAnswer t serial answer u r es
+Tells t (does.Reply serial len) u (gives.Replied r) es = TellsReply t serial len u r es
+Tells t does.Push u (gives.Began r front) es = TellsPush t r front es
+Tells t (does.Pushed seen) u (gives.Ended r) es = TellsPushed t seen u r es
+Tells t does.GiveUp u (gives.GaveUp r) es = TellsGiveUp t r es
+Tells t _ u _ es = ⊥
+
+-- a call of a handle is a step of the run, among any other handles, whatever it doesn't see
+unfoldable pub DrivesOne : (page_size : ℕ) → (w new : ChainHandle) → (q q' : QueueState) →
+    Command → Returned → Type 0
+DrivesOne page_size w new q q' command returned =
+    (ws : List ChainHandle) (k : ℕ) → slice_get ws k ≡ Some w →
+    (u : Unseen) (s : Machine) (i : ℕ) (os : List Owned) (pops : ℕ → Pop) (push : Option Begun) →
+    Driven s i page_size q ws os pops push →
+    Leads s i page_size q' (with_handle ws k new)
+    (λ es d. Tells (turn i page_size k (desk s ws q os pops push) d w new) command u returned es)
+
+-- the events of a call of one of the handles, or of none if there is no such handle
+abbrev pub TellsCall : (i page_size : ℕ) → (d d' : Desk) → Called → Unseen → List LiveEvent → Type 0
+TellsCall i page_size d d' call u es =
+    ((w : ChainHandle)
+    × (w' : ChainHandle)
+    × (slice_get d.handles call.place ≡ Some w)
+    × (d'.handles ≡ with_handle d.handles call.place w')
+    × Tells (turn i page_size call.place d d' w w') call.command u call.returned es)
+    ⊎ ((slice_get d.handles call.place ≡ None)
+    × (call.returned ≡ gives.NoHandle)
+    × (es ≡ [])
+    × (d' ≡ d))
+
+-- the events of calls one behind another
+abbrev pub TellsAll :
+    (i page_size : ℕ) → (d : Desk) → List (Called × Unseen) → List LiveEvent → (d' : Desk) → Type 0
+TellsAll i page_size d [] es d' = (es ≡ []) × (d' ≡ d)
+TellsAll i page_size d (z ∷ zs) es d' =
+    (first : List LiveEvent)
+    × (later : List LiveEvent)
+    × (mid : Desk)
+    × (es ≡ first ++ later)
+    × TellsCall i page_size d mid z.0 z.1 first
+    × TellsAll i page_size mid zs later d'
+
+-- calls, without what they don't see
+abbrev pub seen_of : List (Called × Unseen) → List Called
+seen_of [] = []
+seen_of (z ∷ zs) = z.0 ∷ seen_of zs
+
+-- calls are a run, and its events are theirs, whatever they don't see
+unfoldable pub Drives : (page_size : ℕ) → (ws ws' : List ChainHandle) → (q q' : QueueState) → List Called →
+    Type 0
+Drives page_size ws ws' q q' calls =
+    (zs : List (Called × Unseen)) →
+    seen_of zs ≡ calls →
+    (s : Machine) (i : ℕ) (os : List Owned) (pops : ℕ → Pop) (push : Option Begun) →
+    Driven s i page_size q ws os pops push →
+    Leads s i page_size q' ws' (λ es d. TellsAll i page_size (desk s ws q os pops push) zs es d)
+
+-- ---- lists of commands
+
+-- calls by their handles, their commands and what they returned
+abbrev pub calls_of : List ℕ → List Command → List Returned → List Called
+calls_of (k ∷ ks) (c ∷ cs) (r ∷ rs) = call_of k c r ∷ calls_of ks cs rs
+calls_of ks cs rs = []

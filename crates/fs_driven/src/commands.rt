@@ -1,0 +1,297 @@
+//! A driver of several handles over one queue: its calls, one behind another, are a run, whose events have
+//! what they returned.
+
+ghost use Rattle.std.specs.Prelude.{◌≡◌, ◌∷◌, [], ℕ};
+ghost use Rattle.fs_driven.specs.Told.{Drives, DrivesOne, call_of, calls_of};
+ghost use Rattle.fs_driven.specs.declared.commands.Command.TheVariants as does;
+ghost use Rattle.fs_driven.specs.declared.commands.Returned.TheVariants as gives;
+
+use fs_chain::{
+    ChainError, ChainHandle, Decoded, LoadOutcome, PopOutcome, PushStores, QueueState, Replied,
+};
+use fs_regions::LoadAhead;
+use fuse_values::FileAnswer;
+use server_phases::Session;
+use std::mem;
+
+/// A command for a handle.
+#[derive(Drop)]
+pub enum Command<'a> {
+    /// Pops, with these loaded bytes.
+    Pop(&'a [u8]),
+    /// Pops by loads that were made ahead, whose bytes lie one behind another.
+    PopAhead(&'a [LoadAhead], &'a [u8]),
+    /// Decodes a request from its first bytes, in this session.
+    Decode(Session, &'a [u8]),
+    /// Answers the call of the chain with this number.
+    Answer(u32, FileAnswer),
+    /// Replies to the chain with this number by so many bytes of the caller's own.
+    Reply(u32, usize),
+    /// Begins the chain's push.
+    Push,
+    /// Ends it, with the two bytes that were seen.
+    Pushed([u8; 2]),
+    /// Gives the chain up, or a pop.
+    GiveUp,
+}
+
+/// What a command returned.
+#[derive(Drop)]
+pub enum Returned<'a> {
+    /// There is no such handle.
+    NoHandle,
+    /// Of a pop.
+    Popped(Result<LoadOutcome, ChainError>),
+    /// Of a pop by loads ahead.
+    PoppedAhead(Result<PopOutcome, ChainError>),
+    /// Of a decoding.
+    Decoded(Result<Decoded<'a>, ChainError>),
+    /// The session has another page size: the request isn't decoded.
+    OtherSession,
+    /// Of an answer.
+    Answered(Result<Replied, ChainError>),
+    /// Of a reply.
+    Replied(Result<(), ChainError>),
+    /// Of a push: its stores, and a buffer that begins with the reply's front.
+    Began(Result<PushStores, ChainError>, [u8; 160]),
+    /// Of a push's end: whether to notify the driver.
+    Ended(Result<bool, ChainError>),
+    /// Of giving a chain up.
+    GaveUp(Result<(), ChainError>),
+}
+
+/// Decodes a request from its first bytes.
+#[tactic(auto, using(crate::proofs::Decoding::decode_result))]
+pub fn drive_decode<'a>(
+    handle: &mut ChainHandle,
+    queue: &QueueState,
+    session: Session,
+    request: &'a [u8],
+) -> Result<Decoded<'a>, ChainError>
+    ensures step { (page_size : ℕ) → session.page_size ≡ page_size
+        → DrivesOne page_size handle.old handle.new queue.now queue.now
+        (does.Decode session request.entry) (gives.Decoded result) }
+{
+    handle.decode(session, request)
+}
+
+/// Answers a handle's chain. A FORGET that is owed is answered next.
+#[tactic(auto, using(crate::proofs::Answering::answer_result))]
+pub fn drive_answer(
+    handle: &mut ChainHandle,
+    queue: &QueueState,
+    serial: u32,
+    answer: FileAnswer,
+) -> Result<Replied, ChainError>
+    ensures step { (page_size : ℕ) → DrivesOne page_size handle.old handle.new queue.now queue.now
+        (does.Answer serial answer) (gives.Answered result) }
+{
+    handle.answer(serial, answer)
+}
+
+/// Gives up a handle's chain, or its pop.
+#[tactic(auto, using(crate::proofs::Ends::give_up_result))]
+pub fn drive_give_up(handle: &mut ChainHandle, queue: &mut QueueState) -> Result<(), ChainError>
+    ensures step { (page_size : ℕ) → DrivesOne page_size handle.old handle.new queue.old queue.new
+        does.GiveUp (gives.GaveUp result) }
+{
+    handle.give_up(queue)
+}
+
+// Begins the push of a handle's chain: copies the reply's front over the first bytes of a buffer.
+#[tactic(auto, using(crate::proofs::Ends::push_result))]
+fn push_into(
+    handle: &mut ChainHandle,
+    queue: &mut QueueState,
+    front: &mut [u8],
+) -> Result<PushStores, ChainError>
+    ensures step { (page_size : ℕ) → DrivesOne page_size handle.old handle.new queue.old queue.new
+        does.Push (gives.Began result front.new) }
+{
+    handle.push(queue, front)
+}
+
+/// Begins the push of a handle's chain. Returns its stores, and a buffer that begins with the reply's front.
+pub fn drive_push(
+    handle: &mut ChainHandle,
+    queue: &mut QueueState,
+) -> (Result<PushStores, ChainError>, [u8; 160])
+    ensures step { (page_size : ℕ) → DrivesOne page_size handle.old handle.new queue.old queue.new
+        does.Push (gives.Began result.0 result.1) }
+{
+    let mut front = [0; 160];
+    let stores = push_into(handle, queue, &mut front);
+    (stores, front)
+}
+
+/// Ends the push of a handle's chain.
+#[tactic(auto, using(crate::proofs::Ends::pushed_result))]
+pub fn drive_pushed(
+    handle: &mut ChainHandle,
+    queue: &mut QueueState,
+    seen: [u8; 2],
+) -> Result<bool, ChainError>
+    ensures step { (page_size : ℕ) → DrivesOne page_size handle.old handle.new queue.old queue.new
+        (does.Pushed seen) (gives.Ended result) }
+{
+    handle.pushed(queue, seen)
+}
+
+/// Pops the next chain into a handle.
+#[tactic(auto, using(crate::proofs::Pops::pop_result))]
+pub fn drive_pop(
+    handle: &mut ChainHandle,
+    queue: &mut QueueState,
+    loaded: &[u8],
+) -> Result<LoadOutcome, ChainError>
+    ensures step { (page_size : ℕ) → DrivesOne page_size handle.old handle.new queue.old queue.new
+        (does.Pop loaded.entry) (gives.Popped result) }
+{
+    handle.pop(queue, loaded)
+}
+
+/// Pops the next chain into a handle, by loads that were made ahead.
+#[tactic(auto, using(crate::proofs::AheadPops::ahead_result))]
+pub fn drive_ahead(
+    handle: &mut ChainHandle,
+    queue: &mut QueueState,
+    ahead: &[LoadAhead],
+    bytes: &[u8],
+) -> Result<PopOutcome, ChainError>
+    ensures step { (page_size : ℕ) → DrivesOne page_size handle.old handle.new queue.old queue.new
+        (does.PopAhead ahead.entry bytes.entry) (gives.PoppedAhead result) }
+{
+    handle.pop_ahead(queue, ahead, bytes)
+}
+
+/// Replies to a handle's chain by bytes of the caller's own.
+#[tactic(auto, using(crate::proofs::Ends::reply_result))]
+pub fn drive_reply(
+    handle: &mut ChainHandle,
+    queue: &QueueState,
+    serial: u32,
+    len: usize,
+) -> Result<(), ChainError>
+    ensures step { (page_size : ℕ) → DrivesOne page_size handle.old handle.new queue.now queue.now
+        (does.Reply serial len) (gives.Replied result) }
+{
+    handle.reply(serial, len)
+}
+
+// Decodes a request in a session of this page size, and in no other.
+#[tactic(auto, using(crate::proofs::Decoding::other_session))]
+fn decode_if<'a>(
+    handle: &mut ChainHandle,
+    queue: &QueueState,
+    page_size: u32,
+    session: Session,
+    request: &'a [u8],
+) -> Returned<'a>
+    ensures step { DrivesOne page_size handle.old handle.new queue.now queue.now
+        (does.Decode session request.entry) result }
+{
+    if session.page_size() == page_size {
+        return Returned::Decoded(drive_decode(handle, queue, session, request));
+    }
+    Returned::OtherSession
+}
+
+// Begins a push, and keeps its stores and front.
+fn begin_push<'a>(handle: &mut ChainHandle, queue: &mut QueueState) -> Returned<'a>
+    ensures step { (page_size : ℕ) → DrivesOne page_size handle.old handle.new queue.old queue.new
+        does.Push result }
+{
+    let (stores, front) = drive_push(handle, queue);
+    Returned::Began(stores, front)
+}
+
+/// Performs a command for a handle, and returns what it returned. `Push` takes its place.
+pub fn drive_one<'a>(
+    handle: &mut ChainHandle,
+    queue: &mut QueueState,
+    page_size: u32,
+    command: &mut Command<'a>,
+) -> Returned<'a>
+    ensures step { DrivesOne page_size handle.old handle.new queue.old queue.new command.old result }
+{
+    let command = mem::replace(command, Command::Push);
+    match command {
+        Command::Pop(loaded) => Returned::Popped(drive_pop(handle, queue, loaded)),
+        Command::PopAhead(ahead, bytes) => {
+            Returned::PoppedAhead(drive_ahead(handle, queue, ahead, bytes))
+        }
+        Command::Decode(session, request) => {
+            decode_if(handle, queue, page_size, session, request)
+        }
+        Command::Answer(serial, answer) => {
+            Returned::Answered(drive_answer(handle, queue, serial, answer))
+        }
+        Command::Reply(serial, len) => Returned::Replied(drive_reply(handle, queue, serial, len)),
+        Command::Push => begin_push(handle, queue),
+        Command::Pushed(seen) => Returned::Ended(drive_pushed(handle, queue, seen)),
+        Command::GiveUp => Returned::GaveUp(drive_give_up(handle, queue)),
+    }
+}
+
+/// Performs a command for one of several handles, and returns what it returned.
+#[tactic(auto, using(crate::proofs::Lists::no_place))]
+pub fn drive<'a>(
+    handles: &mut [ChainHandle],
+    k: usize,
+    queue: &mut QueueState,
+    page_size: u32,
+    command: &mut Command<'a>,
+) -> Returned<'a>
+    ensures step { Drives page_size handles.old handles.new queue.old queue.new
+        (call_of k command.old result ∷ []) }
+{
+    if k < handles.len() {
+        return drive_one(&mut handles[k], queue, page_size, command);
+    }
+    Returned::NoHandle
+}
+
+// Performs a command, and keeps what it returned.
+fn perform<'a>(
+    handles: &mut [ChainHandle],
+    k: usize,
+    queue: &mut QueueState,
+    page_size: u32,
+    command: &mut Command<'a>,
+    returned: &mut Returned<'a>,
+)
+    ensures step { Drives page_size handles.old handles.new queue.old queue.new
+        (call_of k command.old returned.new ∷ []) }
+{
+    let told = drive(handles, k, queue, page_size, command);
+    let _old = mem::replace(returned, told);
+}
+
+/// Performs commands one behind another, each for the handle in its place, and keeps what each returned: a
+/// run of the live machine, whose events are those of the calls by what they returned. It ends with the
+/// shortest of the three lists.
+#[tactic(auto, using(crate::proofs::End::places, crate::proofs::End::commands, crate::proofs::End::results))]
+pub fn drive_all<'a>(
+    handles: &mut [ChainHandle],
+    queue: &mut QueueState,
+    page_size: u32,
+    places: &[usize],
+    commands: &mut [Command<'a>],
+    returned: &mut [Returned<'a>],
+)
+    ensures step { Drives page_size handles.old handles.new queue.old queue.new
+        (calls_of places.now commands.old returned.new) }
+{
+    let mut n = 0;
+    while n < places.len() && n < commands.len() && n < returned.len() {
+        perform(
+            handles,
+            places[n],
+            queue,
+            page_size,
+            &mut commands[n],
+            &mut returned[n],
+        );
+        n += 1;
+    }
+}

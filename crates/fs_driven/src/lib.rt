@@ -1,0 +1,12 @@
+//! A driver of several handles over one queue: any sequence of its calls is a run of the live machine, and
+//! the run's events have what the calls returned.
+#![tactic(auto)]
+
+mod commands;
+pub mod laws;
+pub mod two_chains;
+
+pub use commands::{
+    Command, Returned, drive, drive_ahead, drive_all, drive_answer, drive_decode, drive_give_up,
+    drive_one, drive_pop, drive_push, drive_pushed, drive_reply,
+};
