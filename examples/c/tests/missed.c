@@ -135,6 +135,19 @@ static void refused_mappings(void) {
     has_fault("a request without access", PK_FAULT_REQUEST_UNREACHABLE);
 }
 
+/* The limit comes before the mappings: a buffer that is too long isn't missed. */
+static void too_long(void) {
+    expect("the removal", pk_iotlb_unmap(&table, AT(REPLY), PAGE), PK_DONE);
+    describe(5, AT(REPLY), PK_REQUEST_MAX + 1, 2, 0);
+    has_fault("a reply buffer over the limit", PK_FAULT_OVER_LIMIT);
+    describe(5, AT(REPLY), 0x100, 2, 0);
+    misses("the reply", AT(REPLY), 0x100, PK_ACCESS_WRITE);
+    map(REPLY, PK_ACCESS_WRITE);
+    describe(HEAD, AT(REQUEST) + 0x10, PK_REQUEST_MAX + 1, 1, 5);
+    has_fault("a request over the limit", PK_FAULT_OVER_LIMIT);
+    describe(HEAD, AT(REQUEST) + 0x10, 80, 1, 5);
+}
+
 static void what_is_refused(void) {
     struct pk_iotlb none = {0};
     uint64_t last = (uint64_t)0 - PAGE;
@@ -166,6 +179,7 @@ int main(void) {
     both_buffers_at_once();
     the_chain();
     a_removed_mapping();
+    too_long();
     refused_mappings();
     what_is_refused();
     pk_chain_free(&chain);

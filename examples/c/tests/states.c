@@ -223,6 +223,7 @@ static void restored_amid_a_push(void) {
     struct pk_stores stores;
     size_t len = 0, count = 0;
     expect("the record", pk_save(&device, &queue, 1, record, sizeof record, &len), PK_DONE);
+    queue.max_in_flight = 2;
     request(FORGET, 48);
     after("the pop", pop(), PK_DONE, PK_STATE_POPPED);
     after("the request", decode(), PK_DONE, PK_STATE_REPLIED);
@@ -230,6 +231,8 @@ static void restored_amid_a_push(void) {
           PK_STATE_PUSHING);
     expect("a restore", pk_restore(&device, &queue, 1, record, len, &count), PK_DONE);
     expect("no push is under way", queue.pushing, 0);
+    expect("most in flight", queue.max_in_flight, 2); /* the record hasn't it */
+    queue.max_in_flight = 0;
     pk_abandon(&chain);
     after("the chain again", pop(), PK_DONE, PK_STATE_POPPED);
     after("its request", decode(), PK_DONE, PK_STATE_REPLIED);
