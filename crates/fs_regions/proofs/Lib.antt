@@ -12,3 +12,4 @@ pub mod Memories
 pub mod Stretching
 pub mod ReadingOut
 pub mod Going
+pub mod GoingStraight

@@ -7,3 +7,4 @@ pub mod Laws
 pub mod Stretches
 pub mod Using
 pub mod Ahead
+pub mod Straight

@@ -1,5 +1,5 @@
 -- The regions that are a guest's memory.
-use Rattle.std.specs.Prelude.{◌≡◌, List, length, Some, None, Result, Ok, Err}
+use Rattle.std.specs.Prelude.{◌≡◌, List, ◌∷◌, length, Option, Some, None, Result, Ok, Err}
 use Rattle.vm_memory.specs.Layout.{Region}
 use Rattle.vm_memory.specs.Collecting.{RegionsWereRefused, fault_of}
 use Rattle.vm_memory.specs.declared.error.GuestRegionCollectionError.TheVariants as collection
@@ -15,3 +15,8 @@ Makes regions (Err NoRegion) = fault_of regions ≡ Some collection.NoMemoryRegi
 Makes regions (Err Unsorted) = fault_of regions ≡ Some collection.UnsortedMemoryRegions
 Makes regions (Err Overlap) = fault_of regions ≡ Some collection.MemoryRegionOverlap
 Makes regions (Err OutOfMemory) = (fault_of regions ≡ None) × RegionsWereRefused (length regions)
+
+-- regions begin with this one
+abbrev pub BeginsWith : Option Region → List Region → Type 0
+BeginsWith None regions = Unit {0}
+BeginsWith (Some first) regions = (rest : List Region) × (regions ≡ first ∷ rest)

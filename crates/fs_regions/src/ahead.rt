@@ -2,7 +2,8 @@
 
 ghost use Rattle.std.specs.Prelude.{◌≡◌, ◌≤◌, true, false, length, take};
 ghost use Rattle.smallvec.specs.SmallVec.{HasRoomFor};
-ghost use Rattle.fs_regions.specs.Walks.{asked_entries, queue_of};
+ghost use Rattle.fs_regions.specs.Places.{places_in};
+ghost use Rattle.fs_regions.specs.Walks.{IsThere, asked_entries, queue_of};
 ghost use Rattle.fs_regions.specs.Ahead.{GoesAhead, BeginsAhead, IsLoadOf, IsOtherLoad, LeavesLoad};
 ghost use Rattle.fs_regions.specs.Ahead.{loads_ahead};
 
@@ -26,9 +27,11 @@ pub struct LoadAhead {
 impl LoadAhead {
     // Whether it is of all bytes that a walk asks for.
     #[inline(always)]
+    #[tactic(auto, using(crate::proofs::GoingStraight::load_there))]
     fn is_of(&self, regions: &GuestMap, walk: &QueueWalk) -> bool
         ensures is { result ≡ true → IsLoadOf regions.now walk.now self.now }
         ensures other { result ≡ false → IsOtherLoad regions.now walk.now self.now }
+        ensures there { result ≡ true → IsThere (places_in regions.now) walk.now }
     {
         let len = walk.len();
         if len == 0 || self.len != len {
@@ -42,10 +45,10 @@ impl LoadAhead {
         }
     }
 
-    // Whether a walk takes it now: it is what the walk asks for, all its bytes are there, and the list has
-    // room for the descriptors.
+    /// Whether a walk takes it now: it is what the walk asks for, all its bytes are there, and the list has
+    /// room for the descriptors.
     #[inline(always)]
-    fn is_due(
+    pub(crate) fn is_due(
         &self,
         regions: &GuestMap,
         walk: &QueueWalk,
@@ -55,6 +58,7 @@ impl LoadAhead {
         ensures is { result ≡ true → IsLoadOf regions.now walk.now self.now
             × (self.now.len ≤ length bytes.now)
             × HasRoomFor descriptors.now (asked_entries walk.now) }
+        ensures there { result ≡ true → IsThere (places_in regions.now) walk.now }
         ensures left { result ≡ false → LeavesLoad regions.now walk.now
             (record { load = self.now; bytes = take self.now.len bytes.now }) descriptors.now }
     {
@@ -95,123 +99,10 @@ impl Course {
         }
     }
 
-    // The same behind the first stretch of a table: the pop mostly asks for no load there.
-    #[inline(always)]
-    #[tactic(auto, using(crate::proofs::Going::goes_nowhere))]
-    fn go_far(
-        &self,
-        regions: &GuestMap,
-        step: CourseStep,
-        ahead: &[LoadAhead],
-        bytes: &[u8],
-        descriptors: &mut Descriptors,
-    ) -> CourseStep
-        ensures { GoesAhead regions.now self.now.limit (queue_of self.now) (loads_ahead ahead.now bytes.now)
-            descriptors.old step descriptors.new result }
-    {
-        match step {
-            CourseStep::Load(walk) => {
-                self.go_ahead(regions, CourseStep::Load(walk), ahead, bytes, descriptors)
-            }
-            other => other,
-        }
-    }
-
-    // The same from the first stretch of a table on.
-    #[inline(always)]
-    #[tactic(auto, using(crate::proofs::Going::goes_on, crate::proofs::Going::goes_nowhere))]
-    fn go_at_table(
-        &self,
-        regions: &GuestMap,
-        step: CourseStep,
-        ahead: &[LoadAhead],
-        bytes: &[u8],
-        descriptors: &mut Descriptors,
-    ) -> CourseStep
-        ensures { GoesAhead regions.now self.now.limit (queue_of self.now) (loads_ahead ahead.now bytes.now)
-            descriptors.old step descriptors.new result }
-    {
-        match step {
-            CourseStep::Load(walk) => match ahead.split_first() {
-                Some((one, more)) => {
-                    if !one.is_due(regions, &walk, bytes, descriptors) {
-                        return CourseStep::Load(walk);
-                    }
-                    let (mine, behind) = bytes.split_at(one.len);
-                    let next = self.give(regions, walk, mine, descriptors);
-                    self.go_far(regions, next, more, behind, descriptors)
-                }
-                None => CourseStep::Load(walk),
-            },
-            other => other,
-        }
-    }
-
-    // The same from the ring's entry on.
-    #[inline(always)]
-    #[tactic(auto, using(crate::proofs::Going::goes_on, crate::proofs::Going::goes_nowhere))]
-    fn go_at_entry(
-        &self,
-        regions: &GuestMap,
-        step: CourseStep,
-        ahead: &[LoadAhead],
-        bytes: &[u8],
-        descriptors: &mut Descriptors,
-    ) -> CourseStep
-        ensures { GoesAhead regions.now self.now.limit (queue_of self.now) (loads_ahead ahead.now bytes.now)
-            descriptors.old step descriptors.new result }
-    {
-        match step {
-            CourseStep::Load(walk) => match ahead.split_first() {
-                Some((one, more)) => {
-                    if !one.is_due(regions, &walk, bytes, descriptors) {
-                        return CourseStep::Load(walk);
-                    }
-                    let (mine, behind) = bytes.split_at(one.len);
-                    let next = self.give(regions, walk, mine, descriptors);
-                    self.go_at_table(regions, next, more, behind, descriptors)
-                }
-                None => CourseStep::Load(walk),
-            },
-            other => other,
-        }
-    }
-
-    // The same from the available index on.
-    #[inline(always)]
-    #[tactic(auto, using(crate::proofs::Going::goes_on, crate::proofs::Going::goes_nowhere))]
-    fn go_at_index(
-        &self,
-        regions: &GuestMap,
-        step: CourseStep,
-        ahead: &[LoadAhead],
-        bytes: &[u8],
-        descriptors: &mut Descriptors,
-    ) -> CourseStep
-        ensures { GoesAhead regions.now self.now.limit (queue_of self.now) (loads_ahead ahead.now bytes.now)
-            descriptors.old step descriptors.new result }
-    {
-        match step {
-            CourseStep::Load(walk) => match ahead.split_first() {
-                Some((one, more)) => {
-                    if !one.is_due(regions, &walk, bytes, descriptors) {
-                        return CourseStep::Load(walk);
-                    }
-                    let (mine, behind) = bytes.split_at(one.len);
-                    let next = self.give(regions, walk, mine, descriptors);
-                    self.go_at_entry(regions, next, more, behind, descriptors)
-                }
-                None => CourseStep::Load(walk),
-            },
-            other => other,
-        }
-    }
-
-    /// Begins a pop, and goes on with loads that were made ahead, whose bytes lie one behind another. A load
-    /// is taken only if it is just the one that the pop asks for.
-    #[inline(always)]
+    // Begins a pop, and goes on with loads that were made ahead, step by step.
+    #[inline(never)]
     #[tactic(auto, using(crate::proofs::Going::begins_so))]
-    pub fn begin_ahead(
+    fn begin_stepwise(
         &self,
         regions: &GuestMap,
         ahead: &[LoadAhead],
@@ -222,6 +113,25 @@ impl Course {
             descriptors.new result }
     {
         let begun = self.begin(regions, descriptors);
-        self.go_at_index(regions, begun, ahead, bytes, descriptors)
+        self.go_ahead(regions, begun, ahead, bytes, descriptors)
+    }
+
+    /// Begins a pop, and goes on with loads that were made ahead, whose bytes lie one behind another. A load
+    /// is taken only if it is just the one that the pop asks for.
+    #[inline(always)]
+    pub fn begin_ahead(
+        &self,
+        regions: &GuestMap,
+        ahead: &[LoadAhead],
+        bytes: &[u8],
+        descriptors: &mut Descriptors,
+    ) -> CourseStep
+        ensures { BeginsAhead regions.now self.now.limit (queue_of self.now) (loads_ahead ahead.now bytes.now)
+            descriptors.new result }
+    {
+        match self.straight(regions, ahead, bytes, descriptors) {
+            Some(head) => CourseStep::Chain(head, None),
+            None => self.begin_stepwise(regions, ahead, bytes, descriptors),
+        }
     }
 }

@@ -46,7 +46,8 @@ pub struct Course {
     pub limit: u32,
 }
 
-fn pair(bytes: &[u8]) -> [u8; 2]
+// Two bytes.
+pub(crate) fn pair(bytes: &[u8]) -> [u8; 2]
     requires { length bytes.now ≡ 2 }
     ensures { result ≡ bytes.now }
 {
@@ -290,8 +291,8 @@ impl Course {
         }
     }
 
-    // How many descriptors may still join a chain that has some.
-    fn may_join(&self, descriptors: &[Descriptor]) -> usize
+    /// How many descriptors may still join a chain that has some.
+    pub(crate) fn may_join(&self, descriptors: &[Descriptor]) -> usize
         ensures { result ≡ self.now.layout.size - length descriptors.now }
     {
         usize::from(self.layout.size()).saturating_sub(descriptors.len())

@@ -11,6 +11,7 @@ mod misses;
 mod region;
 mod regions;
 mod step;
+mod straight;
 mod stretch;
 mod using;
 mod walk;

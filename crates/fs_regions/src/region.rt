@@ -1,6 +1,7 @@
 //! A region of a guest's memory, which lies in host memory.
 
 ghost use Rattle.std.specs.Prelude.{◌≡◌};
+ghost use Rattle.vm_iotlb.specs.Table.{is_within};
 ghost use Rattle.fs_regions.specs.Places.{region_if};
 
 use std::marker::Model;
@@ -50,6 +51,14 @@ impl MemoryRegion {
             size,
             number,
         })
+    }
+
+    /// Whether it has an address.
+    #[inline(always)]
+    pub(crate) fn has(&self, addr: u64) -> bool
+        ensures { result ≡ is_within self.now.start self.now.size addr }
+    {
+        self.start <= addr && addr - self.start < self.size
     }
 }
 

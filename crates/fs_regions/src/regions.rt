@@ -1,8 +1,8 @@
 //! The regions of a guest's memory.
 
-ghost use Rattle.std.specs.Prelude.{◌≡◌, ◌<◌, [], IfSome, None, min};
+ghost use Rattle.std.specs.Prelude.{◌≡◌, ◌+◌, ◌<◌, ◌^◌, [], IfSome, None, min, option_map, true};
 ghost use Rattle.vm_iotlb.specs.declared.permissions.Permissions.{Permissions};
-ghost use Rattle.vm_memory.specs.Layout.{left_at, place};
+ghost use Rattle.vm_memory.specs.Layout.{IsLayout, left_at, place, region_at};
 ghost use Rattle.vm_memory.specs.Memory.{reach};
 ghost use Rattle.vm_memory.specs.Slices.{IsWindowAt};
 ghost use Rattle.fs_regions.specs.Places.{places_in, untranslated};
@@ -33,15 +33,20 @@ pub enum RegionsError {
 #[derive(Drop)]
 pub struct GuestRegions {
     regions: GuestRegionCollection<MemoryRegion>,
+    // A copy of the first region, in which most look-ups find their address.
+    first: Option<MemoryRegion>,
 }
 
 impl Model for GuestRegions {
     ghost use Rattle.std.specs.Prelude.{List};
-    ghost use Rattle.vm_memory.specs.Layout.{Region};
+    ghost use Rattle.vm_memory.specs.Layout.{Region, IsLayout};
+    ghost use Rattle.fs_regions.specs.Making.{BeginsWith};
 
     ghost Value = { List Region };
 
     ghost view = { λ m. m.regions };
+
+    ghost invariant = { λ m. IsLayout m.regions × BeginsWith m.first m.regions };
 }
 
 impl GuestRegions {
@@ -51,7 +56,22 @@ impl GuestRegions {
     {
         GuestRegions {
             regions: GuestRegionCollection::new(alloc),
+            first: None,
         }
+    }
+
+    // The memory of some regions that are a layout.
+    fn of_collection(regions: GuestRegionCollection<MemoryRegion>) -> GuestRegions
+        ensures { result ≡ regions }
+    {
+        // Its contract says that they are a layout.
+        let _ = regions.find_region(GuestAddress(0));
+        let mut left = regions.iter();
+        let first = match left.next() {
+            Some(region) => Some(*region),
+            None => None,
+        };
+        GuestRegions { regions, first }
     }
 
     /// The memory of some regions, which must ascend and have no address in common. Errors: `NoRegion`,
@@ -63,7 +83,7 @@ impl GuestRegions {
         ensures { Makes regions.items result }
     {
         match GuestRegionCollection::from_regions(alloc, regions) {
-            Ok(regions) => Ok(GuestRegions { regions }),
+            Ok(regions) => Ok(GuestRegions::of_collection(regions)),
             Err(GuestRegionCollectionError::NoMemoryRegion) => Err(RegionsError::NoRegion),
             Err(GuestRegionCollectionError::MemoryRegionOverlap) => Err(RegionsError::Overlap),
             Err(GuestRegionCollectionError::UnsortedMemoryRegions) => Err(RegionsError::Unsorted),
@@ -71,12 +91,53 @@ impl GuestRegions {
         }
     }
 
+    // The region that has an address.
+    #[inline(always)]
+    fn find(&self, addr: u64) -> Option<&MemoryRegion>
+        ensures found { option_map (λ r. r.now) result ≡ region_at self.now addr }
+        ensures layout { IsLayout self.now }
+    {
+        match &self.first {
+            Some(first) => {
+                if first.has(addr) {
+                    return Some(first);
+                }
+                self.regions.find_region(GuestAddress(addr))
+            }
+            None => self.regions.find_region(GuestAddress(addr)),
+        }
+    }
+
+    // Whether the region of an address has each of `len` addresses from there on.
+    #[inline(always)]
+    fn has_in_one(&self, addr: u64, len: usize) -> bool
+        ensures { result ≡ true → addr + len < 2 ^ 64 → (access : Permissions)
+            → reach (places_in (untranslated self.now)) access addr len ≡ true }
+    {
+        match self.find(addr) {
+            Some(region) => len as u64 <= region.len() - (addr - region.start_addr().0),
+            None => false,
+        }
+    }
+
     /// Whether each of `len` addresses from one on is mapped, and their end is an address.
+    #[inline(always)]
     pub fn reaches(&self, addr: u64, len: usize) -> bool
         ensures { (access : Permissions)
             → result ≡ reach (places_in (untranslated self.now)) access addr len }
     {
-        len as u64 <= u64::MAX - addr && self.regions.has_range(GuestAddress(addr), len)
+        len as u64 <= u64::MAX - addr && (self.has_in_one(addr, len) || self.has_each(addr, len))
+    }
+
+    // The same of addresses whose end is one, across regions.
+    #[cold]
+    #[inline(never)]
+    fn has_each(&self, addr: u64, len: usize) -> bool
+        requires { addr + len < 2 ^ 64 }
+        ensures { (access : Permissions)
+            → result ≡ reach (places_in (untranslated self.now)) access addr len }
+    {
+        self.regions.has_range(GuestAddress(addr), len)
     }
 
     /// The longest window of at most `most` bytes from an address on: its block is the region's number, and
@@ -88,7 +149,7 @@ impl GuestRegions {
         ensures some { IfSome result (IsWindowAt (place self.now) addr most) }
         ensures longest { IfSome result (λ w. w.len ≡ min most (left_at self.now addr)) }
     {
-        match self.regions.find_region(GuestAddress(addr)) {
+        match self.find(addr) {
             Some(region) => {
                 let offset = addr - region.start_addr().0;
                 let len = (region.len() - offset).min(most as u64) as usize;

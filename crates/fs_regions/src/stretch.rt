@@ -30,9 +30,9 @@ fn most_of(table: DescriptorTable) -> u16
     }
 }
 
-// The most entries that a walk asks for: at least 1, none past the end of its table, no more than a
-// load of that table may have, and no more than descriptors may still join the chain.
-fn most_entries(walk: &ChainWalk, may_join: usize) -> u16
+/// The most entries that a walk asks for: at least 1, none past the end of its table, no more than a
+/// load of that table may have, and no more than descriptors may still join the chain.
+pub(crate) fn most_entries(walk: &ChainWalk, may_join: usize) -> u16
     ensures some { 0 < result }
     ensures few { result ≤ most_of walk.now.table }
     ensures low { result ≤ 256 }
