@@ -132,8 +132,7 @@ pub extern "C" fn pk_pop(
         *pop = FsPop::nothing();
         return wrong_order();
     };
-    let (told, status) = pop_handle(&mut handle, queue, loaded);
-    *pop = told;
+    let status = pop_handle(&mut handle, queue, loaded, pop);
     *chain = FsChain::of_box(handle);
     status
 }
@@ -157,8 +156,7 @@ pub extern "C" fn pk_pop_ahead(
         *pop = FsPop::nothing();
         return wrong_order();
     };
-    let (told, status) = pop_handle_ahead(&mut handle, queue, ahead, bytes);
-    *pop = told;
+    let status = pop_handle_ahead(&mut handle, queue, ahead, bytes, pop);
     *chain = FsChain::of_box(handle);
     status
 }
@@ -259,8 +257,7 @@ pub extern "C" fn pk_push(
         *stores = FsStores::nothing();
         return wrong_order();
     };
-    let (told, status) = push_handle(&mut handle, queue, front);
-    *stores = told;
+    let status = push_handle(&mut handle, queue, front, stores);
     *chain = FsChain::of_box(handle);
     status
 }

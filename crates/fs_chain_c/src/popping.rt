@@ -77,52 +77,52 @@ pub fn host_at(window: &VolatileSlice) -> usize
 }
 
 // The load that a pop still needs, if any.
-fn still_wanted(handle: &ChainHandle) -> FsPop
-    ensures told { TellsWanted handle.now result }
-    ensures few { result.load_len ≤ 4096 }
+fn still_wanted(handle: &ChainHandle, step: &mut FsPop)
+    ensures told { TellsWanted handle.now step.new }
+    ensures few { step.new.load_len ≤ 4096 }
 {
-    let mut step = FsPop::nothing();
+    *step = FsPop::nothing();
     match handle.still_wanted() {
         Some(window) => {
             step.load_at = host_at(&window);
             step.load_len = window.len();
-            step
         }
-        None => step,
+        None => {}
     }
 }
 
 // The load that the pop still needs, and a status; nothing if its address isn't mapped.
-fn told_load(handle: &ChainHandle) -> (FsPop, u32)
-    ensures told { TellsLoad handle.now result.0 result.1 }
-    ensures few { result.0.load_len ≤ 4096 }
+fn told_load(handle: &ChainHandle, step: &mut FsPop) -> u32
+    ensures told { TellsLoad handle.now step.new result }
+    ensures few { step.new.load_len ≤ 4096 }
 {
-    let mut step = FsPop::nothing();
+    *step = FsPop::nothing();
     match handle.still_wanted() {
         Some(window) => {
             step.load_at = host_at(&window);
             step.load_len = window.len();
-            (step, LOAD)
+            LOAD
         }
-        None => (step, NOT_MAPPED),
+        None => NOT_MAPPED,
     }
 }
 
 // A pop's result, as C gets it.
-fn told(handle: &ChainHandle, went: LoadOutcome) -> (FsPop, u32)
-    ensures told { TellsWent handle.now went result.0 result.1 }
-    ensures few { result.0.load_len ≤ 4096 }
+#[inline(always)]
+fn told(handle: &ChainHandle, went: LoadOutcome, step: &mut FsPop) -> u32
+    ensures told { TellsWent handle.now went step.new result }
+    ensures few { step.new.load_len ≤ 4096 }
 {
-    let mut step = FsPop::nothing();
+    *step = FsPop::nothing();
     match went {
-        LoadOutcome::Part | LoadOutcome::On(PopOutcome::Load(_)) => told_load(handle),
-        LoadOutcome::On(PopOutcome::Idle) => (step, IDLE),
-        LoadOutcome::On(PopOutcome::Refused(error)) => (step, u32::from(error.number())),
+        LoadOutcome::Part | LoadOutcome::On(PopOutcome::Load(_)) => told_load(handle, step),
+        LoadOutcome::On(PopOutcome::Idle) => IDLE,
+        LoadOutcome::On(PopOutcome::Refused(error)) => u32::from(error.number()),
         LoadOutcome::On(PopOutcome::Missing { range, access }) => {
             step.miss_at = range.base.0;
             step.miss_len = range.length as u64;
             step.miss_access = access_number(access);
-            (step, MISS)
+            MISS
         }
         LoadOutcome::On(
             PopOutcome::Chain {
@@ -135,58 +135,67 @@ fn told(handle: &ChainHandle, went: LoadOutcome) -> (FsPop, u32)
             step.request_len = request_len as u64;
             step.reply_len = room_len as u64;
             step.ticket = handle.serial();
-            (step, 0)
+            0
         }
         LoadOutcome::On(PopOutcome::Faulty { head, fault }) => {
             step.head = head;
             step.fault = u32::from(fault.number());
-            (step, 0)
+            0
         }
     }
 }
 
-/// Pops the next chain of a queue: at first without bytes, then with those of each load.
-pub fn pop_handle(handle: &mut ChainHandle, queue: &mut FsQueue, loaded: &[u8]) -> (FsPop, u32)
-    ensures pops { PopsHandle handle.old queue.old loaded.now result.0 result.1 handle.new queue.new }
-    ensures few { result.0.load_len ≤ 4096 }
+/// Pops the next chain of a queue: at first without bytes, then with those of each load. Returns a status.
+pub fn pop_handle(
+    handle: &mut ChainHandle,
+    queue: &mut FsQueue,
+    loaded: &[u8],
+    step: &mut FsPop,
+) -> u32
+    ensures pops { PopsHandle handle.old queue.old loaded.now step.new result handle.new queue.new }
+    ensures few { step.new.load_len ≤ 4096 }
 {
     let Some(mut kept) = queue.kept() else {
-        return (
-            FsPop::nothing(),
-            u32::from(ChainError::BadArgument.number()),
-        );
+        *step = FsPop::nothing();
+        return u32::from(ChainError::BadArgument.number());
     };
     match handle.pop(&mut kept, loaded) {
         Ok(went) => {
             queue.put(&kept);
-            told(handle, went)
+            told(handle, went, step)
         }
-        Err(error) => (still_wanted(handle), u32::from(error.number())),
+        Err(error) => {
+            still_wanted(handle, step);
+            u32::from(error.number())
+        }
     }
 }
 
 /// Begins a pop, and goes on with loads that were made ahead, as long as each is the one that it asks for.
+/// Returns a status.
 pub fn pop_handle_ahead(
     handle: &mut ChainHandle,
     queue: &mut FsQueue,
     ahead: &[LoadAhead],
     bytes: &[u8],
-) -> (FsPop, u32)
-    ensures pops { PopsHandleAhead handle.old queue.old (loads_ahead ahead.now bytes.now) result.0 result.1
+    step: &mut FsPop,
+) -> u32
+    ensures pops { PopsHandleAhead handle.old queue.old (loads_ahead ahead.now bytes.now) step.new result
         handle.new queue.new }
-    ensures few { result.0.load_len ≤ 4096 }
+    ensures few { step.new.load_len ≤ 4096 }
 {
     let Some(mut kept) = queue.kept() else {
-        return (
-            FsPop::nothing(),
-            u32::from(ChainError::BadArgument.number()),
-        );
+        *step = FsPop::nothing();
+        return u32::from(ChainError::BadArgument.number());
     };
     match handle.pop_ahead(&mut kept, ahead, bytes) {
         Ok(went) => {
             queue.put(&kept);
-            told(handle, LoadOutcome::On(went))
+            told(handle, LoadOutcome::On(went), step)
         }
-        Err(error) => (still_wanted(handle), u32::from(error.number())),
+        Err(error) => {
+            still_wanted(handle, step);
+            u32::from(error.number())
+        }
     }
 }

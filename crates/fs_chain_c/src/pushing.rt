@@ -81,6 +81,7 @@ pub(crate) fn here(
 }
 
 // The stores of a push by their host addresses; None if one isn't mapped.
+#[inline(always)]
 fn told_stores(handle: &ChainHandle, stores: &PushStores) -> Option<FsStores>
     ensures some { IfSome result (TellsStores handle.now.regions stores.now) }
     ensures none { result ≡ None → HaveNoPlaces handle.now.regions stores.now }
@@ -112,42 +113,53 @@ fn told_stores(handle: &ChainHandle, stores: &PushStores) -> Option<FsStores>
     })
 }
 
-// Pushes a chain to the core's queue.
+// Pushes a chain to the core's queue, and returns a status.
 fn return_kept(
     handle: &mut ChainHandle,
     queue: &mut FsQueue,
     mut kept: QueueState,
     front: &mut [u8],
-) -> (FsStores, u32)
-    ensures { ReturnsKept handle.old queue.old kept front.old result.0 result.1 handle.new
+    told: &mut FsStores,
+) -> u32
+    ensures { ReturnsKept handle.old queue.old kept front.old told.new result handle.new
         queue.new front.new }
 {
     match handle.push(&mut kept, front) {
         Ok(stores) => {
             queue.put(&kept);
             match told_stores(handle, &stores) {
-                Some(told) => (told, 0),
-                None => (FsStores::nothing(), NOT_MAPPED),
+                Some(found) => {
+                    *told = found;
+                    0
+                }
+                None => {
+                    *told = FsStores::nothing();
+                    NOT_MAPPED
+                }
             }
         }
-        Err(error) => (FsStores::nothing(), u32::from(error.number())),
+        Err(error) => {
+            *told = FsStores::nothing();
+            u32::from(error.number())
+        }
     }
 }
 
-/// Returns the stores of a push, and writes the reply's front to a buffer.
+/// Tells the stores of a push, and writes the reply's front to a buffer. Returns a status.
 pub fn push_handle(
     handle: &mut ChainHandle,
     queue: &mut FsQueue,
     front: &mut [u8],
-) -> (FsStores, u32)
-    ensures { PushesHandle handle.old queue.old front.old result.0 result.1 handle.new queue.new front.new }
+    told: &mut FsStores,
+) -> u32
+    ensures { PushesHandle handle.old queue.old front.old told.new result handle.new queue.new front.new }
 {
     match queue.kept() {
-        Some(kept) => return_kept(handle, queue, kept, front),
-        None => (
-            FsStores::nothing(),
-            u32::from(ChainError::BadArgument.number()),
-        ),
+        Some(kept) => return_kept(handle, queue, kept, front, told),
+        None => {
+            *told = FsStores::nothing();
+            u32::from(ChainError::BadArgument.number())
+        }
     }
 }
 
