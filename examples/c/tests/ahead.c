@@ -159,7 +159,7 @@ static size_t pop_by_list(struct pk_chain *chain, struct pk_queue *queue, const 
     return calls;
 }
 
-static const struct pk_queue fresh = {
+static struct pk_queue fresh = {
     .desc = DESC, .avail = AVAIL, .used = USED, .size = SIZE, .max_in_flight = SIZE};
 
 /* A queue in which so many chains were popped, and up to SIZE - 1 are in flight. */
@@ -250,6 +250,7 @@ int main(int argc, char **argv) {
     chance_begin(0x9e3779b97f4a7c15u);
     regions[0] = (struct pk_region){0, MEMORY, (uintptr_t)memory};
     region_count = 1;
+    expect("the queue", pk_queue_begin(&fresh, 0), PK_DONE);
     refuses();
     for (long k = 0; k < tries; k++) try_one();
     /* the indirect table crosses two regions */

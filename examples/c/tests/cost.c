@@ -216,6 +216,7 @@ int main(int argc, char **argv) {
         .size = SIZE, .desc = DESC, .avail = AVAIL, .used = USED, .max_in_flight = MOST_OUT};
     mappings = argc > 2 ? strtoul(argv[2], NULL, 10) : 0;
     make_table();
+    if (pk_queue_begin(&queue, 0)) return 1;
     if (mappings == 0) pk_ring_find(&ring, &queue, &region, 1);
     for (size_t k = 0; k < MOST_OUT; k++)
         if (count < 1 || pk_chain_set_memory(&chains[k], &device, &region, 1)) return 1;

@@ -359,7 +359,8 @@ static bool run(uint64_t number, bool goes_on) {
     now.low = LOW;
     now.device = now.moved = (struct pk_device)PK_DEVICE;
     now.queues[0] = (struct pk_queue){
-        .desc = DESC, .avail = AVAIL, .used = USED, .size = SIZE, .max_in_flight = HANDLES};
+        .desc = DESC, .avail = AVAIL, .used = USED, .size = SIZE, .max_in_flight = HANDLES,
+        .reset_count = 1 /* as if it had begun: the same in each run */};
     now.queues[1] = (struct pk_queue){
         .used = 0x1000, .size = 8, .next_avail = 7, .next_used = 7, .stopped = PK_STOPPED};
     memset(chains, 0, sizeof chains);
