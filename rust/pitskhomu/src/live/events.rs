@@ -68,10 +68,8 @@ pub(super) struct Events {
     wake: File,
 }
 
-/// The source of an event: the driver.
-const KICK: u64 = 0;
-/// Or `Events::wake`.
-const WAKE: u64 = 1;
+/// The source of an event: `Events::wake`, or else the driver, by the number of its event.
+const WAKE: u64 = 0;
 
 impl Events {
     pub fn new() -> io::Result<Events> {
@@ -93,14 +91,15 @@ impl Events {
         }
     }
 
-    /// Waits for the driver's notifications too.
-    pub fn add(&self, kick: &File) -> io::Result<()> {
-        self.control(EPOLL_CTL_ADD, kick, KICK)
+    /// Waits for the driver's notifications too. `number` isn't 0, and tells this event of the
+    /// driver's from those before.
+    pub fn add(&self, kick: &File, number: u64) -> io::Result<()> {
+        self.control(EPOLL_CTL_ADD, kick, number)
     }
 
     pub fn remove(&self, kick: &File) {
         // This fails if it was removed already, because it ended.
-        let _ = self.control(EPOLL_CTL_DEL, kick, KICK);
+        let _ = self.control(EPOLL_CTL_DEL, kick, 0);
     }
 
     /// The event that wakes one thread, for others.
@@ -114,20 +113,20 @@ impl Events {
     }
 
     /// Waits for an event, at most so many milliseconds, or for ever if they are negative. Returns
-    /// whether the driver's has ended, and is to be removed.
-    pub fn wait(&self, milliseconds: c_int) -> io::Result<bool> {
+    /// the number of the driver's if that has ended, and is to be removed.
+    pub fn wait(&self, milliseconds: c_int) -> io::Result<Option<u64>> {
         let mut events = [EpollEvent { events: 0, data: 0 }; 2];
         // SAFETY: there is room for two events, and the call keeps no pointer.
         let count =
             unsafe { epoll_wait(self.epoll.as_raw_fd(), events.as_mut_ptr(), 2, milliseconds) };
         if count < 0 {
             let error = io::Error::last_os_error();
-            return if error.kind() == ErrorKind::Interrupted { Ok(false) } else { Err(error) };
+            return if error.kind() == ErrorKind::Interrupted { Ok(None) } else { Err(error) };
         }
-        let has_ended = |event: &EpollEvent| {
+        let ended = |event: &EpollEvent| {
             let (events, data) = (event.events, event.data);
-            data == KICK && events & (EPOLLERR | EPOLLHUP) != 0
+            (data != WAKE && events & (EPOLLERR | EPOLLHUP) != 0).then_some(data)
         };
-        Ok(events[..usize::try_from(count).unwrap_or(0)].iter().any(has_ended))
+        Ok(events[..usize::try_from(count).unwrap_or(0)].iter().find_map(ended))
     }
 }

@@ -7,7 +7,7 @@ use core::ops::{Deref, DerefMut};
 use std::fs::File;
 use std::io;
 use std::sync::{Condvar, Mutex, MutexGuard, PoisonError};
-use std::time::Duration;
+use std::time::{Duration, Instant};
 
 /// What a device keeps of a queue under the queue's lock. A [`Queue`] by itself is enough for a
 /// device that keeps nothing else.
@@ -137,6 +137,8 @@ pub trait Server<Q> {
 pub struct Locked<Q> {
     queued: Q,
     pub(super) kick: Option<File>,
+    /// The number of events of the driver's so far, which is that of the last one.
+    pub(super) kicks: u64,
     /// Whether notifications of the driver are enabled, and with an event index at which position,
     /// since the queue has begun. Unknown at first.
     pub(super) told: Option<(u64, bool, u16)>,
@@ -149,8 +151,8 @@ pub struct Locked<Q> {
     pub(super) returned: u64,
     /// No chain from this position on is popped (`Loop::settle`).
     pub(super) until: Option<u16>,
-    /// Another thread waits until chains are popped or pushed.
-    pub(super) is_awaited: bool,
+    /// So many threads wait until chains are popped or pushed.
+    pub(super) waiters: usize,
     /// The next chain has addresses that the IOMMU's table doesn't map.
     pub(super) is_missing: bool,
 }
@@ -203,7 +205,7 @@ impl<Q: Queued> Locked<Q> {
     /// [`Loop::notify_waiting`] after a change that may end its wait.
     #[must_use]
     pub fn is_awaited(&self) -> bool {
-        self.is_awaited
+        self.waiters > 0
     }
 }
 
@@ -312,13 +314,14 @@ impl<Q: Queued> Loop<Q> {
         let state = Locked {
             queued,
             kick: None,
+            kicks: 0,
             told: None,
             sleeping: 0,
             is_woken: false,
             popped: 0,
             returned: 0,
             until: None,
-            is_awaited: false,
+            waiters: 0,
             is_missing: false,
         };
         Loop { state: Mutex::new(state), changed: Condvar::new(), events }
@@ -339,7 +342,8 @@ impl<Q: Queued> Loop<Q> {
             self.events.remove(&old);
         }
         if let Some(kick) = kick {
-            self.events.add(&kick)?;
+            state.kicks += 1;
+            self.events.add(&kick, state.kicks)?;
             state.kick = Some(kick);
         }
         Ok(())
@@ -359,10 +363,14 @@ impl<Q: Queued> Loop<Q> {
     /// `notify_waiting`.
     pub fn wait_while<'a>(
         &self,
-        state: MutexGuard<'a, Locked<Q>>,
-        condition: impl FnMut(&mut Locked<Q>) -> bool,
+        mut state: MutexGuard<'a, Locked<Q>>,
+        mut condition: impl FnMut(&mut Locked<Q>) -> bool,
     ) -> MutexGuard<'a, Locked<Q>> {
-        self.changed.wait_while(state, condition).unwrap_or_else(PoisonError::into_inner)
+        // std's own loop ends early if a thread has panicked under the lock
+        while condition(&mut state) {
+            state = self.changed.wait(state).unwrap_or_else(PoisonError::into_inner);
+        }
+        state
     }
 
     /// The same, for this time at most. Returns whether the condition still holds.
@@ -370,12 +378,21 @@ impl<Q: Queued> Loop<Q> {
         &self,
         mut state: MutexGuard<'a, Locked<Q>>,
         time: Duration,
-        condition: impl FnMut(&mut Locked<Q>) -> bool,
+        mut condition: impl FnMut(&mut Locked<Q>) -> bool,
     ) -> (MutexGuard<'a, Locked<Q>>, bool) {
-        state.is_awaited = true;
-        let waited = self.changed.wait_timeout_while(state, time, condition);
-        let (mut state, timeout) = waited.unwrap_or_else(PoisonError::into_inner);
-        state.is_awaited = false;
-        (state, timeout.timed_out())
+        let begun = Instant::now();
+        state.waiters += 1;
+        let mut is_held = condition(&mut state);
+        while is_held {
+            let left = match time.checked_sub(begun.elapsed()) {
+                Some(left) => left,
+                None => break,
+            };
+            let waited = self.changed.wait_timeout(state, left);
+            state = waited.unwrap_or_else(PoisonError::into_inner).0;
+            is_held = condition(&mut state);
+        }
+        state.waiters -= 1;
+        (state, is_held)
     }
 }

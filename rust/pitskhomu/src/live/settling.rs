@@ -63,9 +63,9 @@ impl<Q: Queued> Loop<Q> {
         mut state: MutexGuard<'a, Locked<Q>>,
         mut is_within: impl FnMut() -> bool,
     ) -> MutexGuard<'a, Locked<Q>> {
-        state.is_awaited = true;
+        state.waiters += 1;
         state = self.wait_while(state, |_| is_within());
-        state.is_awaited = false;
+        state.waiters -= 1;
         state.until = None;
         state
     }

@@ -107,8 +107,13 @@ impl<Q: Queued> Loop<Q> {
     /// Waits for an event.
     fn wait(&self, server: &mut impl Server<Q>, milliseconds: c_int) -> io::Result<()> {
         // [Wakens]: by the driver's notification, by `wake`, or by neither
-        if self.events.wait(milliseconds)? {
-            let _ = self.set_kick(&mut self.lock(), None); // a removal can't fail
+        if let Some(number) = self.events.wait(milliseconds)? {
+            let mut state = self.lock();
+            if state.kicks != number {
+                return Ok(()); // there is another by now
+            }
+            let _ = self.set_kick(&mut state, None); // a removal can't fail
+            drop(state);
             server.loses_kick();
         }
         Ok(())
@@ -124,7 +129,7 @@ impl<Q: Queued> Loop<Q> {
         // [ReturnsChains]; of the used ring [Publishes], a full barrier, [ChecksWish]
         let must_undo = server.push(&mut state);
         state.returned += 1;
-        if state.is_awaited {
+        if state.is_awaited() {
             self.notify_waiting();
         }
         if must_undo {
@@ -144,7 +149,7 @@ impl<Q: Queued> Loop<Q> {
         state.popped += 1;
         let number = state.popped;
         server.begins(&mut state, number);
-        if state.is_awaited {
+        if state.is_awaited() {
             self.notify_waiting();
         }
         let wakes = state.hand_on(server);
@@ -196,7 +201,7 @@ impl<Q: Queued> Loop<Q> {
         looked: Looked,
         turn: &mut Turn,
     ) -> (MutexGuard<'a, Locked<Q>>, Option<Rest>) {
-        if state.is_awaited {
+        if state.is_awaited() {
             self.notify_waiting();
         }
         // [Wishes], and one more round, whose pop is the look once more: [SleepsNow] or

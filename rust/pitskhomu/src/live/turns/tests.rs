@@ -1,10 +1,15 @@
 //! Threads over a ring that is two numbers, with an IOMMU and calls that end when the test says so.
 use super::*;
+use crate::live::events::{new_event, signal};
 use crate::queue::{Queue, QueueLayout};
 use alloc::boxed::Box;
 use alloc::sync::Arc;
 use alloc::vec;
 use alloc::vec::Vec;
+use core::sync::atomic::{AtomicBool, Ordering};
+use std::fs::File;
+use std::os::unix::io::OwnedFd;
+use std::os::unix::net::UnixStream;
 use std::sync::mpsc::{channel, Receiver, Sender};
 use std::thread;
 use std::time::{Duration, Instant};
@@ -312,6 +317,83 @@ fn who_stops_does_not_wait_for_an_iommu() {
     let state = looping.pop_until(state, 2, || SOON);
     assert_eq!(state.until, None);
     assert!(before.elapsed() < SOON);
+}
+
+/// Waits until something holds of the loop.
+fn until(looping: &Loop<Ring>, what: impl Fn(&Locked<Ring>) -> bool) {
+    let begun = Instant::now();
+    while !what(&looping.lock()) {
+        assert!(begun.elapsed() < SOON);
+        thread::yield_now();
+    }
+}
+
+/// The driver's event ends, and before its end is heard there is another.
+#[test]
+fn an_event_that_replaces_another_is_heard() {
+    let looping = Arc::new(ring(0, 0));
+    let (event, driver) = UnixStream::pair().unwrap();
+    let event = File::from(OwnedFd::from(event));
+    looping.set_kick(&mut looping.lock(), Some(event)).unwrap();
+    let threads = looping.clone();
+    thread::spawn(move || threads.run(&mut Fake::default())); // it ends with the process
+    until(&looping, |state| state.sleeping == 1 && state.told.is_some());
+    let (mut state, event) = (looping.lock(), new_event().unwrap());
+    drop(driver);
+    thread::sleep(MOMENT); // the thread wakes, and waits for the lock
+    looping.set_kick(&mut state, Some(event.try_clone().unwrap())).unwrap();
+    drop(state);
+    thread::sleep(MOMENT);
+    until(&looping, |state| state.sleeping == 1);
+    looping.lock().available = 1;
+    signal(&event).unwrap();
+    until(&looping, |state| state.queue.next_used() == 1);
+}
+
+/// One wait ends before another.
+#[test]
+fn several_threads_wait_at_once() {
+    let (looping, has_begun, end) = held(1);
+    has_begun.recv_timeout(SOON).unwrap();
+    let waiter = looping.clone();
+    let waits = thread::spawn(move || {
+        let begun = Instant::now();
+        drop(waiter.settle(waiter.lock(), 2 * SOON));
+        begun.elapsed()
+    });
+    until(&looping, Locked::is_awaited);
+    drop(looping.settle(looping.lock(), Duration::from_millis(1)));
+    assert!(looping.lock().is_awaited());
+    end.send(()).unwrap();
+    assert!(waits.join().unwrap() < SOON, "nobody says that the chain is returned");
+}
+
+/// A thread has panicked under the lock. Waits go on as before.
+#[test]
+fn a_panic_ends_no_wait() {
+    let (looping, has_begun, _end) = held(1);
+    has_begun.recv_timeout(SOON).unwrap();
+    let other = looping.clone();
+    let panics = thread::spawn(move || {
+        let _state = other.lock();
+        panic!("the memory panics, as the test wants it");
+    });
+    assert!(panics.join().is_err());
+    let (other, is_over) = (looping.clone(), Arc::new(AtomicBool::new(false)));
+    let over = is_over.clone();
+    let notifier = thread::spawn(move || {
+        while !over.load(Ordering::Relaxed) {
+            other.notify_waiting();
+            thread::yield_now();
+        }
+    });
+    let begun = Instant::now();
+    let state = looping.settle(looping.lock(), MOMENT);
+    assert!(begun.elapsed() >= MOMENT);
+    drop(looping.close(state, || begun.elapsed() < 2 * MOMENT));
+    assert!(begun.elapsed() >= 2 * MOMENT);
+    is_over.store(true, Ordering::Relaxed);
+    notifier.join().unwrap();
 }
 
 /// One thread's end wakes the next.
