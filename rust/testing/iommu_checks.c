@@ -171,6 +171,21 @@ static void asks_nothing(void) {
     }
 }
 
+/* The memory is without the rings for a while. Then what is missed is asked for again. */
+static void loses_memory(void) {
+    struct {
+        uint32_t count, padding;
+        uint64_t guest, len, user, offset;
+    } high = {1, 0, HIGH, REGION_LEN, user_at(HIGH), REGION_LEN};
+    pthread_mutex_lock(&line);
+    check("SET_MEM_TABLE without the rings",
+          front_tell(&front, SET_MEM_TABLE, &high, sizeof high, &front.memory_fd, 1) == 0);
+    front_set_memory(&front);
+    pthread_mutex_unlock(&line);
+    flush();
+    ask_root("GETATTR when the memory is back");
+}
+
 /* No message waits for a miss. */
 static void stops(void) {
     struct fuse_getattr_in in = {0};
@@ -198,6 +213,7 @@ static void stops(void) {
         ask_root("GETATTR after a stop");
     }
     asks_nothing();
+    loses_memory();
     printf("iommu: no message waits for a miss\n");
 }
 

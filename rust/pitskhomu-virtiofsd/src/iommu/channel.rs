@@ -57,8 +57,13 @@ impl Cancel {
         self.count.load(Ordering::Acquire)
     }
 
+    /// Whether they don't.
+    pub fn is_set(&self) -> bool {
+        self.is_set.load(Ordering::Acquire)
+    }
+
     fn is_set_since(&self, count: u64) -> bool {
-        self.is_set.load(Ordering::Acquire) || self.count() != count
+        self.is_set() || self.count() != count
     }
 }
 

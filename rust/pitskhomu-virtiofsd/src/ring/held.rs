@@ -128,6 +128,7 @@ impl Ring {
 
     /// The new memory is there. A ring whose parts it lacks doesn't run until it has them.
     pub fn enter_memory(&self, state: &mut State, memory: &Table) {
+        self.asking.resume();
         let is_mapped = memory.has_parts(&state.numbers.layout);
         if is_mapped && !state.is_mapped {
             state.is_mapped = true;

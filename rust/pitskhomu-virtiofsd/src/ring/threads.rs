@@ -67,7 +67,8 @@ impl<S: Server, M: Fn() -> Arc<Table>> live::Server<State> for Thread<'_, S, M> 
         } else {
             match self.server.give_back(&mut state.queue) {
                 Ok(true) => self.owed = state.interrupt(),
-                Ok(false) => {}
+                // or the queue was refused, and has begun again since
+                Ok(false) | Err(Status::OtherQueue) => {}
                 Err(status) => {
                     error!(
                         "queue {} is refused, since a chain can't go back: {status}",

@@ -13,6 +13,7 @@ use pitskhomu::{
 };
 use std::fs::File;
 use std::os::fd::FromRawFd;
+use std::sync::atomic::AtomicBool;
 use std::sync::mpsc::{channel, Receiver, Sender};
 use std::thread;
 use std::time::{Duration, Instant};
@@ -41,8 +42,11 @@ struct Holding {
     worker: Worker,
     device: Device,
     memory: Option<Arc<Table>>,
-    begins: Sender<()>,
+    number: usize,
+    begins: Sender<usize>,
     ends: Receiver<()>,
+    /// The next chain can't go back.
+    fails: Arc<AtomicBool>,
 }
 
 impl Server for Holding {
@@ -62,7 +66,7 @@ impl Server for Holding {
     fn answer(&mut self, doing: &Doing) {
         let memory = self.memory.clone().expect("a chain");
         let _ = self.ring.call_host(doing, || {
-            self.begins.send(()).expect("who listens");
+            self.begins.send(self.number).expect("who listens");
             self.ends.recv().expect("an end");
         });
         self.worker.answer(&self.device, &Empty, &*memory).expect("an answer");
@@ -70,7 +74,13 @@ impl Server for Holding {
 
     fn give_back(&mut self, queue: &mut Queue) -> Result<bool, Status> {
         let memory = self.memory.take().expect("a chain");
-        self.worker.push(queue, &*memory).map(|served| served.notify)
+        let pushed = if self.fails.swap(false, Ordering::SeqCst) {
+            Err(Status::OutOfMemory)
+        } else {
+            self.worker.push(queue, &*memory).map(|served| served.notify)
+        };
+        let _ = self.worker.abandon();
+        pushed
     }
 
     fn abandon(&mut self) {
@@ -122,26 +132,48 @@ fn store(memory: &Table, guest: u64, bytes: &[u8]) {
     memory.get_slice(at, bytes.len()).expect("bytes").store(bytes);
 }
 
-/// A ring that runs, with its thread, and the driver's side of it.
+/// A ring that runs, with its threads, and the driver's side of it.
 struct Tried {
     ring: Arc<Ring>,
     memory: Arc<Table>,
-    begins: Receiver<()>,
+    /// The number of a thread whose call begins.
+    begins: Receiver<usize>,
+    /// The end of a call of the first thread.
     ends: Sender<()>,
+    /// And of the others.
+    others: Vec<Sender<()>>,
+    fails: Arc<AtomicBool>,
     offered: u16,
 }
 
 impl Tried {
     fn new() -> Tried {
-        let ring = Arc::new(Ring::new(1, 1, Arc::default()).expect("a ring"));
-        let ((begins, begun), (end, ends)) = (channel(), channel());
-        let (worker, device) = (Worker::new(), Device::default());
-        let mut server = Holding { ring: ring.clone(), worker, device, memory: None, begins, ends };
-        let memory = Arc::new(table());
-        let (thread_ring, thread_memory) = (ring.clone(), memory.clone());
-        // it ends with the process
-        thread::spawn(move || thread_ring.run(&mut server, || thread_memory.clone()));
-        let tried = Tried { ring, memory, begins: begun, ends: end, offered: 0 };
+        Tried::with(1)
+    }
+
+    fn with(threads: u16) -> Tried {
+        let ring = Arc::new(Ring::new(1, threads, Arc::default()).expect("a ring"));
+        let (memory, fails, (begins, begun)) = (Arc::new(table()), Arc::default(), channel());
+        let mut all = Vec::new();
+        for number in 0..threads.into() {
+            let (end, ends) = channel();
+            all.push(end);
+            let mut server = Holding {
+                ring: ring.clone(),
+                worker: Worker::new(),
+                device: Device::default(),
+                memory: None,
+                number,
+                begins: begins.clone(),
+                ends,
+                fails: Arc::clone(&fails),
+            };
+            let (ring, memory) = (ring.clone(), memory.clone());
+            // it ends with the process
+            thread::spawn(move || ring.run(&mut server, || memory.clone()));
+        }
+        let (ends, others) = (all.remove(0), all);
+        let tried = Tried { ring, memory, begins: begun, ends, others, fails, offered: 0 };
         tried.draw();
         tried.start(0);
         tried.ring.enable(true, &mut Silent, &tried.memory, Patience::new());
@@ -176,12 +208,17 @@ impl Tried {
         self.ring.stop(&mut Silent, &self.memory, Patience::new())
     }
 
-    /// Offers the chain, and waits until the host has its call.
-    fn hold(&mut self) {
+    /// Offers the chain, and waits until the host has its call: which thread's it is.
+    fn hold(&mut self) -> usize {
         self.offered += 1;
         store(&self.memory, LAYOUT.available + 2, &self.offered.to_le_bytes());
         self.ring.look();
-        self.begins.recv_timeout(SOON).expect("a call");
+        self.begins.recv_timeout(SOON).expect("a call")
+    }
+
+    fn end_call_of(&self, thread: usize) {
+        let end = if thread == 0 { &self.ends } else { &self.others[thread - 1] };
+        end.send(()).expect("who listens");
     }
 
     fn end_call(&self) {
@@ -300,7 +337,9 @@ fn quick_chains_are_served_before_a_ring_stops() {
 #[test]
 fn all_held_rings_are_waited_for_at_once() {
     let mut tried = [Tried::new(), Tried::new(), Tried::new(), Tried::new()];
-    tried.iter_mut().for_each(Tried::hold);
+    for tried in &mut tried {
+        tried.hold();
+    }
     let (before, patience) = (Instant::now(), Patience::new());
     for tried in &tried {
         tried.ring.enable(false, &mut Silent, &tried.memory, patience);
@@ -357,6 +396,33 @@ fn a_reset_drops_what_the_host_holds() {
     }
 }
 
+/// A chain can't go back, while the host holds another one's call. That ends after the driver has
+/// begun again, and hurts nobody.
+#[test]
+fn a_chain_of_a_refused_queue_leaves_the_next_one_alone() {
+    let mut tried = Tried::with(2);
+    let (one, other) = (tried.hold(), tried.hold());
+    assert_ne!(one, other);
+    tried.fails.store(true, Ordering::SeqCst);
+    tried.end_call_of(one);
+    let end = Instant::now() + SOON;
+    while tried.fails.load(Ordering::SeqCst) && Instant::now() < end {
+        thread::yield_now();
+    }
+    tried.stop();
+    store(&tried.memory, LAYOUT.available, &[0; 0x200]);
+    tried.offered = 0;
+    tried.start(0);
+    assert_eq!(tried.hold(), one);
+    tried.end_call_of(other);
+    thread::sleep(Duration::from_millis(200));
+    tried.end_call_of(one);
+    assert!(tried.waits_for(1));
+    let next = tried.hold();
+    tried.end_call_of(next);
+    assert!(tried.waits_for(2));
+}
+
 #[test]
 fn another_position_is_another_ring() {
     let mut tried = Tried::new();
@@ -392,6 +458,7 @@ fn a_ring_goes_on_when_its_memory_is_back() {
         }
         assert_eq!(tried.returned(), returned);
         tried.ring.enter_memory(&mut tried.ring.lock(), &tried.memory);
+        assert!(!tried.ring.asking.is_set(), "its threads wait for the IOMMU again");
         if !holds {
             tried.begins.recv_timeout(SOON).expect("a call");
             tried.end_call();
