@@ -245,6 +245,8 @@ struct State {
     /// Those whose chain waits for an answer, by their numbers.
     waiting: Vec<Option<Seat>>,
     refused: Option<Status>,
+    /// The number of workers that are gone with a thread.
+    lost: usize,
     /// No chain is popped any more.
     is_ending: bool,
     /// Nor is one pushed.
@@ -254,7 +256,7 @@ struct State {
 impl State {
     /// Whether no worker has a chain. One that couldn't be pushed stays in flight without a worker.
     fn is_quiet(&self) -> bool {
-        self.idle.len() == self.waiting.len()
+        self.idle.len() + self.lost == self.waiting.len()
     }
 }
 
@@ -270,9 +272,17 @@ struct Shared {
 }
 
 impl Shared {
-    /// The loop of a thread.
+    /// The loop of a thread. If the memory panics, the thread ends, its chain is lost, and the
+    /// queue is refused.
     fn run(&self) {
-        let _ = self.threads.run(&mut Hand::new(self)); // without events no thread can go on
+        let mut hand = Hand::new(self);
+        // without events no thread can go on
+        if catch_unwind(AssertUnwindSafe(|| self.threads.run(&mut hand))).is_err() {
+            let mut state = self.threads.lock();
+            state.lost += 1;
+            self.refuse(&mut state, Status::Stopped);
+            self.threads.look();
+        }
     }
 
     /// Has an answer undone. A panic there ends no thread, and loses no chain.
@@ -385,6 +395,7 @@ impl Builder {
             mapped,
             idle,
             refused: None,
+            lost: 0,
             is_ending: false,
             is_reset: false,
         };
@@ -417,7 +428,8 @@ impl fmt::Debug for Serving {
 }
 
 impl Serving {
-    /// The refusal that stopped the queue, if any: set `DEVICE_NEEDS_RESET`, and reset it.
+    /// The refusal that stopped the queue, if any: set `DEVICE_NEEDS_RESET`, and reset it. It is
+    /// `Stopped` if the memory has panicked.
     #[must_use]
     pub fn refused(&self) -> Option<Status> {
         self.shared.threads.lock().refused
@@ -492,7 +504,7 @@ impl Serving {
         drop(state);
         self.shared.threads.look();
         for thread in self.threads.drain(..) {
-            let _ = thread.join(); // it panics only if the memory does
+            let _ = thread.join(); // it doesn't panic
         }
     }
 }

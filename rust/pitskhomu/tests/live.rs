@@ -363,6 +363,29 @@ fn an_answer_without_room_is_undone() {
     }
 }
 
+/// The memory panics as a chain is pushed, under the queue's lock. A stop doesn't wait for that
+/// chain.
+#[test]
+fn memory_that_panics_has_the_queue_refused() {
+    for threads in [1, 3] {
+        let (memory, at) = (Memory::new(), USED as usize + 2);
+        let (mut driver, kick, call) = Driver::new(&memory, false);
+        let hook: Box<dyn FnOnce() + Send> = Box::new(|| panic!("as the test wants it"));
+        let hooked = Hooked { memory, at, hook: Mutex::new(Some(hook)) };
+        let err = new_event().unwrap();
+        let serving = Builder::new(Arc::default(), Arc::new(hooked), &[region()])
+            .threads(threads)
+            .err(err.try_clone().unwrap())
+            .start(Queue::new(layout(), 0).unwrap(), kick, call, Arc::new(Files))
+            .unwrap();
+        driver.offer(0, &read_request(1, 1), 116);
+        until(|| (&err).read(&mut [0; 8]).is_ok());
+        assert_eq!(serving.refused(), Some(Status::Stopped));
+        let stopping = thread::spawn(move || serving.stop());
+        until(|| stopping.is_finished());
+    }
+}
+
 #[test]
 fn a_bad_ring_is_refused() {
     let memory = Memory::new();
