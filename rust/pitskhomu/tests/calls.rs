@@ -476,3 +476,29 @@ fn counts_of_more_than_32_bits() {
         assert_eq!((data.len(), number(&data, 0, 4)), (8, u64::from(told)), "{len:#x} {count:#x}");
     }
 }
+
+/// A value that is as long as the size that was asked for, or as the buffer, is told. A longer one
+/// is ERANGE.
+#[test]
+fn values_that_just_fit() {
+    let sized = |size: u32| args().d(size).d(0);
+    for (opcode, args, room, fits) in [
+        (22, sized(5).bytes(b"name\0"), 21, true),
+        (22, sized(64).bytes(b"name\0"), 21, true),
+        (22, sized(4).bytes(b"name\0"), 21, false),
+        (22, sized(64).bytes(b"name\0"), 20, false),
+        (23, sized(5), 21, true),
+        (23, sized(5), 20, false),
+        (5, args(), 21, true),
+        (5, args(), 20, false),
+    ] {
+        let mut guest = Guest::new();
+        guest.offer_request(&guest::request(opcode, 1, &args.0), room);
+        let taken = guest.worker.take(&mut guest.queue, &guest.device, &guest.memory);
+        taken.unwrap().expect("a chain waits").reply.send(b"value".to_vec()).unwrap();
+        assert_eq!(guest.worker.finish(&guest.device, &guest.memory), Ok(true));
+        let served = guest.worker.push(&mut guest.queue, &guest.memory).unwrap();
+        let wanted = if fits { Replied::Data(b"value".to_vec()) } else { Replied::Error(34) };
+        assert_eq!(guest.reply(served.reply_len as usize), wanted, "{opcode}, {room}");
+    }
+}

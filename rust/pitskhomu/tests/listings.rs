@@ -245,3 +245,25 @@ fn names_that_no_directory_has_by(way: Way) {
         Replied::Error(5)
     );
 }
+
+/// How much a list holds: as much as was asked for, but no more than the reply buffer has behind
+/// its header. An owned list has its own place, and holds as much.
+#[test]
+fn a_list_is_as_long_as_the_buffer() {
+    for (opcode, size, room, left) in
+        [(READDIR, 100, 100, 84), (READDIR, 100, 116, 100), (READDIRPLUS, 500, 512, 496)]
+    {
+        let mut guest = Guest::new();
+        guest.offer_request(&request(opcode, 5, &read(size).0), room);
+        let taken = guest.worker.take(&mut guest.queue, &guest.device, &guest.memory);
+        let taken = taken.unwrap().expect("a chain waits");
+        match &taken.operation {
+            Operation::ReadDirectory { list, .. } => assert_eq!(list.left(), left),
+            other => panic!("{other:?}"),
+        }
+        match taken.into_owned().unwrap().call.operation() {
+            Operation::ReadDirectory { list, .. } => assert_eq!(list.left(), left, "owned"),
+            other => panic!("{other:?}"),
+        };
+    }
+}

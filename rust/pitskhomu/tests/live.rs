@@ -445,3 +445,46 @@ fn wrong_numbers_are_refused() {
         other => panic!("{other:?}"),
     }
 }
+
+/// Memory whose writes are logged.
+struct Logged {
+    memory: Arc<Memory>,
+    marks: Mutex<Vec<GuestRange>>,
+}
+
+impl GuestMemory for Logged {
+    fn get_slice(&self, at: usize, len: usize) -> Option<GuestSlice<'_>> {
+        self.memory.get_slice(at, len)
+    }
+    fn is_logging(&self) -> bool {
+        true
+    }
+    fn mark(&self, written: GuestRange) {
+        self.marks.lock().unwrap().push(written);
+    }
+}
+
+/// A reset abandons a chain whose answer never came. The data that is in its buffer is marked.
+#[test]
+fn data_of_an_abandoned_chain_is_marked() {
+    let memory = Memory::new();
+    let (mut driver, kick, call) = Driver::new(&memory, false);
+    let logged = Arc::new(Logged { memory, marks: Mutex::default() });
+    let kept = Arc::new(Mutex::new(Vec::new()));
+    let keeps = kept.clone();
+    let handler = move |request: Request<'_>| {
+        if let Operation::Read { mut data, .. } = request.operation {
+            assert_eq!(data.put(b"some data"), 9);
+        }
+        keeps.lock().unwrap().push(request.reply);
+    };
+    let serving = Builder::new(Arc::default(), logged.clone(), &[region()])
+        .start_by_values(Queue::new(layout(), 0).unwrap(), kick, call, Arc::new(handler))
+        .unwrap();
+    driver.offer(0, &read_request(1, 1), 116);
+    until(|| kept.lock().unwrap().len() == 1);
+    let of_data = GuestRange { guest: REPLIES, len: 16 + 9 };
+    assert!(!logged.marks.lock().unwrap().contains(&of_data));
+    serving.reset();
+    assert!(logged.marks.lock().unwrap().contains(&of_data));
+}
