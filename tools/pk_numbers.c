@@ -15,10 +15,15 @@ uint32_t pk_restore_unnumbered(struct pk_device *device, struct pk_queue *queues
  * nearer. */
 static uint32_t handles, resets;
 
-/* The next number. Of 2^32 successive ones no two are equal. Of n successive ones, n up to 10,000,
- * no two are nearer than 2^32 / (3 * n), since the factor is 2^32 by the golden ratio. */
+/* The next number, which isn't 0. Of 2^32 - 1 successive ones no two are equal. Of n successive
+ * ones, n up to 10,000, no two are nearer than 2^32 / (3 * n), since the factor is 2^32 by the
+ * golden ratio. */
 static uint32_t next_of(uint32_t *given) {
-    return __atomic_add_fetch(given, 1, __ATOMIC_RELAXED) * 2654435769u;
+    uint32_t next;
+    do
+        next = __atomic_add_fetch(given, 1, __ATOMIC_RELAXED) * 2654435769u;
+    while (next == 0);
+    return next;
 }
 
 uint32_t pk_chain_set_memory(struct pk_chain *chain, const struct pk_device *device,

@@ -135,7 +135,7 @@ extern "C" {
 #endif
 
 /* ---------------------------------------------------------------- numbers */
-#define PK_VERSION 11u           /* of this header; pk_version() is the archive's */
+#define PK_VERSION 12u           /* of this header; pk_version() is the archive's */
 #define PK_REGIONS_MAX 64u       /* regions of the guest's memory */
 #define PK_QUEUES_MAX 64u        /* queues in a saved record */
 #define PK_LOAD_MAX 4096u        /* bytes of the longest load of a pop */
@@ -183,6 +183,9 @@ enum pk_status {
                              regions (rule 6), or not in the table */
     PK_PUSHING = 78,      /* another chain of the queue is between pk_push and pk_pushed */
     PK_OTHER_CALL = 79,   /* the ticket isn't the chain's: a late answer */
+    PK_OTHER_TABLE = 80,  /* the chain was popped with another table, with none, or with one that
+                             isn't lent now; or the table moved the used ring. Lend its table, and
+                             push again */
     /* 81 to 90: pk_restore takes nothing of this record. 89: an allocation failed; call later.
        90: the device has another page size or limit. */
     PK_RECORD_TRUNCATED = 81, PK_RECORD_BAD_MAGIC = 82, PK_RECORD_BAD_VERSION = 83,
@@ -292,15 +295,16 @@ struct pk_queue {
     uint8_t pushing;        /* 1 from pk_push to pk_pushed, else 0 */
     uint8_t event_index;    /* yours: 1 if VIRTIO_F_EVENT_IDX was agreed on, else 0. With 1 each pop
                                tests first that used_event (7) and avail_event (6) are mapped */
-    uint32_t reset_count;   /* the number of its last reset: of 2^32 resets in the process no two
-                               have the same. By it and the addresses a chain knows its queue */
+    uint32_t reset_count;   /* the number of its last reset, not 0: of 2^32 - 1 resets in the
+                               process no two have the same. By it and the addresses a chain knows
+                               its queue */
     uint32_t pop_count;     /* pops and drops, modulo 2^32 */
 };
 
 /* Resets a queue: then no chain of it is in flight, and it isn't stopped. `next_avail` is the
  * number of SET_VRING_BASE, or 0. Calls with its earlier chains are refused.
- * Call it before the queue's first pop, too, unless pk_restore has read the queue: without it two
- * queues with the same addresses have the same `reset_count`, and take each other's chains.
+ * Call it before the queue's first pop, too, unless pk_restore has read the queue: without it the
+ * pop is refused (PK_BAD_ARGUMENT), since `reset_count` is 0.
  * Enable notifications next: an earlier device may have left them disabled.
  * Errors: PK_BAD_ARGUMENT (your fields are invalid). */
 uint32_t pk_queue_begin(struct pk_queue *queue, uint16_t next_avail) PK_CHECK;
@@ -368,10 +372,10 @@ struct pk_pop {
  * it isn't `next_avail`. Keep it with the queue, under its lock: an older value, such as a thread's
  * own, is refused and stops the queue (takes_newest). The second: a table's entry that lies in two
  * regions or mappings has a load for each part. If you have the whole entry, pass it for the first.
- * Errors: PK_WRONG_ORDER (no memory was set); PK_BAD_ARGUMENT (the queue's fields are invalid, such
- * as zeros); PK_WRONG_ORDER (the chain is in flight); PK_BAD_ARGUMENT (`loaded_len` isn't the
- * load's); PK_OTHER_QUEUE (then drop or abandon the pop); PK_CHAIN_IN_FLIGHT; then, in no order,
- * PK_OUT_OF_MEMORY, 1 to 8, PK_NOT_MAPPED. */
+ * Errors: PK_WRONG_ORDER (no memory was set); PK_BAD_ARGUMENT (the queue's fields are invalid, or
+ * it was never begun); PK_WRONG_ORDER (the chain is in flight); PK_BAD_ARGUMENT (`loaded_len` isn't
+ * the load's); PK_OTHER_QUEUE (then drop or abandon the pop); PK_CHAIN_IN_FLIGHT; then, in no
+ * order, PK_OUT_OF_MEMORY, 1 to 8, PK_NOT_MAPPED. */
 uint32_t pk_pop(struct pk_chain *chain, struct pk_queue *queue, const uint8_t *loaded,
                 size_t loaded_len, struct pk_pop *pop) PK_CHECK PK_READS(3, 4) PK_FILLS(5);
 
@@ -387,9 +391,9 @@ struct pk_load_ahead { uintptr_t at; size_t len; };
  * any addresses and lengths are allowed, and a wrong one costs a call. Older bytes do what they do
  * with pk_pop: an older available index stops the queue. Each load that is taken needs up to 450
  * bytes of stack. pk_pop_ring makes the loads, too: five at most.
- * Errors: PK_WRONG_ORDER (no memory was set); PK_BAD_ARGUMENT (the queue's fields are invalid);
- * PK_WRONG_ORDER (a pop is under way, or the chain in flight); PK_CHAIN_IN_FLIGHT; 1 to 8,
- * PK_NOT_MAPPED. */
+ * Errors: PK_WRONG_ORDER (no memory was set); PK_BAD_ARGUMENT (the queue's fields are invalid, or
+ * it was never begun); PK_WRONG_ORDER (a pop is under way, or the chain in flight);
+ * PK_CHAIN_IN_FLIGHT; 1 to 8, PK_NOT_MAPPED. */
 uint32_t pk_pop_ahead(struct pk_chain *chain, struct pk_queue *queue,
                       const struct pk_load_ahead *ahead, size_t ahead_count, const uint8_t *bytes,
                       size_t bytes_len, struct pk_pop *pop)
@@ -427,9 +431,11 @@ size_t pk_reply_ranges(struct pk_chain *chain, uint64_t from, uint64_t len, stru
 /* A place for a table that maps I/O addresses to guest physical ones. As with a chain, zero it
  * before its first use, never copy it, and free it. One table serves all chains, under your lock.
  * Lend it before a pop's first call, and take it back once you have read the chain's windows. Lend
- * it around pk_push and pk_set_notification too: without it a call takes I/O addresses as guest
- * physical ones. While a chain of a queue is in flight, keep the mappings of the queue's rings.
- * pk_chain_set_memory and pk_chain_free free a table that the chain has. */
+ * it around pk_push and pk_set_notification too. Once a chain had a table, its addresses are I/O
+ * addresses until pk_chain_set_memory: while the table isn't lent, none of them is mapped. A handle
+ * that never had one takes each address as guest physical. While a chain of a queue is in flight,
+ * keep the mappings of the queue's rings: a push is refused if the used index is elsewhere than at
+ * its pop (PK_OTHER_TABLE). pk_chain_set_memory and pk_chain_free free a chain's table. */
 struct pk_iotlb { void *at; uint32_t full; };
 
 enum pk_access { /* VHOST_ACCESS_ of linux/vhost_types.h */
@@ -455,8 +461,7 @@ uint32_t pk_iotlb_map(struct pk_iotlb *iotlb, uint64_t iova, uint64_t len, uint6
  * end above 2^64); PK_OUT_OF_MEMORY (only if a mapping continues after them). */
 uint32_t pk_iotlb_unmap(struct pk_iotlb *iotlb, uint64_t iova, uint64_t len) PK_CHECK;
 
-/* Exchanges the tables of chain and place; each may have none. It allocates nothing. Without a
- * table the chain's addresses are guest physical.
+/* Exchanges the tables of chain and place; each may have none. It allocates nothing.
  * Errors: PK_WRONG_ORDER (no memory was set, or the place is zeros); PK_CHAIN_IN_FLIGHT (a pop is
  * under way: one table holds for all of it). */
 uint32_t pk_chain_exchange_iotlb(struct pk_chain *chain, struct pk_iotlb *iotlb) PK_CHECK;
@@ -640,8 +645,9 @@ struct pk_stores {
 
 /* Returns the stores that add the chain to the used ring, after the chains pushed before.
  * Errors: PK_WRONG_ORDER (no memory was set); PK_BAD_ARGUMENT (the queue's fields); PK_WRONG_ORDER
- * (its call is unanswered, or it is pushed already); PK_OTHER_QUEUE; PK_PUSHING; PK_SHORT_BUFFER
- * (PK_FRONT_MAX bytes are enough); PK_NOT_MAPPED (the push is under way then: reset the queue). */
+ * (its call is unanswered, or it is pushed already); PK_OTHER_QUEUE; PK_PUSHING; PK_OTHER_TABLE
+ * (the chain is still in flight); PK_SHORT_BUFFER (PK_FRONT_MAX bytes are enough); PK_NOT_MAPPED
+ * (the push is under way then: reset the queue). */
 uint32_t pk_push(struct pk_chain *chain, struct pk_queue *queue, uint8_t *front, size_t front_len,
                  struct pk_stores *stores) PK_CHECK PK_WRITES(3, 4) PK_FILLS(5);
 

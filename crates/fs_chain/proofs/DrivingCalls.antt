@@ -42,6 +42,7 @@ use Rattle.fs_chain.specs.Holds.{Answers, Decodes, ForgettingIs, DecodingIs, Hol
 use Rattle.fs_chain.specs.Holds.{HoldsPop, IsHeldIn, IsOutAs, IsQueue}
 use Rattle.fs_chain.specs.Holds.{Machine, Pop}
 use Rattle.fs_chain.specs.Holds.{any_files, calls_decoded, live_of, queue_with}
+use Rattle.fs_chain.specs.Rings.{ring_of}
 use Rattle.fs_chain.specs.Orders.{is_out}
 use Rattle.fs_chain.specs.Together.{Owned, with_handle}
 use Rattle.fs_chain.specs.declared.answering.Replied.{Replied}
@@ -73,6 +74,7 @@ pop_same limit p old new same h =
       pop_id = h.pop_id;
       walk = h.walk;
       state = same.0 ∙ h.state;
+      ring = subst (λ (m : Memory). h.pop_id.ring ≡ ring_of m h.course.layout.used) places h.ring;
       limit_is = h.limit_is;
       comes = subst (λ (m : Memory). IsWalkAt m (queue_of h.course) p.loaded new.descriptors.items h.walk)
           places (subst (λ (ds : List Descriptor). IsWalkAt (places_in old.regions) (queue_of h.course)

@@ -87,6 +87,7 @@ forgets s before behind c request options call x new (Some node) out kept is pha
           new.session) (sym state_is) (
             record {
               taken = is_out.taken;
+              ring = is_out.ring;
               head = is_out.head;
               request_len = is_out.request_len;
               room_len = is_out.room_len;
@@ -145,6 +146,7 @@ by_state (at.Waits out w) was new a told given waits can s before behind c reque
     ∙ sym (ap (λ (k : Meaning). served set k (answer_of bytes a ∷ [])) asks.1) in
     let now_out : IsOutAs (asked_chain c request options calls) out = record {
       taken = is_out.taken;
+      ring = is_out.ring;
       head = is_out.head;
       request_len = is_out.request_len;
       room_len = is_out.room_len;

@@ -82,6 +82,7 @@ by_call page_size options request c out made (at.Waits kept w) session is_out de
       subst P (sym keeps.0) (
         record {
           taken = is_out.taken;
+          ring = is_out.ring;
           head = is_out.head;
           request_len = is_out.request_len;
           room_len = is_out.room_len;
@@ -103,6 +104,7 @@ by_call page_size options request c out made (at.Lists kept l) session is_out de
       subst P (sym keeps.0) (
         record {
           taken = is_out.taken;
+          ring = is_out.ring;
           head = is_out.head;
           request_len = is_out.request_len;
           room_len = is_out.room_len;
@@ -135,6 +137,7 @@ known page_size options request c out kept reply session given is_out same none 
       subst P (sym same) (
         record {
           taken = is_out.taken;
+          ring = is_out.ring;
           head = is_out.head;
           request_len = is_out.request_len;
           room_len = is_out.room_len;

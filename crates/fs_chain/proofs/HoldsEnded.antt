@@ -147,6 +147,7 @@ replied_so s before behind c request reply options mine serial out st session is
           (sym kept) (
             record {
               taken = is_out.taken;
+              ring = is_out.ring;
               head = is_out.head;
               request_len = is_out.request_len;
               room_len = is_out.room_len;

@@ -303,6 +303,7 @@ answered s before behind c es list w earlier call answer h out waits fits =
         state = h.state;
         is_out = record {
           taken = h.is_out.taken;
+          ring = h.is_out.ring;
           head = h.is_out.head;
           request_len = h.is_out.request_len;
           room_len = h.is_out.room_len;

@@ -39,6 +39,7 @@ use Rattle.fs_chain.specs.Holds.{IsHeldIn, PopGoesOn, PopsBy, RefusedBy, any_fil
 use Rattle.fs_chain.specs.Loads.{GoesSo, whole}
 use Rattle.fs_chain.specs.Orders.{begin_error, give_error, load_len, walk_error}
 use Rattle.fs_chain.specs.Queues.{may_take, pop_id_of}
+use Rattle.fs_chain.specs.Rings.{ring_of}
 use Rattle.fs_chain.specs.Walks.{BeginsOn, BeginsPop, BeginsUnless, BeginsWhere, GoesOnUnless, KeepsStep, LacksEvents, WalksFrom}
 use Rattle.fs_chain.specs.Walks.{course_of, faulty_out, no_reply, out_of, told_of}
 use Rattle.fs_chain.specs.Whole.{AddsSo}
@@ -143,6 +144,7 @@ record CameTo (s : Machine) (i : ℕ) (q q' : QueueState) (course : Course) (pop
   room : may_take q ≡ true
   index : p.event_index ≡ q.event_index
   events : pop_refusal (places_in new.regions) (queue_with (queue_of course) p.event_index) ≡ None
+  ring : pop_id.ring ≡ ring_of (places_in new.regions) course.layout.used
   keeps : KeepsStep course pop_id came new new q q' told
   is : IsCourseStep (places_in new.regions) course.limit (queue_of course) p.loaded new.descriptors.items came
   mapped : LoadsAreMapped (places_in new.regions) (queue_of course) p.loaded
@@ -186,6 +188,14 @@ run_step s i q q' course pop_id p came new told c =
     (subst (λ (n : ℕ). IsCourseStep (places_in new.regions) n (live_of q).queue p.loaded ds came) (sym c.limit)
     (subst (λ (k : Queue). IsCourseStep (places_in new.regions) course.limit k p.loaded ds came) (sym c.laid) c.is))
 
+-- where the queue's rings are, in the run
+ring_there : (s : Machine) (i : ℕ) (q q' : QueueState) (course : Course) (pop_id : PopId) (p : Pop) (came : comes.CourseStep)
+    (new : ChainHandle) (told : walked.PopOutcome) → CameTo s i q q' course pop_id p came new told
+    → pop_id.ring ≡ ring_of s.places (live_of q).queue.used
+ring_there s i q q' course pop_id p came new told c =
+    c.ring ∙ ap (λ (n : ℕ). ring_of (places_in new.regions) n) (sym (ap (λ (k : Queue). k.used) c.laid))
+    ∙ ap (λ (m : Memory). ring_of m (live_of q).queue.used) (sym c.places)
+
 comes_to : (s : Machine) (i : ℕ) (q q' : QueueState) (course : Course) (pop_id : PopId) (p : Pop) (came : comes.CourseStep)
     (new : ChainHandle) (told : walked.PopOutcome) → CameTo s i q q' course pop_id p came new told
     → PopIs s i q q' p new (told_of new.descriptors.items came)
@@ -195,6 +205,7 @@ comes_to s i q q' course pop_id p (step.Load walk) new told c = (
     pop_id = pop_id;
     walk = walk;
     state = c.keeps.1;
+    ring = c.ring;
     limit_is = sym c.limit;
     comes = c.is.0;
     there = c.is.1;
@@ -227,7 +238,14 @@ comes_to s i q q' course pop_id p (step.Chain head None) new told c =
     let chain = new_chain s i (live_of q) p.loaded ds head None in
     let fits = fits_limit s.places s.limit (live_of q).queue p.loaded ds head c.small by.0.1 in
     let is_out : IsOutAs chain (out_of course pop_id head ds) =
-    record { taken = c.laid; head = refl; request_len = fits.0; room_len = fits.1; small = fits.2 } in
+    record {
+      taken = c.laid;
+      ring = ring_there s i q q' course pop_id p (step.Chain head None) new told c;
+      head = refl;
+      request_len = fits.0;
+      room_len = fits.1;
+      small = fits.2;
+    } in
     let here : EndsHere s i q q' p.loaded new (step.Chain head None) = (
       (by.0, refl, by.1),
       there_same s.queues i i (λ _. several.took (live_of q)) (live_of q) refl c.there
@@ -241,6 +259,7 @@ comes_to s i q q' course pop_id p (step.Chain head (Some fault)) new told c =
     let out : InFlight = faulty_out course pop_id head in
     let is_out : IsOutAs chain out = record {
       taken = c.laid;
+      ring = ring_there s i q q' course pop_id p (step.Chain head (Some fault)) new told c;
       head = refl;
       request_len = sym (ap (λ (l : List Descriptor). total_len (readable l)) c.keeps.3);
       room_len = ap (λ (l : List Descriptor). length (addresses_of (writable l))) c.keeps.3;
@@ -277,14 +296,14 @@ begins_none old q bytes new q' free call =
 begun_on : (s : Machine) (i : ℕ) (old new : ChainHandle) (q q' : QueueState) (told : walked.PopOutcome)
     → IsQueue s i q → s.places ≡ places_in old.regions → s.limit ≡ old.limit → s.limit ≤ 2 ^ 31 → may_take q ≡ true → q.stopped ≡ None
     → event_fault (places_in old.regions) q ≡ None
-    → BeginsOn (course_of q old.limit) (pop_id_of q) old new q q' told
+    → BeginsOn (course_of q old.limit) (pop_id_of old.regions q) old new q q' told
     → PopIs s i q q' (record { loaded = nothing; event_index = q.event_index }) new told
 begun_on s i old new q q' told there places limit small may goes events by =
     let course = course_of q old.limit in
     let same : new.regions ≡ old.regions = by.1.4.0 in
     let R : Mapped → Type 0 = λ r. IsCourseStep (places_in r) course.limit (queue_of course) nothing new.descriptors.items by.0 in
     let E : Mapped → Type 0 = λ r. pop_refusal (places_in r) (queue_with (queue_of course) q.event_index) ≡ None in
-    is_told s i q q' course (pop_id_of q) (record { loaded = nothing; event_index = q.event_index }) by.0 new told (record {
+    is_told s i q q' course (pop_id_of old.regions q) (record { loaded = nothing; event_index = q.event_index }) by.0 new told (record {
       there = there;
       places = places ∙ sym (ap places_in same);
       limit = limit;
@@ -293,7 +312,8 @@ begun_on s i old new q q' told there places limit small may goes events by =
       room = may;
       index = refl;
       events = subst E (sym same) events;
-      keeps = in_new old new course (pop_id_of q) by.0 q q' told by.1;
+      ring = ap (λ (r : Mapped). ring_of (places_in r) course.layout.used) (sym same);
+      keeps = in_new old new course (pop_id_of old.regions q) by.0 q q' told by.1;
       is = subst R (sym same) by.2;
       mapped = none_mapped (places_in new.regions) (queue_of course);
     })
@@ -382,6 +402,7 @@ on_unless s i p bytes old new q q' told None from there places index small is fi
         room = finds.1;
         index = index;
         events = subst E (sym same) from.events;
+        ring = from.ring ∙ ap (λ (r : Mapped). ring_of (places_in r) course.layout.used) (sym same);
         keeps = in_new old new course from.pop_id on.0 q q' told on.1;
         is = subst R (sym same) by.comes;
         mapped = subst M (sym same) mapped;
@@ -405,6 +426,7 @@ continues old new q q' bytes wents.Part call s i p from there places index small
         pop_id = from.pop_id;
         walk = from.walk;
         state = call.3.3 ∙ from.state;
+        ring = from.ring ∙ ap (λ (r : Mapped). ring_of (places_in r) from.course.layout.used) (sym same);
         limit_is = from.limit_is;
         comes = subst C (sym same) (subst D (kept_items old new call.3.2) from.comes);
         there = subst T (sym same) from.there;

@@ -1,7 +1,9 @@
 -- A push of a chain that the handle holds, and its end.
 use Rattle.std.proofs.Common.{◌≡◌, ℕ, Bool, List, [], ◌∷◌, ◌++◌, length, Option, Some, None, refl, subst, sym, ap, ◌∙◌}
 use Rattle.std.specs.Prelude.{drop, take, slice_get}
+use Rattle.std.specs.Prelude.{◌==◌, true}
 use Rattle.std.proofs.Math.Seq.{take-append_seam}
+use Rattle.std.proofs.lemmas.Bool.{and_parts, eqb-true, true≢false}
 use Rattle.fs_queue.specs.Queue.{Queue}
 use Rattle.fs_queue.specs.Returning.{stores_after_reply}
 use Rattle.fs_queue.specs.ReturningView.{stores_of}
@@ -16,7 +18,11 @@ use Rattle.live_machine.proofs.Queues.{none_some, there_same}
 use Rattle.server_phases.specs.declared.session.Session.{Session}
 use Rattle.fs_chain.specs.Events.{tells_of}
 use Rattle.fs_chain.specs.Holds.{EndsPush, HoldsChain, IsHeldIn, IsOutAs, KeepsReplyOf, Pushes, live_of, served_so}
-use Rattle.fs_chain.specs.Orders.{front_len, front_of, reply_len, return_error}
+use Rattle.fs_regions.specs.Places.{Mapped, places_in}
+use Rattle.fs_chain.specs.Orders.{front_len, front_of, has_ring, reply_len, return_error}
+use Rattle.fs_chain.specs.Rings.{is_same_ring, ring_of}
+use Rattle.fs_chain.specs.declared.ring_place.RingPlace as ring
+use Rattle.fs_chain.specs.declared.ring_place.RingPlace.TheVariants.{Physical, Translated, Unmapped}
 use Rattle.fs_chain.specs.Pushes.{IfHasReply, PushesBy, put_front}
 use Rattle.fs_chain.specs.Queues.{at_return, gave}
 use Rattle.fs_chain.specs.declared.chain_handle.ChainHandle.{ChainHandle}
@@ -53,22 +59,46 @@ seen_of event_index q = seen_at (record { queue = q; next_used = 0; max_in_fligh
 
 -- ---- a push
 
+same_ring : (a b : ring.RingPlace) → is_same_ring a b ≡ true → a ≡ b
+same_ring Physical Physical is = refl
+same_ring Physical (Translated b) is = absurd (true≢false (sym is))
+same_ring Physical Unmapped is = absurd (true≢false (sym is))
+same_ring (Translated a) Physical is = absurd (true≢false (sym is))
+same_ring (Translated a) (Translated b) is =
+    let both = and_parts (a.block == b.block) (a.offset == b.offset) is in
+    ap (λ (n : ℕ). Translated (record { block = n; offset = a.offset })) (eqb-true a.block b.block both.0)
+    ∙ ap (λ (n : ℕ). Translated (record { block = b.block; offset = n })) (eqb-true a.offset b.offset both.1)
+same_ring (Translated a) Unmapped is = absurd (true≢false (sym is))
+same_ring Unmapped Physical is = absurd (true≢false (sym is))
+same_ring Unmapped (Translated b) is = absurd (true≢false (sym is))
+same_ring Unmapped Unmapped is = absurd (true≢false (sym is))
+
+-- the queue's rings are where they were when the chain was popped
+ring_stays : (c : InFlightChain) (out : InFlight) (kept : ChainReply) (g : Mapped) → IsOutAs c out
+    → has_ring (at.HasReply out kept) g ≡ true → ring_of (places_in g) c.taken.used ≡ ring_of c.places c.taken.used
+ring_stays c out kept g is_out has =
+    ap (λ (k : Queue). ring_of (places_in g) k.used) is_out.taken
+    ∙ sym (same_ring out.pop_id.ring (ring_of (places_in g) out.course.layout.used) has) ∙ is_out.ring
+
 -- from its state
-abbrev PushedFrom : (page_size : ℕ) → InFlightChain → Exchange → (new : ChainHandle) → QueueState → (front : List ℕ) → PushStores → Type 0
-PushedFrom page_size c x new q front stores =
+abbrev PushedFrom : (page_size : ℕ) → InFlightChain → Exchange → (old new : ChainHandle) → QueueState → (front : List ℕ) → PushStores →
+    Type 0
+PushedFrom page_size c x old new q front stores =
     HoldsChain page_size c new
     × (stores_of stores.used ≡ stores_after_reply (returning (live_of q)) c.head (length x.reply))
     × (stores.seen_at ≡ seen_at (live_of q))
+    × (ring_of (places_in old.regions) c.taken.used ≡ ring_of c.places c.taken.used)
     × (behind : List ℕ)
     × (x.reply ≡ take stores.front_len front ++ behind)
 
 by_state : (page_size : ℕ) (c : InFlightChain) (x : Exchange) (st : state.ChainState) (old new : ChainHandle) (q : QueueState)
     (front front' : List ℕ) (stores : PushStores)
     → IsHeldIn page_size c c.phase st old.session → PushedWith page_size c c.phase x → return_error st q (length front) ≡ None
+    → has_ring st old.regions ≡ true
     → IfHasReply st (λ out reply. new ≡ record old { state = at.Pushing out }) → IfHasReply st (λ out reply. PushesBy q out reply stores)
     → IfHasReply st (λ out reply. front' ≡ put_front reply front)
-    → PushedFrom page_size c x new q front' stores
-by_state page_size c x (at.HasReply out kept) old new q front front' stores held goes clear pushing by put =
+    → PushedFrom page_size c x old new q front' stores
+by_state page_size c x (at.HasReply out kept) old new q front front' stores held goes clear stays pushing by put =
     let all = replies page_size c c.phase x out kept old.session refl held goes in
     let is_out : IsOutAs c out = all.0 in
     let keeps : KeepsReplyOf x.reply out kept = all.1 in
@@ -86,31 +116,35 @@ by_state page_size c x (at.HasReply out kept) old new q front front' stores held
       subst (λ (w : ChainHandle). HoldsChain page_size c w) (sym pushing) all.2,
       used,
       seen,
+      ring_stays c out kept old.regions is_out stays,
       keeps.behind,
       keeps.bytes ∙ ap (λ (bs : List ℕ). bs ++ keeps.behind) (sym begins),
     )
-by_state page_size c x st old new q front front' stores held goes clear pushing by put = absurd (none_some error.WrongOrder (sym clear))
+by_state page_size c x st old new q front front' stores held goes clear stays pushing by put =
+    absurd (none_some error.WrongOrder (sym clear))
 
 pub pushes : (old new : ChainHandle) (q : QueueState) (front front' : List ℕ) (stores : PushStores)
     → return_error old.state q (length front) ≡ None
+    → has_ring old.state old.regions ≡ true
     → IfHasReply old.state (λ out reply. new ≡ record old { state = at.Pushing out })
     → IfHasReply old.state (λ out reply. PushesBy q out reply stores)
     → IfHasReply old.state (λ out reply. front' ≡ put_front reply front)
     → Pushes old new q front' stores
 unfolding Pushes
-pushes old new q front front' stores clear pushing by put page_size c x held goes =
-    by_state page_size c x old.state old new q front front' stores held goes clear pushing by put
+pushes old new q front front' stores clear stays pushing by put page_size c x held goes =
+    by_state page_size c x old.state old new q front front' stores held goes clear stays pushing by put
 
 -- by its state
 pub pushes_from : (old new : ChainHandle) (q : QueueState) (front front' : List ℕ) (stores : PushStores) (out : InFlight)
     (kept : ChainReply)
     → old.state ≡ at.HasReply out kept → return_error (at.HasReply out kept) q (length front) ≡ None
-    → new ≡ record old { state = at.Pushing out } → PushesBy q out kept stores → front' ≡ put_front kept front
+    → has_ring (at.HasReply out kept) old.regions ≡ true → new ≡ record old { state = at.Pushing out } → PushesBy q out kept stores
+    → front' ≡ put_front kept front
     → Pushes old new q front' stores
 unfolding Pushes
-pushes_from old new q front front' stores out kept is clear pushing by put page_size c x held goes =
+pushes_from old new q front front' stores out kept is clear stays pushing by put page_size c x held goes =
     by_state page_size c x (at.HasReply out kept) old new q front front' stores
-    (subst (λ (st : state.ChainState). IsHeldIn page_size c c.phase st old.session) is held) goes clear pushing by put
+    (subst (λ (st : state.ChainState). IsHeldIn page_size c c.phase st old.session) is held) goes clear stays pushing by put
 
 -- ---- its end
 

@@ -21,6 +21,7 @@ pub mod LeftOut
 pub mod LoadLemmas
 pub mod Offering
 pub mod Passing
+pub mod RingPlaces
 pub mod Steps
 pub mod Together
 pub mod WholeCalls

@@ -54,7 +54,7 @@ begins_free w w' q q' told free may part session begins =
 abbrev mid : (w w' : ChainHandle) → QueueState → QueueWalk → List Descriptor → ChainHandle
 mid w w' q walk ds =
     record w {
-      state = at.Walking (course_of q w.limit) (pop_id_of q) walk;
+      state = at.Walking (course_of q w.limit) (pop_id_of w.regions q) walk;
       descriptors = record { items = ds; capacity = 0 };
       part = w'.part;
     }
@@ -62,10 +62,10 @@ mid w w' q walk ds =
 same : (n : ℕ) → (n == n) ≡ true
 same n = eq-eqb n n refl
 
-fits : (q : QueueState) (limit : ℕ) → fits_pop q (course_of q limit) (pop_id_of q) ≡ true
-fits q limit =
+fits : (g : Mapped) (q : QueueState) (limit : ℕ) → fits_pop q (course_of q limit) (pop_id_of g q) ≡ true
+fits g q limit =
     let c = course_of q limit in
-    let t = pop_id_of q in
+    let t = pop_id_of g q in
     let a = and_from (q.layout.size == q.layout.size) (q.layout.desc == q.layout.desc) (same q.layout.size) (same q.layout.desc) in
     let b = and_from _ (q.layout.avail == q.layout.avail) a (same q.layout.avail) in
     let laid = and_from _ (q.layout.used == q.layout.used) b (same q.layout.used) in
@@ -81,12 +81,12 @@ goes_by long fits may =
     else if not may then Some ChainInFlight
     else None
 
-may_go : (q : QueueState) (limit asked len : ℕ) → may_take q ≡ true → len ≡ asked
-    → give_error q (course_of q limit) (pop_id_of q) asked len ≡ None
-may_go q limit asked len may long =
-    let fit = fits_pop q (course_of q limit) (pop_id_of q) in
+may_go : (g : Mapped) (q : QueueState) (limit asked len : ℕ) → may_take q ≡ true → len ≡ asked
+    → give_error q (course_of q limit) (pop_id_of g q) asked len ≡ None
+may_go g q limit asked len may long =
+    let fit = fits_pop q (course_of q limit) (pop_id_of g q) in
     subst (λ (b : Bool). goes_by (len == asked) fit b ≡ None) (sym may)
-    (subst (λ (b : Bool). goes_by (len == asked) b true ≡ None) (sym (fits q limit))
+    (subst (λ (b : Bool). goes_by (len == asked) b true ≡ None) (sym (fits g q limit))
     (subst (λ (b : Bool). goes_by b true true ≡ None) (sym (eq-eqb len asked long)) refl))
 
 either : (b : Bool) (xs : List ℕ) → (if b then xs else xs) ≡ xs
@@ -128,7 +128,7 @@ wanted w w' q walk ds l part is =
 pub walks_ahead : (w w' : ChainHandle) (q q' : QueueState) (taken : List AheadBytes) (ds : List Descriptor) (s : comes.CourseStep)
     (told : walked.PopOutcome) → w.state ≡ at.Free → q.stopped ≡ None → event_fault (places_in w.regions) q ≡ None → may_take q ≡ true
     → StepsAhead w.regions w.limit (queue_of (course_of q w.limit)) taken ds s
-    → KeepsStep (course_of q w.limit) (pop_id_of q) s w w' q q' told → w'.descriptors.items ≡ left_of s ds → w'.part.items ≡ []
+    → KeepsStep (course_of q w.limit) (pop_id_of w.regions q) s w w' q q' told → w'.descriptors.items ≡ left_of s ds → w'.part.items ≡ []
     → w'.session ≡ w.session → WalksAhead taken w w' q q' (goes.On told)
 walks_ahead w w' q q' [] ds s told free runs events may at keeps left part session =
     let course = course_of q w.limit in
@@ -143,13 +143,13 @@ walks_ahead w w' q q' (l ∷ taken) ds s told free runs events may (walk, before
     let none : whole m l.bytes ≡ l.bytes = all_of (asked_len walk) w'.part.items l.bytes part in
     let first = walks_ahead w m q q taken before (step.Load walk) (tells.Load (asked_len walk)) free runs events may at
     (refl, refl, refl, tt, (refl, refl, refl, refl)) refl part refl in
-    let goes_on : GoesOn course (pop_id_of q) walk l.bytes m w' q q' told = (
+    let goes_on : GoesOn course (pop_id_of w.regions q) walk l.bytes m w' q q' told = (
       s,
       keeps,
       λ loaded stands. subst (λ (xs : List Descriptor). ComesBy g w.limit (queue_of course) loaded walk l.bytes xs s) (sym left)
           (by_left g w.limit (queue_of course) loaded walk l.bytes ds s (by loaded stands)),
     ) in
-    let walks : WalksOn l.bytes m w' q q' told = walks_on course (pop_id_of q) walk l.bytes m w' q q' told runs refl goes_on in (
+    let walks : WalksOn l.bytes m w' q q' told = walks_on course (pop_id_of w.regions q) walk l.bytes m w' q q' told runs refl goes_on in (
       m,
       q,
       goes.On (tells.Load (asked_len walk)),
@@ -162,7 +162,7 @@ walks_ahead w w' q q' (l ∷ taken) ds s told free runs events may (walk, before
         part,
         session,
         subst (λ (xs : List ℕ). walk_error m.state q (length xs) ≡ None) (sym none)
-            (may_go q w.limit (asked_len walk) (length l.bytes) may long),
+            (may_go w.regions q w.limit (asked_len walk) (length l.bytes) may long),
         subst (λ (xs : List ℕ). WalksOn xs m w' q q' told) (sym none) walks,
       ),
     )
@@ -189,7 +189,7 @@ stops_at w' course pop_id (l ∷ more) ds items (step.Missing range access) is s
 -- a pop by loads ahead, from its course
 pub pops_so : (w w' : ChainHandle) (q q' : QueueState) (ahead : List AheadBytes) (ds : SmallVec Descriptor) (s : comes.CourseStep)
     (pop_id : PopId) (told : walked.PopOutcome) → w.state ≡ at.Free → q.stopped ≡ None → event_fault (places_in w.regions) q ≡ None
-    → may_take q ≡ true → BeginsAhead w.regions w.limit (queue_of (course_of q w.limit)) ahead ds s → pop_id ≡ pop_id_of q
+    → may_take q ≡ true → BeginsAhead w.regions w.limit (queue_of (course_of q w.limit)) ahead ds s → pop_id ≡ pop_id_of w.regions q
     → KeepsStep (course_of q w.limit) pop_id s w w' q q' told → w'.descriptors.items ≡ left_of s ds.items
     → StaysForLoad s ds w'.descriptors → w'.part.items ≡ [] → w'.session ≡ w.session → PopsAhead ahead w w' q q' (goes.On told)
 pops_so w w' q q' ahead ds s pop_id told free runs events may begins is keeps left stays part session =
@@ -206,7 +206,7 @@ pops_so w w' q q' ahead ds s pop_id told free runs events may begins is keeps le
 -- the same of a handle whose part of a load was dropped then
 pub pops_apart : (w u w' : ChainHandle) (q q' : QueueState) (ahead : List AheadBytes) (ds : SmallVec Descriptor) (s : comes.CourseStep)
     (pop_id : PopId) (told : walked.PopOutcome) → w.state ≡ at.Free → q.stopped ≡ None → event_fault (places_in w.regions) q ≡ None
-    → may_take q ≡ true → BeginsAhead w.regions w.limit (queue_of (course_of q w.limit)) ahead ds s → pop_id ≡ pop_id_of q
+    → may_take q ≡ true → BeginsAhead w.regions w.limit (queue_of (course_of q w.limit)) ahead ds s → pop_id ≡ pop_id_of w.regions q
     → KeepsStep (course_of q w.limit) pop_id s w u q q' told → u.descriptors.items ≡ left_of s ds.items
     → StaysForLoad s ds u.descriptors → u.session ≡ w.session → w'.part.items ≡ [] → w' ≡ record u { part = w'.part }
     → PopsAhead ahead w w' q q' (goes.On told)
@@ -228,7 +228,7 @@ pops_none w w' q q' ahead told free may part session ends begins =
       more = ahead;
       parts = refl;
       walks = begins_free w w' q q' told free may part session begins;
-      stops = stops_at w' (course_of q w.limit) (pop_id_of q) ahead w'.descriptors [] step.Idle ends tt
+      stops = stops_at w' (course_of q w.limit) (pop_id_of w.regions q) ahead w'.descriptors [] step.Idle ends tt
           (none_stops w'.regions ahead w'.descriptors);
     }
 

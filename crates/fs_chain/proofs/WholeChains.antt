@@ -212,11 +212,11 @@ chain_parts {F} may given request calls acts last head i notice old new before s
     let loaded = all.0 in
     let came = all.2 in
     let is = came_is ds came.0 head run.lens.0 run.lens.1 came.1.0 in
-    let out = out_of course (pop_id_of before) head ds in
+    let out = out_of course (pop_id_of old.regions before) head ds in
     let back = queue_back before run.back in
     let room = addresses_of (writable ds) in
     let state_is : run.popped_handle.state ≡ at.Taken out =
-    came.1.1 ∙ ap (λ (c : comes.CourseStep). state_after course (pop_id_of before) ds c) is.0 in
+    came.1.1 ∙ ap (λ (c : comes.CourseStep). state_after course (pop_id_of old.regions before) ds c) is.0 in
     let comes_so : IsCourseStep (places_in old.regions) old.limit q loaded ds (step.Chain head None) =
     subst (λ (c : comes.CourseStep). IsCourseStep (places_in old.regions) old.limit q loaded ds c) is.0 came.2 in
     let found = comes_so.0 in
@@ -426,7 +426,7 @@ faulty_parts : {F : Type 0} (may : May F) (given : List (List ℕ)) (fault : Cha
     (after_chain m i (queue_back before run.back) m.options m.files)
 faulty_parts {F} may given fault acts last head i notice old before m run goes =
     let course = course_of before old.limit in
-    let pop_id = pop_id_of before in
+    let pop_id = pop_id_of old.regions before in
     let q = queue_of course in
     let ds = run.popped_handle.descriptors.items in
     let all = walk_comes given old run.popped_handle before run.taken (says.Faulty head fault) goes tt run.walks in

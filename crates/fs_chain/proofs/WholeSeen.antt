@@ -108,9 +108,9 @@ chain_seen given request calls acts last head notice old new before s goes run =
     let ds = run.popped_handle.descriptors.items in
     let all = walk_comes given old run.popped_handle before run.taken (says.Chain head run.lens.0 run.lens.1) goes tt run.walks in
     let is = came_is ds all.2.0 head run.lens.0 run.lens.1 all.2.1.0 in
-    let out = out_of course (pop_id_of before) head ds in
+    let out = out_of course (pop_id_of old.regions before) head ds in
     let state_is : run.popped_handle.state ≡ at.Taken out =
-    all.2.1.1 ∙ ap (λ (c : comes.CourseStep). state_after course (pop_id_of before) ds c) is.0 in
+    all.2.1.1 ∙ ap (λ (c : comes.CourseStep). state_after course (pop_id_of old.regions before) ds c) is.0 in
     let asked = subst (λ (st : state.ChainState). FromTaken st (λ o. (o.request_len ≡ length request) × IsRequestFront run.front request
     × TellsMeaning (setting s.page_size s.options.0 o.room_len) (meaning s.options.0 request o.room_len) (drop 80 request) o run.made
     run.decoded_handle.state
@@ -135,9 +135,9 @@ faulty_seen given fault acts last head notice old before goes run =
     let ds = run.popped_handle.descriptors.items in
     let all = walk_comes given old run.popped_handle before run.taken (says.Faulty head fault) goes tt run.walks in
     let is = faulty_is ds all.2.0 head fault all.2.1.0 in
-    let out = faulty_out course (pop_id_of before) head in
+    let out = faulty_out course (pop_id_of old.regions before) head in
     let state_is : run.popped_handle.state ≡ at.HasReply out no_reply =
-    all.2.1.1 ∙ ap (λ (c : comes.CourseStep). state_after course (pop_id_of before) ds c) is in
+    all.2.1.1 ∙ ap (λ (c : comes.CourseStep). state_after course (pop_id_of old.regions before) ds c) is in
     let flags = run.returns.flags in
     record {
       place = seen_back run.back (λ reply s₁. (last ≡ front_len reply)

@@ -39,13 +39,13 @@ use Rattle.fs_chain.proofs.Steps.{begun_has_events}
 -- what a walk told and kept comes to
 abbrev pub ComesSo : Loaded → (old new : ChainHandle) → (before after : QueueState) → walked.PopOutcome → Type 0
 ComesSo loaded old new before after told =
-    (came : comes.CourseStep) × KeepsStep (course_of before old.limit) (pop_id_of before) came old new before after told
+    (came : comes.CourseStep) × KeepsStep (course_of before old.limit) (pop_id_of old.regions before) came old new before after told
     × IsCourseStep (places_in old.regions) old.limit (queue_of (course_of before old.limit)) loaded new.descriptors.items came
 
 -- a walk that still asks for a load
 record Wants (loaded : Loaded) (old w : ChainHandle) (before q : QueueState) : Type 0 where
   pub walk : QueueWalk
-  pub state : w.state ≡ at.Walking (course_of before old.limit) (pop_id_of before) walk
+  pub state : w.state ≡ at.Walking (course_of before old.limit) (pop_id_of old.regions before) walk
   pub queue : q ≡ before
   pub regions : w.regions ≡ old.regions
   pub limit : w.limit ≡ old.limit
@@ -125,7 +125,7 @@ first : (old new : ChainHandle) (before after : QueueState) (told : went.LoadOut
 first old new before after wents.Part goes events by = absurd (begins_whole old before new after by.0 by.1)
 first old new before after (wents.On told) goes events by =
     let unless = begun old new before after told goes by in
-    let on : BeginsOn (course_of before old.limit) (pop_id_of before) old new before after told =
+    let on : BeginsOn (course_of before old.limit) (pop_id_of old.regions before) old new before after told =
     subst (λ (f : Option QueueError). BeginsWhere f old new before after told) events unless in
     ((on.0, on.1, on.2), by.1.1, by.1.2)
 
@@ -148,7 +148,7 @@ on_load bs l old w new before q after wents.Part goes wants call =
       serial = call.3.0.2 ∙ wants.serial;
       list_len = call.3.0.3 ∙ wants.list_len;
       session = call.3.4 ∙ wants.session;
-      few = few_still w new bs wants.walk (course_of before old.limit) (pop_id_of before) wants.state call.4 call.1;
+      few = few_still w new bs wants.walk (course_of before old.limit) (pop_id_of old.regions before) wants.state call.4 call.1;
       there = wants.there;
       stands = subst (λ (ds : List Descriptor). IsWalkAt (places_in old.regions) (queue_of (course_of before old.limit)) l ds wants.walk)
           (kept_items w new call.3.2) wants.stands;
@@ -156,7 +156,7 @@ on_load bs l old w new before q after wents.Part goes wants call =
     (l, refl, still)
 on_load bs l old w new before q after (wents.On told) goes wants call =
     let course = course_of before old.limit in
-    let pop_id = pop_id_of before in
+    let pop_id = pop_id_of old.regions before in
     let walk = wants.walk in
     let all = whole w bs in
     let unless : GoesOnUnless q.stopped course pop_id walk all w new q after told =
@@ -189,7 +189,7 @@ on_load bs l old w new before q after (wents.On told) goes wants call =
 -- what wants bytes asks for a load
 wants_so : (l : Loaded) (old w : ChainHandle) (before q : QueueState) (n : ℕ) (came : comes.CourseStep)
     → w.part.items ≡ [] → w.session ≡ old.session
-    → KeepsStep (course_of before old.limit) (pop_id_of before) came old w before q (says.Load n)
+    → KeepsStep (course_of before old.limit) (pop_id_of old.regions before) came old w before q (says.Load n)
     → IsCourseStep (places_in old.regions) old.limit (queue_of (course_of before old.limit)) l w.descriptors.items came
     → Wants l old w before q
 wants_so l old w before q n (step.Load walk) none same keeps comes =
@@ -369,7 +369,7 @@ miss_is_no_step given range access old new before after goes events walks =
     let misses : IsCourseStep (places_in old.regions) old.limit (queue_of course) all.0 ds (step.Missing range access) =
     subst (λ (c : comes.CourseStep). IsCourseStep (places_in old.regions) old.limit (queue_of course) all.0 ds c) is came.2 in (
       came.1.2 ∙ ap (queue_after before) is,
-      came.1.1 ∙ ap (λ (c : comes.CourseStep). state_after course (pop_id_of before) ds c) is,
+      came.1.1 ∙ ap (λ (c : comes.CourseStep). state_after course (pop_id_of old.regions before) ds c) is,
       came.1.4,
       all.2.2,
       all.2.1,

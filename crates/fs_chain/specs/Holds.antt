@@ -41,6 +41,7 @@ use Rattle.live_machine.specs.Live.{asked_chain, new_chain, pop_refusal}
 use Rattle.fs_chain.specs.Decoding.{AsksListing, WaitsForNoListing}
 use Rattle.fs_chain.specs.Loads.{whole}
 use Rattle.fs_chain.specs.Orders.{front_of, reply_len}
+use Rattle.fs_chain.specs.Rings.{ring_of}
 use Rattle.fs_chain.specs.Walks.{told_of}
 use Rattle.fs_chain.specs.Whole.{AddsSo}
 use Rattle.fs_chain.specs.declared.answering.Replied.{Replied}
@@ -84,6 +85,7 @@ IsQueue s i q = slice_get s.queues i ≡ Some (live_of q)
 -- the handle's record of a chain of a run
 pub record IsOutAs (c : InFlightChain) (out : InFlight) : Type 0 where
   pub taken : c.taken ≡ queue_of out.course
+  pub ring : out.pop_id.ring ≡ ring_of c.places c.taken.used
   pub head : out.head ≡ c.head
   pub request_len : out.request_len ≡ total_len (readable c.descriptors)
   pub room_len : length (addresses_of (writable c.descriptors)) ≡ out.room_len
@@ -156,6 +158,7 @@ pub record HoldsPop (limit : ℕ) (p : Pop) (w : ChainHandle) : Type 0 where
   pub pop_id : PopId
   pub walk : QueueWalk
   pub state : w.state ≡ at.Walking course pop_id walk
+  pub ring : pop_id.ring ≡ ring_of (places_in w.regions) course.layout.used
   pub limit_is : course.limit ≡ limit
   pub comes : IsWalkAt (places_in w.regions) (queue_of course) p.loaded w.descriptors.items walk
   pub there : IsThere (places_in w.regions) walk
@@ -240,7 +243,8 @@ Answers old new answer told =
     (call : FileCall) × AnsweringIs s before behind c request bytes options call (answer_of bytes answer) told
     new
 
--- a push returns the stores of the chain's exchange at the queue's next used position, and the reply's front
+-- a push returns the stores of the chain's exchange at the queue's next used position, and the reply's front.
+-- The queue's rings are where they were in the run when the chain was popped
 unfoldable pub Pushes : (old new : ChainHandle) → QueueState → (front : List ℕ) → PushStores → Type 0
 Pushes old new q front stores =
     (page_size : ℕ) (c : InFlightChain) (x : Exchange) →
@@ -249,6 +253,7 @@ Pushes old new q front stores =
     HoldsChain page_size c new
     × (stores_of stores.used ≡ stores_after_reply (returning (live_of q)) c.head (length x.reply))
     × (stores.seen_at ≡ seen_at (live_of q))
+    × (ring_of (places_in old.regions) c.taken.used ≡ ring_of c.places c.taken.used)
     × (behind : List ℕ)
     × (x.reply ≡ take stores.front_len front ++ behind)
 

@@ -17,6 +17,7 @@ pub mod Orders
 pub mod OwnReplies
 pub mod Passing
 pub mod Queues
+pub mod Rings
 pub mod Pushes
 pub mod Serials
 pub mod Walks

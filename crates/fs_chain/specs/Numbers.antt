@@ -17,6 +17,7 @@ chain_error_number error.OtherCall = 79
 chain_error_number error.OtherKind = 75
 chain_error_number error.ChainInFlight = 76
 chain_error_number error.Pushing = 78
+chain_error_number error.OtherTable = 80
 
 -- the number of each state of a chain
 abbrev pub state_number : state.ChainState → ℕ

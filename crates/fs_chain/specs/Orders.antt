@@ -3,6 +3,7 @@ use Rattle.std.specs.Prelude.{ℕ, ◌+◌, ◌-◌, ◌^◌, min, [], Bool, tru
 use Rattle.std.specs.Prelude.{length, List, Option, Some, None, if◌then◌else◌}
 use Rattle.fs_regions.specs.declared.course.Course.{Course}
 use Rattle.fs_regions.specs.declared.walk.QueueWalk.{QueueWalk}
+use Rattle.fs_regions.specs.Places.{Mapped, places_in}
 use Rattle.fs_regions.specs.Walks.{asked_entries, asked_len}
 use Rattle.fs_chain.specs.declared.queue.QueueState.{QueueState}
 use Rattle.fs_chain.specs.declared.state.InFlight.{InFlight}
@@ -13,7 +14,9 @@ use Rattle.fs_chain.specs.declared.state.ChainState.TheVariants as at
 use Rattle.fs_chain.specs.Queues.{fits_pop, is_last, is_in_flight_of, may_take}
 use Rattle.fs_chain.specs.declared.error.ChainError.{ChainError}
 use Rattle.fs_chain.specs.declared.error.ChainError.TheVariants.{BadArgument, ShortBuffer, WrongOrder}
-use Rattle.fs_chain.specs.declared.error.ChainError.TheVariants.{OtherQueue, ChainInFlight, Pushing}
+use Rattle.fs_chain.specs.declared.error.ChainError.TheVariants.{OtherQueue, ChainInFlight, OtherTable}
+use Rattle.fs_chain.specs.declared.error.ChainError.TheVariants.{Pushing}
+use Rattle.fs_chain.specs.Rings.{is_same_ring, ring_of}
 
 -- whether a chain is in flight, of any queue
 abbrev pub is_out : state.ChainState → Bool
@@ -81,14 +84,26 @@ front_len r = length (front_of r)
 abbrev pub reply_len : InFlight → ChainReply → ℕ
 reply_len out r = min (min (front_len r + r.behind) out.room_len) (2 ^ 32 - 1)
 
--- why a chain can't be pushed with a buffer of `len` bytes for its front
-abbrev pub return_error : state.ChainState → QueueState → (len : ℕ) → Option ChainError
-return_error (at.HasReply out reply) q len =
+-- whether the queue's rings are where they were when the chain was popped: a push uses the table of its pop
+abbrev pub has_ring : state.ChainState → Mapped → Bool
+has_ring (at.HasReply out reply) g =
+    is_same_ring out.pop_id.ring (ring_of (places_in g) out.course.layout.used)
+has_ring _ g = true
+
+-- why a chain can't be pushed with a buffer of `len` bytes for its front. `ring`: whether the queue's rings
+-- are where they were
+abbrev pub push_error : (ring : Bool) → state.ChainState → QueueState → (len : ℕ) → Option ChainError
+push_error ring (at.HasReply out reply) q len =
     if not (is_in_flight_of q out) then Some OtherQueue
     else if q.pushing then Some Pushing
+    else if not ring then Some OtherTable
     else if nat_lt len (front_len reply) then Some ShortBuffer
     else None
-return_error _ q len = Some WrongOrder
+push_error ring _ q len = Some WrongOrder
+
+-- the same, if the rings are where they were
+abbrev pub return_error : state.ChainState → QueueState → (len : ℕ) → Option ChainError
+return_error st q len = push_error true st q len
 
 -- why a push can't be ended
 abbrev pub end_error : state.ChainState → QueueState → Option ChainError

@@ -4,10 +4,12 @@ use Rattle.std.specs.Prelude.{ℕ, ◌+◌, ◌-◌, ◌%◌, ◌^◌, Bool, fal
 use Rattle.fs_queue.specs.declared.layout.QueueLayout.{QueueLayout}
 use Rattle.fs_queue.specs.Queue.{Queue}
 use Rattle.fs_queue.specs.WalkingView.{at_position}
+use Rattle.fs_regions.specs.Places.{Mapped, places_in}
 use Rattle.fs_regions.specs.declared.course.Course.{Course}
 use Rattle.fs_chain.specs.declared.queue.QueueState.{QueueState}
 use Rattle.fs_chain.specs.declared.state.InFlight.{InFlight}
 use Rattle.fs_chain.specs.declared.state.PopId.{PopId}
+use Rattle.fs_chain.specs.Rings.{ring_of}
 
 -- how many chains are in flight
 abbrev pub in_flight : QueueState → ℕ
@@ -17,9 +19,15 @@ in_flight q = (q.next_avail + (2 ^ 16 - q.next_used)) % 2 ^ 16
 abbrev pub may_take : QueueState → Bool
 may_take q = nat_lt (in_flight q) q.max_in_flight
 
--- the identity of a pop, and then of its chain: the queue's counts as the pop begins
-abbrev pub pop_id_of : QueueState → PopId
-pop_id_of q = record { reset_count = q.reset_count; pop_count = q.pop_count }
+-- the identity of a pop, and then of its chain: as the pop begins, the queue's counts, and where its rings
+-- are
+abbrev pub pop_id_of : Mapped → QueueState → PopId
+pop_id_of g q =
+    record {
+      reset_count = q.reset_count;
+      pop_count = q.pop_count;
+      ring = ring_of (places_in g) q.layout.used;
+    }
 
 -- a chain was popped: the next one is popped at the next position
 abbrev pub took : QueueState → QueueState

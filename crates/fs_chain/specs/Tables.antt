@@ -10,6 +10,8 @@ use Rattle.vm_iotlb.specs.Changes.{InvalidatesMapping, SetsMapping}
 use Rattle.vm_memory.specs.Memory.{Memory}
 use Rattle.fs_queue.specs.Chain.{Descriptor}
 use Rattle.fs_regions.specs.Misses.{area_from, miss_of}
+use Rattle.fs_regions.specs.Places.{own_table}
+use Rattle.fs_regions.specs.Places as places
 use Rattle.fs_chain.specs.declared.error.ChainError.{ChainError}
 use Rattle.fs_chain.specs.declared.error.ChainError.TheVariants.{BadArgument, ChainInFlight, OutOfMemory}
 use Rattle.fs_chain.specs.declared.error.ChainError.TheVariants.{WrongOrder}
@@ -27,13 +29,13 @@ is_walking _ = false
 
 -- the handle with another table
 abbrev pub with_table : ChainHandle → Option (List IotlbRange) → ChainHandle
-with_table w table = record w { regions = record { layout = w.regions.layout; table = table } }
+with_table w table = record w { regions = places.with_table w.regions table }
 
 -- the handle's table is exchanged. While a pop is under way the given one is handed back, and nothing changes
 abbrev pub ExchangesTable : (old new : ChainHandle) → (given : Option (List IotlbRange)) →
     Result (Option (List IotlbRange)) (Option (List IotlbRange)) → Type 0
 ExchangesTable old new given (Ok was) =
-    (is_walking old.state ≡ false) × (was ≡ old.regions.table) × (new ≡ with_table old given)
+    (is_walking old.state ≡ false) × (was ≡ own_table old.regions) × (new ≡ with_table old given)
 ExchangesTable old new given (Err back) =
     (is_walking old.state ≡ true) × (back ≡ given) × (new ≡ old)
 
@@ -42,7 +44,7 @@ abbrev pub ExchangesWith :
     (old new : ChainHandle) → (before after : IotlbPlace) → {X : Type 0} → Result X ChainError → Type 0
 ExchangesWith old new before after (Ok done) =
     (is_walking old.state ≡ false)
-    × (after.table ≡ old.regions.table)
+    × (after.table ≡ own_table old.regions)
     × (new ≡ with_table old before.table)
 ExchangesWith old new before after (Err e) =
     (is_walking old.state ≡ true) × (e ≡ ChainInFlight) × (after ≡ before) × (new ≡ old)

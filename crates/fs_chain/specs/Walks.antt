@@ -182,7 +182,7 @@ abbrev pub BeginsWhere : (fault : Option QueueError) → (old new : ChainHandle)
 BeginsWhere (Some e) old new before after told =
     LacksEvents e (event_miss (places_in old.regions) before) old new before after told
 BeginsWhere None old new before after told =
-    BeginsOn (course_of before old.limit) (pop_id_of before) old new before after told
+    BeginsOn (course_of before old.limit) (pop_id_of old.regions before) old new before after told
 
 -- a stopped queue refuses every pop
 abbrev pub BeginsUnless : (stopped : Option QueueError) → (old new : ChainHandle) →

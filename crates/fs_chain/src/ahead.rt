@@ -41,7 +41,7 @@ impl ChainHandle {
             limit: self.limit,
         };
         let step = course.begin_ahead(&self.regions, ahead, bytes, &mut self.descriptors);
-        let pop_id = queue.pop_id();
+        let pop_id = queue.pop_id(&self.regions);
         let walked = self.settle(queue, course, pop_id, step);
         self.clear_part();
         walked

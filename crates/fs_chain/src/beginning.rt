@@ -57,8 +57,8 @@ impl ChainHandle {
     #[inline(always)]
     fn begin_there(&mut self, queue: &mut QueueState) -> PopOutcome
         requires { self.old.state ≡ at.Free }
-        ensures begins { BeginsOn (course_of queue.old self.old.limit) (pop_id_of queue.old) self.old self.new
-            queue.old queue.new result }
+        ensures begins { BeginsOn (course_of queue.old self.old.limit) (pop_id_of self.old.regions queue.old)
+            self.old self.new queue.old queue.new result }
         ensures apart { (self.new.part ≡ self.old.part) × (self.new.session ≡ self.old.session) }
     {
         let course = Course {
@@ -67,7 +67,7 @@ impl ChainHandle {
             limit: self.limit,
         };
         let step = course.begin(&self.regions, &mut self.descriptors);
-        let pop_id = queue.pop_id();
+        let pop_id = queue.pop_id(&self.regions);
         self.settle(queue, course, pop_id, step)
     }
 

@@ -28,6 +28,9 @@ pub enum ChainError {
     ChainInFlight,
     /// Another chain of the queue is being pushed, and `pushed` hasn't ended that yet.
     Pushing,
+    /// The chain was popped with another table, or with none, or its table is taken away; or the table has
+    /// the used ring elsewhere.
+    OtherTable,
 }
 
 impl ChainError {
@@ -46,6 +49,7 @@ impl ChainError {
             ChainError::OtherKind => 75,
             ChainError::ChainInFlight => 76,
             ChainError::Pushing => 78,
+            ChainError::OtherTable => 80,
         }
     }
 }

@@ -24,13 +24,16 @@ impl ChainHandle {
 
     /// Exchanges the IOMMU's table for another one, or for none, and returns the one that was there. While a
     /// pop is under way this is refused, so that one table holds for all of it: the given one is handed back.
+    ///
+    /// Once a handle had a table, its addresses are I/O addresses until its memory is set again. While the
+    /// table is taken away, none of them is mapped.
     pub fn exchange_table(&mut self, table: Option<Iotlb>) -> Result<Option<Iotlb>, Option<Iotlb>>
         ensures { ExchangesTable self.old self.new table result }
     {
         if self.is_walking() {
             return Err(table);
         }
-        Ok(self.regions.exchange_table(table))
+        Ok(self.regions.exchange_table(self.alloc, table))
     }
 
     /// Exchanges the IOMMU's table with that of a place. `ChainInFlight` while a pop is under way.
@@ -40,7 +43,7 @@ impl ChainHandle {
         if self.is_walking() {
             return Err(ChainError::ChainInFlight);
         }
-        let table = self.regions.exchange_table(place.table.take());
+        let table = self.regions.exchange_table(self.alloc, place.table.take());
         place.table = table;
         Ok(())
     }

@@ -3,7 +3,7 @@
 ghost use Rattle.std.specs.Prelude.{◌≡◌, ◌<◌, true, nat_lt, IfSome, None, Some, false, Err, IfErr, IfOk};
 ghost use Rattle.std.specs.Prelude.{OnOk, OnErr, length};
 ghost use Rattle.fs_chain.specs.Events.{tells_of};
-ghost use Rattle.fs_chain.specs.Orders.{end_error, front_len, return_error};
+ghost use Rattle.fs_chain.specs.Orders.{end_error, front_len, has_ring, push_error, return_error};
 ghost use Rattle.fs_chain.specs.Queues.{gave};
 ghost use Rattle.fs_chain.specs.Holds.{EndsPush, Pushes};
 ghost use Rattle.fs_chain.specs.Pushes.{IfHasReply, PushesBy, put_front};
@@ -14,8 +14,10 @@ use crate::chain_handle::ChainHandle;
 use crate::error::ChainError;
 use crate::event_index::seen_at;
 use crate::queue::QueueState;
+use crate::ring_place::RingPlace;
 use crate::state::{ChainReply, ChainState, InFlight};
 use fs_queue::Return;
+use fs_regions::GuestMap;
 
 /// The caller's stores for a push, and its load after them.
 #[derive(Clone, Copy, Debug)]
@@ -56,13 +58,16 @@ fn copy_front(reply: &ChainReply, front: &mut [u8]) -> Option<usize>
 // Copies the front of a chain's reply over the first bytes of a buffer, and returns the stores of its
 // push.
 fn stores_of(
+    regions: &GuestMap,
     queue: &QueueState,
     out: &InFlight,
     reply: &ChainReply,
     front: &mut [u8],
 ) -> Result<PushStores, ChainError>
     ensures error { IfErr result
-        (λ e. return_error (at.HasReply out.now reply.now) queue.now (length front.old) ≡ Some e) }
+        (λ e. push_error (has_ring (at.HasReply out.now reply.now) regions.now)
+        (at.HasReply out.now reply.now) queue.now (length front.old) ≡ Some e) }
+    ensures ring { OnOk result (has_ring (at.HasReply out.now reply.now) regions.now ≡ true) }
     ensures ok { OnOk result
         (return_error (at.HasReply out.now reply.now) queue.now (length front.old) ≡ None) }
     ensures short { result ≡ Err ChainError.ShortBuffer → length front.old < 160 }
@@ -75,6 +80,13 @@ fn stores_of(
     }
     if queue.pushing {
         return Err(ChainError::Pushing);
+    }
+    if !out
+        .pop_id
+        .ring
+        .is_same(&RingPlace::of(regions, &out.course.layout))
+    {
+        return Err(ChainError::OtherTable);
     }
     let Some(front_len) = copy_front(reply, front) else {
         return Err(ChainError::ShortBuffer);
@@ -101,15 +113,18 @@ impl ChainHandle {
     /// - `WrongOrder`: no chain is in flight whose reply is known.
     /// - `OtherQueue`: the chain isn't in flight in this queue.
     /// - `Pushing`: another chain of the queue is being pushed.
+    /// - `OtherTable`: the chain was popped with another table, or with none, or its table is taken away; or
+    ///   the table has the used ring elsewhere. The chain can be pushed with the right one.
     /// - `ShortBuffer`: the buffer is shorter than the front, for which 160 bytes always suffice.
     pub fn push(
         &mut self,
         queue: &mut QueueState,
         front: &mut [u8],
     ) -> Result<PushStores, ChainError>
-        ensures error { IfErr result
-            (λ e. return_error self.old.state queue.old (length front.old) ≡ Some e) }
+        ensures error { IfErr result (λ e. push_error (has_ring self.old.state self.old.regions)
+            self.old.state queue.old (length front.old) ≡ Some e) }
         ensures ok { OnOk result (return_error self.old.state queue.old (length front.old) ≡ None) }
+        ensures ring { OnOk result (has_ring self.old.state self.old.regions ≡ true) }
         ensures short { result ≡ Err ChainError.ShortBuffer → length front.old < 160 }
         ensures same { OnErr result ((self.new ≡ self.old)
             × (front.new ≡ front.old)
@@ -126,7 +141,7 @@ impl ChainHandle {
         match &self.state {
             ChainState::HasReply(out, reply) => {
                 let out = *out;
-                match stores_of(queue, &out, reply, front) {
+                match stores_of(&self.regions, queue, &out, reply, front) {
                     Ok(stores) => {
                         self.state = ChainState::Pushing(out);
                         queue.pushing = true;

@@ -5,9 +5,10 @@ ghost use Rattle.fs_chain.specs.HoldsAround.{Resets};
 ghost use Rattle.fs_chain.specs.Queues.{reset_to, new_queue, gave, fits_pop, is_laid_out, is_last};
 ghost use Rattle.fs_chain.specs.Queues.{is_in_flight_of, may_take, in_flight, pop_id_of, took, gave_up};
 
+use crate::ring_place::RingPlace;
 use crate::state::{InFlight, PopId};
 use fs_queue::{QueueError, QueueLayout};
-use fs_regions::Course;
+use fs_regions::{Course, GuestMap};
 
 /// A queue's state: values that the caller keeps and lends for a call. Chains are popped one after
 /// another, and may be pushed in any order.
@@ -94,13 +95,15 @@ impl QueueState {
         self.in_flight() < self.max_in_flight
     }
 
-    // The identity of a pop that begins now.
-    pub(crate) fn pop_id(&self) -> PopId
-        ensures { result ≡ pop_id_of self.now }
+    // The identity of a pop that begins now over these regions.
+    #[inline(always)]
+    pub(crate) fn pop_id(&self, regions: &GuestMap) -> PopId
+        ensures { result ≡ pop_id_of regions.now self.now }
     {
         PopId {
             reset_count: self.reset_count,
             pop_count: self.pop_count,
+            ring: RingPlace::of(regions, &self.layout),
         }
     }
 

@@ -1,14 +1,16 @@
 //! The state of a chain between its pop and its push.
 
+use crate::ring_place::RingPlace;
 use fs_regions::{Course, QueueWalk};
 use server_phases::{Front, Listing, Waiting};
 
 /// The identity of a pop, and then of its chain: how often its queue was reset before, and how often a
-/// chain was popped or given up.
+/// chain was popped or given up; and where the queue's rings were.
 #[derive(Clone, Copy, Debug)]
 pub struct PopId {
     pub(crate) reset_count: u32,
     pub(crate) pop_count: u32,
+    pub(crate) ring: RingPlace,
 }
 
 /// A chain in flight.

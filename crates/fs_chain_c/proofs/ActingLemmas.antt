@@ -242,6 +242,7 @@ no_error_load error.OtherCall is = apart 32 79 refl is
 no_error_load error.OtherKind is = apart 32 75 refl is
 no_error_load error.ChainInFlight is = apart 32 76 refl is
 no_error_load error.Pushing is = apart 32 78 refl is
+no_error_load error.OtherTable is = apart 32 80 refl is
 
 pub no_error_idle : IsNoError 33
 no_error_idle error.OutOfMemory is = apart 33 9 refl is
@@ -254,6 +255,7 @@ no_error_idle error.OtherCall is = apart 33 79 refl is
 no_error_idle error.OtherKind is = apart 33 75 refl is
 no_error_idle error.ChainInFlight is = apart 33 76 refl is
 no_error_idle error.Pushing is = apart 33 78 refl is
+no_error_idle error.OtherTable is = apart 33 80 refl is
 
 -- one call over a queue that C's numbers are of
 abbrev Goes : ChainHandle → FsQueue → QueueState → List ℕ → FsPop → (status : ℕ) → ChainHandle → FsQueue → Type 0
@@ -352,6 +354,7 @@ same_error error.OtherQueue is = absurd (apart 76 74 refl is)
 same_error error.OtherCall is = absurd (apart 76 79 refl is)
 same_error error.OtherKind is = absurd (apart 76 75 refl is)
 same_error error.Pushing is = absurd (apart 76 78 refl is)
+same_error error.OtherTable is = absurd (apart 76 80 refl is)
 
 full_error : (b : ChainHandle) (k : QueueState) → b.state ≡ at.Free → RefusesWalk b k [] error.ChainInFlight →
     begin_error k 0 ≡ Some error.ChainInFlight

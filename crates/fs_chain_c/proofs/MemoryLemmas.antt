@@ -128,6 +128,7 @@ module _ (regions sorted : List FsRegion) (same : IsPermutation regions sorted) 
   none_of error.OtherKind why = why
   none_of error.ChainInFlight why = why
   none_of error.Pushing why = why
+  none_of error.OtherTable why = why
 
   -- a refusal of the regions in ascending order is one of those in any
   pub no_memory : (r : Result (List Region) ChainError) → IfErr r (IsNoSortedMemory sorted) → IfErr r (IsNoMemory regions)

@@ -59,7 +59,7 @@ GoesOver b d regions b' =
     (memory_error b.state d.limit ≡ None)
     × IsDevice d
     × IsMemory regions b'.regions.layout
-    × (b'.regions.table ≡ None)
+    × ((b'.regions.table ≡ None) × (b'.regions.away ≡ false))
     × (b'.limit ≡ d.limit)
     × (b'.state ≡ b.state)
     × (b'.part ≡ b.part)

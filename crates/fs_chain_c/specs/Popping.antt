@@ -17,7 +17,7 @@ use Rattle.fs_chain.specs.Numbers.{chain_error_number}
 use Rattle.fs_chain_c.specs.declared.queue.FsQueue.{FsQueue}
 use Rattle.fs_chain_c.specs.declared.popping.FsPop.{FsPop}
 use Rattle.fs_chain_c.specs.Iotlbs.{access_number}
-use Rattle.fs_chain_c.specs.Queues.{IsQueueState, IsQueue, put}
+use Rattle.fs_chain_c.specs.Queues.{IsBegun, IsQueueState, put}
 
 -- the host address of a window: the number of its region, and its offset there
 abbrev pub host_at : Window → ℕ
@@ -95,12 +95,12 @@ WalksKept b q k loaded step status b' q' =
     × IsSame b b'
     × (q' ≡ q))
 
--- a pop over a queue of C's; `BadArgument`, if the numbers aren't a queue's
+-- a pop over a queue of C's; `BadArgument`, if the numbers aren't those of a queue that was begun
 abbrev pub PopsHandle :
     ChainHandle → FsQueue → (loaded : List ℕ) → FsPop → (status : ℕ) → ChainHandle → FsQueue → Type 0
 PopsHandle b q loaded step status b' q' =
-    ((IsQueue q → ⊥) × (status ≡ chain_error_number BadArgument) × (step ≡ no_step) × (b' ≡ b) × (q' ≡ q))
-    ⊎ (IsQueue q × (k : QueueState) × IsQueueState q k × WalksKept b q k loaded step status b' q')
+    ((IsBegun q → ⊥) × (status ≡ chain_error_number BadArgument) × (step ≡ no_step) × (b' ≡ b) × (q' ≡ q))
+    ⊎ (IsBegun q × (k : QueueState) × IsQueueState q k × WalksKept b q k loaded step status b' q')
 
 -- a pop over the core's queue by loads that were made ahead: calls of `pop` one after another. On an error
 -- nothing changes, and the result is the load that the pop still needs
@@ -118,9 +118,9 @@ WalksKeptAhead b q k ahead step status b' q' =
     × (b' ≡ b)
     × (q' ≡ q))
 
--- such a pop over a queue of C's; `BadArgument`, if the numbers aren't a queue's
+-- such a pop over a queue of C's; `BadArgument`, if the numbers aren't those of a queue that was begun
 abbrev pub PopsHandleAhead : ChainHandle → FsQueue → (ahead : List AheadBytes) → FsPop → (status : ℕ) →
     ChainHandle → FsQueue → Type 0
 PopsHandleAhead b q ahead step status b' q' =
-    ((IsQueue q → ⊥) × (status ≡ chain_error_number BadArgument) × (step ≡ no_step) × (b' ≡ b) × (q' ≡ q))
-    ⊎ (IsQueue q × (k : QueueState) × IsQueueState q k × WalksKeptAhead b q k ahead step status b' q')
+    ((IsBegun q → ⊥) × (status ≡ chain_error_number BadArgument) × (step ≡ no_step) × (b' ≡ b) × (q' ≡ q))
+    ⊎ (IsBegun q × (k : QueueState) × IsQueueState q k × WalksKeptAhead b q k ahead step status b' q')

@@ -14,7 +14,7 @@ use Rattle.fs_chain.specs.declared.pushing.PushStores.{PushStores}
 use Rattle.fs_chain.specs.declared.state.ChainState.TheVariants as at
 use Rattle.fs_chain.specs.Numbers.{chain_error_number}
 use Rattle.fs_chain.specs.Events.{tells_of}
-use Rattle.fs_chain.specs.Orders.{end_error, give_up_error, is_out, return_error}
+use Rattle.fs_chain.specs.Orders.{end_error, give_up_error, has_ring, is_out, push_error, return_error}
 use Rattle.fs_chain.specs.Queues.{gave, gave_up}
 use Rattle.fs_chain.specs.Pushes.{IfHasReply, IsFreed, PushesBy, put_front}
 use Rattle.fs_chain.specs.declared.chain_handle.ChainHandle.{ChainHandle}
@@ -94,16 +94,18 @@ PushesSo b k front told status b' front' =
     × (((status ≡ 0) × TellsStores b'.regions s told)
     ⊎ ((status ≡ 77) × (told ≡ no_stores) × HaveNoPlaces b'.regions s))
 
--- the same over the core's queue, on which no other push begins until this one ends. An error changes
--- nothing, and a buffer of 160 bytes is never too short
+-- the same over the core's queue, on which no other push begins until this one ends. The queue's rings are
+-- where they were when the chain was popped. An error changes nothing, and a buffer of 160 bytes is never too
+-- short
 abbrev pub ReturnsKept : ChainHandle → FsQueue → QueueState → (front : List ℕ) → FsStores → (status : ℕ) →
     ChainHandle → FsQueue → (front' : List ℕ) → Type 0
 ReturnsKept b q k front told status b' q' front' =
     ((return_error b.state k (length front) ≡ None)
     × PushesSo b k front told status b' front'
-    × (q' ≡ put q (record k { pushing = true })))
+    × (q' ≡ put q (record k { pushing = true }))
+    × (has_ring b.state b.regions ≡ true))
     ⊎ ((e : ChainError)
-    × (return_error b.state k (length front) ≡ Some e)
+    × (push_error (has_ring b.state b.regions) b.state k (length front) ≡ Some e)
     × (e ≡ ShortBuffer → length front < 160)
     × (status ≡ chain_error_number e)
     × (told ≡ no_stores)

@@ -1,5 +1,5 @@
 -- Queues as numbers that C keeps, and as the core has them.
-use Rattle.std.specs.Prelude.{◌≡◌, ◌⊎◌, ◌==◌, ◌≤◌, ◌+◌, ◌-◌, ◌%◌, ◌^◌, max, ℕ, Bool, true, false, Option}
+use Rattle.std.specs.Prelude.{◌≡◌, ◌⊎◌, ◌==◌, ◌<◌, ◌≤◌, ◌+◌, ◌-◌, ◌%◌, ◌^◌, max, ℕ, Bool, true, false, Option}
 use Rattle.std.specs.Prelude.{Some, None, IsSome, if◌then◌else◌}
 use Rattle.fs_queue.specs.Lawful.{layout_error}
 use Rattle.fs_queue.specs.Numbers.{queue_number}
@@ -46,6 +46,10 @@ IsQueue q =
     × (q.pushing ≤ 1)
     × (q.event_index ≤ 1)
     × IsSome (stop_of q.stopped)
+
+-- these are the numbers of a queue that was begun: of one whose numbers were never set, reset_count is 0
+abbrev pub IsBegun : FsQueue → Type 0
+IsBegun q = IsQueue q × (0 < q.reset_count)
 
 -- the core's queue has these numbers
 pub record IsQueueState (q : FsQueue) (k : QueueState) : Type 0 where

@@ -21,7 +21,7 @@ use fs_regions::LoadAhead;
 use std::alloc::Global;
 
 /// The version of the header (PK_VERSION).
-const VERSION: u32 = 11;
+const VERSION: u32 = 12;
 
 /// The status of a handle whose memory was never set: WrongOrder.
 pub(crate) fn wrong_order() -> u32
@@ -40,7 +40,7 @@ pub(crate) fn bad_argument() -> u32
 /// The version of the header that the archive was built with.
 #[unsafe(no_mangle)]
 pub extern "C" fn pk_version() -> u32
-    ensures { result ≡ 11 }
+    ensures { result ≡ 12 }
 {
     VERSION
 }

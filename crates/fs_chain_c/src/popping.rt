@@ -155,7 +155,7 @@ pub fn pop_handle(
     ensures pops { PopsHandle handle.old queue.old loaded.now step.new result handle.new queue.new }
     ensures few { step.new.load_len ≤ 4096 }
 {
-    let Some(mut kept) = queue.kept() else {
+    let Some(mut kept) = queue.begun() else {
         *step = FsPop::nothing();
         return u32::from(ChainError::BadArgument.number());
     };
@@ -184,7 +184,7 @@ pub fn pop_handle_ahead(
         handle.new queue.new }
     ensures few { step.new.load_len ≤ 4096 }
 {
-    let Some(mut kept) = queue.kept() else {
+    let Some(mut kept) = queue.begun() else {
         *step = FsPop::nothing();
         return u32::from(ChainError::BadArgument.number());
     };

@@ -1,7 +1,7 @@
 //! Queues as numbers that C keeps.
 
 ghost use Rattle.std.specs.Prelude.{◌≡◌, false, true, IfSome, IfNone, OnSome};
-ghost use Rattle.fs_chain_c.specs.Queues.{IsQueueState, IsQueue, reset_to, chains_in_flight, put};
+ghost use Rattle.fs_chain_c.specs.Queues.{IsBegun, IsQueueState, IsQueue, reset_to, chains_in_flight, put};
 ghost use Rattle.fs_chain_c.specs.Queues.{stop_number, stop_of};
 
 use fs_chain::QueueState;
@@ -103,6 +103,22 @@ impl FsQueue {
             event_index: self.event_index == 1,
             stopped,
         })
+    }
+
+    /// The same of a queue that was begun; None if its numbers were never set.
+    #[inline(always)]
+    pub fn begun(&self) -> Option<QueueState>
+        ensures kept { IfSome result (IsQueueState self.now) }
+        ensures is { OnSome result (IsBegun self.now) }
+        ensures none { IfNone result (IsBegun self.now → ⊥) }
+    {
+        let Some(kept) = self.kept() else {
+            return None;
+        };
+        if self.reset_count == 0 {
+            return None;
+        }
+        Some(kept)
     }
 
     /// Writes the numbers that a call changed to C's queue.

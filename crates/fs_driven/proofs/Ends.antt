@@ -7,7 +7,8 @@ use Rattle.fs_chain.specs.declared.error.ChainError.TheVariants.{OtherQueue, Sho
 use Rattle.fs_chain.specs.declared.error.ChainError.TheVariants as error
 use Rattle.fs_chain.specs.Queues.{gave, gave_up, is_in_flight_of}
 use Rattle.fs_chain.specs.Serials.{freed}
-use Rattle.fs_chain.specs.Orders.{end_error, front_len, front_of, give_up_error, return_error}
+use Rattle.fs_chain.specs.Orders.{end_error, front_len, front_of, give_up_error, has_ring, push_error}
+use Rattle.fs_chain.specs.Orders.{return_error}
 use Rattle.fs_chain.specs.Pushes.{IfHasReply, PushesBy, put_front}
 use Rattle.fs_queue.specs.Returning.{Store, stores_after_reply}
 use Rattle.fs_queue.specs.ReturningView.{stores_of}
@@ -139,7 +140,7 @@ push_drives page_size old new q q' front stores out kept is idle ok so made push
       still = λ none. absurd (not_free q'.pushing now_pushing none);
     } in
     let under : IsUnderWay k q' c x.0 (Some b) =
-    (refl, (p.1 ∙ sym (places c.head (length x.0.reply)), p.3, p.4)) in (
+    (refl, (p.1 ∙ sym (places c.head (length x.0.reply)), p.4, p.5)) in (
       [],
       s,
       has.ob ++ own k c ∷ has.oh,
@@ -494,7 +495,7 @@ push_at old new q q' front front' s (at.Pushing out) is free len ok made pushing
 pub push_result : (old new : ChainHandle) (q q' : QueueState) (front front' : List ℕ)
     (result : Result PushStores ChainError)
     → length front' ≡ length front
-    → IfErr result (λ e. return_error old.state q (length front) ≡ Some e)
+    → IfErr result (λ e. push_error (has_ring old.state old.regions) old.state q (length front) ≡ Some e)
     → OnOk result (return_error old.state q (length front) ≡ None)
     → OnErr result ((new ≡ old) × (front' ≡ front) × (q' ≡ q))
     → OnOk result (IfHasReply old.state (λ out reply. new ≡ record old { state = at.Pushing out }))
@@ -512,8 +513,8 @@ push_result old new q q' front front' (Err e) len err ok same made pushing by pu
     (refuses page_size old new q does.Push (gives.Began (Err e) front') (same_held old new same.0)
     (λ i k d d' u is. (
       refl,
-      subst (λ (r : QueueState). return_error old.state r (length front') ≡ Some e)
-          (sym is) (subst (λ (n : ℕ). return_error old.state q n ≡ Some e) (sym len) err),
+      subst (λ (r : QueueState). push_error (has_ring old.state old.regions) old.state r (length front') ≡ Some e)
+          (sym is) (subst (λ (n : ℕ). push_error (has_ring old.state old.regions) old.state q n ≡ Some e) (sym len) err),
     )))
 
 -- a push that is ended

@@ -505,7 +505,7 @@ begun_keeps old new q q' told None free by =
     by_fault old new q q' told (Some e) free by =
         by_miss old new q q' told e (event_miss (places_in old.regions) q) free by
     by_fault old new q q' told None free by =
-        kept_step (course_of q old.limit) (pop_id_of q) by.0 old new q q' told by.1
+        kept_step (course_of q old.limit) (pop_id_of old.regions q) by.0 old new q q' told by.1
 
 pub gone_keeps : (old new : ChainHandle) (q q' : QueueState) (bytes : List ℕ) (told : walked.PopOutcome)
     (course : Course) (pop_id : PopId) (walk : QueueWalk) (stopped : Option QueueError) →

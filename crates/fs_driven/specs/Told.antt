@@ -25,7 +25,8 @@ use Rattle.fs_chain.specs.Decoding.{IfUndecoded, TellsMeaning, wanted_after, wan
 use Rattle.fs_driven.specs.Desks.{Begun, Desk, Driven, In, Leads, desk, own}
 use Rattle.fs_chain.specs.Holds.{Machine, Pop, calls_decoded}
 use Rattle.fs_chain.specs.Loads.{GoesSo, RefusesWalk, whole}
-use Rattle.fs_chain.specs.Orders.{ask_error, end_error, front_of, give_up_error, is_out, return_error}
+use Rattle.fs_chain.specs.Orders.{ask_error, end_error, front_of, give_up_error, has_ring, is_out}
+use Rattle.fs_chain.specs.Orders.{push_error, return_error}
 use Rattle.fs_chain.specs.OwnReplies.{own_error}
 use Rattle.fs_chain.specs.Pushes.{IfHasReply, PushesBy}
 use Rattle.fs_chain.specs.Together.{Owned, with_handle}
@@ -213,7 +214,9 @@ TellsReply t serial len u (Ok done) es =
 
 -- a push begins: no event yet, but its stores are kept
 abbrev pub TellsPush : Turn → Result PushStores ChainError → (front : List ℕ) → List LiveEvent → Type 0
-TellsPush t (Err e) front es = (es ≡ []) × (return_error t.was.state t.old.queue (length front) ≡ Some e)
+TellsPush t (Err e) front es =
+    (es ≡ [])
+    × (push_error (has_ring t.was.state t.was.regions) t.was.state t.old.queue (length front) ≡ Some e)
 TellsPush t (Ok stores) front es =
     (es ≡ [])
     × (return_error t.was.state t.old.queue (length front) ≡ None)

@@ -1,7 +1,7 @@
 -- The mapped addresses of a guest's memory, without its bytes: its regions, and the IOMMU's table, if
 -- there is one (VIRTIO 1.2, 2.7).
-use Rattle.std.specs.Prelude.{◌≡◌, ℕ, ◌+◌, ◌%◌, ◌^◌, ◌==◌, ◌||◌, not, nat_lt, [], ◌∷◌, List, Option, Some}
-use Rattle.std.specs.Prelude.{None, if◌then◌else◌, is_some, unwrap_or}
+use Rattle.std.specs.Prelude.{◌≡◌, ℕ, ◌+◌, ◌%◌, ◌^◌, ◌==◌, ◌||◌, not, nat_lt, Bool, false, true, [], ◌∷◌}
+use Rattle.std.specs.Prelude.{List, Option, Some, None, if◌then◌else◌, is_some, unwrap_or}
 use Rattle.vm_iotlb.specs.declared.range.IotlbRange.{IotlbRange}
 use Rattle.vm_memory_core.specs.Host.{Host}
 use Rattle.vm_memory.specs.Layout.{Region, IsLawful}
@@ -23,14 +23,34 @@ abbrev pub region_if : (start size number : ℕ) → Option Region
 region_if start size number =
     is_no_region start size (Some (record { start = start; size = size; block = number }))
 
--- regions, and the table that translates a device's addresses to theirs, if there is one
+-- regions, and the table that translates a device's addresses to theirs, if there is one. `away`: the table
+-- was taken away, and in its place is one that maps nothing
 pub record Mapped : Type 0 where
   pub layout : List Region
   pub table : Option (List IotlbRange)
+  pub away : Bool
 
 -- regions without a table
 abbrev pub untranslated : List Region → Mapped
-untranslated regions = record { layout = regions; table = None }
+untranslated regions = record { layout = regions; table = None; away = false }
+
+-- regions behind a table
+abbrev pub behind : List Region → List IotlbRange → Mapped
+behind regions table = record { layout = regions; table = Some table; away = false }
+
+-- regions whose table is taken away, if they have one
+abbrev pub without : List Region → Option (List IotlbRange) → Mapped
+without regions None = untranslated regions
+without regions (Some table) = record { layout = regions; table = Some []; away = true }
+
+-- the regions with another table, or with none
+abbrev pub with_table : Mapped → Option (List IotlbRange) → Mapped
+with_table g None = without g.layout g.table
+with_table g (Some table) = behind g.layout table
+
+-- the table that can be taken away
+abbrev pub own_table : Mapped → Option (List IotlbRange)
+own_table g = if g.away then None else g.table
 
 -- the memory that a host's blocks are by these regions and their table; the host's own tables don't matter
 abbrev pub memory_over : Host → Mapped → Memory

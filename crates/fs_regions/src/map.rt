@@ -12,7 +12,7 @@ ghost use Rattle.vm_memory.specs.Layout.{left_at};
 ghost use Rattle.vm_memory.specs.Memory.{addresses, location, reach};
 ghost use Rattle.vm_memory.specs.Slices.{IsWindowAt};
 ghost use Rattle.vm_memory.specs.Translated.{translated, translated_left};
-ghost use Rattle.fs_regions.specs.Places.{left_in, places_in, untranslated};
+ghost use Rattle.fs_regions.specs.Places.{behind, left_in, own_table, places_in, untranslated, with_table};
 
 use crate::regions::GuestRegions;
 use fs_queue::AddressMap;
@@ -22,11 +22,14 @@ use std::mem;
 use vm_memory_core::{GuestAddress, Iotlb, IovaRange, Permissions, VolatileSlice};
 
 /// A guest's memory: its regions, and an IOMMU's table, if there is one. The table translates the device's
-/// addresses to addresses of the regions. Without a table the device uses the regions' own.
+/// addresses to addresses of the regions. Without a table the device uses the regions' own. While its table
+/// is taken away, none of the device's addresses is mapped.
 #[derive(Drop)]
 pub struct GuestMap {
     regions: GuestRegions,
     table: Option<Iotlb>,
+    /// Whether the table was taken away: then `table` is one that maps nothing.
+    away: bool,
 }
 
 impl Model for GuestMap {
@@ -34,7 +37,7 @@ impl Model for GuestMap {
 
     ghost Value = { Mapped };
 
-    ghost view = { λ m. record { layout = m.regions; table = m.table } };
+    ghost view = { λ m. record { layout = m.regions; table = m.table; away = m.away } };
 }
 
 // Whether a table maps each of `len` addresses from one on into a region, for an access.
@@ -74,8 +77,7 @@ fn reaches_behind(
     len: usize,
     access: Permissions,
 ) -> bool
-    ensures { result ≡ reach (places_in (record { layout = regions.now; table = Some table.now }))
-        access addr len }
+    ensures { result ≡ reach (places_in (behind regions.now table.now)) access addr len }
 {
     len as u64 <= u64::MAX - addr && reaches_by(regions, table, addr, len, access)
 }
@@ -115,6 +117,7 @@ impl GuestMap {
         GuestMap {
             regions: GuestRegions::none(alloc),
             table: None,
+            away: false,
         }
     }
 
@@ -125,25 +128,67 @@ impl GuestMap {
         GuestMap {
             regions,
             table: None,
+            away: false,
         }
     }
 
     /// Regions behind a table.
     pub fn behind(regions: GuestRegions, table: Iotlb) -> GuestMap
-        ensures { result ≡ record { layout = regions; table = Some table } }
+        ensures { result ≡ behind regions table }
     {
         GuestMap {
             regions,
             table: Some(table),
+            away: false,
         }
     }
 
-    /// Exchanges the table for another one, or for none, and returns the one that was there.
-    pub fn exchange_table(&mut self, table: Option<Iotlb>) -> Option<Iotlb>
+    // Takes the table away, if there is one, and returns what was in its place.
+    fn take_table(&mut self, alloc: Global) -> Option<Iotlb>
         ensures old { result ≡ self.old.table }
-        ensures new { self.new ≡ record { layout = self.old.layout; table = table } }
+        ensures new { self.new ≡ with_table self.old None }
     {
-        mem::replace(&mut self.table, table)
+        match &mut self.table {
+            Some(table) => {
+                self.away = true;
+                Some(mem::replace(table, Iotlb::new(alloc)))
+            }
+            None => {
+                self.away = false;
+                None
+            }
+        }
+    }
+
+    // Puts a table in its place, and returns what was there.
+    fn put_table(&mut self, table: Iotlb) -> Option<Iotlb>
+        ensures old { result ≡ self.old.table }
+        ensures new { self.new ≡ with_table self.old (Some table) }
+    {
+        self.away = false;
+        mem::replace(&mut self.table, Some(table))
+    }
+
+    /// Exchanges the table for another one, or for none, and returns the one that was there. Memory that had
+    /// a table maps none of the device's addresses while the table is taken away.
+    pub fn exchange_table(&mut self, alloc: Global, table: Option<Iotlb>) -> Option<Iotlb>
+        ensures old { result ≡ own_table self.old }
+        ensures new { self.new ≡ with_table self.old table }
+    {
+        let was_away = self.away;
+        let old = match table {
+            Some(table) => self.put_table(table),
+            None => self.take_table(alloc),
+        };
+        if was_away { None } else { old }
+    }
+
+    /// Whether the device's addresses are translated: there is a table, or it was taken away.
+    #[inline(always)]
+    pub fn translates(&self) -> bool
+        ensures { result ≡ (places_in self.now).translates }
+    {
+        self.table.is_some()
     }
 
     /// Whether each of `len` addresses from one on is mapped for an access, and their end is an address.

@@ -1,14 +1,10 @@
 -- The regions, their table and the limit of a handle, from a pop to the chain's end.
-use Rattle.std.proofs.Common.{◌≡◌, ℕ, Bool, List, [], Option, None, Result, Ok, Err, ap, refl, ◌+◌, ◌∙◌}
+use Rattle.std.proofs.Common.{◌≡◌, ℕ, Bool, List, [], None, Result, Ok, Err, ap, refl, ◌+◌, ◌∙◌}
 use Rattle.std.specs.Prelude.{IfOk, OnOk, ◌%◌, ◌^◌, true, if◌then◌else◌}
-use Rattle.vm_iotlb.specs.declared.range.IotlbRange.{IotlbRange}
-use Rattle.vm_memory.specs.Layout.{Region}
 use Rattle.fs_queue.specs.declared.fault.ChainFault.{ChainFault}
-use Rattle.fs_regions.specs.Places.{Mapped}
 use Rattle.fs_chain.specs.Orders.{is_out}
 use Rattle.fs_chain.specs.OwnReplies.{IfUnanswered, own_error, own_reply}
 use Rattle.fs_chain.specs.Serials.{freed}
-use Rattle.fs_chain.specs.Tables.{with_table}
 use Rattle.fs_chain.specs.Walks.{IsAllBut, IsAllButPlace}
 use Rattle.fs_chain.specs.Whole.{FromReplied, IsWalked, PushedBy}
 use Rattle.fs_chain.specs.declared.state.ChainReply.{ChainReply}
@@ -23,7 +19,7 @@ use Rattle.fs_chain.specs.declared.state.InFlight.{InFlight}
 use Rattle.fs_chain.specs.declared.state.ChainState as state
 use Rattle.fs_chain.specs.declared.state.ChainState.TheVariants as at
 use Rattle.fs_chain.proofs.WholeWalks.{walk_comes}
-use Rattle.worked_callers.specs.ChainCalls.{HasMemoryOf, HasServedOne, KeepsChain}
+use Rattle.worked_callers.specs.ChainCalls.{HasServedOne, KeepsChain}
 use Rattle.worked_callers.specs.ChainCalls.{loaded_flags}
 
 -- ---- the pop
@@ -39,32 +35,6 @@ pub faulty_keeps : (old new : ChainHandle) (before after : QueueState) (head : �
 faulty_keeps old new before after head fault goes walked =
     let came = walk_comes walked.0 old new before after (says.Faulty head fault) goes tt walked.1 in
     came.2.1.4
-
--- ---- the table
-
-abbrev mapped : List Region → Option (List IotlbRange) → Mapped
-mapped layout table = record { layout = layout; table = table }
-
--- it is taken away, and the handle ends its chain without it
-pub memory_bare : (old one bare last : ChainHandle) → IsAllBut old one → bare ≡ with_table one None → last ≡ freed bare
-    → HasMemoryOf (with_table old None) last
-memory_bare old one bare last popped taken free = (
-  ap (λ (w : ChainHandle). w.regions) (free ∙ ap freed taken) ∙ ap (λ (g : Mapped). mapped g.layout None) popped.0,
-  ap (λ (w : ChainHandle). w.limit) (free ∙ ap freed taken) ∙ popped.1,
-)
-
--- it is taken away for the answer, and lent again
-pub memory_lent : (old one bare replied lent last : ChainHandle) (table : Option (List IotlbRange)) → IsAllBut old one
-    → table ≡ one.regions.table → bare ≡ with_table one None → IsAllBut bare replied → lent ≡ with_table replied table → last ≡ freed lent
-    → HasMemoryOf old last
-memory_lent old one bare replied lent last table popped was taken kept given free =
-    let layout : replied.regions.layout ≡ one.regions.layout =
-    ap (λ (g : Mapped). g.layout) kept.0 ∙ ap (λ (w : ChainHandle). w.regions.layout) taken in (
-      ap (λ (w : ChainHandle). w.regions) (free ∙ ap freed given) ∙ ap (λ (l : List Region). mapped l table) layout
-          ∙ ap (λ (t : Option (List IotlbRange)). mapped one.regions.layout t) was
-          ∙ popped.0,
-      ap (λ (w : ChainHandle). w.limit) (free ∙ ap freed given) ∙ kept.1 ∙ ap (λ (w : ChainHandle). w.limit) taken ∙ popped.1,
-    )
 
 -- ---- from a pop to the handle's next
 

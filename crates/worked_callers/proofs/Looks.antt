@@ -73,7 +73,7 @@ idle_leaves given old new before after goes walks =
     let ds = new.descriptors.items in
     let made = walk_comes given old new before after says.Idle goes tt walks in
     let is = idle_is ds made.2.0 made.2.1.0 in (
-      made.2.1.1 ∙ ap (λ (k : comes.CourseStep). state_after (course_of before old.limit) (pop_id_of before) ds k) is,
+      made.2.1.1 ∙ ap (λ (k : comes.CourseStep). state_after (course_of before old.limit) (pop_id_of old.regions before) ds k) is,
       made.2.1.2 ∙ ap (λ (k : comes.CourseStep). queue_after before k) is,
     )
 
@@ -85,6 +85,6 @@ refusal_leaves given e old new before after goes events walks =
     let ds = new.descriptors.items in
     let made = walk_comes given old new before after (says.Refused e) goes events walks in
     let is = refusal_is ds made.2.0 e made.2.1.0 in (
-      made.2.1.1 ∙ ap (λ (k : comes.CourseStep). state_after (course_of before old.limit) (pop_id_of before) ds k) is,
+      made.2.1.1 ∙ ap (λ (k : comes.CourseStep). state_after (course_of before old.limit) (pop_id_of old.regions before) ds k) is,
       made.2.1.2 ∙ ap (λ (k : comes.CourseStep). queue_after before k) is,
     )

@@ -9,13 +9,13 @@ use Rattle.vm_memory.specs.Layout.{Region, place}
 use Rattle.vm_memory.specs.Memory.{addresses, reach}
 use Rattle.fs_queue.specs.declared.fault.QueueError.TheVariants.{AvailFlagsUnreachable}
 use Rattle.fs_regions.specs.Misses.{Area, first_miss, last_page}
-use Rattle.fs_regions.specs.Places.{Mapped, places_in, untranslated}
+use Rattle.fs_regions.specs.Places.{Mapped, behind, places_in, untranslated}
 use Rattle.fs_chain.specs.Events.{avail_event_at, event_fault, event_miss, used_event_at}
 use Rattle.fs_chain.specs.declared.queue.QueueState.{QueueState}
 
 -- regions behind a table without mappings
 abbrev pub behind_none : List Region → Mapped
-behind_none layout = record { layout = layout; table = Some [] }
+behind_none layout = behind layout []
 
 never : (b : Bool) → (b && false) ≡ false
 never true = refl

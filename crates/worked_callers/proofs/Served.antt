@@ -57,7 +57,8 @@ pub taken_so : (old new : ChainHandle) (before after : QueueState) (head n r : �
     FromTaken new.state (λ out. out.request_len ≡ n)
 taken_so old new before after head n r goes walked =
     let came = walk_comes walked.0 old new before after (says.Chain head n r) goes tt walked.1 in
-    by_came new.descriptors.items came.2.0 (course_of before old.limit) (pop_id_of before) new.state head n r came.2.1.0 came.2.1.1
+    by_came new.descriptors.items came.2.0 (course_of before old.limit) (pop_id_of old.regions before) new.state
+    head n r came.2.1.0 came.2.1.1
 
 -- a walk leaves where the next chain goes back, and the event index
 stays_there : (q : QueueState) (came : comes.CourseStep) →

@@ -1,6 +1,7 @@
 //! An IOMMU's table that is lent to a handle, and taken back.
 
 ghost use Rattle.std.specs.Prelude.{◌≡◌, true, IfErr, IfOk, None, OnOk};
+ghost use Rattle.fs_regions.specs.Places.{own_table};
 ghost use Rattle.fs_chain.specs.Tables.{is_walking, with_table};
 
 use fs_chain::{ChainError, ChainHandle};
@@ -8,7 +9,7 @@ use vm_memory_core::Iotlb;
 
 /// Takes the IOMMU's table back from a handle. `ChainInFlight` while a pop is under way.
 pub fn take_table(handle: &mut ChainHandle) -> Result<Option<Iotlb>, ChainError>
-    ensures table { IfOk result (λ table. table ≡ handle.old.regions.table) }
+    ensures table { IfOk result (λ table. table ≡ own_table handle.old.regions) }
     ensures taken { OnOk result (handle.new ≡ with_table handle.old None) }
     ensures busy { IfErr result (λ e. (e ≡ ChainError.ChainInFlight)
         × (is_walking handle.old.state ≡ true)

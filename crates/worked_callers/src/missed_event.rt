@@ -5,7 +5,7 @@ ghost use Rattle.std.specs.Prelude.{◌≡◌, ◌≤◌, ◌+◌, [], IfOk, Non
 ghost use Rattle.vm_iotlb.specs.AddressRuns.{run_of};
 ghost use Rattle.vm_iotlb.specs.declared.permissions.Permissions.{Permissions};
 ghost use Rattle.fs_regions.specs.Misses.{last_page};
-ghost use Rattle.fs_regions.specs.Places.{untranslated};
+ghost use Rattle.fs_regions.specs.Places.{behind, untranslated};
 ghost use Rattle.fs_chain.specs.Events.{used_event_at};
 ghost use Rattle.fs_chain.specs.declared.state.ChainState.TheVariants as at;
 
@@ -38,7 +38,7 @@ pub fn miss_used_event(
         × (handle.new.state ≡ at.Free)
         × (handle.new.descriptors.items ≡ [])
         × (handle.new.part.items ≡ [])
-        × (handle.new.regions ≡ record { layout = regions; table = Some [] })
+        × (handle.new.regions ≡ behind regions [])
         × (handle.new.limit ≡ 0x101000)
         × (handle.new.session ≡ handle.old.session)
         × (handle.new.serial ≡ handle.old.serial)

@@ -234,6 +234,10 @@ static void refuses(void) {
     second = (struct pk_queue){0};
     expect("zeros", pk_pop_ahead(&other, &second, loads.ahead, 3, loads.bytes, loads.len, &pop),
            PK_BAD_ARGUMENT);
+    second = fresh, second.reset_count = 0;
+    expect("not begun", pk_pop_ahead(&other, &second, loads.ahead, 3, loads.bytes, loads.len, &pop),
+           PK_BAD_ARGUMENT);
+    expect("no load of it", pop.load_len, 0);
     second = fresh, second.stopped = 3;
     expect("stopped", pk_pop_ahead(&other, &second, loads.ahead, 3, loads.bytes, loads.len, &pop),
            PK_STOPPED);

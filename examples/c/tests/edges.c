@@ -189,6 +189,23 @@ static void with_equal_addresses(void) {
     is_no_other_queues("a chain of another queue that was restored");
 }
 
+/* A queue that was never begun isn't popped, and nothing changes. */
+static void never_begun(void) {
+    struct pk_chain chain = {0};
+    struct pk_pop step;
+    lay_out(NEXT);
+    offer(&queues[0], GETATTR, 56, 0x100);
+    struct pk_queue before = queues[0];
+    expect("the memory", pk_chain_set_memory(&chain, &device, &region, 1), PK_DONE);
+    expect("the pop", pop(&chain, &queues[0], &step), PK_BAD_ARGUMENT);
+    expect("its load", step.load_at | step.load_len, 0);
+    expect("the queue", (uint64_t)memcmp(&before, &queues[0], sizeof before), 0);
+    expect("the handle", pk_chain_state(&chain), PK_STATE_FREE);
+    expect("a queue begins", pk_queue_begin(&queues[0], 0), PK_DONE);
+    expect("the pop", pop(&chain, &queues[0], &step), PK_DONE);
+    pk_chain_free(&chain);
+}
+
 /* pk_restore refuses what pk_queue_begin does, and changes nothing. */
 static void restores_valid_queues(void) {
     static const struct {
@@ -297,6 +314,7 @@ int main(void) {
     far_apart();
     with_equal_addresses();
     restores_valid_queues();
+    never_begun();
     entries();
     longest_loads();
     return 0;

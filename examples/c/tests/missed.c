@@ -1,5 +1,6 @@
 /* A queue behind an IOMMU. Its table is empty at first: each pop misses a page, the test maps it,
- * and pops again. Then a mapping is removed, and others lack the access that is needed. */
+ * and pops again. Then a mapping is removed, and others lack the access that is needed. A push uses
+ * the table of its pop. */
 #include <pitskhomu.h>
 #include <stdbool.h>
 #include <stdio.h>
@@ -115,6 +116,93 @@ static void a_removed_mapping(void) {
     map(REPLY, PK_ACCESS_WRITE);
 }
 
+/* A chain without a reply, whose handle has a table now or hasn't. */
+static void push_is(const char *what, uint32_t status) {
+    struct pk_queue before = queue;
+    struct pk_stores stores;
+    uint8_t front[PK_FRONT_MAX], notify;
+    expect(what, pk_push(&chain, &queue, front, sizeof front, &stores), status);
+    if (status == PK_DONE) {
+        expect(what, stores.index_at, (uintptr_t)memory + USED * PAGE + 2);
+        expect(what, stores.index_guest, AT(USED) + 2);
+        expect(what, pk_pushed(&chain, &queue, 0, &notify), PK_DONE);
+        return;
+    }
+    expect(what, memcmp(&before, &queue, sizeof queue) != 0, 0);
+    expect(what, pk_chain_state(&chain), PK_STATE_REPLIED);
+    expect(what, stores.index_at, 0);
+}
+
+/* The used ring has another page in another table. */
+static void lend_another(struct pk_iotlb *other, uint64_t guest) {
+    expect("another", pk_iotlb_map(other, AT(USED), PAGE, guest, PK_ACCESS_READ_WRITE), PK_DONE);
+    expect("lent", pk_chain_exchange_iotlb(&chain, other), PK_DONE);
+}
+
+static void take_back(struct pk_iotlb *other) {
+    expect("taken", pk_chain_exchange_iotlb(&chain, other), PK_DONE);
+}
+
+static void a_push_uses_the_table_of_its_pop(void) {
+    struct pk_iotlb other = {0};
+    struct pk_window window;
+    struct pk_store store;
+    lend();
+    expect("the chain", pop(), PK_DONE);
+    expect("its reply", pk_reply_bytes(&chain, step.ticket, 0), PK_DONE);
+    lend();
+    push_is("a push without the table", PK_OTHER_TABLE);
+    expect("a window", pk_request_windows(&chain, 0, 80, &window, 1), 0);
+    expect("a store", pk_set_notification(&chain, &queue, 1, &store), PK_NOT_MAPPED);
+    expect("its place", store.at | store.len, 0);
+    expect("another table", pk_iotlb_new(&other), PK_DONE);
+    lend_another(&other, REPLY * PAGE);
+    push_is("a push by another table", PK_OTHER_TABLE);
+    take_back(&other);
+    expect("an unmapping", pk_iotlb_unmap(&other, AT(USED), PAGE), PK_DONE);
+    take_back(&other);
+    push_is("a push by an empty table", PK_OTHER_TABLE);
+    take_back(&other);
+    /* its own, in which other pages changed */
+    expect("other pages", pk_iotlb_unmap(&table, AT(REQUEST), PAGE), PK_DONE);
+    lend();
+    push_is("the push", PK_DONE);
+    expect("a store", pk_set_notification(&chain, &queue, 1, &store), PK_DONE);
+    expect("its place", store.at, (uintptr_t)memory + USED * PAGE);
+    lend();
+    expect("a store without the table", pk_set_notification(&chain, &queue, 1, &store),
+           PK_NOT_MAPPED);
+    expect("a pop without the table", pop(), PK_MISS);
+    map(REQUEST, PK_ACCESS_READ);
+    pk_iotlb_free(&other);
+    expect("the queue", pk_queue_begin(&queue, 0), PK_DONE);
+}
+
+/* A queue whose rings have guest physical addresses; a chain's buffers don't. */
+static void a_push_without_a_table(struct pk_region *region) {
+    struct pk_queue behind = queue;
+    queue = (struct pk_queue){
+        .desc = DESC * PAGE, .avail = AVAIL * PAGE, .used = USED * PAGE, .size = SIZE};
+    expect("the queue", pk_queue_begin(&queue, 0), PK_DONE);
+    expect("the memory", pk_chain_set_memory(&chain, &device, region, 1), PK_DONE);
+    expect("the chain", pop(), PK_DONE);
+    expect("its fault", step.fault, PK_FAULT_REQUEST_UNREACHABLE);
+    lend();
+    push_is("a push with a table", PK_OTHER_TABLE);
+    lend();
+    push_is("a push without it", PK_OTHER_TABLE); /* its addresses are I/O addresses from then on */
+    pk_abandon(&chain);
+    expect("the memory", pk_chain_set_memory(&chain, &device, region, 1), PK_DONE);
+    expect("the queue", pk_queue_begin(&queue, 0), PK_DONE);
+    expect("the chain", pop(), PK_DONE);
+    struct pk_stores stores;
+    uint8_t front[PK_FRONT_MAX];
+    expect("the push", pk_push(&chain, &queue, front, sizeof front, &stores), PK_DONE);
+    expect("its place", stores.index_at, (uintptr_t)memory + USED * PAGE + 2);
+    pk_abandon(&chain);
+    queue = behind;
+}
+
 static void has_fault(const char *what, uint32_t fault) {
     lend();
     expect(what, pop(), PK_DONE);
@@ -178,10 +266,12 @@ int main(void) {
     each_part_of_the_ring();
     both_buffers_at_once();
     the_chain();
+    a_push_uses_the_table_of_its_pop();
     a_removed_mapping();
     too_long();
     refused_mappings();
     what_is_refused();
+    a_push_without_a_table(&region);
     pk_chain_free(&chain);
     pk_iotlb_free(&table);
     return 0;

@@ -211,8 +211,9 @@ pub struct QueueWorker<F> {
     core: Arc<Core<F>>,
     index: usize,
     worker: pitskhomu::Worker,
-    /// The number of the memory whose regions the worker has.
-    told: Option<u64>,
+    /// The number of the memory whose regions the worker has, and whether its addresses are I/O
+    /// addresses.
+    told: Option<(u64, bool)>,
     /// The memory of the chain in flight. It is dropped with the chain, so that memory which the
     /// front-end removes doesn't stay mapped.
     memory: Option<Arc<Table>>,
@@ -240,10 +241,11 @@ impl<F: ServedFs> QueueWorker<F> {
     }
 
     fn work_over(&mut self, memory: &Table) -> Result<(), Status> {
-        if self.told != Some(memory.number()) {
+        let told = Some((memory.number(), memory.iommu().is_on()));
+        if self.told != told {
             self.told = None; // if this is refused, the next call sets the regions again
             self.worker.set_memory(&self.core.device, &memory.regions())?;
-            self.told = Some(memory.number());
+            self.told = told;
         }
         Ok(())
     }

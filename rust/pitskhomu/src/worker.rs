@@ -327,7 +327,9 @@ impl Worker {
     /// `pop` and for `push`, but not for the others. Chains may be pushed in any order.
     ///
     /// # Errors
-    /// Those of `serve`, and `WrongOrder`: the worker already has a chain, and keeps it.
+    /// Those of `serve`, and `WrongOrder`: the worker already has a chain, and keeps it. After
+    /// [`Worker::lend`] also `OtherTable`: pop by [`Lent::pop`](crate::Lent::pop), or set the
+    /// memory again.
     pub fn pop(&mut self, queue: &mut Queue, memory: &dyn GuestMemory) -> Result<bool, Status> {
         self.pop_next(queue, memory, false).map(|popped| popped == Popped::Chain)
     }
@@ -348,7 +350,10 @@ impl Worker {
         match popping.0.pop_steps(queue, memory, is_lent)? {
             PopStep::InFlight if is_lent => popping.0.keep_windows(queue)?,
             PopStep::InFlight => {}
-            PopStep::Missed => return popping.0.gather_misses().map(|()| Popped::Missing),
+            PopStep::Missed if is_lent => {
+                return popping.0.gather_misses().map(|()| Popped::Missing)
+            }
+            PopStep::Missed => return Err(Status::OtherTable), // the table isn't lent
             PopStep::Idle | PopStep::Load => return Ok(Popped::Idle),
         }
         mem::forget(popping);

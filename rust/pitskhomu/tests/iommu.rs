@@ -303,6 +303,29 @@ fn a_chain_of_a_table_goes_back_with_one() {
 }
 
 #[test]
+fn a_push_by_another_table_leaves_the_chain_with_the_worker() {
+    let (mut guest, mut iotlb) = guest();
+    let mut other = Iotlb::new().unwrap();
+    map_rings(&mut other);
+    map(&mut other, SHIFT + USED, 0x5000);
+    offer(&mut guest);
+    take_by_misses(&mut guest, &mut iotlb);
+    answer(&mut guest);
+    let before = guest.queue.next_used();
+    for table in [&mut other, &mut Iotlb::new().unwrap()] {
+        assert_eq!(push(&mut guest, table), Err(Status::OtherTable));
+        assert!(guest.worker.is_answered());
+    }
+    assert_eq!((guest.queue.next_used(), guest.memory.read(0x5000, 16)), (before, vec![0; 16]));
+    assert_eq!(push(&mut guest, &mut iotlb).unwrap().reply_len, 144);
+    assert_eq!(guest.reply(144).data().len(), 128);
+    // Without its table the worker finds nothing, until its memory is set again.
+    let store = guest.worker.set_notification(&guest.queue, true, &guest.memory);
+    assert_eq!(store, Err(Status::NotMapped));
+    assert_eq!(guest.worker.pop(&mut guest.queue, &guest.memory), Err(Status::OtherTable));
+}
+
+#[test]
 fn marks_are_by_guest_addresses() {
     let (mut guest, mut iotlb) = guest();
     guest.memory.is_logging.set(true);

@@ -1,4 +1,5 @@
-//! A worker to which an IOMMU's table is lent: addresses of the driver are I/O addresses then.
+//! A worker to which an IOMMU's table is lent: addresses of the driver are I/O addresses from then
+//! on, until its memory is set again.
 use super::{Served, Worker};
 use crate::chain::Missed;
 use crate::iotlb::{Iotlb, Miss};
@@ -68,7 +69,9 @@ impl Lent<'_> {
     /// Pushes a chain that was popped with a table, as [`Worker::push`] does.
     ///
     /// # Errors
-    /// Those of [`Worker::push`]. `NotMapped`: a part of the rings isn't mapped any more.
+    /// - Those of [`Worker::push`]. `NotMapped`: a part of the rings isn't mapped any more.
+    /// - `OtherTable`: the table isn't that of the pop, or has the used ring elsewhere. The worker
+    ///   keeps the chain: lend the right table, and push again.
     pub fn push(&mut self, queue: &mut Queue, memory: &dyn GuestMemory) -> Result<Served, Status> {
         if !self.worker.chain.is_translated() {
             return Err(Status::WrongOrder);
@@ -105,6 +108,9 @@ impl Lent<'_> {
 
 impl Worker {
     /// Lends an IOMMU's table to the worker. One table serves all workers of a device.
+    ///
+    /// From then on the worker's addresses are I/O addresses, and mapped only while the table is
+    /// lent. If the IOMMU is turned off, set the worker's memory again ([`Worker::set_memory`]).
     ///
     /// # Errors
     /// `WrongOrder`: no memory was set.

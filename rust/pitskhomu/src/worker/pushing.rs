@@ -51,6 +51,9 @@ impl Worker {
             Ok(stores) => stores,
             Err(status) => {
                 pushing.0.mark_data(memory);
+                if status == Status::OtherTable {
+                    mem::forget(pushing); // the chain stays in flight, and the worker keeps it
+                }
                 return Err(status);
             }
         };

@@ -8,6 +8,16 @@ returns-in-Ok-clause-ok c =
     let set = c.in_ok-set_memory.ensures.set in (
       b,
       search rules,
-      goes_along b c.args.device.now c.args.regions.now c.set_memory.new.self c.in-Ok.handle.value (search rules)
-          (c.in_ok-set_memory.ensures.ok, search rules, search rules, search rules, set.1, set.2, set.3, set.4, set.5, set.6),
+      goes_along b c.args.device.now c.args.regions.now c.set_memory.new.self c.in-Ok.handle.value (search rules) (
+        c.in_ok-set_memory.ensures.ok,
+        search rules,
+        search rules,
+        (search rules, search rules),
+        set.1,
+        set.2,
+        set.3,
+        set.4,
+        set.5,
+        set.6,
+      ),
     )

@@ -2,7 +2,7 @@ use Rattle.std.proofs.Common.{◌≡◌, [], Some, ap, subst, sym, ◌∙◌}
 use Rattle.vm_iotlb.specs.AddressRuns.{run_of}
 use Rattle.vm_iotlb.specs.declared.permissions.Permissions.TheVariants.{Read}
 use Rattle.fs_queue.specs.declared.fault.QueueError.TheVariants.{AvailFlagsUnreachable}
-use Rattle.fs_regions.specs.Places.{Mapped, places_in}
+use Rattle.fs_regions.specs.Places.{Mapped, behind, places_in}
 use Rattle.fs_chain.specs.Events.{event_fault, event_miss, used_event_at}
 use Rattle.worked_callers.proofs.MissedEvent.{missed_event}
 use Rattle.worked_callers.proofs.Served.{if_ok}
@@ -17,7 +17,7 @@ returns c =
     let after = c.pop.new.queue in
     let at = run_of (used_event_at q.layout) 2 in
     let is = set.0 ∙ c.behind.ensures
-    ∙ ap (λ t. record { layout = c.args.regions; table = Some t }) c.new.ensures in
+    ∙ ap (λ t. behind c.args.regions t) c.new.ensures in
     let free = set.2 ∙ c.requires.free in
     let events = missed_event c.args.regions q c.requires.event_index c.requires.low in
     let fault = subst (λ (g : Mapped). event_fault (places_in g) q ≡ Some AvailFlagsUnreachable) (sym is) events.0 in

@@ -17,8 +17,9 @@ returns-in-Load-clause-walks c =
 
 pub returns-in_default-give-clause-walks : goal.returns-in_default-give-clause-walks
 returns-in_default-give-clause-walks c =
-    let comes = comes_taken c.in-Walking.course c.in-Walking.walk c.take-taken.result c.args.loaded.now _ _ _ _ c.take-taken.ensures
-    c.give.ensures in
+    let w = c.args.self.now in
+    let comes = comes_taken c.in-Walking.course c.in-Walking.walk c.take-taken.result c.args.loaded.now c.give.result w.regions
+    w.descriptors.items c.give.new.descriptors.items c.take-taken.ensures c.give.ensures in
     let settled = c.settle.ensures in
     walks_on c.in-Walking.course c.in-Walking.pop_id c.in-Walking.walk _ _ _ _ _ _ c.requires.goes c.in-Walking.is (
       c.give.result,

@@ -6,4 +6,4 @@ pub returns-in-Ok-clause-step : goal.returns-in-Ok-clause-step
 returns-in-Ok-clause-step c =
     let e = c.in-Ok.ensures in
     pushes_from c.args.self.now _ c.args.queue.now c.args.front.now c.stores_of.new.front c.in-Ok.stores c.in-HasReply.out
-    c.in-HasReply.reply c.in-HasReply.is e.ok refl e.stores e.front
+    c.in-HasReply.reply c.in-HasReply.is e.ok e.ring refl e.stores e.front
