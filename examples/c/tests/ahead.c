@@ -50,6 +50,11 @@ static void lay_entry(size_t at, uint64_t address, uint32_t len, uint16_t flags,
     put(at + 14, next, 2);
 }
 
+/* A buffer's length: seldom one round 2^20 + 4096, which no request may be longer than. */
+static uint32_t some_len(void) {
+    return (uint32_t)(below(32) ? 1 + below(64) : 0x100fe0 + below(0x40));
+}
+
 /* Memory as a hostile guest might have it, chosen so that most chains go some way. `next_avail`
  * is the position of the next available chain. */
 static void lay_chance(uint16_t next_avail) {
@@ -63,8 +68,7 @@ static void lay_chance(uint16_t next_avail) {
             lay_entry(DESC + 16 * k, TABLE + 16 * below(4), (uint32_t)(16 * count),
                       (uint16_t)(INDIRECT | (below(8) ? 0 : NEXT)), next);
         else
-            lay_entry(DESC + 16 * k, BUFFERS + 64 * k, (uint32_t)(1 + below(64)), flags,
-                      next);
+            lay_entry(DESC + 16 * k, BUFFERS + 64 * k, some_len(), flags, next);
     }
     for (size_t k = 0; k < ENTRIES; k++)
         lay_entry(TABLE + 16 * k, BUFFERS + k, 1,
@@ -162,9 +166,11 @@ static size_t pop_by_list(struct pk_chain *chain, struct pk_queue *queue, const 
 static struct pk_queue fresh = {
     .desc = DESC, .avail = AVAIL, .used = USED, .size = SIZE, .max_in_flight = SIZE};
 
-/* A queue in which so many chains were popped, and up to SIZE - 1 are in flight. */
+/* A queue in which so many chains were popped, and up to SIZE - 1 are in flight. Some used rings
+ * end behind the memory: their first 3 elements are in it, half of the next one, and no other. */
 static struct pk_queue after_pops(uint16_t count) {
     struct pk_queue queue = fresh;
+    if (below(8) == 0) queue.used = MEMORY - 32;
     queue.next_avail = count, queue.next_used = (uint16_t)(count - below(SIZE));
     return queue;
 }
@@ -262,6 +268,10 @@ int main(int argc, char **argv) {
     regions[1] = (struct pk_region){0x5000, MEMORY - 0x5000, (uintptr_t)memory + 0x5000};
     region_count = 2;
     for (long k = 0; k < tries; k++) try_one();
-    printf("ahead: %ld chains\n", 2 * tries);
+    /* there is memory for the longest buffers, of which nothing is loaded */
+    regions[0].len = 0x400000;
+    region_count = 1;
+    for (long k = 0; k < tries; k++) try_one();
+    printf("ahead: %ld chains\n", 3 * tries);
     return 0;
 }
