@@ -246,9 +246,12 @@ impl Reply {
         }
         if let Ok(response) = &answer {
             if !response.is_for(self.takes) {
-                let status =
-                    if self.is_cancelled() { Status::OtherCall } else { Status::OtherKind };
-                return Err(self.unsent(status, answer)); // and EIO, since `self` is dropped
+                // Not by the drop of `self`: if the waker panics there, the result leaks.
+                let status = match self.slot.put(self.id(), Err(Errno::EIO)) {
+                    None => Status::OtherKind,
+                    Some(_) => Status::OtherCall,
+                };
+                return Err(self.unsent(status, answer));
             }
         }
         match self.slot.put(self.id(), answer) {
