@@ -4,6 +4,9 @@ mod guest;
 use guest::recorder::{entry, Recorder};
 use guest::*;
 use pitskhomu::*;
+use std::panic::{catch_unwind, AssertUnwindSafe};
+use std::sync::Arc;
+use std::task::Wake;
 
 fn take(guest: &mut Guest) -> Request<'_> {
     let Guest { worker, queue, device, memory, .. } = guest;
@@ -43,6 +46,53 @@ fn a_session_that_has_ended_agrees_on_nothing() {
             }
         }
     }
+}
+
+/// READ and READDIRPLUS are answered, and the queue is reset before their replies are made: the
+/// guest's memory is the next session's, and no byte of it changes. The push undoes the answer.
+#[test]
+fn a_session_that_has_ended_stores_nothing() {
+    for opcode in [15, 44] {
+        let mut guest = Guest::new();
+        let args = args().q(3).q(0).d(480).bytes(&[0; 20]);
+        let (sent, undo) = if opcode == 15 {
+            guest.offer_request(&request(opcode, 5, &args.0), 496);
+            (take(&mut guest).reply.send(vec![7; 100]), vec![])
+        } else {
+            let (entries, reply) = entries_of(&mut guest, &[b"name\0"]);
+            (reply.send(entries), vec![Undo::Forget(entry().node)])
+        };
+        assert!(sent.is_ok());
+        guest.queue.begin(Queue::new(layout(), guest.offered).unwrap()).unwrap();
+        let seen = |guest: &Guest| guest.memory.read(0, LEN);
+        let before = seen(&guest);
+        assert_eq!(guest.worker.finish(&guest.device, &guest.memory), Ok(true));
+        assert!(guest.worker.cancelled().is_none());
+        let pushed = guest.worker.push(&mut guest.queue, &guest.memory);
+        assert_eq!(pushed, Err(Status::OtherQueue));
+        assert!(seen(&guest) == before, "{opcode}");
+        assert_eq!(guest.worker.cancelled().expect("a call").undo, undo);
+    }
+}
+
+/// The waker panics at an answer of another kind: the guest gets EIO, and the answer isn't leaked,
+/// which valgrind sees.
+#[test]
+fn a_waker_that_panics_at_another_kind() {
+    struct Panics;
+    impl Wake for Panics {
+        fn wake(self: Arc<Self>) {
+            panic!("the waker panics, as the test wants it");
+        }
+    }
+    let mut guest = Guest::new();
+    guest.worker.set_waker(Some(Arc::new(Panics).into())).unwrap();
+    guest.offer_request(&request(1, 5, b"name\0"), 144);
+    let reply = take(&mut guest).reply;
+    assert!(catch_unwind(AssertUnwindSafe(|| reply.send(vec![7; 1000]))).is_err());
+    assert_eq!(guest.worker.finish(&guest.device, &guest.memory), Ok(true));
+    let served = guest.worker.push(&mut guest.queue, &guest.memory).unwrap();
+    assert_eq!(guest.reply(served.reply_len as usize), Replied::Error(5));
 }
 
 /// The entries of a READDIRPLUS by values, whose names a directory has, and the request's reply.

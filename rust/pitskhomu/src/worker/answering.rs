@@ -17,7 +17,8 @@ use core::mem;
 impl Worker {
     /// Makes the reply, once the reply object has the answer. `false` if it hasn't. So call this
     /// again when the waker was woken (`set_waker`), and `push` after `true`. It needs no lock on
-    /// the queue.
+    /// the queue. If the queue was reset or dropped before, no byte of the answer is stored, and
+    /// `push` refuses the chain.
     ///
     /// # Errors
     /// `WrongOrder`: the worker has no chain, or one that isn't decoded.
@@ -29,6 +30,7 @@ impl Worker {
         }
         let is_waiting = self.slot.is_waiting();
         let responded = match self.slot.take() {
+            Some(answer) if self.session.strong_count() == 0 => self.answer_ended(memory, answer),
             Some(answer) => {
                 let made = answer.map(Made::Response);
                 self.respond(device, memory, made).or_else(|_| self.answer_error(memory))
@@ -95,6 +97,20 @@ impl Worker {
         Ok(())
     }
 
+    /// The answer came in time, and the session has ended since: the guest's memory is another's
+    /// by now. The push, which is refused, undoes the answer.
+    fn answer_ended(
+        &mut self,
+        memory: &dyn GuestMemory,
+        answer: Answer<Response>,
+    ) -> Result<(), Status> {
+        let listed = mem::take(&mut self.nodes);
+        self.answer_error(memory)?;
+        self.nodes = listed;
+        self.keep_given(answer);
+        Ok(())
+    }
+
     /// Forgets the worker's chain, whose queue is reset
     /// ([`Queue::begin`](crate::Queue::begin)) or dropped. In a queue that isn't reset the chain
     /// stays in flight. Its reply object is refused from now on. Call it also before you drop a
@@ -125,16 +141,23 @@ impl Worker {
 
     /// Forgets the chain, and keeps for `cancelled` what is to be undone.
     pub(super) fn drop_chain(&mut self) {
-        if let Some(Ok(response)) = self.slot.close() {
-            self.given = response.given();
-            if let Response::Entries(entries) = &response {
-                self.nodes.extend(entries.nodes(0));
-            }
+        if let Some(answer) = self.slot.close() {
+            self.keep_given(answer);
         }
         if mem::take(&mut self.is_called) {
             self.cancel();
         }
         self.chain.abandon();
+    }
+
+    /// Keeps what an answer gives, until it is known whether the guest gets it.
+    fn keep_given(&mut self, answer: Answer<Response>) {
+        if let Ok(response) = answer {
+            self.given = response.given();
+            if let Response::Entries(entries) = &response {
+                self.nodes.extend(entries.nodes(0));
+            }
+        }
     }
 
     /// Keeps what was given for `cancelled`: the guest doesn't get it.
