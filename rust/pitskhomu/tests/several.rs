@@ -71,7 +71,8 @@ fn a_pop_is_undone_if_it_was_the_last_and_its_chain_was_not_decoded() {
     let first = guest.offered;
     offer(&mut guest, 0);
     offer(&mut guest, 1);
-    let [one, other, ..] = &mut workers[..] else { unreachable!() };
+    let (one, others) = workers.split_first_mut().unwrap();
+    let other = &mut others[0];
     assert_eq!(one.unpop(&mut guest.queue), Err(Status::WrongOrder));
     assert_eq!((pop(&mut guest, one), pop(&mut guest, other)), (Ok(true), Ok(true)));
     assert_eq!(one.unpop(&mut guest.queue), Err(Status::WrongOrder));

@@ -101,7 +101,10 @@ impl Worker {
     fn load_ahead(&mut self, queue: &mut Queue, memory: &dyn GuestMemory) -> Result<Loads, Status> {
         let mut loads = Loads::default();
         grow(&mut self.loaded, MOST_BYTES)?;
-        let Some(ring) = self.ring(queue.layout()) else { return Ok(loads) };
+        let ring = match self.ring(queue.layout()) {
+            Some(ring) => ring,
+            None => return Ok(loads),
+        };
         let (size, position) = (ring.layout.size, queue.next_avail());
         let index = queue.seen_index(self.regions).unwrap_or_else(|| {
             let index = memory::load_u16(memory, ring.available.wrapping_add(2));
@@ -148,7 +151,10 @@ impl Worker {
         while index < usize::from(ring.layout.size) {
             let count = MOST_OWN.min(usize::from(ring.layout.size) - index).min(left);
             let at = ring.descriptors.wrapping_add(ENTRY * index);
-            let Some(from) = self.add(loads, memory, at, ENTRY * count) else { return };
+            let from = match self.add(loads, memory, at, ENTRY * count) {
+                Some(from) => from,
+                None => return,
+            };
             let (last, walked) = follow(&self.loaded[from..loads.len], index, count);
             if last.is_table() {
                 return self.load_table(loads, memory, &last);
