@@ -253,13 +253,16 @@ static void scribble(uint64_t seed) {
 }
 
 static void scribbled(void) {
+    pid_t scribblers[SCRIBBLERS];
     for (uint64_t k = 0; k < SCRIBBLERS; k++)
-        if (fork() == 0) scribble(k + 1);
+        if ((scribblers[k] = fork()) == 0) scribble(k + 1);
     while (time(NULL) < end) {
         for (unsigned k = 0; k < 16; k++) front_offer(&front, 1, (uint16_t)below(RING_SIZE));
         front_kick(&front, 1);
         if (!front_wait(&front, 1, 100)) begin_ring();
     }
+    /* they are over before the driver asks in order */
+    for (unsigned k = 0; k < SCRIBBLERS; k++) (void)waitpid(scribblers[k], NULL, 0);
 }
 
 /* ------------------------------------------------------------- memory slots */
