@@ -1,0 +1,38 @@
+/* What VIRTIO 1.2, 2.7, says of a pop, plainly, for plain.c. */
+#ifndef PLAIN_MODEL_H
+#define PLAIN_MODEL_H
+#include "plain_guest.h"
+
+/* A handle, and what the model knows of its chain. */
+struct bench {
+    struct pk_chain chain;
+    struct pk_queue *queue; /* NULL: no chain is in flight */
+    struct part parts[LONGEST];
+    size_t count;                   /* of the parts that were read */
+    uint64_t request, room;         /* bytes */
+    uint32_t fault, ticket, popped; /* the queue's pop_count then */
+    uint16_t head, position;
+    uint8_t *used_index;
+    bool replied, pushing;
+    uint64_t len; /* of the reply */
+};
+
+/* A pop by the model: a status, and what it tells. */
+struct told {
+    uint32_t status, access;
+    uint64_t miss_at, miss_len;
+};
+
+extern struct pk_device device;
+
+uint64_t used_event(const struct pk_queue *q);
+uint64_t avail_event(const struct pk_queue *q);
+uint16_t in_flight(const struct pk_queue *q);
+
+/* The address of the used ring's element at a position. */
+uint64_t element(const struct pk_queue *q, uint16_t at);
+
+/* What a pop of a queue by a free handle tells. A chain is kept in the bench. */
+struct told model_pop(struct bench *b, const struct pk_queue *q);
+
+#endif
