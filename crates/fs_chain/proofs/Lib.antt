@@ -1,9 +1,4 @@
 pub mod Adding
-pub mod Driving
-pub mod DrivingCalls
-pub mod DrivingEnds
-pub mod DrivingList
-pub mod DrivingPops
 pub mod Held
 pub mod HoldsAhead
 pub mod HoldsAnswered

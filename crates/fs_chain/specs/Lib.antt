@@ -2,8 +2,6 @@ pub mod Ahead
 pub mod AheadSteps
 pub mod Answers
 pub mod Decoding
-pub mod Driving
-pub mod DrivingLaws
 pub mod Events
 pub mod Held
 pub mod Holds

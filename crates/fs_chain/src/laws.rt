@@ -1,7 +1,6 @@
 //! Theorems about the definitions, as contracts of functions that do nothing.
 
 ghost use Rattle.fs_regions.specs.Laws.{MissesCanBeMapped};
-ghost use Rattle.fs_chain.specs.Driving.{BeginsDriven};
 ghost use Rattle.fs_chain.specs.Held.{AskedIsMapped, HeldIsUnreplied, LoadsAreFew, LoadsCount};
 ghost use Rattle.fs_chain.specs.HoldsListings.{BeginsListing, LeavesOut, LooksUp, ReadsDirectory};
 ghost use Rattle.fs_chain.specs.Laws.{WalksAreOffers};
@@ -87,10 +86,4 @@ pub fn law_listings()
     ensures reads { ReadsDirectory }
     ensures looks_up { LooksUp }
     ensures leaves_out { LeavesOut }
-{}
-
-/// The commands of a driver (`drive_all`) may begin with free handles over a run's memory, while no chain is
-/// in flight.
-pub fn law_driven()
-    ensures { BeginsDriven }
 {}

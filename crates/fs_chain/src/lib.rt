@@ -5,7 +5,6 @@ mod ahead;
 mod answering;
 mod beginning;
 mod chain_handle;
-mod commands;
 mod decoding;
 mod driven;
 mod error;
@@ -29,7 +28,6 @@ mod window_cursor;
 
 pub use answering::Replied;
 pub use chain_handle::ChainHandle;
-pub use commands::{Command, drive, drive_all, drive_one};
 pub use decoding::Decoded;
 pub use driven::push_whole;
 pub use error::ChainError;

@@ -1,5 +1,0 @@
-use Rattle.fs_chain.proofs.DrivingList.{starts}
-use Rattle.fs_chain.proofs.laws.law_driven.Goals as goal
-
-pub returns : goal.returns
-returns c = starts
