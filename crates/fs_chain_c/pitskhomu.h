@@ -389,8 +389,8 @@ struct pk_load_ahead { uintptr_t at; size_t len; };
  * at the end of the list or of the bytes, at a part of an entry that lies in two regions or
  * mappings, or without room for a load's descriptors, the result is PK_LOAD: go on by pk_pop. So
  * any addresses and lengths are allowed, and a wrong one costs a call. Older bytes do what they do
- * with pk_pop: an older available index stops the queue. Each load that is taken needs up to 450
- * bytes of stack. pk_pop_ring makes the loads, too: five at most.
+ * with pk_pop: an older available index stops the queue. The list may have any length. pk_pop_ring
+ * makes the loads, too: five at most.
  * Errors: PK_WRONG_ORDER (no memory was set); PK_BAD_ARGUMENT (the queue's fields are invalid, or
  * it was never begun); PK_WRONG_ORDER (a pop is under way, or the chain in flight);
  * PK_CHAIN_IN_FLIGHT; 1 to 8, PK_NOT_MAPPED. */

@@ -57,6 +57,37 @@ goes_on g limit q ahead one more bytes walk old mid new next to is_first is enou
     subst (λ (ls : List LoadAhead). GoesAhead g limit q (loads_ahead ls bytes) old (step.Load walk) new to) (sym is_first)
     (goes_by g limit q one more bytes walk old mid new next to is enough comes then)
 
+-- the same of a step that asks for this load
+pub goes_on_from : (g : Mapped) (limit : ℕ) (q : Queue) (ahead : List LoadAhead) (one : LoadAhead) (more : List LoadAhead)
+    (bytes mine behind : List ℕ) (from next to : comes.CourseStep) (walk : QueueWalk) (old mid new : SmallVec Descriptor)
+    → ahead ≡ one ∷ more → from ≡ step.Load walk → mine ≡ take one.len bytes → behind ≡ drop one.len bytes → IsLoadOf g walk one
+    → one.len ≤ length bytes
+    → ((loaded : Loaded) → IsWalkAt (places_in g) q loaded old.items walk
+    → ComesBy (places_in g) limit q loaded walk mine mid.items next)
+    → GoesAhead g limit q (loads_ahead more behind) mid next new to
+    → GoesAhead g limit q (loads_ahead ahead bytes) old from new to
+goes_on_from g limit q ahead one more bytes mine behind from next to walk old mid new is_first asks front back is enough given then =
+    subst (λ (s : comes.CourseStep). GoesAhead g limit q (loads_ahead ahead bytes) old s new to) (sym asks)
+    (goes_on g limit q ahead one more bytes walk old mid new next to is_first is enough
+    (subst (λ (bs : List ℕ). (loaded : Loaded) → IsWalkAt (places_in g) q loaded old.items walk
+    → ComesBy (places_in g) limit q loaded walk bs mid.items next) front given)
+    (subst (λ (bs : List ℕ). GoesAhead g limit q (loads_ahead more bs) mid next new to) back then))
+
+-- a step that asks for no load stops before any
+stops_other : (g : Mapped) (ahead : List AheadBytes) (ds : SmallVec Descriptor) (s : comes.CourseStep)
+    → ((walk : QueueWalk) → s ≡ step.Load walk → ⊥) → StopsBefore g ahead ds s
+stops_other g [] ds s other = tt
+stops_other g (l ∷ more) ds (step.Load walk) other = absurd (other walk refl)
+stops_other g (l ∷ more) ds step.Idle other = tt
+stops_other g (l ∷ more) ds (step.Refused error) other = tt
+stops_other g (l ∷ more) ds (step.Chain head fault) other = tt
+stops_other g (l ∷ more) ds (step.Missing range access) other = tt
+
+-- it stays where it is
+pub goes_no_further : (g : Mapped) (limit : ℕ) (q : Queue) (ahead : List AheadBytes) (ds : SmallVec Descriptor) (s : comes.CourseStep)
+    → ((walk : QueueWalk) → s ≡ step.Load walk → ⊥) → GoesAhead g limit q ahead ds s ds s
+goes_no_further g limit q ahead ds s other = goes_nowhere g limit q ahead ds s (stops_other g ahead ds s other)
+
 -- a pop begins, and goes on
 pub begins_so : (g : Mapped) (limit : ℕ) (q : Queue) (ahead : List AheadBytes) (begun new : SmallVec Descriptor)
     (from to : comes.CourseStep) → IsCourseStep (places_in g) limit q nothing begun.items from → GoesAhead g limit q ahead begun from new to

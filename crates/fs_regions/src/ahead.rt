@@ -71,7 +71,7 @@ impl LoadAhead {
 impl Course {
     // Goes on with loads that were made ahead.
     #[inline(never)]
-    #[tactic(auto, using(crate::proofs::Going::goes_on, crate::proofs::Going::goes_nowhere))]
+    #[tactic(auto, using(crate::proofs::Going::goes_nowhere))]
     fn go_ahead(
         &self,
         regions: &GuestMap,
@@ -83,20 +83,22 @@ impl Course {
         ensures { GoesAhead regions.now self.now.limit (queue_of self.now) (loads_ahead ahead.now bytes.now)
             descriptors.old step descriptors.new result }
     {
-        match step {
-            CourseStep::Load(walk) => match ahead.split_first() {
-                Some((one, more)) => {
-                    if !one.is_due(regions, &walk, bytes, descriptors) {
+        let mut step = step;
+        let mut rest = bytes;
+        for one in ahead {
+            match step {
+                CourseStep::Load(walk) => {
+                    if !one.is_due(regions, &walk, rest, descriptors) {
                         return CourseStep::Load(walk);
                     }
-                    let (mine, behind) = bytes.split_at(one.len);
-                    let next = self.give(regions, walk, mine, descriptors);
-                    self.go_ahead(regions, next, more, behind, descriptors)
+                    let (mine, behind) = rest.split_at(one.len);
+                    step = self.give(regions, walk, mine, descriptors);
+                    rest = behind;
                 }
-                None => CourseStep::Load(walk),
-            },
-            other => other,
+                other => return other,
+            }
         }
+        step
     }
 
     // Begins a pop, and goes on with loads that were made ahead, step by step.
