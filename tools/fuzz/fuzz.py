@@ -3,7 +3,8 @@
 what the three print.
 
 usage: fuzz.py SECONDS [SEED], with the paths of built programs in PROGRAM and, if the handle is to
-be played, in HANDLE (./run --fuzz has both). Status 0 if nothing differed, 1 if something did or no
+be played, in HANDLE; and in CALLS the folder of the programs that call the C library, if they are
+to be played (./run --fuzz has all three). Status 0 if nothing differed, 1 if something did or no
 script with a served chain was compared whole or too many weren't played to their end, 2 if it
 couldn't begin, 130 if it was interrupted before that."""
 
@@ -13,6 +14,7 @@ import time
 from collections import Counter
 from pathlib import Path
 
+from calls import Calls
 from guests import long_script, wraps
 from hostile import heavy
 from machine import LACKING, TooMuchWork, play
@@ -192,13 +194,17 @@ def main(arguments):
     named = [("the program", os.environ["PROGRAM"]), ("the handle", os.environ.get("HANDLE"))]
     devices = [Device(name, path) for name, path in named if path]
     fuzzer = Fuzzer(devices, seed, time.monotonic() + seconds)
+    calls = Calls(os.environ["CALLS"], seconds, seed) if os.environ.get("CALLS") else None
     try:
         fuzzer.run()
         status = 0 if fuzzer.scripts else 1
     except KeyboardInterrupt:
         say("interrupted")
         status = 130
+    printed, failures = calls.end() if calls and status != 130 else ([], [])
     fuzzer.report()
+    for line in [*printed, *failures]:
+        say(line)
     say(f"seeds from {seed} to {fuzzer.seed - 1}")
     for name in fuzzer.idle_devices():
         say(f"FAILED: {name} played no script whole in which a chain is served")
@@ -206,7 +212,7 @@ def main(arguments):
     for name in fuzzer.weak_devices():
         say(f"FAILED: {name} plays too few of the random scripts to their end")
         status = status or 1
-    return 1 if fuzzer.differences else status
+    return 1 if fuzzer.differences or failures else status
 
 
 if __name__ == "__main__":

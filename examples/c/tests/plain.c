@@ -1,5 +1,5 @@
 /* The handle beside a plain model of VIRTIO 1.2, 2.7:
- *     plain [WORLDS]
+ *     plain [WORLDS [SEED]]
  * In each world a guest's memory lies in several regions, which touch or have gaps, and mostly near
  * an end of the addresses, or behind an IOMMU's table. Three handles pop, answer, push and drop
  * chains of two queues, in any order; mappings come and go; queues are reset, saved and restored.
@@ -31,12 +31,15 @@ static void exchange(struct bench *b) {
 static uint32_t pop(struct bench *b, struct pk_queue *q, struct pk_pop *step) {
     static uint8_t bytes[PK_LOAD_MAX];
     struct pk_ring ring = {0};
+    size_t len = 0;
     uint32_t status;
+    memset(step, 0xa5, sizeof *step);
     pk_ring_find(&ring, q, regions, region_count);
     if (!has_iommu && below(2)) return pk_pop_ring(&b->chain, q, &ring, step);
-    *step = (struct pk_pop){0};
-    while ((status = pk_pop(&b->chain, q, bytes, step->load_len, step)) == PK_LOAD)
-        memcpy(bytes, (const void *)step->load_at, step->load_len);
+    while ((status = pk_pop(&b->chain, q, bytes, len, step)) == PK_LOAD) {
+        len = step->load_len;
+        memcpy(bytes, (const void *)step->load_at, len);
+    }
     return status;
 }
 
@@ -53,7 +56,7 @@ static void check_state(const char *what, const struct bench *b) {
 static void check_misses(struct bench *b) {
     for (size_t k = 0; k <= b->count; k++) {
         struct part p = k < b->count ? b->parts[k] : (struct part){0};
-        struct pk_miss miss;
+        struct pk_miss miss = {1, 1, 1};
         uint64_t from = below(2) ? p.at + below(p.len + 2ull) : below(2) ? 0 : chance(), at, len;
         uint64_t start = from > p.at ? from : p.at, gone = start - p.at;
         bool is_there = misses(start, gone < p.len ? p.len - gone : 0, &at, &len);
@@ -90,13 +93,15 @@ static void do_pop(struct bench *b, struct pk_queue *q) {
     expect("the miss", step.miss_at, told.miss_at);
     expect("the miss's length", step.miss_len, told.miss_len);
     expect("the miss's access", step.miss_access, told.access);
+    expect("a load", step.load_at | step.load_len, 0);
     if (told.status == PK_DONE) {
         check_chain(b, q, &step, &before);
-    } else if (told.status >= 2 && told.status <= 8) {
-        before.stopped = (uint16_t)told.status;
+    } else {
+        expect("a chain", step.request_len | step.reply_len | step.fault | step.head, 0);
+        if (told.status >= 2 && told.status <= 8) before.stopped = (uint16_t)told.status;
+        expect("the queue", memcmp(&before, q, sizeof before) != 0, 0);
     }
     if (told.status == PK_MISS) check_misses(b), missed++;
-    if (told.status != PK_DONE) expect("the queue", memcmp(&before, q, sizeof before) != 0, 0);
     exchange(b);
     check_state("the state after a pop", b);
 }
@@ -189,6 +194,10 @@ static void do_reply(struct bench *b) {
     uint32_t wanted = !b->queue || b->fault || b->replied || b->pushing ? PK_WRONG_ORDER
                       : len > b->room                                   ? PK_LONG_REPLY
                                                                         : PK_DONE;
+    if (below(4) == 0 && wanted != PK_WRONG_ORDER) {
+        uint32_t other = b->ticket + (uint32_t)ONE_OF(1, UINT32_MAX, 0x10000, 0x80000000);
+        expect("another ticket", pk_reply_bytes(&b->chain, other, len), PK_OTHER_CALL);
+    }
     expect("a reply", pk_reply_bytes(&b->chain, b->ticket, len), wanted);
     if (wanted == PK_DONE) b->replied = true, b->len = len;
     check_state("the state after a reply", b);
@@ -243,15 +252,19 @@ static uint32_t push_status(const struct bench *b, const struct pk_queue *q) {
 }
 
 static void do_push(struct bench *b, struct pk_queue *q) {
+    static const struct pk_stores none;
     struct pk_queue before = *q;
     struct pk_stores stores;
     uint8_t front[PK_FRONT_MAX];
+    memset(&stores, 0xa5, sizeof stores);
     bool is_lacking = below(8) == 0;
     if (!is_lacking) exchange(b);
     uint32_t wanted = push_status(b, q);
     expect("a push", pk_push(&b->chain, q, front, below(PK_FRONT_MAX + 1), &stores), wanted);
     if (wanted == PK_DONE || wanted == PK_NOT_MAPPED) before.pushing = 1, b->pushing = true;
     if (wanted == PK_DONE) check_stores(b, q, &stores);
+    if (wanted != PK_DONE)
+        expect("no stores", memcmp(&none, &stores, offsetof(struct pk_stores, index)) != 0, 0);
     expect("the queue after a push", memcmp(&before, q, sizeof before) != 0, 0);
     if (!is_lacking) exchange(b);
     check_state("the state after a push", b);
@@ -260,7 +273,7 @@ static void do_push(struct bench *b, struct pk_queue *q) {
 static void do_pushed(struct bench *b, struct pk_queue *q) {
     struct pk_queue before = *q;
     uint16_t seen = (uint16_t)ONE_OF(0, 1, 2, 0xfffe, q->next_used, q->next_used + 1, chance());
-    uint8_t notify;
+    uint8_t notify = 7;
     uint32_t wanted = !b->pushing ? PK_WRONG_ORDER : b->queue != q ? PK_OTHER_QUEUE : PK_DONE;
     bool is_told = wanted == PK_DONE && (q->event_index ? seen == q->next_used : !(seen & 1));
     expect("the end of a push", pk_pushed(&b->chain, q, seen, &notify), wanted);
@@ -275,7 +288,7 @@ static void do_pushed(struct bench *b, struct pk_queue *q) {
 static void do_notification(struct bench *b, const struct pk_queue *q) {
     uint32_t on = (uint32_t)below(2);
     uint64_t at = q->event_index ? avail_event(q) : q->used;
-    struct pk_store store;
+    struct pk_store store = {1, 1, 1};
     exchange(b);
     bool is_none = q->event_index && !on, is_there = reaches(at, 2, WRITES);
     expect("a notification", pk_set_notification(&b->chain, q, on, &store),
@@ -389,7 +402,7 @@ static void begin_queue(struct pk_queue *q) {
 
 static void begin_world(void) {
     lay_memory();
-    device = (struct pk_device){4096u << below(5), 0, 0};
+    device = (struct pk_device){4096u << below(5), 0, ONE_OF(0, 1, 0x400000001, 0x10000000001)};
     device.limit = (uint32_t)ONE_OF(PK_REQUEST_MAX, PK_REQUEST_MAX + 1, 0x123456, 0x80000000);
     if (has_iommu) expect("a table", pk_iotlb_new(&table), PK_DONE);
     for (uint64_t page = 0; has_iommu && page < IO_PAGES; page += 8)
@@ -432,12 +445,14 @@ static void turn(void) {
 }
 
 int main(int argc, char **argv) {
-    unsigned long most = argc > 1 ? strtoul(argv[1], NULL, 10) : 5000;
-    for (; world < most; end_world()) {
-        chance_begin(++world * 0x9e3779b97f4a7c15u);
+    unsigned long worlds = argc > 1 ? strtoul(argv[1], NULL, 10) : 5000;
+    unsigned long seed = argc > 2 ? strtoul(argv[2], NULL, 10) : 1;
+    for (; world < worlds; world++) {
+        chance_begin(0x9e3779b97f4a7c15u * (seed + world));
         for (int k = 0; k < 8; k++) chance();
         begin_world();
         for (int k = 0; k < TURNS; k++) turn();
+        end_world();
     }
     printf(
         "a plain model: %lu worlds, %lu chains popped, %lu with a fault, %lu misses, %lu pushed\n",

@@ -1,0 +1,49 @@
+"""Programs that make random calls of the C library, most of them beside a plain model of their own
+(examples/c/tests): what the scripts can't do, such as several chains in flight."""
+
+import subprocess
+import threading
+from pathlib import Path
+
+# For each second of a run so many worlds, rounds or seconds. A program that takes so many seconds
+# more than a run doesn't end.
+AMOUNTS = {"plain": 100, "answered": 400, "listed": 10, "clumsy": 0.05}
+PATIENCE = 1000
+
+
+class Calls:
+    """The programs of a folder, which are played one after another while the scripts are."""
+
+    def __init__(self, folder, seconds, seed):
+        self.commands = [
+            [str(Path(folder) / name), str(int(amount * seconds) + 1), str(seed % 2**31)]
+            for name, amount in AMOUNTS.items()]
+        self.patience = PATIENCE + seconds
+        self.printed = []
+        self.failures = []
+        self.thread = threading.Thread(target=self.play, daemon=True)
+        self.thread.start()
+
+    def play(self):
+        """Plays them."""
+        for command in self.commands:
+            why = self.played(command)
+            if why is not None:
+                what = " ".join([*command, why])
+                self.failures.append(f"DIFFERENCE of the library's calls: {what}")
+
+    def played(self, command):
+        """What is wrong with a program, or None."""
+        try:
+            done = subprocess.run(command, stdout=subprocess.PIPE, stderr=subprocess.STDOUT,
+                timeout=self.patience, check=False)
+        except (OSError, subprocess.TimeoutExpired) as error:
+            return str(error)
+        said = done.stdout.decode(errors="replace").strip()
+        self.printed.append(said.rpartition("\n")[2])
+        return None if done.returncode == 0 else f"ends with {done.returncode}: {said}"
+
+    def end(self):
+        """What they printed, and those that failed, once all are done."""
+        self.thread.join()
+        return self.printed, self.failures
