@@ -17,6 +17,7 @@ pub mod Placed
 pub mod Queues
 pub mod Refusals
 pub mod RewrittenRun
+pub mod Rounds
 pub mod Serial
 pub mod SeveralRuns
 pub mod Stored

@@ -147,7 +147,7 @@ fills_told (store ∷ stores) =
     ∙ ap (λ (l : List ℕ). l ++ firsts (flat_map writes_of stores)) (whole_firsts store.address (length store.bytes) store.bytes refl)
     ∙ ap (λ (l : List ℕ). addresses store.address (length store.bytes) ++ l) (fills_told stores)
 
-one_event : {F : Type 0} (may : May F) (s mid : LiveState F) (e : LiveEvent) → Happens may s e mid → (p : ℕ → Bool) →
+pub one_event : {F : Type 0} (may : May F) (s mid : LiveState F) (e : LiveEvent) → Happens may s e mid → (p : ℕ → Bool) →
     list_any p (written_by (event_acts e)) ≡ list_any p (reported_by s e)
 one_event may s mid (PushesChain c x notice last used seen) h p =
     let so : PushesChainSo s c x notice last used seen mid = h in

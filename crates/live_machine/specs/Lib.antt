@@ -5,6 +5,7 @@ pub mod Live
 pub mod Options
 pub mod Overlap
 pub mod Rewritten
+pub mod Rounds
 pub mod Runs
 pub mod Serial
 pub mod Several

@@ -7,6 +7,7 @@ ghost use Rattle.live_machine.specs.Guest.{PagesOfRun};
 ghost use Rattle.live_machine.specs.InitBeside.{InitBeside};
 ghost use Rattle.live_machine.specs.Overlap.{Overlap};
 ghost use Rattle.live_machine.specs.Rewritten.{Rewritten};
+ghost use Rattle.live_machine.specs.Rounds.{BeginsWithAllMarked, EndsWithWholeCopy, RoundsLoseNothing};
 ghost use Rattle.live_machine.specs.Runs.{CallsAreARun, LiveUsedInOrder, MovedGoesOn, OncePerLiveChain};
 ghost use Rattle.live_machine.specs.Runs.{OwnIsReturned, PagesAreReported, ReturnedIsStepBy};
 ghost use Rattle.live_machine.specs.Runs.{ReturnsAreMapped};
@@ -79,4 +80,15 @@ pub fn law_options()
 /// contracts of the handle speak of no file system.
 pub fn law_files<F: FileSystem>()
     ensures { RunsOverFiles F.may }
+{}
+
+/// A migration in rounds, while the guest writes and chains are in flight. A round takes the marks and copies
+/// the marked pages byte by byte, beside stores and marks of any thread. The caller marks the pages of an
+/// event's stores after them. Then each byte that differs from its copy has its page marked, or this round has
+/// still to copy it, or its page's mark is still owed by a push or another store that isn't ended. So a page
+/// that is marked before its store is to be marked again.
+pub fn law_rounds<F: FileSystem>()
+    ensures begins { BeginsWithAllMarked }
+    ensures rounds { RoundsLoseNothing F.may }
+    ensures ends { EndsWithWholeCopy }
 {}
