@@ -67,7 +67,7 @@ stores_notice q wanted store is s i there = by_store store is
 pub resets : (old new : QueueState) (layout : QueueLayout) (position : ℕ) → new ≡ reset_to old layout position → position < 2 ^ 16 →
     Resets old new
 unfolding Resets
-resets old new layout position is small s i max_in_flight event_index stopped there some few none =
+resets old new layout position is small s i max_in_flight event_index stopped there some few =
     let set : QueueState = record new { max_in_flight = max_in_flight; event_index = event_index; stopped = stopped } in (
       record {
         old = live_of old;
@@ -77,7 +77,6 @@ resets old new layout position is small s i max_in_flight event_index stopped th
           subst (λ (q : QueueState). q.next_avail < 2 ^ 16) (sym is) small,
         );
         few = (some, few);
-        none_pending = none;
         state = refl;
       },
       there_same s.queues i i (λ _. live_of set) (live_of old) refl there,

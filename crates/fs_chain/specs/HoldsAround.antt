@@ -4,7 +4,7 @@ use Rattle.std.specs.Prelude.{◌≡◌, ◌⊎◌, ◌≤◌, ℕ, Bool, true, 
 use Rattle.std.specs.List.{AllByRecursion}
 use Rattle.fs_queue.specs.declared.fault.QueueError.{QueueError}
 use Rattle.fs_regions.specs.Places.{places_in}
-use Rattle.live_machine.specs.Live.{Abandons, Happens, InFlightChain, KeepsQueue, NonePending, Remaps}
+use Rattle.live_machine.specs.Live.{Abandons, Happens, InFlightChain, KeepsQueue, Remaps}
 use Rattle.live_machine.specs.Live.{ResetsQueue}
 use Rattle.live_machine.specs.Live.{StoreIsMapped, StoresNotification, after_abandoning, after_reset}
 use Rattle.live_machine.specs.Live.{pop_refusal}
@@ -36,16 +36,15 @@ NotificationIs s i q wanted None = (q.event_index ≡ true) × (wanted ≡ false
 unfoldable pub StoresNotice : QueueState → (wanted : Bool) → Option NotificationStore → Type 0
 StoresNotice q wanted store = (s : Machine) (i : ℕ) → IsQueue s i q → NotificationIs s i q wanted store
 
--- a reset is the event `ResetsQueue`, once no call of the queue's chains is pending. From then on the caller
--- may set three things otherwise: how many chains may be in flight, from one to as many as the queue has
--- descriptors; the event index; and whether the queue is stopped
+-- a reset is the event `ResetsQueue`. From then on the caller may set three things otherwise: how many chains
+-- may be in flight, from one to as many as the queue has descriptors; the event index; and whether the queue
+-- is stopped
 unfoldable pub Resets : (old new : QueueState) → Type 0
 Resets old new =
     (s : Machine) (i max_in_flight : ℕ) (event_index : Bool) (stopped : Option QueueError) →
     IsQueue s i old →
     1 ≤ max_in_flight →
     max_in_flight ≤ new.layout.size →
-    AllByRecursion (λ c. NonePending s.page_size i c c.phase) s.chains →
     let set = record new { max_in_flight = max_in_flight; event_index = event_index; stopped = stopped } in
     Happens any_files s (ResetsQueue i (live_of set)) (after_reset s i (live_of set))
     × IsQueue (after_reset s i (live_of set)) i set

@@ -8,6 +8,7 @@ use Rattle.fuse_fs.specs.Calls.{FileRun}
 use Rattle.virtiofsd_fuse.specs.Serving.{May}
 use Rattle.live_machine.specs.Several.{LiveQueue}
 use Rattle.live_machine.specs.Live.{LiveState, LiveEvent, EndsPop, ReceivesAnswer}
+use Rattle.live_machine.specs.Live.{HasEffect}
 use Rattle.live_machine.specs.Live.{Happens, EndsPopIn, calls_among}
 use Rattle.live_machine.specs.Runs.{CallsAreARun}
 
@@ -23,6 +24,9 @@ one_event : {F : Type 0} (may : May F) (s mid : LiveState F) (end : F) (e : Live
 one_event {F} may s mid end (EndsPop i loaded ds came) es h run =
     subst (λ (f : F). FileRun may f (calls_among es) end) (walk_files s mid i h.w loaded ds came h.ends) run
 one_event {F} may s mid end (ReceivesAnswer c call answer) es h run =
+    let is : mid.files ≡ h.files = ap (λ (k : LiveState F). k.files) h.state in
+    (mid.files, h.is_one, subst (λ (f : F). may s.files call answer f) (sym is) h.may_so, run)
+one_event {F} may s mid end (HasEffect call answer) es h run =
     let is : mid.files ≡ h.files = ap (λ (k : LiveState F). k.files) h.state in
     (mid.files, h.is_one, subst (λ (f : F). may s.files call answer f) (sym is) h.may_so, run)
 one_event {F} may s mid end e es h run =

@@ -8,6 +8,7 @@ use Rattle.virtiofsd_fuse.specs.Serving.{May}
 use Rattle.live_machine.specs.Files.{RunsOverFiles, any_files, over}
 use Rattle.live_machine.specs.Several.{LiveQueue}
 use Rattle.live_machine.specs.Live.{Abandons, DecodesRequest, EndsPop, EndsPopIn, FillsBuffer, GivesUpChain, Happens, LiveEvent, LiveRun}
+use Rattle.live_machine.specs.Live.{HasEffect}
 use Rattle.live_machine.specs.Live.{LiveState, MovesDevice, PushesChain, ReceivesAnswer, RefusesPop, Remaps, RepliesOwnBytes, ResetsQueue}
 use Rattle.live_machine.specs.Live.{SetsOptions, StoresNotification, calls_among}
 
@@ -20,9 +21,10 @@ module _ {F : Type 0} (may : May F) where
   ends s after files i w loaded ds (step.Refused e) h = (h.0, ap (λ (k : LiveState (Unit {0})). over k files) h.1, h.2)
   ends s after files i w loaded ds (step.Chain head fault) h = (h.0, ap (λ (k : LiveState (Unit {0})). over k files) h.1, h.2)
 
-  -- an event that is no answer
+  -- an event without a file call
   abbrev IsNoAnswer : LiveEvent → Type 0
   IsNoAnswer (ReceivesAnswer c call answer) = ⊥
+  IsNoAnswer (HasEffect call answer) = ⊥
   IsNoAnswer e = Unit {0}
 
   happens : (s after : LiveState (Unit {0})) (files : F) (e : LiveEvent) → IsNoAnswer e → Happens any_files s e after →
@@ -78,7 +80,6 @@ module _ {F : Type 0} (may : May F) where
     there = h.there;
     positions_agree = h.positions_agree;
     few = h.few;
-    none_pending = h.none_pending;
     state = ap (λ (k : LiveState (Unit {0})). over k files) h.state;
   }
   happens s after files (FillsBuffer c stores) isnt h = record {
@@ -113,6 +114,7 @@ module _ {F : Type 0} (may : May F) where
     counts = h.counts;
     state = ap (λ (k : LiveState (Unit {0})). over k files) h.state;
   }
+  happens s after files (HasEffect call answer) isnt h = absurd isnt
   happens s after files (SetsOptions options) isnt h = record { state = ap (λ (k : LiveState (Unit {0})). over k files) h.state }
   happens s after files (Remaps m) isnt h =
       record { keeps = h.keeps; state = ap (λ (k : LiveState (Unit {0})). over k files) h.state }
@@ -138,6 +140,16 @@ module _ {F : Type 0} (may : May F) where
       calls = run.1.calls;
       asked = run.1.asked;
       pending = run.1.pending;
+      is_one = run.1.is_one;
+      files = calls.0;
+      may_so = calls.2;
+      state = ap (λ (k : LiveState (Unit {0})). over k calls.0) run.1.state;
+    },
+    runs_over_files run.0 after es calls.0 left run.2 calls.3,
+  )
+  runs_over_files s after (HasEffect call answer ∷ es) files left run calls = (
+    over run.0 calls.0,
+    record {
       is_one = run.1.is_one;
       files = calls.0;
       may_so = calls.2;

@@ -15,6 +15,7 @@ use Rattle.plain_machine.proofs.PageLemmas.{ways_stay}
 use Rattle.live_machine.specs.Guest.{HasMappings, StaysThere, after_event, after_stores_over, mappings_of, over_mappings}
 use Rattle.live_machine.specs.Several.{LiveQueue}
 use Rattle.live_machine.specs.Live.{Abandons, DecodesRequest, EndsPop, EndsPopIn, FillsBuffer, GivesUpChain, Happens, InFlightChain}
+use Rattle.live_machine.specs.Live.{HasEffect}
 use Rattle.live_machine.specs.Live.{LiveEvent}
 use Rattle.live_machine.specs.Live.{LiveState, MovesDevice, Own, PushesChain, ReceivesAnswer, RefusesPop, Remaps, RepliesOwnBytes}
 use Rattle.live_machine.specs.Live.{ResetsQueue}
@@ -123,6 +124,7 @@ keeps {F} may s after (RepliesOwnBytes c request reply options) m h stays has =
     let parts = one_over m s.chains h.before h.behind c h.out has.1 in
     subst (λ (k : LiveState F). HasMappings k m) (sym h.state)
     (has.0, all_both (PoppedOver m) h.before (record c { phase = Own request reply } ∷ h.behind) parts.0 (parts.1, parts.2))
+keeps {F} may s after (HasEffect call answer) m h stays has = subst (λ (k : LiveState F). HasMappings k m) (sym h.state) has
 keeps {F} may s after (SetsOptions options) m h stays has = subst (λ (k : LiveState F). HasMappings k m) (sym h.state) has
 keeps may s after (Remaps places) m h stays has = absurd stays
 keeps may s after (MovesDevice places queues) m h stays has = absurd stays

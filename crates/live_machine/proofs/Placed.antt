@@ -15,6 +15,7 @@ use Rattle.fs_regions.specs.Walks.{Loaded}
 use Rattle.virtiofsd_fuse.specs.Serving.{May}
 use Rattle.live_machine.specs.Several.{LiveQueue, InFlightId, took, gave_up, gave, returning}
 use Rattle.live_machine.specs.Live.{Phase, PoppedFaulty, Own, Abandoned, InFlightChain, LiveState, LiveEvent, EndsPop, RefusesPop}
+use Rattle.live_machine.specs.Live.{HasEffect}
 use Rattle.live_machine.specs.Live.{DecodesRequest}
 use Rattle.live_machine.specs.Live.{ReceivesAnswer}
 use Rattle.live_machine.specs.Live.{PushesChain, StoresNotification, ResetsQueue, FillsBuffer, GivesUpChain, Abandons, RepliesOwnBytes}
@@ -296,6 +297,7 @@ module _ (i : ℕ) where
       (stays s (after_own s h.before h.behind c request reply options) refl refl
       (goes_on i h.before h.behind c (record c { phase = Own request reply }) (c.queue == i) refl refl refl
       ∙ sym (ap (λ (l : List InFlightChain). in_flight_on i l) h.out)) kept)
+  keeps {F} may s mid (HasEffect call answer) h kept = subst (λ (k : LiveState F). Kept k) (sym h.state) kept
   keeps {F} may s mid (SetsOptions options) h kept = subst (λ (k : LiveState F). Kept k) (sym h.state) kept
   keeps {F} may s mid (Remaps m') h kept =
       subst (λ (k : LiveState F). Kept k) (sym h.state) (λ w there. mapped_all s m' w s.chains there h.keeps (kept w there))
@@ -458,6 +460,7 @@ ties {F} may s mid (Abandons c) h all =
 ties {F} may s mid (RepliesOwnBytes c request reply options) h all =
     subst (λ (k : LiveState F). AllTied k) (sym h.state)
     (one_changed s.places s.queues h.before h.behind c (record c { phase = Own request reply }) s.chains h.out (λ tied. tied) all)
+ties {F} may s mid (HasEffect call answer) h all = subst (λ (k : LiveState F). AllTied k) (sym h.state) all
 ties {F} may s mid (SetsOptions options) h all = subst (λ (k : LiveState F). AllTied k) (sym h.state) all
 ties {F} may s mid (Remaps m') h all = subst (λ (k : LiveState F). AllTied k) (sym h.state) (mapped_tied s m' s.chains h.keeps all)
 ties {F} may s mid (MovesDevice m' queues) h all =

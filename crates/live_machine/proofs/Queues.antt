@@ -17,6 +17,7 @@ use Rattle.live_machine.specs.Several.{LiveQueue, InFlightId, QueueEvent, RunsOv
 use Rattle.live_machine.specs.Several as several
 use Rattle.live_machine.proofs.SeveralRuns.{once, used_in_order}
 use Rattle.live_machine.specs.Live.{InFlightChain, LiveState, LiveEvent, EndsPop, RefusesPop, DecodesRequest, ReceivesAnswer, PushesChain}
+use Rattle.live_machine.specs.Live.{HasEffect}
 use Rattle.live_machine.specs.Live.{StoresNotification, ResetsQueue, SetsOptions}
 use Rattle.live_machine.specs.Live.{FillsBuffer, GivesUpChain}
 use Rattle.live_machine.specs.Live.{Abandons, RepliesOwnBytes, Remaps, MovesDevice, Happens, LiveRun, EndsPopIn}
@@ -316,6 +317,8 @@ module _ (i : ℕ) where
       (stays s (after_own s h.before h.behind c request reply options) w w there refl
       (goes_on h.before h.behind c (record c { phase = Own request reply }) (c.queue == i) refl refl refl
       ∙ sym (ap (λ (l : List InFlightChain). in_flight_on i l) h.out)))
+  carries {F} may s mid w (HasEffect call answer) there anew h =
+      subst (λ (k : LiveState F). Carries s k w []) (sym h.state) (stays s (record s { files = h.files }) w w there refl refl)
   carries {F} may s mid w (SetsOptions options) there anew h =
       subst (λ (k : LiveState F). Carries s k w []) (sym h.state) (stays s (record s { options = options }) w w there refl refl)
   carries {F} may s mid w (Remaps m) there anew h =

@@ -7,12 +7,12 @@ use Rattle.std.proofs.lemmas.List.Folds.{list_any-append}
 use Rattle.fs_queue.specs.Returning.{writes_of}
 use Rattle.virtiofsd_fuse.specs.Serving.{May}
 use Rattle.plain_machine.specs.StepBy.{stores_among}
-use Rattle.live_machine.specs.Live.{Happens, LiveEvent, LiveRun, LiveState, event_acts}
+use Rattle.live_machine.specs.Live.{Happens, LiveEvent, LiveState, event_acts}
 use Rattle.live_machine.specs.Runs.{page_of, reported_by}
-use Rattle.live_machine.specs.Rounds.{BeginsEvent, BeginsWithAllMarked, CopiesByte, EndsWithWholeCopy, GuestWrites, IsWholeCopy, LosesNothing}
-use Rattle.live_machine.specs.Rounds.{MarksPages, Migration, RoundMoment, RoundsLoseNothing, StoresByte, TakesMarks, after_beginning}
-use Rattle.live_machine.specs.Rounds.{after_copying, after_guest, after_marking, after_storing, after_taking, events_among, has_page, has_store}
-use Rattle.live_machine.specs.Rounds.{is_known, with_byte}
+use Rattle.live_machine.specs.Rounds.{BeginsEvent, BeginsWithAllMarked, CopiesByte, EndsWithWholeCopy, GuestWrites, LosesNothing}
+use Rattle.live_machine.specs.Rounds.{MarksPages, Migration, RoundsLoseNothing, StoresByte, TakesMarks, after_beginning}
+use Rattle.live_machine.specs.Rounds.{after_copying, after_guest, after_marking, after_storing, after_taking, has_page, has_store}
+use Rattle.live_machine.specs.Rounds.{is_known}
 use Rattle.live_machine.proofs.Pages.{one_event}
 use Rattle.live_machine.proofs.Queues.{apart_of}
 

@@ -127,6 +127,9 @@ pub data LiveEvent : Type 0 where
   -- the caller replies to a request with bytes of its own, instead of decoding it or of answering its pending
   -- call; it may set the options of the session then
   RepliesOwnBytes : InFlightChain → (request reply : List ℕ) → (options : ℕ) → LiveEvent
+  -- a file call has its effect, and no chain gets its answer: its chain ended while it was pending, or the
+  -- caller makes it by itself, say to undo the look-up of an entry that isn't added
+  HasEffect : FileCall → FileAnswer → LiveEvent
   -- the caller sets the options of the session, say to none when the device is reset
   SetsOptions : (options : ℕ) → LiveEvent
   -- addresses have other mappings from now on: those of other regions, or others in the same regions
@@ -338,12 +341,6 @@ pub record StoresNotificationSo {F : Type 0} (s : LiveState F) (i : ℕ) (store 
   pub place : StoreIsMapped s.places store.address
   pub state : after ≡ s
 
--- no call of the chain is pending, if it is of queue i
-abbrev pub NonePending : (page_size i : ℕ) → InFlightChain → Phase → Type 0
-NonePending page_size i c (Asked request options calls) =
-    c.queue ≡ i → (serving page_size options options request (room_of c) calls).calls ≡ calls_alone calls
-NonePending page_size i c _ = Unit {0}
-
 -- the state after a reset: no chain of the queue is in flight
 abbrev pub after_reset : {F : Type 0} → LiveState F → ℕ → LiveQueue → LiveState F
 after_reset s i w =
@@ -357,15 +354,15 @@ HasNoneInFlight w = (w.next_used ≡ w.queue.position) × (w.queue.position < 2 
 abbrev pub HasValidMaximum : LiveQueue → Type 0
 HasValidMaximum w = (1 ≤ w.max_in_flight) × (w.max_in_flight ≤ w.queue.size)
 
--- a queue is reset once each call of its chains was answered: they are no longer in flight. It may be stopped
--- from then on, as a queue that is restored stopped. Its new layout is any
+-- a queue is reset: its chains are no longer in flight. A call of them that is pending may have its effect
+-- later (`HasEffect`). The queue may be stopped from then on, as a queue that is restored stopped. Its new
+-- layout is any
 pub record ResetsQueueSo {F : Type 0} (s : LiveState F) (i : ℕ) (w : LiveQueue) (after : LiveState F) :
     Type 0 where
   pub old : LiveQueue
   pub there : slice_get s.queues i ≡ Some old
   pub positions_agree : HasNoneInFlight w
   pub few : HasValidMaximum w
-  pub none_pending : AllByRecursion (λ c. NonePending s.page_size i c c.phase) s.chains
   pub state : after ≡ after_reset s i w
 
 -- each address of a store is in the reply buffer
@@ -412,7 +409,8 @@ abbrev pub after_abandoning : {F : Type 0} → LiveState F → (before behind : 
 after_abandoning s before behind c = record s { chains = before ++ abandoned_chain c ∷ behind }
 
 -- a chain's handle is freed, in any phase, also again: the chain is never pushed. If the file system did its
--- pending call by then, the answer (`ReceivesAnswer`) is an event before this one
+-- pending call by then, the answer (`ReceivesAnswer`) is an event before this one; if it does the call later,
+-- that is an event of its own (`HasEffect`)
 pub record AbandonsSo {F : Type 0} (s : LiveState F) (c : InFlightChain) (after : LiveState F) : Type 0 where
   pub before : List InFlightChain
   pub behind : List InFlightChain
@@ -442,6 +440,14 @@ pub record RepliesOwnBytesSo {F : Type 0} (s : LiveState F) (c : InFlightChain) 
   pub fits : length reply ≤ length (room_of c)
   pub counts : length reply < 2 ^ 32
   pub state : after ≡ after_own s before behind c request reply options
+
+-- a file call has its effect, as the file system may answer by now. No chain and no option changes
+pub record HasEffectSo {F : Type 0} (may : May F) (s : LiveState F) (call : FileCall) (answer : FileAnswer)
+    (after : LiveState F) : Type 0 where
+  pub is_one : IsTrue (suits call answer)
+  pub files : F
+  pub may_so : may s.files call answer files
+  pub state : after ≡ record s { files = files }
 
 -- the caller sets the options of the session, whatever chains are in flight
 pub record SetsOptionsSo {F : Type 0} (s : LiveState F) (options : ℕ) (after : LiveState F) : Type 0 where
@@ -497,6 +503,7 @@ Happens may s (GivesUpChain c) after = GivesUpChainSo s c after
 Happens may s (Abandons c) after = AbandonsSo s c after
 Happens may s (RepliesOwnBytes c request reply options) after =
     RepliesOwnBytesSo s c request reply options after
+Happens may s (HasEffect call answer) after = HasEffectSo may s call answer after
 Happens may s (SetsOptions options) after = SetsOptionsSo s options after
 Happens may s (Remaps m) after = RemapsSo s m after
 Happens may s (MovesDevice m queues) after = MovesDeviceSo s m queues after
@@ -517,8 +524,9 @@ event_acts (StoresNotification i store) = StoresBytes store ∷ []
 event_acts (FillsBuffer c stores) = map StoresBytes stores
 event_acts _ = []
 
--- the calls of a run, in the order of their answers
+-- the calls of a run, in the order of their answers or effects
 abbrev pub calls_among : List LiveEvent → Calls
 calls_among [] = []
 calls_among (ReceivesAnswer c call answer ∷ es) = (call, answer) ∷ calls_among es
+calls_among (HasEffect call answer ∷ es) = (call, answer) ∷ calls_among es
 calls_among (_ ∷ es) = calls_among es
