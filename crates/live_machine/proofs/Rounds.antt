@@ -1,6 +1,6 @@
 -- Rounds of a migration lose nothing.
-use Rattle.std.proofs.Common.{arith, ◌≡◌, ℕ, zero, suc, ◌+◌, Bool, true, false, not, ◌||◌, ◌==◌, if◌then◌else◌, List, [], ◌∷◌, ◌++◌, take, drop, map}
-use Rattle.std.proofs.Common.{Option, Some, None, slice_get, filter, flat_map, refl, subst, sym, ap, ◌∙◌, cond}
+use Rattle.std.proofs.Common.{arith, ◌≡◌, ℕ, zero, suc, ◌+◌, Bool, true, false, not, ◌||◌, ◌==◌, if◌then◌else◌, List, [], ◌∷◌, ◌++◌, take}
+use Rattle.std.proofs.Common.{drop, map, Option, Some, None, slice_get, filter, flat_map, refl, subst, sym, ap, ◌∙◌, cond}
 use Rattle.std.specs.List.{list_any}
 use Rattle.std.proofs.lemmas.Bool.{eq-eqb, eqb-true, or_left, or_right}
 use Rattle.std.proofs.lemmas.List.Folds.{list_any-append}
@@ -223,7 +223,8 @@ rounds_lose_nothing may s after (GuestWrites place value ∷ ms) run m fine =
 rounds_lose_nothing may s after (BeginsEvent e places ∷ ms) run m fine =
     rounds_lose_nothing may run.0 after ms run.2 (after_beginning m s e places) (beginning_keeps m fine may s run.0 e places run.1)
 rounds_lose_nothing may s after (StoresByte i ∷ ms) run m fine =
-    rounds_lose_nothing may s after ms run (after_storing m i (slice_get m.to_store i)) (storing_keeps m fine i (slice_get m.to_store i) refl)
+    rounds_lose_nothing may s after ms run (after_storing m i (slice_get m.to_store i))
+    (storing_keeps m fine i (slice_get m.to_store i) refl)
 rounds_lose_nothing may s after (MarksPages pages ∷ ms) run m fine =
     rounds_lose_nothing may s after ms run (after_marking m pages) (marking_keeps m fine pages)
 rounds_lose_nothing may s after (TakesMarks ∷ ms) run m fine =
@@ -245,7 +246,8 @@ begins_with_all_marked m all none = record {
 none_left : (ws : List (ℕ × ℕ)) → ((page : ℕ) → has_store ws page ≡ true → ⊥) → ws ≡ []
 none_left [] none = refl
 none_left (w ∷ ws) none =
-    absurd (none (page_of w.0) (or_left (page_of w.0 == page_of w.0) (has_store ws (page_of w.0)) (eq-eqb (page_of w.0) (page_of w.0) refl)))
+    let page = page_of w.0 in
+    absurd (none page (or_left (page == page) (has_store ws page) (eq-eqb page page refl)))
 
 pub ends_with_whole_copy : EndsWithWholeCopy
 ends_with_whole_copy m fine copied' unmarked none = record {

@@ -50,6 +50,10 @@ with_byte bytes place value a = if a == place then value else bytes a
 abbrev pub has_page : List ℕ → (page : ℕ) → Bool
 has_page places page = list_any (λ a. page_of a == page) places
 
+-- whether a page is among these
+abbrev pub is_among : (pages : List ℕ) → (page : ℕ) → Bool
+is_among pages page = list_any (λ p. p == page) pages
+
 -- whether a byte of the page is still to be stored
 abbrev pub has_store : List (ℕ × ℕ) → (page : ℕ) → Bool
 has_store to_store page = list_any (λ w. page_of w.0 == page) to_store
@@ -81,8 +85,8 @@ after_storing m position (Some w) = record m {
 -- round might copy it before the store
 abbrev pub after_marking : Migration → List ℕ → Migration
 after_marking m pages = record m {
-  marked = λ page. m.marked page || list_any (λ p. p == page) pages;
-  to_mark = filter (λ a. not (list_any (λ p. p == page_of a) pages) || has_store m.to_store (page_of a)) m.to_mark;
+  marked = λ page. m.marked page || is_among pages page;
+  to_mark = filter (λ a. not (is_among pages (page_of a)) || has_store m.to_store (page_of a)) m.to_mark;
 }
 
 -- after a round took the marks: it has to copy the bytes of these pages
@@ -120,8 +124,8 @@ after_rounds may s (CopiesByte place ∷ ms) after run m =
 abbrev pub is_known : Migration → (place : ℕ) → Bool
 is_known m a = m.to_copy a || (m.marked (page_of a) || has_page m.to_mark (page_of a))
 
--- no change is lost: a byte that differs from its copy will be copied. And the page of each byte that is still
--- to be stored is still to be marked
+-- no change is lost: a byte that differs from its copy will be copied. And the page of each byte that is
+-- still to be stored is still to be marked
 pub record LosesNothing (m : Migration) : Type 0 where
   pub known : (place : ℕ) → (m.copy place == m.bytes place) ≡ false → is_known m place ≡ true
   pub owed : (page : ℕ) → has_store m.to_store page ≡ true → has_page m.to_mark page ≡ true

@@ -83,10 +83,9 @@ pub fn law_files<F: FileSystem>()
 {}
 
 /// A migration in rounds, while the guest writes and chains are in flight. A round takes the marks and copies
-/// the marked pages byte by byte, beside stores and marks of any thread. The caller marks the pages of an
-/// event's stores after them. Then each byte that differs from its copy has its page marked, or this round has
-/// still to copy it, or its page's mark is still owed by a push or another store that isn't ended. So a page
-/// that is marked before its store is to be marked again.
+/// the marked pages byte by byte, beside stores and marks of any thread. Each byte that differs from its copy
+/// is still to be copied by this round; or its page is marked; or the caller owes its page's mark for stores
+/// of an event. Only a mark after the stores pays it.
 pub fn law_rounds<F: FileSystem>()
     ensures begins { BeginsWithAllMarked }
     ensures rounds { RoundsLoseNothing F.may }
