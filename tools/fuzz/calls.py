@@ -7,7 +7,7 @@ from pathlib import Path
 
 # For each second of a run so many worlds, rounds or seconds. A program that takes so many seconds
 # more than a run doesn't end.
-AMOUNTS = {"plain": 100, "answered": 400, "listed": 10, "clumsy": 0.05}
+AMOUNTS = {"plain": 100, "answered": 400, "strict": 400, "listed": 10, "clumsy": 0.05}
 PATIENCE = 1000
 
 

@@ -27,18 +27,88 @@ static void exchange(struct bench *b) {
     is_lent = !is_lent;
 }
 
+/* Calls that don't come next while a pop waits for the bytes of a load. */
+static void call_wrongly(struct bench *b, struct pk_queue *q, const struct pk_pop *step) {
+    static uint8_t bytes[PK_LOAD_MAX];
+    uint8_t front[PK_FRONT_MAX], notify;
+    struct pk_pop again;
+    struct pk_stores stores;
+    struct pk_window window;
+    struct pk_chain *c = &b->chain;
+    size_t len = below(2) ? step->load_len - 1 : step->load_len + 1;
+    expect("the state", pk_chain_state(c), PK_STATE_POPPING);
+    expect("other memory", pk_chain_set_memory(c, &device, regions, region_count),
+           PK_CHAIN_IN_FLIGHT);
+    expect("another ticket", pk_chain_set_ticket(c, 1), PK_CHAIN_IN_FLIGHT);
+    if (has_iommu) expect("another table", pk_chain_exchange_iotlb(c, &table), PK_CHAIN_IN_FLIGHT);
+    expect("a reply", pk_reply_bytes(c, b->ticket, 0), PK_WRONG_ORDER);
+    expect("a push", pk_push(c, q, front, sizeof front, &stores), PK_WRONG_ORDER);
+    expect("its end", pk_pushed(c, q, 0, &notify), PK_WRONG_ORDER);
+    expect("a window", pk_request_windows(c, 0, 1, &window, 1), 0);
+    expect("another window", pk_reply_windows(c, 0, 1, &window, 1), 0);
+    expect("a use", pk_uses(c, 0, UINT64_MAX), 0);
+    if (len > PK_LOAD_MAX) return;
+    expect("another length", pk_pop(c, q, bytes, len, &again), PK_BAD_ARGUMENT);
+    expect("the load's place", again.load_at, step->load_at);
+    expect("the load's length", again.load_len, step->load_len);
+}
+
+/* Each chain takes the next ticket, modulo 2^32. A faulty one doesn't tell it. */
+static void check_ticket(struct bench *b, uint32_t ticket) {
+    if (b->has_ticket) expect("the ticket", ticket, b->fault ? 0 : b->ticket + 1);
+    b->has_ticket = b->has_ticket || !b->fault;
+    b->ticket = b->fault ? b->ticket + 1 : ticket;
+}
+
+/* Another handle pops the chain and drops it. Returns whether there is one that can be dropped. */
+static bool pop_between(const struct bench *b, struct pk_queue *q) {
+    static uint8_t bytes[PK_LOAD_MAX];
+    struct bench *other = &benches[(size_t)(b - benches + 1) % CHAINS], scratch = {0};
+    struct pk_pop step;
+    size_t len = 0;
+    uint32_t status;
+    if (has_iommu || other->queue || model_pop(&scratch, q).status || scratch.fault) return false;
+    while ((status = pk_pop(&other->chain, q, bytes, len, &step)) == PK_LOAD)
+        memcpy(bytes, (const void *)step.load_at, len = step.load_len);
+    expect("a pop between", status, PK_DONE);
+    other->fault = 0;
+    expect("its drop", pk_drop(&other->chain, q), PK_DONE);
+    check_ticket(other, step.ticket);
+    other->count = 0;
+    return true;
+}
+
+/* Amid a pop: it may begin again, after a drop or another handle's pop. Returns whether it does. */
+static bool interrupt(struct bench *b, struct pk_queue *q, const struct pk_pop *step) {
+    struct pk_pop none;
+    static uint8_t bytes[PK_LOAD_MAX];
+    switch (below(4)) {
+    case 0: call_wrongly(b, q, step); return false;
+    case 1:
+        if (!pop_between(b, q)) return false;
+        expect("a pop between", pk_pop(&b->chain, q, bytes, step->load_len, &none), PK_OTHER_QUEUE);
+        expect("the drop of a pop", pk_drop(&b->chain, &queues[below(QUEUES)]), PK_DONE);
+        break;
+    case 2: expect("the drop of a pop", pk_drop(&b->chain, &queues[below(QUEUES)]), PK_DONE); break;
+    default: pk_abandon(&b->chain);
+    }
+    expect("the state", pk_chain_state(&b->chain), PK_STATE_FREE);
+    return true;
+}
+
 /* A pop by the library, load by load or with its loads ahead. */
-static uint32_t pop(struct bench *b, struct pk_queue *q, struct pk_pop *step) {
+static uint32_t pop(struct bench *b, struct pk_queue *q, struct pk_pop *step, bool *again) {
     static uint8_t bytes[PK_LOAD_MAX];
     struct pk_ring ring = {0};
     size_t len = 0;
     uint32_t status;
     memset(step, 0xa5, sizeof *step);
+    *again = false;
     pk_ring_find(&ring, q, regions, region_count);
     if (!has_iommu && below(2)) return pk_pop_ring(&b->chain, q, &ring, step);
     while ((status = pk_pop(&b->chain, q, bytes, len, step)) == PK_LOAD) {
-        len = step->load_len;
-        memcpy(bytes, (const void *)step->load_at, len);
+        if (below(20) == 0 && (*again = interrupt(b, q, step))) return status;
+        memcpy(bytes, (const void *)step->load_at, len = step->load_len);
     }
     return status;
 }
@@ -73,7 +143,8 @@ static void check_misses(struct bench *b) {
 static void check_chain(struct bench *b, struct pk_queue *q, const struct pk_pop *step,
                         const struct pk_queue *before) {
     b->queue = q, b->position = before->next_avail, b->popped = before->pop_count;
-    b->replied = b->pushing = false, b->len = 0, b->ticket = step->ticket;
+    check_ticket(b, step->ticket);
+    b->replied = b->pushing = false, b->len = 0;
     b->used_index = has_iommu ? place(q->used + 2, WRITES) : NULL;
     expect("the head", step->head, b->head);
     expect("the fault", step->fault, b->fault);
@@ -85,11 +156,18 @@ static void check_chain(struct bench *b, struct pk_queue *q, const struct pk_pop
 }
 
 static void do_pop(struct bench *b, struct pk_queue *q) {
-    struct pk_queue before = *q;
+    struct pk_queue before;
     struct pk_pop step;
+    struct told told;
+    uint32_t status;
+    bool again;
     exchange(b);
-    struct told told = model_pop(b, q);
-    expect("the pop", pop(b, q, &step), told.status);
+    do {
+        before = *q;
+        told = model_pop(b, q);
+        status = pop(b, q, &step, &again);
+    } while (again);
+    expect("the pop", status, told.status);
     expect("the miss", step.miss_at, told.miss_at);
     expect("the miss's length", step.miss_len, told.miss_len);
     expect("the miss's access", step.miss_access, told.access);
@@ -377,7 +455,32 @@ static void change_pages(uint64_t page, uint64_t count, bool is_mapped) {
         map_page(page + k, is_mapped, guest + k * PAGE, access);
 }
 
+/* Numbers that aren't of whole pages, no address, and no access are refused. */
+static void map_wrongly(void) {
+    const uint64_t bad = 1 + below(PAGE - 1), far = UINT64_C(1) << (12 + below(52));
+    const uint64_t none = 0, at = base + below(8) * PAGE;
+    const uint64_t rows[][3] = {{bad, 0, 0}, {0, bad, 0}, {0, 0, bad}, {bad, bad, 0}, {0, 1, 0}};
+    const uint64_t *row = rows[below(5)];
+    uint64_t len = below(4) ? PAGE + row[1] : 0;
+    bool is_whole = len != 0 && row[0] == 0 && row[1] == 0; /* to unmap */
+    expect("a wrong map", pk_iotlb_map(&table, at + row[0], len, far + row[2], READS),
+           PK_BAD_ARGUMENT);
+    expect("no access", pk_iotlb_map(&table, at, PAGE, none, 4 + (uint32_t)below(9)),
+           PK_BAD_ARGUMENT);
+    if (is_whole) return;
+    expect("a wrong unmap", pk_iotlb_unmap(&table, at + row[0], len), PK_BAD_ARGUMENT);
+}
+
+/* An empty table takes the place of one. */
+static void clear_table(void) {
+    expect("an empty table", pk_iotlb_new(&table), PK_DONE);
+    for (uint64_t page = 0; page < IO_PAGES; page++) map_page(page, false, 0, 0);
+    for (uint64_t page = 0; page < IO_PAGES; page += 4) change_pages(page, 4, below(8) != 0);
+}
+
 static void do_map(void) {
+    if (has_iommu && below(4) == 0) map_wrongly();
+    if (has_iommu && below(40) == 0) clear_table();
     uint64_t page = below(IO_PAGES), count = 1 + below(below(3) ? 3 : 10);
     if (count > IO_PAGES - page) count = IO_PAGES - page;
     if (has_iommu) change_pages(page, count, below(4) != 0);

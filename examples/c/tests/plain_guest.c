@@ -9,6 +9,7 @@ enum { NEXT = 1, WRITE = 2, INDIRECT = 4 };
 unsigned long world;
 struct pk_region regions[REGIONS];
 size_t region_count;
+struct pk_device device;
 bool has_iommu, is_lent;
 uint64_t base;
 static _Alignas(PAGE) uint8_t memory[2 * PAGES * PAGE];
@@ -146,6 +147,7 @@ void put(uint64_t at, uint64_t value, size_t len) {
 
 uint64_t some_address(uint64_t len) {
     uint64_t at = base + below(has_iommu ? IO_PAGES : PAGES) * PAGE;
+    if (below(20) == 0) at = base + (has_iommu ? IO_PAGES : PAGES) * (uint64_t)PAGE;
     switch (below(8)) {
     case 0: return at;
     case 1: return at - len;                  /* it ends with a page */
@@ -156,9 +158,10 @@ uint64_t some_address(uint64_t len) {
 }
 
 static uint64_t some_length(void) {
+    const uint64_t most = device.limit;
     switch (below(40)) {
     case 0: return 0;
-    case 1: return ONE_OF(0x100fff, 0x101000, 0x101001, UINT32_MAX, chance() & UINT32_MAX);
+    case 1: return ONE_OF(most - 1, most, most + 1, UINT32_MAX, chance() & UINT32_MAX);
     case 2: return ONE_OF(PAGE - 1, PAGE, PAGE + 1, 3 * PAGE);
     default: return 1 + below(below(4) ? 100 : 2 * PAGE);
     }

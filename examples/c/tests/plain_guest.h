@@ -16,6 +16,7 @@ struct part {
 };
 
 extern unsigned long world; /* the number of this memory */
+extern struct pk_device device;
 extern struct pk_region regions[REGIONS];
 extern size_t region_count;
 extern bool has_iommu;

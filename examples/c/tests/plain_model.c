@@ -2,8 +2,6 @@
 
 enum { NEXT = 1, WRITE = 2, INDIRECT = 4 };
 
-struct pk_device device;
-
 uint64_t used_event(const struct pk_queue *q) { return q->avail + 4 + 2 * (uint64_t)q->size; }
 uint64_t avail_event(const struct pk_queue *q) { return q->used + 4 + 8 * (uint64_t)q->size; }
 uint16_t in_flight(const struct pk_queue *q) { return (uint16_t)(q->next_avail - q->next_used); }

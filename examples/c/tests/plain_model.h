@@ -13,7 +13,7 @@ struct bench {
     uint32_t fault, ticket, popped; /* the queue's pop_count then */
     uint16_t head, position;
     uint8_t *used_index;
-    bool replied, pushing;
+    bool replied, pushing, has_ticket;
     uint64_t len; /* of the reply */
 };
 
@@ -22,8 +22,6 @@ struct told {
     uint32_t status, access;
     uint64_t miss_at, miss_len;
 };
-
-extern struct pk_device device;
 
 uint64_t used_event(const struct pk_queue *q);
 uint64_t avail_event(const struct pk_queue *q);
