@@ -206,7 +206,7 @@ def request(rng, session=False):
     wanted = reply_length(kind, data)
     length = 40 + len(data)
     if rng.random() < 0.1:
-        near = [length - 1, length + 1, length - 8, length + 8]
+        near = [length - 1, length + 1, length - 8, length + 8, length + 0x10000, length + 0x20000]
         length = rng.choice([0, 39, 40, 47, 48, 55, 56, *near, 0x101000, 0x101001, number(rng, 4)])
     if rng.random() < 0.04:
         opcode = rng.choice([0, 7, 19, 52, 4096, number(rng, 4)])

@@ -33,7 +33,15 @@ static const struct row {
     {50, 8, 0, PK_ANSWER_DONE},
 };
 enum { ROWS = sizeof rows / sizeof *rows };
-enum { SETATTR = 4, READ = 15, SETXATTR = 21, GETXATTR = 22, LISTXATTR = 23, INIT = 26 };
+enum {
+    SETATTR = 4,
+    READ = 15,
+    WRITE = 16,
+    SETXATTR = 21,
+    GETXATTR = 22,
+    LISTXATTR = 23,
+    INIT = 26
+};
 enum { READDIR = 28, DESTROY = 38, READDIRPLUS = 44 };
 
 static _Alignas(4096) uint8_t memory[MEMORY];
@@ -352,6 +360,7 @@ static void store(size_t at, uint64_t value, size_t len) { memcpy(memory + at, &
 /* The driver makes a request of the row available. Returns its length. */
 static size_t offer(void) {
     size_t len = 40 + row->record + 2u * row->names;
+    if (row->opcode == WRITE) len += below(2) ? below(0x800) : 0;
     memset(memory + REQUEST, 0, 256);
     store(REQUEST, len, 4);
     store(REQUEST + 4, row->opcode, 4);
@@ -359,6 +368,7 @@ static size_t offer(void) {
     store(REQUEST + 16, number(), 8);
     size = below(room + 1);
     if (row->answer == PK_ANSWER_ENTRIES) store(REQUEST + 56, size, 4);
+    if (row->opcode == WRITE) store(REQUEST + 56, len - 80, 4);
     if (row->opcode == READ) store(REQUEST + 56, below(2) ? size : number(), 4);
     if (row->opcode == GETXATTR || row->opcode == LISTXATTR) store(REQUEST + 40, below(500), 4);
     if (row->opcode == INIT) {
@@ -391,7 +401,10 @@ static void pop(void) {
 static void decode(size_t len) {
     size_t have = len < PK_FIRST ? len : PK_FIRST;
     uint32_t status = pk_decode(&chain, &device, memory + REQUEST, have, &call);
-    if (status == PK_MORE) {
+    if (row->opcode == WRITE) {
+        expect("a WRITE's data", call.data_at, 80);
+        expect("its length", call.data_len, len - 80);
+    } else if (status == PK_MORE) {
         expect("the bytes that are needed", call.needed, len);
         status = pk_decode(&chain, &device, memory + REQUEST, len, &call);
     }

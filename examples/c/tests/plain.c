@@ -105,6 +105,8 @@ static uint32_t pop(struct bench *b, struct pk_queue *q, struct pk_pop *step, bo
     memset(step, 0xa5, sizeof *step);
     *again = false;
     pk_ring_find(&ring, q, regions, region_count);
+    if (below(20) == 0)
+        expect("bytes at first", pk_pop(&b->chain, q, bytes, 1, step), PK_BAD_ARGUMENT);
     if (!has_iommu && below(2)) return pk_pop_ring(&b->chain, q, &ring, step);
     while ((status = pk_pop(&b->chain, q, bytes, len, step)) == PK_LOAD) {
         if (below(20) == 0 && (*again = interrupt(b, q, step))) return status;
@@ -455,20 +457,22 @@ static void change_pages(uint64_t page, uint64_t count, bool is_mapped) {
         map_page(page + k, is_mapped, guest + k * PAGE, access);
 }
 
-/* Numbers that aren't of whole pages, no address, and no access are refused. */
+/* Numbers that aren't of whole pages, none, ends past 2^64, and no access are refused. */
 static void map_wrongly(void) {
     const uint64_t bad = 1 + below(PAGE - 1), far = UINT64_C(1) << (12 + below(52));
-    const uint64_t none = 0, at = base + below(8) * PAGE;
-    const uint64_t rows[][3] = {{bad, 0, 0}, {0, bad, 0}, {0, 0, bad}, {bad, bad, 0}, {0, 1, 0}};
-    const uint64_t *row = rows[below(5)];
-    uint64_t len = below(4) ? PAGE + row[1] : 0;
-    bool is_whole = len != 0 && row[0] == 0 && row[1] == 0; /* to unmap */
-    expect("a wrong map", pk_iotlb_map(&table, at + row[0], len, far + row[2], READS),
+    const uint64_t at = base + below(8) * PAGE, end = 0 - at;
+    const uint64_t rows[][3] = {
+        {bad, PAGE, 0}, {0, PAGE + bad, 0},           {bad, PAGE - bad, 0}, {0, 0, 0},
+        {0, bad, 0},    {0, end + PAGE, 0},           {PAGE, end, far},     {0, PAGE, bad},
+        {0, end, 0},    {0, PAGE, 0 - (uint64_t)PAGE}};
+    size_t k = below(10);
+    const uint64_t *row = rows[k];
+    if (at == 0 && k == 5) return; /* a length of one page */
+    expect("a wrong map", pk_iotlb_map(&table, at + row[0], row[1], row[2], READS),
            PK_BAD_ARGUMENT);
-    expect("no access", pk_iotlb_map(&table, at, PAGE, none, 4 + (uint32_t)below(9)),
-           PK_BAD_ARGUMENT);
-    if (is_whole) return;
-    expect("a wrong unmap", pk_iotlb_unmap(&table, at + row[0], len), PK_BAD_ARGUMENT);
+    expect("no access", pk_iotlb_map(&table, at, PAGE, 0, 4 + (uint32_t)below(9)), PK_BAD_ARGUMENT);
+    if (k >= 7 || (at == 0 && k == 6)) return; /* only the guest's address is wrong, or the end */
+    expect("a wrong unmap", pk_iotlb_unmap(&table, at + row[0], row[1]), PK_BAD_ARGUMENT);
 }
 
 /* An empty table takes the place of one. */

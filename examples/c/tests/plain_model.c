@@ -60,7 +60,7 @@ static uint32_t table_fault(const struct part *part, uint64_t flags, bool inside
 
 /* Walks the chain of a head (2.7.5). Returns its fault, or tells of a miss or a refusal. */
 static uint32_t walk(struct bench *b, const struct pk_queue *q, struct told *told) {
-    uint64_t at = q->desc, of = q->size, index = b->head, more[2];
+    uint64_t at = q->desc, of = q->size, index = b->head, more[2] = {0};
     bool inside = false;
     for (b->count = 0;;) {
         struct part part;
