@@ -31,8 +31,11 @@
  * OWNERSHIP. `struct pk_device` and `struct pk_queue` hold plain numbers and may be copied. `struct
  * pk_chain` is a handle for one chain at a time: zero it before its first use, never copy it, and
  * free it with pk_chain_free. The library keeps no pointer that you pass, and returns none but the
- * text of pk_build: names and values are offsets into the request (`struct pk_span`). A later
- * header may add fields at the end of a struct, so initialise structs with zeros.
+ * text of pk_build: names and values are offsets into the request (`struct pk_span`).
+ *
+ * VERSIONS. A program runs with each later library of its major number (PK_VERSION). A later header
+ * may add fields at the end of a struct, and kinds of calls: initialise structs with zeros, and
+ * reply to an unknown kind with pk_reply_err(ENOSYS), unless its `answer` is NONE.
  *
  * THREADS. Two calls may run at the same time if each object that both are passed is const in both.
  * Otherwise calls on one chain, queue or device need an order: a lock, or a join. A chain may move
@@ -135,7 +138,7 @@ extern "C" {
 #endif
 
 /* ---------------------------------------------------------------- numbers */
-#define PK_VERSION 12u           /* of this header; pk_version() is the archive's */
+#define PK_VERSION 0x10000u      /* of this header, 1.0: the major number << 16 | the minor one */
 #define PK_REGIONS_MAX 64u       /* regions of the guest's memory */
 #define PK_QUEUES_MAX 64u        /* queues in a saved record */
 #define PK_LOAD_MAX 4096u        /* bytes of the longest load of a pop */
@@ -267,7 +270,7 @@ enum pk_answer_kind {
     PK_ANSWER_INIT = 12,
 };
 
-uint32_t pk_version(void); /* the archive's PK_VERSION, to compare */
+uint32_t pk_version(void); /* the library's PK_VERSION: pk_is_compatible compares it */
 /* What the archive is, for logs: its release, its commit, and the logic that proved it or else
  * "NOT PROVED". The text stays. */
 const char *pk_build(void);

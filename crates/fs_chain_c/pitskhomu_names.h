@@ -1,6 +1,13 @@
 /* pitskhomu_names.h: inline functions of pitskhomu.h, which includes it; its structs' layout. */
 #ifndef PITSKHOMU_NAMES_H
 #define PITSKHOMU_NAMES_H
+/* Returns 1 if the library that is linked has all that this header declares, else 0: their major
+ * numbers are the same, and the library's minor number isn't less. */
+static inline int pk_is_compatible(void) {
+    uint32_t version = pk_version();
+    return version >> 16 == PK_VERSION >> 16 && version >= PK_VERSION;
+}
+
 /* Fills in pair `k` of BATCH_FORGET, below call->count: `*node`, whose look-up count falls by
  * `*count`. */
 static inline void pk_pair(const uint8_t *request, const struct pk_call *call, uint64_t k,

@@ -318,7 +318,7 @@ static void move(void) {
 int main(void) {
     memory = mmap(NULL, MEMORY, PROT_READ | PROT_WRITE, MAP_SHARED | MAP_ANONYMOUS, -1, 0);
     struct pk_region region = {.guest = 0, .len = MEMORY, .host = (uintptr_t)memory};
-    if (memory == MAP_FAILED || pk_version() != PK_VERSION) return 1;
+    if (memory == MAP_FAILED || !pk_is_compatible()) return 1;
     queue = (struct pk_queue){.desc = DESC, .avail = AVAIL, .used = USED, .size = SIZE};
     expect(pk_queue_begin(&queue, 0), PK_DONE);
     expect(pk_chain_set_memory(&chain, &device, &region, 1), PK_DONE);

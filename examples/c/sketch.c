@@ -145,7 +145,7 @@ int main(void) {
     struct pk_region region = {.guest = 0, .len = MEMORY, .host = (uintptr_t)memory};
     bool notify = false;
     uint64_t node;
-    if (pk_version() != PK_VERSION || pk_queue_begin(&queue, 0)) return 1;
+    if (!pk_is_compatible() || pk_queue_begin(&queue, 0)) return 1;
     if (pk_chain_set_memory(&chain, &device, &region, 1)) return 1;
     put(USED, 1, 2); /* an earlier device disabled notifications */
     if (enable_notification() || memory[USED]) return 1;

@@ -20,8 +20,8 @@ use fs_chain::{ChainError, ChainHandle};
 use fs_regions::LoadAhead;
 use std::alloc::Global;
 
-/// The version of the header (PK_VERSION).
-const VERSION: u32 = 12;
+/// The version of the interface (PK_VERSION): its major number by 65536, and its minor number.
+const VERSION: u32 = 0x10000;
 
 /// The status of a handle whose memory was never set: WrongOrder.
 pub(crate) fn wrong_order() -> u32
@@ -37,10 +37,10 @@ pub(crate) fn bad_argument() -> u32
     u32::from(ChainError::BadArgument.number())
 }
 
-/// The version of the header that the archive was built with.
+/// The version of the interface that the archive has.
 #[unsafe(no_mangle)]
 pub extern "C" fn pk_version() -> u32
-    ensures { result ≡ 12 }
+    ensures { result ≡ 65536 }
 {
     VERSION
 }

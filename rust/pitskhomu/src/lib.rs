@@ -122,11 +122,12 @@ pub use values::{
 };
 pub use worker::{Lent, Popped, Served, Worker};
 
-/// The version of pitskhomu.h that this crate follows (`PK_VERSION`).
+/// The version of pitskhomu.h that this crate follows (`PK_VERSION`): the major number, shifted
+/// left by 16 bits, and the minor one.
 pub const VERSION: u32 = sys::VERSION;
 
-/// The version of the linked archive: compare it once with [`VERSION`] if the two may be of
-/// different releases.
+/// The version of the linked archive. If the two may be of different releases, compare it once with
+/// [`VERSION`]: the major numbers have to be the same, and the archive's minor number not less.
 #[must_use]
 pub fn version() -> u32 {
     chain::version()
