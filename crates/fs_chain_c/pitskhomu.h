@@ -4,43 +4,40 @@
  * The library walks a split virtqueue, decodes each FUSE request and encodes its reply. It accesses
  * no guest memory, file, socket or clock: it returns the address of each load and store, and the
  * caller performs it. So vCPUs may run meanwhile. Each descriptor chain takes these calls:
- *     pk_pop      returns loads of the ring and its descriptors (PK_LOAD), then a chain (PK_DONE)
+ *     pk_pop      returns loads of the ring and its descriptors (PK_LOAD), then a chain (PK_DONE).
+ *                 pk_pop_ring makes the loads, too, where the guest's memory is mapped
  *     pk_decode   decodes the bytes of the request, and returns the file call
  *     pk_reply_*  encodes the answer of your file system
  *     pk_push     returns the stores that add the chain to the used ring
  *     pk_pushed   ends the push, and returns whether to notify the driver
  *
  * THE SMALLEST LOOP. examples/c/sketch.c has the rest of it, and monitor.c shows more.
- *
  * <!-- examples/c/sketch.c: serve -->
  * ```
  * static uint32_t serve(bool *notify) {
- *     uint8_t bytes[PK_LOAD_MAX];
+ *     struct pk_pop pop;
  *     uint32_t s;
- *     for (;;) {
- *         struct pk_pop pop = {0}; // the first call of a pop has no bytes
- *         while ((s = pk_pop(&chain, &queue, bytes, pop.load_len, &pop)) == PK_LOAD)
- *             load(bytes, pop.load_at, pop.load_len);
- *         if (s != PK_DONE) return s;
- *         if (pop.fault == 0 && (s = serve_request(&pop)) != PK_DONE) return s;
- *         if ((s = push(notify)) != PK_DONE) return s; // a faulty chain: without a reply
+ *     while ((s = pk_pop_ring(&chain, &queue, &ring, &pop)) == PK_DONE) {
+ *         if (pop.fault == 0 && (s = serve_request(&pop)) != PK_DONE) break;
+ *         if ((s = push(notify)) != PK_DONE) break; // a faulty chain: without a reply
  *     }
+ *     return s;
  * }
  * ```
- *
- * OWNERSHIP. `struct pk_device` and `struct pk_queue` hold plain numbers and may be copied. `struct
- * pk_chain` is a handle for one chain at a time: zero it before its first use, never copy it, and
- * free it with pk_chain_free. The library keeps no pointer that you pass, and returns none but the
- * text of pk_build: names and values are offsets into the request (`struct pk_span`).
  *
  * VERSIONS. A program runs with each later library of its major number (PK_VERSION). A later header
  * may add fields at the end of a struct, and kinds of calls: initialise structs with zeros, and
  * reply to an unknown kind with pk_reply_err(ENOSYS), unless its `answer` is NONE.
  *
- * THREADS. Two calls may run at the same time if each object that both are passed is const in both.
- * Otherwise calls on one chain, queue or device need an order: a lock, or a join. A chain may move
- * between threads. Threads with chains and queues of their own share only `device` and an IOMMU's
- * table. Use a reader-writer lock: only pk_reply_init and pk_restore write `device`.
+ * OBJECTS. `struct pk_device` and `struct pk_queue` hold plain numbers and may be copied. `struct
+ * pk_chain`, a handle for one chain at a time, and `struct pk_iotlb` own memory: zero each before
+ * its first use, never copy it, and free it. The library keeps no pointer that you pass, and has
+ * none for you but pk_build: names and values are offsets into the request (`struct pk_span`).
+ *
+ * THREADS. Two calls may run at the same time if each object that both are passed is const in both;
+ * else they need an order: a lock, or a join. A chain may move between threads. Threads with chains
+ * and queues of their own share only an IOMMU's table and `device`, which only pk_reply_init and
+ * pk_restore write: use a reader-writer lock.
  *
  * RULES for the caller. The library can't check them; it does refuse calls in a wrong order.
  *  1. A pointer is valid for its length, and never NULL, not even with length 0. An argument that
@@ -52,7 +49,7 @@
  *       the buffer's first bytes;
  *     - store the two halves of the used element;
  *     - store the used index, atomically and with release order;
- *     - issue a full barrier (atomic_thread_fence(memory_order_seq_cst));
+ *     - issue a full barrier (atomic_thread_fence(memory_order_seq_cst); giver_waits);
  *     - load the 2 bytes at `seen_at`.
  *  5. Use windows only until pk_pushed, pk_drop or pk_abandon. Store only into reply windows.
  *  6. A chain keeps the regions that its handle had at the pop. From its first pk_pop until it is
@@ -69,50 +66,34 @@
  *
  * SEVERAL CHAINS IN FLIGHT: up to `max_in_flight` of a queue, each with its own `struct pk_chain`.
  * Push them in any order. Hold the queue's lock
- *   - from a chain's first pk_pop to its last. If another chain was popped or dropped between, the
- *     pop is refused (PK_OTHER_QUEUE);
- *   - from pk_push to pk_pushed;
+ *   - from a chain's first pk_pop to its last, and from pk_push to pk_pushed (checks_often);
  *   - from pk_set_notification to the end of the pop that follows.
  *
- * NOTIFICATIONS. Between resets (rule 8) none is lost, of driver or device, under these rules and
- * VIRTIO's for the driver (2.7.13, 2.7.14). In brackets is a rule's name in the model of crate
- * notify: without the rule, a run of the model loses a notification, or stops the queue.
+ * NOTIFICATIONS. Between resets none is lost, of driver or device, under these rules and VIRTIO's
+ * for the driver (2.7.13, 2.7.14). In brackets is a rule's name in the model of crate notify, which
+ * without the rule loses a notification, or stops the queue.
  *   - Before a thread sleeps, after its last pop: pk_set_notification(1), the store, a full
  *     barrier, and one more pop. That pop must load the available index again (taker_waits, late).
  *     Sleep if it returns PK_IDLE, or if `max_in_flight` are in flight.
  *   - A thread that calls pk_pop or pk_set_notification while another thread of the queue sleeps
- *     also takes these steps before it releases the lock (rearms_again). Without EVENT_IDX the
- *     store may be omitted if the last store of pk_set_notification for this queue was the same. A
- *     thread whose handle holds a chain can't pop: it loads the available index again instead, and
- *     compares that with `next_avail`. If a chain is available, the thread pops it or wakes another
- *     thread, since the driver doesn't notify again (wakes_another).
- *   - A thread that pushes or drops a chain pops again, or wakes a thread (walks_after). After
- *     PK_MISS a thread pops again once the table has the addresses.
- *   - A push has its full barrier before its load (giver_waits), and is ended before the queue's
- *     next push (checks_often). A woken thread resets its event (eventfd), and then pops.
+ *     also takes these steps before it releases the lock (rearms_again). Without EVENT_IDX it may
+ *     omit the store if the queue's last one was the same. If its handle holds a chain, it loads
+ *     the available index instead of the pop, and compares that with `next_avail`. If a chain is
+ *     available, it pops it or wakes another thread: the driver won't notify (wakes_another).
+ *   - A thread that pushes or drops a chain pops again, or wakes a thread (walks_after). A woken
+ *     thread resets its event (eventfd), and then pops.
  *
- * FEATURES that you may offer:
- *   - VERSION_1 (32); refuse a driver without it
- *   - INDIRECT_DESC (28)
- *   - EVENT_IDX (29), with `event_index`
- *   - ACCESS_PLATFORM (33), if addresses are guest physical, or the chains have the IOMMU's table
- *   - IN_ORDER (35), if you push the chains of a queue in the order of their pops
- * Not RING_PACKED (34).
- *
- * STATUSES. 1 to 8: the queue can't be served; 2 to 8 stop it until its reset, so set
- * DEVICE_NEEDS_RESET and notify the driver (VIRTIO 1.2, 2.1.2). 9: an allocation failed. 32 to 63
- * say how to go on: enum pk_status. 64 and more: the call changed no chain, queue or device, and
- * zeroed its results, unless its comment says otherwise. Errors are listed in the order of checks.
+ * FEATURES to offer: VERSION_1 (32; refuse a driver without it), INDIRECT_DESC (28), EVENT_IDX (29,
+ * with `event_index`), ACCESS_PLATFORM (33, if addresses are guest physical, or chains have the
+ * IOMMU's table), IN_ORDER (35, if you push in the order of the pops). Not RING_PACKED (34).
  *
  * PROVED, for any arguments of these types: each function returns, never panics, and accesses only
- * the memory of its arguments. It meets its contract in crates/fs_chain_c: it has the effect of the
- * call of the handle in crates/fs_chain. The handle's loads, calls, replies (but your own bytes)
- * and stores follow from the bytes passed, by VIRTIO 1.2 and the FUSE grammar. This holds for one
- * chain (law_chains), and in Rattle for many in flight (law_runs, `step` of calls): PROVED.md.
+ * the memory of its arguments. It has the effect of the call of the handle of crates/fs_chain. Of
+ * that, loads, calls, replies (but your own bytes) and stores follow from the bytes passed, by
+ * VIRTIO 1.2 and the FUSE grammar, for one chain, and in Rattle for many in flight (PROVED.md).
  * TESTED, not proved: that pk_chain_free frees all; calls on a chain that moves between threads;
- * the inline functions; the numbers that pk_chain_set_memory, pk_queue_begin and pk_restore give,
- * which are C (tools/pk_numbers.c). Also which error is returned if PK_OUT_OF_MEMORY and a later
- * one apply.
+ * inline functions; the numbers that pk_chain_set_memory, pk_queue_begin and pk_restore give, which
+ * are C (tools/pk_numbers.c); which error is returned if PK_OUT_OF_MEMORY and a later one apply.
  */
 #ifndef PITSKHOMU_CHAIN_H
 #define PITSKHOMU_CHAIN_H
@@ -136,7 +117,6 @@
 #ifdef __cplusplus
 extern "C" {
 #endif
-
 /* ---------------------------------------------------------------- numbers */
 #define PK_VERSION 0x10000u      /* of this header, 1.0: the major number << 16 | the minor one */
 #define PK_REGIONS_MAX 64u       /* regions of the guest's memory */
@@ -147,9 +127,14 @@ extern "C" {
 #define PK_FRONT_MAX 160u        /* bytes of the longest front of a reply (CREATE's) */
 #define PK_HEADER 16u            /* bytes of struct fuse_out_header: data lies behind it */
 
+/* What a call returns, and what to do then. From 64 on the call changed no chain, queue or device,
+ * and zeroed its results, unless its comment says otherwise. Comments list errors in the order of
+ * checks; "the usual" are PK_WRONG_ORDER, if the chain has no memory set, or a table's place is
+ * zeros, and then PK_BAD_ARGUMENT, if a field of the queue or device is invalid. */
 enum pk_status {
-    PK_DONE = 0,
-    /* 2 to 8 stop the queue, and are stored in its `stopped`. */
+    PK_DONE = 0, /* the next call, as enum pk_state says */
+    /* 2 to 8 stop the queue: set DEVICE_NEEDS_RESET, and notify the driver (2.1.2). Push what is in
+     * flight, and pop again after the queue's reset. */
     PK_STOPPED = 1,                 /* it was stopped before */
     PK_AVAIL_INDEX_UNREACHABLE = 2, /* the available index isn't mapped */
     PK_AVAIL_TOO_FAR = 3,           /* more chains are available than the queue's size */
@@ -158,37 +143,35 @@ enum pk_status {
     PK_USED_UNREACHABLE = 6,        /* the used element or index, or avail_event, isn't mapped */
     PK_AVAIL_FLAGS_UNREACHABLE = 7, /* the available flags, or used_event, aren't mapped */
     PK_DESCRIPTOR_UNREACHABLE = 8,  /* a descriptor of the queue's own table isn't mapped */
-    PK_OUT_OF_MEMORY = 9,           /* an allocation failed. Nothing changed; call again later */
-    PK_LOAD = 32,                   /* load these bytes, and call again with them */
-    PK_IDLE = 33,                   /* no chain is available */
-    PK_MORE = 34,                   /* pass `needed` bytes of the request, from its start */
-    PK_NO_ROOM = 35,    /* the call is answered, but the reply buffer is too small: push the chain,
-                           without a reply. The guest doesn't count the look-up of an entry */
-    PK_FULL = 36,       /* the entry doesn't fit in the size that the guest asked for: undo its
-                           look-up (READDIRPLUS), and reply with the list. If it is the first
-                           entry: with pk_reply_err(EINVAL) */
-    PK_LIST_FAILS = 37, /* the entry fits in that size, but not in the reply buffer: undo its
-                           look-up, and reply with pk_reply_err(EIO) */
-    PK_ENTRIES = 38,    /* the listing failed behind entries whose look-ups are counted: the reply
-                           has these. After pk_push copy the list's first `len - front_len` bytes
-                           into the reply buffer from PK_HEADER on */
-    PK_MISS = 39,       /* I/O addresses aren't mapped in the table: map them, and pop again */
-    /* 64 and more: the call did nothing (but PK_NOT_MAPPED). */
-    PK_BAD_ARGUMENT = 66, /* a number that the function doesn't allow, or a wrong length */
-    PK_SHORT_BUFFER = 69, /* the buffer is too short */
-    PK_LONG_REPLY = 71,   /* 2^32 bytes or more, or (pk_reply_bytes) more than the buffer */
-    PK_WRONG_ORDER = 73,  /* this call doesn't come next for the chain */
-    PK_OTHER_QUEUE = 74,  /* the chain is of another queue, or its queue was reset; of a pop also:
-                             another chain was popped or dropped since it began */
-    PK_OTHER_KIND = 75,   /* the call has an answer of another kind (`answer`) */
-    PK_CHAIN_IN_FLIGHT = 76, /* it is in flight, or `max_in_flight` are; of pk_save: any is */
+    PK_OUT_OF_MEMORY = 9, /* an allocation failed, and nothing changed: call again later */
+    PK_LOAD = 32,         /* load these bytes, and call again with them */
+    PK_IDLE = 33,         /* no chain is available: sleep, as NOTIFICATIONS says */
+    PK_MORE = 34,         /* pass `needed` bytes of the request, from its start */
+    PK_NO_ROOM = 35,      /* the call is answered, but the reply buffer is too short: undo a look-up
+                             or an open, which the guest doesn't count, and push without a reply */
+    PK_FULL = 36,         /* the entry doesn't fit in the size that the guest asked for: undo its
+                             look-up, and reply with the list; the first: pk_reply_err(EINVAL) */
+    PK_LIST_FAILS = 37,   /* the entry fits in that size, but not in the reply buffer: undo its
+                             look-up, and reply with pk_reply_err(EIO) */
+    PK_ENTRIES = 38,      /* the listing failed behind entries whose look-ups are counted: the reply
+                             has these. After pk_push copy the list's first `len - front_len` bytes
+                             into the reply buffer from PK_HEADER on */
+    PK_MISS = 39,         /* I/O addresses aren't mapped in the table: map them, and pop again. As
+                             after PK_OUT_OF_MEMORY, the driver doesn't notify for the chain */
+    PK_BAD_ARGUMENT = 66, /* a number that the function doesn't allow, or a wrong length: mend it */
+    PK_SHORT_BUFFER = 69, /* the buffer is too short: pass a longer one */
+    PK_LONG_REPLY = 71,   /* 2^32 bytes or more, or (pk_reply_bytes) more than the buffer: cut it */
+    PK_WRONG_ORDER = 73,  /* this call doesn't come next for the chain: enum pk_state has the one */
+    PK_OTHER_QUEUE = 74,  /* the chain is of another queue, or its queue was reset: abandon it. Or
+                             another chain was popped or dropped since this pop began: drop it */
+    PK_OTHER_KIND = 75,   /* the call has an answer of another kind: give one of `answer` */
+    PK_CHAIN_IN_FLIGHT = 76, /* the chain is, or `max_in_flight` are; of pk_save: any is. Push */
     PK_NOT_MAPPED = 77,   /* a part of the queue's rings that the call needs isn't in the handle's
-                             regions (rule 6), or not in the table */
-    PK_PUSHING = 78,      /* another chain of the queue is between pk_push and pk_pushed */
-    PK_OTHER_CALL = 79,   /* the ticket isn't the chain's: a late answer */
+                             regions (rule 6), or not in the table: map it */
+    PK_PUSHING = 78,      /* another chain of the queue is between pk_push and pk_pushed: end it */
+    PK_OTHER_CALL = 79,   /* the ticket isn't the chain's: a late answer. Undo what it counted */
     PK_OTHER_TABLE = 80,  /* the chain was popped with another table, with none, or with one that
-                             isn't lent now; or the table moved the used ring. Lend its table, and
-                             push again */
+                             isn't lent; or the table moved the used ring: lend the pop's table */
     /* 81 to 90: pk_restore takes nothing of this record. 89: an allocation failed; call later.
        90: the device has another page size or limit. */
     PK_RECORD_TRUNCATED = 81, PK_RECORD_BAD_MAGIC = 82, PK_RECORD_BAD_VERSION = 83,
@@ -216,7 +199,8 @@ enum pk_request_fault {
  * have `unique`; all but INIT, DESTROY and BATCH_FORGET have `node`; all but INIT and DESTROY have
  * `uid`, `gid` and `pid`. With FUSE_ALLOW_IDMAP (Linux 6.12 and later; always agreed on) uid and
  * gid are 0xffffffff, except in calls that make a node. These also have `group`, a supplementary
- * group, if `has_group`, and `label_name` and `label`, if `has_label` (FUSE_SECURITY_CTX). */
+ * group, if `has_group`, and `label_name` and `label`, if `has_label` (FUSE_SECURITY_CTX). Not
+ * passed on: FATTR_LOCKOWNER, and the flags of COPY_FILE_RANGE. */
 enum pk_call_kind {
     PK_CALL_NONE = 0,         /* -> none: the reply is known (ENOSYS of locks), or none is sent */
     PK_CALL_LOOKUP = 1,       /* name -> entry */
@@ -227,8 +211,7 @@ enum pk_call_kind {
     PK_CALL_SYMLINK = 6,      /* name, value: where it leads; group, label -> entry */
     PK_CALL_MKNOD = 8,        /* name, mode, rdev, umask, group, label -> entry */
     PK_CALL_MKDIR = 9,        /* name, mode, umask, group, label -> entry */
-    PK_CALL_UNLINK = 10,      /* name -> done */
-    PK_CALL_RMDIR = 11,       /* name -> done */
+    PK_CALL_UNLINK = 10, PK_CALL_RMDIR = 11, /* name -> done */
     PK_CALL_RENAME = 12,      /* name in node becomes name2 in node2; flags (RENAME_) -> done */
     PK_CALL_LINK = 13,        /* node gets the name in the directory node2 -> entry */
     PK_CALL_OPEN = 14,        /* flags (O_ of Linux x86), kill_priv -> open */
@@ -237,7 +220,7 @@ enum pk_call_kind {
                                  kill_priv -> write */
     PK_CALL_STATFS = 17,      /* -> statfs */
     PK_CALL_RELEASE = 18,     /* handle, flags, flush, unlock, owner -> done */
-    PK_CALL_FSYNC = 20,       /* handle, data_only -> done */
+    PK_CALL_FSYNC = 20, PK_CALL_FSYNCDIR = 30, /* handle, data_only -> done */
     PK_CALL_SETXATTR = 21,    /* name, value, flags, setxattr_flags -> done */
     PK_CALL_GETXATTR = 22,    /* name, size, data_len -> xattr if size is 0, else data */
     PK_CALL_LISTXATTR = 23,   /* size, data_len -> xattr if size is 0, else data */
@@ -246,23 +229,20 @@ enum pk_call_kind {
     PK_CALL_INIT = 26,        /* options that the guest supports; a new session begins -> init */
     PK_CALL_OPENDIR = 27,     /* flags -> open */
     PK_CALL_READDIR = 28,     /* handle, offset, size, data_len -> entries (pk_add_direntry) */
+    PK_CALL_READDIRPLUS = 44, /* the same -> entries (pk_add_direntry_plus) */
     PK_CALL_RELEASEDIR = 29,  /* handle, flags -> done */
-    PK_CALL_FSYNCDIR = 30,    /* handle, data_only -> done */
     PK_CALL_ACCESS = 34,      /* mode: R_OK, W_OK, X_OK -> done */
     PK_CALL_CREATE = 35,      /* name, mode, flags, umask, kill_priv, group, label -> create */
     PK_CALL_DESTROY = 38,     /* set the device's options to 0 -> done. No reply is sent */
     PK_CALL_BATCH_FORGET = 42, /* value: count pairs, read by pk_pair -> none */
     PK_CALL_FALLOCATE = 43,   /* handle, mode, offset, size -> done */
-    PK_CALL_READDIRPLUS = 44, /* the same -> entries (pk_add_direntry_plus) */
     PK_CALL_RENAME2 = 45,     /* never: it is PK_CALL_RENAME with flags */
     PK_CALL_LSEEK = 46,       /* handle, offset, flags: whence -> lseek */
     PK_CALL_COPY_FILE_RANGE = 47, /* handle, offset, size; to node2, handle2, offset2 -> write */
     PK_CALL_SYNCFS = 50,      /* -> done */
 };
-/* Not passed on: FATTR_LOCKOWNER, and the flags of COPY_FILE_RANGE. */
-/* The kinds of answers on success: PK_ANSWER_X needs pk_reply_x, DONE pk_reply_err(.., 0).
- * NONE: make the call, if there is one, then pk_push. pk_reply_err is allowed for each call that
- * has a reply. GETXATTR and LISTXATTR allow pk_reply_data and pk_reply_xattr: see `answer`. */
+/* The kinds of answers on success: PK_ANSWER_X needs pk_reply_x, DONE pk_reply_err(.., 0). NONE:
+ * make the call, if there is one, and push. Each call that has a reply allows pk_reply_err. */
 enum pk_answer_kind {
     PK_ANSWER_NONE = 0, PK_ANSWER_DONE = 1, PK_ANSWER_ENTRY = 2, PK_ANSWER_ATTR = 3,
     PK_ANSWER_OPEN = 4, PK_ANSWER_CREATE = 5, PK_ANSWER_DATA = 6, PK_ANSWER_XATTR = 7,
@@ -271,10 +251,9 @@ enum pk_answer_kind {
 };
 
 uint32_t pk_version(void); /* the library's PK_VERSION: pk_is_compatible compares it */
-/* What the archive is, for logs: its release, its commit, and the logic that proved it or else
+/* What the library is, for logs: its release, its commit, and the logic that proved it or else
  * "NOT PROVED". The text stays. */
 const char *pk_build(void);
-
 /* Returns 1 if a name is one component of a path (POSIX.1-2017, 3.170 and 4.13), else 0: "", ".",
  * "..", or with a slash or a zero byte. Test each name of the guest before the host uses it. */
 uint8_t pk_is_name(const uint8_t *name, size_t name_len) PK_CHECK;
@@ -287,7 +266,7 @@ struct pk_device { /* the state that all queues share */
 };
 #define PK_DEVICE {4096u, 0x101000u, 0u}
 
-/* A queue. Zero it before its first use only. Set the addresses and the fields marked "yours". */
+/* A queue. Zero it once. Set the addresses and the fields marked "yours" before pk_queue_begin. */
 struct pk_queue {
     uint64_t desc, avail, used; /* guest addresses, aligned to 16, 2 and 4; all end below 2^64 */
     uint16_t size;          /* yours: descriptors, a power of two up to 32768 */
@@ -296,19 +275,15 @@ struct pk_queue {
     uint16_t max_in_flight; /* yours: 1 to size; 0 counts as 1 */
     uint16_t stopped;       /* the refusal (2 to 8) that stopped it, 1 if pk_restore did, or 0 */
     uint8_t pushing;        /* 1 from pk_push to pk_pushed, else 0 */
-    uint8_t event_index;    /* yours: 1 if VIRTIO_F_EVENT_IDX was agreed on, else 0. With 1 each pop
-                               tests first that used_event (7) and avail_event (6) are mapped */
-    uint32_t reset_count;   /* the number of its last reset, not 0: of 2^32 - 1 resets in the
-                               process no two have the same. By it and the addresses a chain knows
-                               its queue */
+    uint8_t event_index;    /* yours: 1 if VIRTIO_F_EVENT_IDX was agreed on, else 0 */
+    uint32_t reset_count;   /* the number of its last reset: not 0, and that of no other of 2^32 - 1
+                               in the process. By it and the addresses a chain knows its queue */
     uint32_t pop_count;     /* pops and drops, modulo 2^32 */
 };
 
-/* Resets a queue: then no chain of it is in flight, and it isn't stopped. `next_avail` is the
- * number of SET_VRING_BASE, or 0. Calls with its earlier chains are refused.
- * Call it before the queue's first pop, too, unless pk_restore has read the queue: without it the
- * pop is refused (PK_BAD_ARGUMENT), since `reset_count` is 0.
- * Enable notifications next: an earlier device may have left them disabled.
+/* Resets a queue, also before its first pop: no chain of it is in flight, and it isn't stopped.
+ * pk_restore does the same. `next_avail` is the number of SET_VRING_BASE, or 0. Calls with earlier
+ * chains are refused. Enable notifications next: an earlier device may have left them disabled.
  * Errors: PK_BAD_ARGUMENT (your fields are invalid). */
 uint32_t pk_queue_begin(struct pk_queue *queue, uint16_t next_avail) PK_CHECK;
 
@@ -333,23 +308,22 @@ enum pk_state {
 };
 uint32_t pk_chain_state(const struct pk_chain *chain) PK_CHECK; /* enum pk_state */
 
-/* Copies the regions and the device's limit for the chain's next pops. The regions, up to
- * PK_REGIONS_MAX in any order, aren't empty, don't overlap and end at 2^64 at most. Call it first,
- * and for each chain after each change of the guest's memory. A new handle gets its tickets.
+/* Copies the regions and the device's limit for the chain's next pops: at first, and for each chain
+ * after each change of the guest's memory. The regions, up to PK_REGIONS_MAX in any order, aren't
+ * empty, don't overlap and end at 2^64 at most.
  * Errors: PK_BAD_ARGUMENT, PK_OUT_OF_MEMORY, PK_CHAIN_IN_FLIGHT (also while a pop is under way). */
 uint32_t pk_chain_set_memory(struct pk_chain *chain, const struct pk_device *device,
                              const struct pk_region *regions, size_t region_count)
     PK_CHECK PK_READS(3, 4);
 
-/* Frees the handle's memory, and zeroes it. Push its chain before: else the queue counts it as in
- * flight until a reset. If freed between pk_push and pk_pushed, pushes fail until that reset. */
+/* Frees the handle's memory, and zeroes it. Its chain is abandoned (pk_abandon). */
 void pk_chain_free(struct pk_chain *chain) PK_NONNULL;
 
-/* Sets the ticket of the chain's next pop. Each pop takes the next number, modulo 2^32. You needn't
- * call it: a new handle begins at a number of its own. Of the first n handles of a process, up to
- * 10,000, no two have a ticket in common in the first 2^32 / (3 * n) chains of each. So a handle
- * refuses answers to others' chains, and to those of a handle that was freed.
- * Errors: PK_WRONG_ORDER (no memory was set); PK_CHAIN_IN_FLIGHT (or a pop is under way). */
+/* Sets the ticket of the chain's next pop. Each pop takes the next number, modulo 2^32. A new
+ * handle begins at a number of its own: of the first n handles of a process, up to 10,000, no two
+ * have a ticket in common in the first 2^32 / (3 * n) chains of each. So a handle refuses answers
+ * to others' chains, and to those of a handle that was freed.
+ * Errors: the usual; PK_CHAIN_IN_FLIGHT (or a pop is under way). */
 uint32_t pk_chain_set_ticket(struct pk_chain *chain, uint32_t first) PK_CHECK;
 
 /* The result of pk_pop: with PK_LOAD a load, with PK_DONE a chain. After an error it is the load
@@ -366,25 +340,23 @@ struct pk_pop {
     uint32_t miss_access; /* and the access to them (enum pk_access) */
 };
 
-/* Pops the next available chain, by several calls. The first one has `loaded_len` 0. After PK_LOAD
- * load the bytes and call again with them, at most 2 * size + 6 times. PK_DONE: it is in flight.
- * PK_IDLE, PK_MISS and errors 1 to 8: the handle is free. PK_MISS leaves the queue as it was. Other
- * errors leave the pop under way; pk_drop ends it.
+/* Pops the next available chain, by several calls: the first has `loaded_len` 0, and each after
+ * PK_LOAD, at most 2 * size + 6, the bytes. PK_DONE: the chain is in flight. PK_IDLE, PK_MISS and
+ * errors 1 to 8: the handle is free. PK_MISS leaves the queue as it was. Other errors leave the pop
+ * under way; pk_drop ends it.
  * Two loads can be saved. For the first, the available index, you may pass the value that was
  * loaded last for this queue, by any thread, over the same memory and since the queue's reset, if
  * it isn't `next_avail`. Keep it with the queue, under its lock: an older value, such as a thread's
  * own, is refused and stops the queue (takes_newest). The second: a table's entry that lies in two
  * regions or mappings has a load for each part. If you have the whole entry, pass it for the first.
- * Errors: PK_WRONG_ORDER (no memory was set); PK_BAD_ARGUMENT (the queue's fields are invalid, or
- * it was never begun); PK_WRONG_ORDER (the chain is in flight); PK_BAD_ARGUMENT (`loaded_len` isn't
- * the load's); PK_OTHER_QUEUE (then drop or abandon the pop); PK_CHAIN_IN_FLIGHT; then, in no
- * order, PK_OUT_OF_MEMORY, 1 to 8, PK_NOT_MAPPED. */
+ * Errors: the usual; PK_WRONG_ORDER (the chain is in flight); PK_BAD_ARGUMENT (`loaded_len` isn't
+ * the load's); PK_OTHER_QUEUE; PK_CHAIN_IN_FLIGHT; then, in no order, PK_OUT_OF_MEMORY, 1 to 8,
+ * PK_NOT_MAPPED. */
 uint32_t pk_pop(struct pk_chain *chain, struct pk_queue *queue, const uint8_t *loaded,
                 size_t loaded_len, struct pk_pop *pop) PK_CHECK PK_READS(3, 4) PK_FILLS(5);
 
 /* A load that was made ahead of a pop: its host address, and how many bytes it has. */
 struct pk_load_ahead { uintptr_t at; size_t len; };
-
 /* Pops the next available chain in one call, by loads that you made ahead, under the queue's lock,
  * in the order in which a pop asks for them; `bytes` has their bytes, one load's behind the
  * other's. It is as if pk_pop were called without bytes, and then with each load. A load is taken
@@ -394,8 +366,7 @@ struct pk_load_ahead { uintptr_t at; size_t len; };
  * any addresses and lengths are allowed, and a wrong one costs a call. Older bytes do what they do
  * with pk_pop: an older available index stops the queue. The list may have any length. pk_pop_ring
  * makes the loads, too: five at most.
- * Errors: PK_WRONG_ORDER (no memory was set); PK_BAD_ARGUMENT (the queue's fields are invalid, or
- * it was never begun); PK_WRONG_ORDER (a pop is under way, or the chain in flight);
+ * Errors: the usual; PK_WRONG_ORDER (a pop is under way, or the chain in flight);
  * PK_CHAIN_IN_FLIGHT; 1 to 8, PK_NOT_MAPPED. */
 uint32_t pk_pop_ahead(struct pk_chain *chain, struct pk_queue *queue,
                       const struct pk_load_ahead *ahead, size_t ahead_count, const uint8_t *bytes,
@@ -404,24 +375,23 @@ uint32_t pk_pop_ahead(struct pk_chain *chain, struct pk_queue *queue,
 
 /* Undoes a pop whose chain wasn't decoded: the queue's next pop returns the chain again. Or ends a
  * pop that is under way in the handle; then `queue` may be another one.
- * Errors: PK_BAD_ARGUMENT (the queue's fields); PK_WRONG_ORDER (it was decoded, or has a fault);
+ * Errors: PK_BAD_ARGUMENT (the queue); PK_WRONG_ORDER (it was decoded, or has a fault);
  * PK_OTHER_QUEUE; PK_WRONG_ORDER (another chain was popped later: drop that one first). */
 uint32_t pk_drop(struct pk_chain *chain, struct pk_queue *queue) PK_NONNULL;
 
-/* Frees the handle for another pop, in any state. Its chain is never pushed: until the queue is
- * reset, it counts the chain as in flight (pk_chain_free). */
+/* Frees the handle for another pop, in any state. Its chain is never pushed: the queue counts it as
+ * in flight until a reset. Between pk_push and pk_pushed, no other chain is pushed until then. */
 void pk_abandon(struct pk_chain *chain) PK_NONNULL;
 
 /* A piece of memory, laid out as struct iovec: cast an array of it for preadv and the like. */
 struct pk_window { uintptr_t at; size_t len; };
 /* A range of guest addresses; of I/O addresses, if the chain was popped with a table. */
 struct pk_range { uint64_t guest, len; };
-
 /* Three functions find `len` bytes of a chain's request or reply buffer, from byte `from` on: their
  * windows, or guest ranges for a migration's log. Each returns how many it filled: 0 past the end,
  * or if no chain is in flight. A window ends with its descriptor, region or mapping, a range with
- * its descriptor. If they cover fewer than `len` bytes, call again from there. Each call goes
- * through all descriptors of the chain, so ask for many windows at once. */
+ * its descriptor. Each call goes through all descriptors, so ask for many windows at once. If they
+ * cover fewer than `len` bytes, call again from there. */
 size_t pk_request_windows(struct pk_chain *chain, uint64_t from, uint64_t len,
                           struct pk_window *windows, size_t window_count)
     PK_NONNULL PK_WRITES(4, 5);
@@ -431,52 +401,44 @@ size_t pk_reply_ranges(struct pk_chain *chain, uint64_t from, uint64_t len, stru
                        size_t range_count) PK_NONNULL PK_WRITES(4, 5);
 
 /* ---------------------------------------------------------------- an IOMMU's table */
-/* A place for a table that maps I/O addresses to guest physical ones. As with a chain, zero it
- * before its first use, never copy it, and free it. One table serves all chains, under your lock.
- * Lend it before a pop's first call, and take it back once you have read the chain's windows. Lend
- * it around pk_push and pk_set_notification too. Once a chain had a table, its addresses are I/O
- * addresses until pk_chain_set_memory: while the table isn't lent, none of them is mapped. A handle
- * that never had one takes each address as guest physical. While a chain of a queue is in flight,
- * keep the mappings of the queue's rings: a push is refused if the used index is elsewhere than at
- * its pop (PK_OTHER_TABLE). pk_chain_set_memory and pk_chain_free free a chain's table. */
+/* A place for a table that maps I/O addresses to guest physical ones. One table serves all chains,
+ * under your lock. Lend it (pk_chain_exchange_iotlb) before a pop's first call, and take it back
+ * once you have read the chain's windows. Lend it around pk_push and pk_set_notification, too. Keep
+ * the mappings of a queue's rings while chains are in flight (PK_OTHER_TABLE). Once a chain had a
+ * table, its addresses are I/O addresses until pk_chain_set_memory, and while the table isn't lent,
+ * none is mapped. Before, they are guest physical. pk_chain_set_memory and pk_chain_free free a
+ * chain's table. */
 struct pk_iotlb { void *at; uint32_t full; };
-
 enum pk_access { /* VHOST_ACCESS_ of linux/vhost_types.h */
     PK_ACCESS_NONE = 0, PK_ACCESS_READ = 1, PK_ACCESS_WRITE = 2, PK_ACCESS_READ_WRITE = 3 };
 
 /* Puts an empty table into the place. Errors: PK_OUT_OF_MEMORY (only if the place is zeros). */
 uint32_t pk_iotlb_new(struct pk_iotlb *iotlb) PK_CHECK;
-
 /* Frees the place with its table, and zeroes it. */
 void pk_iotlb_free(struct pk_iotlb *iotlb) PK_NONNULL;
 
 /* Maps `len` I/O addresses; earlier mappings of them end. With PK_ACCESS_NONE they are refused: a
  * pop that needs them has a refusal or a fault, and no miss. Unmap them after that pop. The last
  * page of addresses can't be mapped, and is refused in the same way.
- * Errors: PK_WRONG_ORDER (the place is zeros); PK_BAD_ARGUMENT (not an access); PK_WRONG_ORDER (the
- * table is lent); PK_BAD_ARGUMENT (not multiples of 4096; `len` is 0; an end isn't below 2^64);
- * PK_OUT_OF_MEMORY. */
+ * Errors: the usual; PK_BAD_ARGUMENT (not an access); PK_WRONG_ORDER (the table is lent);
+ * PK_BAD_ARGUMENT (not multiples of 4096; `len` is 0; an end above 2^64 - 1); PK_OUT_OF_MEMORY. */
 uint32_t pk_iotlb_map(struct pk_iotlb *iotlb, uint64_t iova, uint64_t len, uint64_t guest,
                       uint32_t access) PK_CHECK;
-
 /* Removes the mappings of `len` I/O addresses, which end at 2^64 at most.
  * Errors: PK_WRONG_ORDER (no table is here); PK_BAD_ARGUMENT (not multiples of 4096; `len` is 0; an
  * end above 2^64); PK_OUT_OF_MEMORY (only if a mapping continues after them). */
 uint32_t pk_iotlb_unmap(struct pk_iotlb *iotlb, uint64_t iova, uint64_t len) PK_CHECK;
-
 /* Exchanges the tables of chain and place; each may have none. It allocates nothing.
- * Errors: PK_WRONG_ORDER (no memory was set, or the place is zeros); PK_CHAIN_IN_FLIGHT (a pop is
- * under way: one table holds for all of it). */
+ * Errors: the usual; PK_CHAIN_IN_FLIGHT (a pop is under way: one table holds for all of it). */
 uint32_t pk_chain_exchange_iotlb(struct pk_chain *chain, struct pk_iotlb *iotlb) PK_CHECK;
 
 /* I/O addresses that the table doesn't map, and the access that is needed (enum pk_access). */
 struct pk_miss { uint64_t at, len; uint32_t access; };
-
 /* After PK_MISS, before you take the table back: the first I/O addresses that the buffer of
  * descriptor `index` lacks, at or after address `from`. Ask for each index from 0 on: first with
  * `from` 0, then with the end of the miss.
  * PK_MISS: filled. PK_DONE: nothing is missing from there on. PK_IDLE: no such descriptor was read.
- * Errors: PK_WRONG_ORDER (no memory was set). */
+ * Errors: the usual. */
 uint32_t pk_miss(struct pk_chain *chain, size_t index, uint64_t from, struct pk_miss *miss)
     PK_CHECK PK_FILLS(4);
 
@@ -486,7 +448,6 @@ uint8_t pk_uses(struct pk_chain *chain, uint64_t iova, uint64_t len) PK_CHECK;
 /* ---------------------------------------------------------------- decode */
 /* Bytes of the request, by their offset. A name has no zero byte, and one follows it. */
 struct pk_span { uint32_t at, len; };
-
 /* struct fuse_attr; with SETATTR, the values to set. */
 struct pk_attr {
     uint64_t ino, size, blocks, atime, mtime, ctime; /* bytes; 512-byte units; seconds since 1970 */
@@ -498,9 +459,9 @@ struct pk_attr {
     uint32_t flags;      /* FUSE_ATTR_ bits */
 };
 
-/* A file call. enum pk_call_kind lists the fields that each kind has; the others are 0. A uint8_t
- * is 0 or 1; flags are those of linux/fuse.h. The guest may send any node, handle, offset and size,
- * also before INIT: a node that it doesn't hold, a handle that isn't open. */
+/* A file call, with the fields that enum pk_call_kind lists; the others are 0. A uint8_t is 0 or 1;
+ * flags are those of linux/fuse.h. The guest may send any node, handle, offset and size, also
+ * before INIT: a node that it doesn't hold, a handle that isn't open. */
 struct pk_call {
     uint32_t kind;   /* enum pk_call_kind */
     uint32_t answer; /* enum pk_answer_kind */
@@ -528,8 +489,8 @@ struct pk_call {
 /* Decodes a request from its first PK_FIRST bytes, or from all if it is shorter. After PK_MORE load
  * more, and pass its first `needed` bytes. A buffer of the device's limit holds every request; the
  * data of a WRITE stays in guest memory. It never returns PK_OUT_OF_MEMORY.
- * Errors: PK_WRONG_ORDER (no memory was set); PK_BAD_ARGUMENT (the device's fields); PK_WRONG_ORDER
- * (no chain, a faulty one, or a decoded one); PK_BAD_ARGUMENT (too many bytes). */
+ * Errors: the usual; PK_WRONG_ORDER (no chain, a faulty or a decoded one); PK_BAD_ARGUMENT (too
+ * many bytes). */
 uint32_t pk_decode(struct pk_chain *chain, const struct pk_device *device, const uint8_t *request,
                    size_t request_len, struct pk_call *call) PK_CHECK PK_READS(3, 4) PK_FILLS(5);
 
@@ -541,43 +502,34 @@ struct pk_entry {
     uint32_t entry_nanos, attr_nanos; /* below 10^9 */
     struct pk_attr attr;
 };
-
 struct pk_statfs { /* struct fuse_kstatfs */
     uint64_t blocks, bfree, bavail, files, ffree; /* blocks of frsize bytes; files are nodes */
     uint32_t bsize, namelen, frsize;              /* bytes */
 };
 
-/* Each answers the chain's call once. The ticket names the call, so a late answer is refused. They
- * access no guest memory and never return PK_OUT_OF_MEMORY. pk_push returns the reply.
- * Errors: PK_BAD_ARGUMENT (nanoseconds of 10^9 or more; an invalid errno); PK_WRONG_ORDER (no call
- * is unanswered); PK_OTHER_CALL; PK_OTHER_KIND; the function's own. After an error the call is
- * still unanswered. PK_NO_ROOM is no error. */
+/* Each answers the chain's call once; pk_push returns the reply. The ticket names the call, so a
+ * late answer is refused. They never return PK_OUT_OF_MEMORY. Errors, after which the call is still
+ * unanswered: PK_BAD_ARGUMENT (nanoseconds of 10^9 or more; an invalid errno); PK_WRONG_ORDER (no
+ * call is unanswered); PK_OTHER_CALL; PK_OTHER_KIND; the function's own. */
 
-/* Any call: an errno of Linux, 1 to 4095; or 0, if the kind of its answer is done. It may return
- * PK_ENTRIES. */
+/* Any call: an errno of Linux, 1 to 4095, or 0 if `answer` is DONE. It may return PK_ENTRIES. */
 uint32_t pk_reply_err(struct pk_chain *chain, uint32_t ticket, uint32_t error) PK_CHECK;
-
 /* LOOKUP, SYMLINK, MKNOD, MKDIR, LINK: the node's look-up count grows by 1. */
 uint32_t pk_reply_entry(struct pk_chain *chain, uint32_t ticket, const struct pk_entry *entry)
     PK_CHECK;
-
-/* CREATE: an entry, and an open file. After PK_NO_ROOM forget the node and close the file. */
+/* CREATE: an entry, and an open file. */
 uint32_t pk_reply_create(struct pk_chain *chain, uint32_t ticket, const struct pk_entry *entry,
                          uint64_t handle, uint32_t open_flags) PK_CHECK;
-
 /* GETATTR, SETATTR: the guest may keep the attributes for secs and nanos. */
 uint32_t pk_reply_attr(struct pk_chain *chain, uint32_t ticket, const struct pk_attr *attr,
                        uint64_t secs, uint32_t nanos) PK_CHECK;
-
 /* OPEN, OPENDIR: `handle` is your number, which the guest passes to READ etc. open_flags: FOPEN_ */
 uint32_t pk_reply_open(struct pk_chain *chain, uint32_t ticket, uint64_t handle,
                        uint32_t open_flags) PK_CHECK;
-
 /* READ, READLINK, GETXATTR, LISTXATTR: `len` bytes of data in the reply buffer from PK_HEADER on
  * (READ: data_len of the call at most, else PK_OTHER_KIND). Put them there (pk_reply_windows)
  * before the used index is stored. Errors: also PK_LONG_REPLY. */
 uint32_t pk_reply_data(struct pk_chain *chain, uint32_t ticket, uint64_t len) PK_CHECK;
-
 /* GETXATTR and LISTXATTR with size 0: the length of the value or list, in bytes. WRITE and
  * COPY_FILE_RANGE: the bytes that were written. STATFS. LSEEK: the offset, in bytes. */
 uint32_t pk_reply_xattr(struct pk_chain *chain, uint32_t ticket, uint32_t len) PK_CHECK;
@@ -585,7 +537,6 @@ uint32_t pk_reply_write(struct pk_chain *chain, uint32_t ticket, uint32_t count)
 uint32_t pk_reply_statfs(struct pk_chain *chain, uint32_t ticket, const struct pk_statfs *statfs)
     PK_CHECK;
 uint32_t pk_reply_lseek(struct pk_chain *chain, uint32_t ticket, uint64_t offset) PK_CHECK;
-
 /* INIT: `wanted` are options (FUSE_ bits) to agree on, if the guest supports them, besides the
  * server's own: ASYNC_READ, ATOMIC_O_TRUNC, BIG_WRITES, HAS_IOCTL_DIR, AUTO_INVAL_DATA, ASYNC_DIO,
  * PARALLEL_DIROPS, MAX_PAGES, SUBMOUNTS, INIT_EXT, CREATE_SUPP_GROUP, ALLOW_IDMAP. So a guest sends
@@ -595,9 +546,8 @@ uint32_t pk_reply_lseek(struct pk_chain *chain, uint32_t ticket, uint64_t offset
 uint32_t pk_reply_init(struct pk_chain *chain, uint32_t ticket, struct pk_device *device,
                        uint64_t wanted) PK_CHECK;
 
-/* READDIR: appends an entry to `list`, a buffer of yours, the same one for all entries of the
- * reply. `list_len` is the size of the whole buffer, the same at each call: the library counts the
- * bytes that the entries take (pk_direntry_len). The entries of a reply take data_len bytes at
+/* READDIR: appends an entry to `list`, a buffer of yours of `list_len` bytes, the same one for all
+ * entries of the reply. The library counts the bytes that they take (pk_direntry_len), data_len at
  * most. `next_offset` is the offset of the READDIR that continues after this entry; `type` is DT_
  * of dirent.h. Returns PK_DONE, PK_FULL or PK_LIST_FAILS.
  * Errors: PK_BAD_ARGUMENT (the name is empty, has a slash or is longer than 255 bytes; the type
@@ -617,8 +567,7 @@ uint32_t pk_add_direntry_plus(struct pk_chain *chain, uint32_t ticket, uint8_t *
     PK_CHECK PK_READS(5, 6);
 
 /* READDIR, READDIRPLUS: replies with the entries so far; a reply without any is the end of the
- * directory, so after PK_FULL of the first entry reply with pk_reply_err(EINVAL). Copy the first
- * `*len` bytes of the list into the reply buffer from PK_HEADER on. */
+ * directory. Copy the first `*len` bytes of the list into the reply buffer from PK_HEADER on. */
 uint32_t pk_reply_entries(struct pk_chain *chain, uint32_t ticket, uint64_t *len)
     PK_CHECK PK_FILLS(3);
 
@@ -627,14 +576,14 @@ uint32_t pk_reply_entries(struct pk_chain *chain, uint32_t ticket, uint64_t *len
  * is stored. So a FUSE server of yours may serve any request (opcode at byte 4, `unique` at 8). You
  * then account for the guest's nodes, also those of pk_add_direntry_plus that your bytes leave out,
  * and set device->options after INIT. pk_push returns no front, and `len` for the used element.
- * Errors: PK_WRONG_ORDER (no chain, a faulty one, or one with a reply); PK_OTHER_CALL (`ticket`);
- * PK_LONG_REPLY (more than reply_len of the pop, or 2^32 and more). */
+ * Errors: PK_WRONG_ORDER (no chain, a faulty one, or one with a reply); PK_OTHER_CALL;
+ * PK_LONG_REPLY. */
 uint32_t pk_reply_bytes(struct pk_chain *chain, uint32_t ticket, uint64_t len) PK_CHECK;
 
 /* ---------------------------------------------------------------- push */
-/* The stores of a push, then its load, in this order (rule 4; VIRTIO 1.2, 2.7.8 and 2.7.7). All
- * numbers are little-endian in memory. The reply has `len` bytes: the front, and behind it the
- * `len - front_len` bytes of data, of each kind of reply; both are 0 without a reply. */
+/* The stores of a push, then its load, of little-endian numbers (rule 4; VIRTIO 1.2, 2.7.8, 2.7.7).
+ * The reply has `len` bytes: the front, and behind it the `len - front_len` bytes of data, of each
+ * kind of reply; both are 0 without a reply. */
 struct pk_stores {
     size_t front_len;        /* bytes of `front`, for the start of the reply buffer; may be 0 */
     uintptr_t id_at, len_at; /* host addresses of the used element's halves, 4 bytes each */
@@ -647,17 +596,15 @@ struct pk_stores {
 };
 
 /* Returns the stores that add the chain to the used ring, after the chains pushed before.
- * Errors: PK_WRONG_ORDER (no memory was set); PK_BAD_ARGUMENT (the queue's fields); PK_WRONG_ORDER
- * (its call is unanswered, or it is pushed already); PK_OTHER_QUEUE; PK_PUSHING; PK_OTHER_TABLE
- * (the chain is still in flight); PK_SHORT_BUFFER (PK_FRONT_MAX bytes are enough); PK_NOT_MAPPED
- * (the push is under way then: reset the queue). */
+ * Errors: the usual; PK_WRONG_ORDER (its call is unanswered, or it is pushed already);
+ * PK_OTHER_QUEUE; PK_PUSHING; PK_OTHER_TABLE (the chain is still in flight); PK_SHORT_BUFFER
+ * (PK_FRONT_MAX bytes are enough); PK_NOT_MAPPED (the push is under way then: reset the queue). */
 uint32_t pk_push(struct pk_chain *chain, struct pk_queue *queue, uint8_t *front, size_t front_len,
                  struct pk_stores *stores) PK_CHECK PK_WRITES(3, 4) PK_FILLS(5);
 
 /* Ends the push once the stores are made: the handle is free. `seen` is the number that you loaded
  * at seen_at. `*notify` is 1 if the driver is to be notified, else 0.
- * Errors: PK_WRONG_ORDER (no memory was set); PK_BAD_ARGUMENT (the queue's fields); PK_WRONG_ORDER
- * (no push is under way); PK_OTHER_QUEUE (if it was reset, abandon the chain). */
+ * Errors: the usual; PK_WRONG_ORDER (no push is under way); PK_OTHER_QUEUE. */
 uint32_t pk_pushed(struct pk_chain *chain, struct pk_queue *queue, uint16_t seen, uint8_t *notify)
     PK_CHECK PK_FILLS(4);
 
@@ -667,17 +614,17 @@ struct pk_store { uintptr_t at; uint16_t value; uint8_t len; };
 /* Returns the store that enables (1) or disables (0) available buffer notifications (VIRTIO 1.2,
  * 2.7.10). It is to the used ring's flags at guest address `used`, or with event_index to
  * avail_event at used + 4 + 8 * size. With event_index nothing is stored to disable them. Of the
- * chain it uses only regions and table. Errors: PK_WRONG_ORDER (no memory was set);
- * PK_BAD_ARGUMENT (the queue); PK_NOT_MAPPED (map the bytes in the table, and call again). */
+ * chain it uses only regions and table.
+ * Errors: the usual; PK_NOT_MAPPED (map the bytes in the table, and call again). */
 uint32_t pk_set_notification(struct pk_chain *chain, const struct pk_queue *queue, uint32_t enabled,
                              struct pk_store *store) PK_CHECK PK_FILLS(4);
 
 /* ---------------------------------------------------------------- save and restore */
 /* Writes the record of device and queues to the front of `buffer`: addresses, sizes, next_avail,
- * stopped or not, options, page size and limit. No chain may be in flight. `*len` is its length,
- * also with PK_SHORT_BUFFER, and 0 after other errors.
- * Errors: PK_BAD_ARGUMENT (the device's fields, unknown options, not 1 to PK_QUEUES_MAX queues); of
- * the first queue that has one, PK_BAD_ARGUMENT or PK_CHAIN_IN_FLIGHT; PK_OUT_OF_MEMORY;
+ * stopped or not, options, page size and limit. `*len` is its length, also with PK_SHORT_BUFFER,
+ * and 0 after other errors.
+ * Errors: PK_BAD_ARGUMENT (the device, unknown options, not 1 to PK_QUEUES_MAX queues); of the
+ * first queue that has one, PK_BAD_ARGUMENT or PK_CHAIN_IN_FLIGHT; PK_OUT_OF_MEMORY;
  * PK_SHORT_BUFFER. */
 uint32_t pk_save(const struct pk_device *device, const struct pk_queue *queues, size_t queue_count,
                  uint8_t *buffer, size_t buffer_len, size_t *len)
@@ -687,9 +634,9 @@ uint32_t pk_save(const struct pk_device *device, const struct pk_queue *queues, 
  * resets these. Before the call set page size and limit, which must be the record's, and of each
  * queue event_index and max_in_flight, which the record doesn't have. After an error device and
  * queues are unchanged.
- * Errors: PK_BAD_ARGUMENT (the device's fields); 81 to 90, in the order of the record's parts;
- * PK_SHORT_BUFFER (too few queues: `*count` is how many the record has); PK_BAD_ARGUMENT (a
- * queue's event_index is above 1, or its max_in_flight above the record's size of it). */
+ * Errors: PK_BAD_ARGUMENT (the device); 81 to 90, in the order of the record's parts;
+ * PK_SHORT_BUFFER (too few queues: `*count` is how many the record has); PK_BAD_ARGUMENT (a queue's
+ * event_index is above 1, or its max_in_flight above the record's size of it). */
 uint32_t pk_restore(struct pk_device *device, struct pk_queue *queues, size_t queue_count,
                     const uint8_t *saved, size_t saved_len, size_t *count)
     PK_CHECK PK_WRITES(2, 3) PK_READS(4, 5) PK_FILLS(6);
@@ -698,7 +645,5 @@ uint32_t pk_restore(struct pk_device *device, struct pk_queue *queues, size_t qu
 }
 #endif
 #include "pitskhomu_names.h" /* pk_pair, pk_direntry_len, names of numbers for logs */
-#if defined(__GNUC__)
-#include "pitskhomu_ring.h" /* pk_pop_ring: a pop with its loads, by one call */
-#endif
+#include "pitskhomu_ring.h" /* GCC, Clang: pk_pop_ring, a pop with its loads, by one call */
 #endif

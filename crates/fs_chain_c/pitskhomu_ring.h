@@ -1,6 +1,6 @@
 /* pitskhomu_ring.h: a pop in one call, over regions that are mapped in this process. pitskhomu.h
  * includes it for GCC and Clang. Inline functions over pk_pop_ahead: tested, not proved. */
-#ifndef PITSKHOMU_RING_H
+#if defined(__GNUC__) && !defined(PITSKHOMU_RING_H)
 #define PITSKHOMU_RING_H
 
 /* Where a queue's rings lie in host memory. Zero it before its first use, keep it with the queue

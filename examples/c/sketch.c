@@ -21,6 +21,7 @@ enum { MEMORY = 0x6000, WINDOWS = 8 };
 static _Alignas(4096) uint8_t memory[MEMORY]; /* the guest's, from its address 0 on */
 static struct pk_device device = PK_DEVICE;
 static struct pk_queue queue = {.desc = DESC, .avail = AVAIL, .used = USED, .size = SIZE};
+static struct pk_ring ring;
 static struct pk_chain chain;
 static uint8_t request[PK_REQUEST_MAX];
 
@@ -105,16 +106,13 @@ static uint32_t push(bool *notify) {
 
 /* PK_IDLE: no chain is available. Else the reason why the queue can't be served further. */
 static uint32_t serve(bool *notify) {
-    uint8_t bytes[PK_LOAD_MAX];
+    struct pk_pop pop;
     uint32_t s;
-    for (;;) {
-        struct pk_pop pop = {0}; // the first call of a pop has no bytes
-        while ((s = pk_pop(&chain, &queue, bytes, pop.load_len, &pop)) == PK_LOAD)
-            load(bytes, pop.load_at, pop.load_len);
-        if (s != PK_DONE) return s;
-        if (pop.fault == 0 && (s = serve_request(&pop)) != PK_DONE) return s;
-        if ((s = push(notify)) != PK_DONE) return s; // a faulty chain: without a reply
+    while ((s = pk_pop_ring(&chain, &queue, &ring, &pop)) == PK_DONE) {
+        if (pop.fault == 0 && (s = serve_request(&pop)) != PK_DONE) break;
+        if ((s = push(notify)) != PK_DONE) break; // a faulty chain: without a reply
     }
+    return s;
 }
 
 /* Enables notifications: once at the start, since an earlier device may have disabled them, and
@@ -147,6 +145,7 @@ int main(void) {
     uint64_t node;
     if (!pk_is_compatible() || pk_queue_begin(&queue, 0)) return 1;
     if (pk_chain_set_memory(&chain, &device, &region, 1)) return 1;
+    pk_ring_find(&ring, &queue, &region, 1);
     put(USED, 1, 2); /* an earlier device disabled notifications */
     if (enable_notification() || memory[USED]) return 1;
     offer_lookup();
