@@ -397,16 +397,23 @@ static void pop(void) {
     expect("its fault", step.fault, 0);
 }
 
-/* The request as it was made. */
+/* The request as it was made. A caller may begin with fewer bytes than it should. */
 static void decode(size_t len) {
     size_t have = len < PK_FIRST ? len : PK_FIRST;
-    uint32_t status = pk_decode(&chain, &device, memory + REQUEST, have, &call);
+    const uint8_t *bytes = memory + REQUEST;
+    expect("too many bytes", pk_decode(&chain, &device, bytes, len + 1 + below(9), &call),
+           PK_BAD_ARGUMENT);
+    for (uint64_t k = below(3); k > 0; k--) {
+        expect("too few bytes", pk_decode(&chain, &device, bytes, below(have), &call), PK_MORE);
+        expect("the first bytes", call.needed, have);
+    }
+    uint32_t status = pk_decode(&chain, &device, bytes, have, &call);
     if (row->opcode == WRITE) {
         expect("a WRITE's data", call.data_at, 80);
         expect("its length", call.data_len, len - 80);
     } else if (status == PK_MORE) {
         expect("the bytes that are needed", call.needed, len);
-        status = pk_decode(&chain, &device, memory + REQUEST, len, &call);
+        status = pk_decode(&chain, &device, bytes, len, &call);
     }
     expect("the request", status, PK_DONE);
     bool is_counted = (row->opcode == GETXATTR || row->opcode == LISTXATTR) && call.size == 0;

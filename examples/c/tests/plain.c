@@ -35,7 +35,7 @@ static void call_wrongly(struct bench *b, struct pk_queue *q, const struct pk_po
     struct pk_stores stores;
     struct pk_window window;
     struct pk_chain *c = &b->chain;
-    size_t len = below(2) ? step->load_len - 1 : step->load_len + 1;
+    size_t len = ONE_OF(step->load_len - 1, step->load_len + 1, 2, 16, 64);
     expect("the state", pk_chain_state(c), PK_STATE_POPPING);
     expect("other memory", pk_chain_set_memory(c, &device, regions, region_count),
            PK_CHAIN_IN_FLIGHT);
@@ -47,7 +47,7 @@ static void call_wrongly(struct bench *b, struct pk_queue *q, const struct pk_po
     expect("a window", pk_request_windows(c, 0, 1, &window, 1), 0);
     expect("another window", pk_reply_windows(c, 0, 1, &window, 1), 0);
     expect("a use", pk_uses(c, 0, UINT64_MAX), 0);
-    if (len > PK_LOAD_MAX) return;
+    if (len > PK_LOAD_MAX || len == step->load_len) return;
     expect("another length", pk_pop(c, q, bytes, len, &again), PK_BAD_ARGUMENT);
     expect("the load's place", again.load_at, step->load_at);
     expect("the load's length", again.load_len, step->load_len);
@@ -78,12 +78,33 @@ static bool pop_between(const struct bench *b, struct pk_queue *q) {
     return true;
 }
 
+/* Another handle's pop stops the queue, since the driver's index is wrong for a while. */
+static bool stop_between(struct bench *b, struct pk_queue *q, size_t load_len) {
+    static uint8_t bytes[PK_LOAD_MAX];
+    struct bench *other = &benches[(size_t)(b - benches + 1) % CHAINS];
+    uint64_t index = q->avail + 2, before = number_at(index, 2);
+    struct pk_pop step;
+    if (has_iommu || other->queue) return false;
+    put(index, q->next_avail + q->size + 1u, 2);
+    if (number_at(index, 2) == before) return false;
+    expect("a load", pk_pop(&other->chain, q, bytes, 0, &step), PK_LOAD);
+    memcpy(bytes, (const void *)step.load_at, 2);
+    expect("a pop between", pk_pop(&other->chain, q, bytes, 2, &step), PK_AVAIL_TOO_FAR);
+    put(index, before, 2);
+    expect("a pop of a queue that was stopped", pk_pop(&b->chain, q, bytes, load_len, &step),
+           PK_STOPPED);
+    return true;
+}
+
 /* Amid a pop: it may begin again, after a drop or another handle's pop. Returns whether it does. */
 static bool interrupt(struct bench *b, struct pk_queue *q, const struct pk_pop *step) {
     struct pk_pop none;
     static uint8_t bytes[PK_LOAD_MAX];
-    switch (below(4)) {
+    switch (below(5)) {
     case 0: call_wrongly(b, q, step); return false;
+    case 4:
+        if (below(4) || !stop_between(b, q, step->load_len)) return false;
+        break;
     case 1:
         if (!pop_between(b, q)) return false;
         expect("a pop between", pk_pop(&b->chain, q, bytes, step->load_len, &none), PK_OTHER_QUEUE);
@@ -94,6 +115,14 @@ static bool interrupt(struct bench *b, struct pk_queue *q, const struct pk_pop *
     }
     expect("the state", pk_chain_state(&b->chain), PK_STATE_FREE);
     return true;
+}
+
+/* While one handle has the table, no other gets one, and the place has none. */
+static void lend_once(const struct bench *b) {
+    struct bench *other = &benches[(size_t)(b - benches + 1) % CHAINS];
+    expect("no table", pk_chain_exchange_iotlb(&other->chain, &table), PK_DONE);
+    expect("a map in no table", pk_iotlb_map(&table, base, PAGE, 0, READS), PK_WRONG_ORDER);
+    expect("no mapping in it", pk_iotlb_unmap(&table, base, PAGE), PK_WRONG_ORDER);
 }
 
 /* A pop by the library, load by load or with its loads ahead. */
@@ -164,6 +193,7 @@ static void do_pop(struct bench *b, struct pk_queue *q) {
     uint32_t status;
     bool again;
     exchange(b);
+    if (has_iommu && below(20) == 0) lend_once(b);
     do {
         before = *q;
         told = model_pop(b, q);
@@ -248,7 +278,7 @@ static void check_ranges(struct bench *b) {
 /* Whether buffers use some addresses. */
 static void check_use(struct bench *b) {
     struct part p = b->count ? b->parts[below(b->count)] : (struct part){0};
-    uint64_t at = below(4) ? p.at + below(p.len + 2ull) - 1 : p.at - below(PAGE);
+    uint64_t at = below(4) ? p.at + below(p.len + 2ull) - 1 : below(2) ? 0 : p.at - below(PAGE);
     uint64_t len = ONE_OF(0, 1, 2, p.at - at, p.at - at + 1, PAGE, UINT64_MAX);
     uint8_t wanted = 0;
     for (size_t k = 0; k < b->count && b->queue && len; k++) {
