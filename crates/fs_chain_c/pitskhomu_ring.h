@@ -81,7 +81,8 @@ static inline size_t pk_ring_follow(const uint8_t *bytes, size_t first, size_t n
     }
 }
 
-/* Adds the loads of a chain's descriptors, from its head on, as far as they can be told. */
+/* Adds the loads of a chain's descriptors, from its head on: the bytes of each say where the next
+ * lies. */
 static inline void pk_ring_chain(const struct pk_ring *ring, uint16_t size, uint16_t head,
                                  struct pk_ring_loads *loads) {
     size_t index = head, end = size, left = size, most = 4;

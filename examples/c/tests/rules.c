@@ -119,6 +119,24 @@ static void load_an_entry_early(void) {
     expect("the head", step.head, 2);
 }
 
+/* NOTIFICATIONS. A thread that resets its event after its last pop resets a notification that came
+ * meanwhile, and sleeps beside a chain. */
+static void reset_an_event_late(void) {
+    struct pk_pop step;
+    int event = 1; /* as an eventfd's counter: the thread was woken */
+    begin(0, 0);
+    expect("a pop", pop(&chains[0], NULL, &step), PK_IDLE);
+    offer(0), event++;
+    event = 0;
+    expect("no notification, and a chain", (uint64_t)event + memory[AVAIL + 2], 1);
+    event = 1;
+    begin(0, 0);
+    event = 0;
+    offer(0), event++;
+    expect("a pop after the reset", pop(&chains[0], NULL, &step), PK_DONE);
+    expect("the event, which wakes once more", (uint64_t)event, 1);
+}
+
 /* Statuses 2 to 8. The chain that is in flight is pushed; the queue is popped after its reset. */
 static void stop_a_queue(void) {
     const uint16_t ahead = 100;
@@ -159,6 +177,7 @@ int main(void) {
     load_twice();
     tear_an_index();
     load_an_entry_early();
+    reset_an_event_late();
     stop_a_queue();
     agree_on_events();
     for (int k = 0; k < PAIR; k++) pk_chain_free(&chains[k]);
