@@ -13,3 +13,4 @@ pub mod Stretching
 pub mod ReadingOut
 pub mod Going
 pub mod GoingStraight
+pub mod Fitting

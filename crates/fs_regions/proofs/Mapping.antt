@@ -93,7 +93,7 @@ run_same k a t table access l at whole all =
     (λ j below. marked 0 (a + j) (place_behind l access (table (a + j)))
     ∙ ap is_some (run_place k a table access l all j (omega (arith, whole, below)) ∙ ap (λ x. place l (x + j)) (sym at)))
 
-cut : (a n k : ℕ) (f : ℕ → Option Place) → k ≤ n →
+pub cut : (a n k : ℕ) (f : ℕ → Option Place) → k ≤ n →
     list_all (λ x. is_some (f x)) (addresses a n)
     ≡ (list_all (λ x. is_some (f x)) (addresses a k) && list_all (λ x. is_some (f x)) (addresses (a + k) (n - k)))
 cut a n k f within =

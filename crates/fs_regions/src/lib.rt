@@ -5,6 +5,7 @@ mod ahead;
 mod chain;
 mod course;
 mod entries;
+mod fits;
 pub mod laws;
 mod map;
 mod misses;

@@ -11,12 +11,12 @@ ghost use Rattle.fs_regions.specs.declared.walk.QueueWalk.TheVariants as at;
 use crate::ahead::LoadAhead;
 use crate::course::{Course, pair};
 use crate::entries::EntriesWalk;
+use crate::fits::{has_buffers, may_push};
 use crate::map::GuestMap;
 use crate::stretch::{most_entries, read_stretch};
 use crate::walk::QueueWalk;
 use fs_queue::{
     ChainWalk, Descriptor, Descriptors, IndexWalk, Progress, RingEntryWalk, Walk, WalkEnd,
-    chain_fault, return_fault,
 };
 
 impl Course {
@@ -68,16 +68,21 @@ impl Course {
         ensures { IfSome result (EndsChain regions.now self.now.limit walked descriptors.now head) }
     {
         match walked {
-            WalkEnd::Chain => match chain_fault(regions, self.limit, descriptors) {
-                None => Some(head),
-                Some(_) => None,
-            },
+            WalkEnd::Chain => {
+                if has_buffers(regions, self.limit, descriptors) {
+                    Some(head)
+                } else {
+                    None
+                }
+            }
             _ => None,
         }
     }
 
-    // Straight through the second stretch of a chain's tables, if the chain ends there.
+    // Straight through the further stretches of a chain's tables. It recurses for each but the second: at
+    // most twice.
     #[inline(never)]
+    #[tactic(auto, using(crate::proofs::GoingStraight::goes_further))]
     fn straight_far(
         &self,
         regions: &GuestMap,
@@ -91,19 +96,23 @@ impl Course {
             descriptors.old (loads_ahead ahead.now bytes.now) descriptors.new) }
     {
         match ahead.split_first() {
-            Some((one, _)) => {
+            Some((one, more)) => {
                 match self.read_ahead(regions, head, walk, one, bytes, descriptors) {
                     Some(Progress::Ends(walked)) => {
                         self.straight_end(regions, head, walked, descriptors)
                     }
-                    _ => None,
+                    Some(Progress::Wants(next)) => {
+                        let (_, behind) = bytes.split_at(one.len);
+                        self.straight_far(regions, head, next, more, behind, descriptors)
+                    }
+                    None => None,
                 }
             }
             None => None,
         }
     }
 
-    // The same of the first stretch, and of a second one.
+    // The same of the first stretch, and of those behind it. A chain mostly ends in its first.
     #[inline(always)]
     #[tactic(auto, using(crate::proofs::GoingStraight::goes_further))]
     fn straight_at_table(
@@ -150,11 +159,10 @@ impl Course {
     {
         match walk {
             Walk::Chain(head, Progress::Wants(next)) => {
-                match return_fault(regions, self.layout, self.position) {
-                    None => {
-                        self.straight_at_table(regions, head, next, ahead, bytes, descriptors)
-                    }
-                    Some(_) => None,
+                if may_push(regions, self.layout, self.position) {
+                    self.straight_at_table(regions, head, next, ahead, bytes, descriptors)
+                } else {
+                    None
                 }
             }
             _ => None,
@@ -228,7 +236,7 @@ impl Course {
     }
 
     /// Pops a chain straight through loads that were made ahead: its head. None if the pop asks for another
-    /// load, or for fewer than three or more than four, or has another result than a chain without a fault;
+    /// load, or for fewer than three or more than five, or has another result than a chain without a fault;
     /// then the list has any descriptors.
     #[inline(always)]
     #[tactic(auto, using(crate::proofs::GoingStraight::goes_straight))]
@@ -242,7 +250,7 @@ impl Course {
         ensures { IfSome result (λ head. BeginsAhead regions.now self.now.limit (queue_of self.now)
             (loads_ahead ahead.now bytes.now) descriptors.new (step.Chain head None)) }
     {
-        if ahead.len() < 3 || ahead.len() > 4 {
+        if ahead.len() < 3 || ahead.len() > 5 {
             return None;
         }
         descriptors.clear();

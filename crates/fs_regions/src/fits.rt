@@ -1,0 +1,90 @@
+//! Tests of a chain without a fault: whether its buffers are mapped and short enough, and its push can be
+//! made. Each takes few look-ups, and says no more than yes.
+
+ghost use Rattle.std.specs.Prelude.{◌≡◌, [], ◌∷◌, None, true};
+ghost use Rattle.vm_iotlb.specs.declared.permissions.Permissions.TheVariants.{Read, Write};
+ghost use Rattle.vm_memory.specs.Memory.{reach};
+ghost use Rattle.fs_queue.specs.Chain.{is_writable};
+ghost use Rattle.fs_queue.specs.Taking.{access_of, all_reach, chain_fault, readable, return_fault, total_len};
+ghost use Rattle.fs_queue.specs.Taking.{writable};
+ghost use Rattle.fs_queue.specs.WalkingView.{at_position};
+ghost use Rattle.fs_regions.specs.Places.{places_in};
+
+use crate::map::GuestMap;
+use fs_queue::{Descriptor, QueueLayout, return_fault};
+use vm_memory_core::Permissions;
+
+// How many bytes of a descriptor the device reads, and how many it writes: one of them is 0.
+#[inline(always)]
+fn lens_of(descriptor: &Descriptor) -> (u64, u64)
+    ensures reads { result.0 ≡ total_len (readable (descriptor.now ∷ [])) }
+    ensures writes { result.1 ≡ total_len (writable (descriptor.now ∷ [])) }
+{
+    let len = u64::from(descriptor.len);
+    if descriptor.is_write_only() {
+        (0, len)
+    } else {
+        (len, 0)
+    }
+}
+
+// The access that the device needs to a descriptor's bytes.
+#[inline(always)]
+fn access_to(descriptor: &Descriptor) -> Permissions
+    ensures { result ≡ access_of (is_writable descriptor.now) }
+{
+    if descriptor.is_write_only() {
+        Permissions::Write
+    } else {
+        Permissions::Read
+    }
+}
+
+// Whether all bytes of a descriptor are mapped for the access that the device needs.
+#[inline(always)]
+#[tactic(auto, using(crate::proofs::Fitting::reads_by, crate::proofs::Fitting::writes_by))]
+fn is_mapped(regions: &GuestMap, descriptor: &Descriptor) -> bool
+    ensures reads { result ≡ true
+        → all_reach (places_in regions.now) Read (readable (descriptor.now ∷ [])) ≡ true }
+    ensures writes { result ≡ true
+        → all_reach (places_in regions.now) Write (writable (descriptor.now ∷ [])) ≡ true }
+{
+    regions.reaches(
+        descriptor.addr,
+        descriptor.len as usize,
+        access_to(descriptor),
+    )
+}
+
+/// Whether the buffers of a chain with these descriptors have no fault, in one pass over them.
+#[inline(always)]
+pub(crate) fn has_buffers(regions: &GuestMap, limit: u32, descriptors: &[Descriptor]) -> bool
+    ensures { result ≡ true → chain_fault (places_in regions.now) limit descriptors.now ≡ None }
+{
+    let mut request = u64::from(limit);
+    let mut reply = u64::from(limit);
+    for descriptor in descriptors {
+        let (reads, writes) = lens_of(descriptor);
+        if reads > request || writes > reply || !is_mapped(regions, descriptor) {
+            return false;
+        }
+        request -= reads;
+        reply -= writes;
+    }
+    true
+}
+
+/// Whether the chain at a position of a queue can be pushed. If the whole used ring is mapped, one look-up
+/// finds element and index.
+#[inline(always)]
+#[tactic(auto, using(crate::proofs::Fitting::push_made))]
+pub(crate) fn may_push(regions: &GuestMap, layout: QueueLayout, position: u16) -> bool
+    ensures { result ≡ true
+        → return_fault (places_in regions.now) (at_position layout position) ≡ None }
+{
+    let ring = 4 + 8 * usize::from(layout.size());
+    if regions.reaches(layout.used(), ring, Permissions::Write) {
+        return regions.reaches(layout.avail(), 2, Permissions::Read);
+    }
+    return_fault(regions, layout, position).is_none()
+}
