@@ -59,16 +59,6 @@ static inline void pk_ring_load(void *to, uintptr_t at, size_t len) {
     }
 }
 
-/* Adds a load, and returns its bytes; a null pointer if it has no room. */
-static inline uint8_t *pk_ring_add(struct pk_ring_loads *loads, uintptr_t at, size_t len) {
-    uint8_t *to = loads->bytes + loads->len;
-    if (loads->count == 5 || len > sizeof loads->bytes - loads->len) return 0;
-    loads->ahead[loads->count].at = at;
-    loads->ahead[loads->count++].len = len;
-    loads->len += len;
-    return to;
-}
-
 /* Follows a chain from entry `*k` of a stretch of `n`, which begins at `first` of its table.
  * Returns how many of its entries the chain has; the last one is at `*k`. */
 static inline size_t pk_ring_follow(const uint8_t *bytes, size_t first, size_t n, size_t *k) {
@@ -85,25 +75,30 @@ static inline size_t pk_ring_follow(const uint8_t *bytes, size_t first, size_t n
  * lies. */
 static inline void pk_ring_chain(const struct pk_ring *ring, uint16_t size, uint16_t head,
                                  struct pk_ring_loads *loads) {
-    size_t index = head, end = size, left = size, most = 4;
+    size_t index = head, end = size, left = size, most = 4, count = 2, used = 4;
     uintptr_t table = ring->desc;
-    while (index < end) {
+    while (index < end && count < 5) {
         size_t n = end - index < most ? end - index : most, k = 0;
+        uint8_t *bytes = loads->bytes + used;
         if (n > left) n = left;
-        uint8_t *bytes = pk_ring_add(loads, table + 16 * index, 16 * n);
-        if (!bytes) return;
+        if (16 * n > sizeof loads->bytes - used) return;
+        loads->ahead[count].at = table + 16 * index;
+        loads->ahead[count].len = 16 * n;
         if (n == 4)
             pk_ring_load(bytes, table + 16 * index, 64);
         else
             pk_ring_load(bytes, table + 16 * index, 16 * n);
+        loads->count = ++count;
+        loads->len = used += 16 * n;
         if (most == 256 && n == end) return; /* the whole table */
         size_t walked = pk_ring_follow(bytes, index, n, &k);
         uint64_t guest;
         uint32_t len;
         uint16_t flags, next;
+        __builtin_memcpy(&flags, bytes + 16 * k + 12, 2);
+        if (!(flags & 5)) return; /* the last one */
         __builtin_memcpy(&guest, bytes + 16 * k, 8);
         __builtin_memcpy(&len, bytes + 16 * k + 8, 4);
-        __builtin_memcpy(&flags, bytes + 16 * k + 12, 2);
         __builtin_memcpy(&next, bytes + 16 * k + 14, 2);
         if ((flags & 5) == 4 && table == ring->desc && len % 16 == 0 && len <= PK_LOAD_MAX) {
             table = pk_ring_host(ring->regions, ring->count, guest, len);
@@ -121,21 +116,29 @@ static inline void pk_ring_chain(const struct pk_ring *ring, uint16_t size, uint
  * chain before it wasn't popped: the driver stored those chains before that load. */
 static inline void pk_ring_guess(const struct pk_queue *queue, struct pk_ring *ring,
                                  struct pk_ring_loads *loads) {
-    uint16_t head;
-    uintptr_t entry = ring->avail + 4 + 2 * (queue->next_avail & (queue->size - 1u));
+    uint16_t head, size = queue->size, next = queue->next_avail, offered = ring->index;
+    uintptr_t avail = ring->avail, entry = avail + 4 + 2 * (next & (size - 1u));
     loads->count = loads->len = 0;
-    if (!ring->desc || !ring->avail || queue->size == 0 || queue->size != ring->size) return;
-    if (!ring->has_index || ring->reset_count != queue->reset_count ||
-        ring->index == queue->next_avail) {
-        pk_ring_load(&ring->index, ring->avail + 2, 2);
+    if (!ring->desc || !avail || size == 0 || size != ring->size) return;
+    if (!ring->has_index || ring->reset_count != queue->reset_count || offered == next) {
+        pk_ring_load(&offered, avail + 2, 2);
+        ring->index = offered;
         ring->reset_count = queue->reset_count;
         ring->has_index = 1;
     }
-    __builtin_memcpy(pk_ring_add(loads, ring->avail + 2, 2), &ring->index, 2);
-    if (ring->index == queue->next_avail) return;
+    loads->ahead[0].at = avail + 2;
+    loads->ahead[0].len = 2;
+    __builtin_memcpy(loads->bytes, &offered, 2);
+    loads->count = 1;
+    loads->len = 2;
+    if (offered == next) return;
     pk_ring_load(&head, entry, 2);
-    __builtin_memcpy(pk_ring_add(loads, entry, 2), &head, 2);
-    if (head < queue->size) pk_ring_chain(ring, queue->size, head, loads);
+    loads->ahead[1].at = entry;
+    loads->ahead[1].len = 2;
+    __builtin_memcpy(loads->bytes + 2, &head, 2);
+    loads->count = 2;
+    loads->len = 4;
+    if (head < size) pk_ring_chain(ring, size, head, loads);
 }
 
 /* Pops the next available chain, with its loads: pk_pop_ahead, and pk_pop for what is left. Returns

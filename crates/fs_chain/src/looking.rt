@@ -19,6 +19,7 @@ use vm_memory_core::{Permissions, VolatileSlice};
 impl ChainHandle {
     /// The longest window of at most `most` bytes from a guest address on, for an access. None if the
     /// address isn't mapped.
+    #[inline(always)]
     pub fn window_at(&self, addr: u64, most: usize, access: Permissions) -> Option<VolatileSlice>
         requires { 0 < most }
         ensures none { result ≡ None → location (places_in self.now.regions) access addr ≡ None }

@@ -88,17 +88,18 @@ fn stores_of(
     {
         return Err(ChainError::OtherTable);
     }
+    let layout = out.course.layout;
     let Some(front_len) = copy_front(reply, front) else {
         return Err(ChainError::ShortBuffer);
     };
     let len = front_len.saturating_add(reply.behind).min(out.room_len);
     let used = Return::new(
-        out.course.layout,
+        layout,
         queue.next_used,
         out.head,
         len.min(u32::MAX as usize) as u32,
     );
-    let seen_at = seen_at(queue.event_index, &out.course.layout);
+    let seen_at = seen_at(queue.event_index, &layout);
     Ok(PushStores {
         front_len,
         used,
@@ -140,9 +141,16 @@ impl ChainHandle {
     {
         match &self.state {
             ChainState::HasReply(out, reply) => {
-                let out = *out;
-                match stores_of(&self.regions, queue, &out, reply, front) {
+                match stores_of(&self.regions, queue, out, reply, front) {
                     Ok(stores) => {
+                        // Field by field, and last: so the compiler leaves them where they are.
+                        let out = InFlight {
+                            course: out.course,
+                            pop_id: out.pop_id,
+                            head: out.head,
+                            request_len: out.request_len,
+                            room_len: out.room_len,
+                        };
                         self.state = ChainState::Pushing(out);
                         queue.pushing = true;
                         Ok(stores)

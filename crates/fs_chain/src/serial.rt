@@ -52,7 +52,9 @@ impl ChainHandle {
         if self.is_out() {
             self.serial = self.serial.wrapping_add(1);
         }
-        self.state = ChainState::Free;
+        if !self.is_free() {
+            self.state = ChainState::Free;
+        }
         self.list_len = 0;
     }
 

@@ -48,32 +48,30 @@ fn at_setxattr(options: u64) -> usize
 // the answer's kind, and the fields to set. A row of `others` has the fields to match, the call to start
 // with, and the fields to set. Other arms follow the rows.
 macro_rules! told {
-    ($call:expr,
+    ($call:expr, $told:expr,
         of_a_node { $($name:ident { $($part:tt)* } $kind:ident $(, $field:ident: $value:expr)*;)* }
         others { $($other:ident { $($piece:tt)* } = $start:expr $(, $slot:ident: $given:expr)*;)* }
         $($arm:tt)*) => {
         match $call {
             $(FileCall::$name { context, node, $($part)* } => {
-                let mut told = FsCall::made_by(Opcode::$name, AnswerKind::$kind, context, *node);
-                $(told.$field = $value;)*
-                told
+                *$told = FsCall::made_by(Opcode::$name, AnswerKind::$kind, context, *node);
+                $($told.$field = $value;)*
             })*
             $(FileCall::$other { $($piece)* } => {
-                let mut told = $start;
-                $(told.$slot = $given;)*
-                told
+                *$told = $start;
+                $($told.$slot = $given;)*
             })*
             $($arm)*
         }
     };
 }
 
-// A call whose request has names, as C gets it.
-fn named_call(opcode: u32, options: u64, room: usize, call: &FileCall<'_>) -> FsCall
+// Fills a call whose request has names, as C gets it.
+fn named_call(opcode: u32, options: u64, room: usize, call: &FileCall<'_>, told: &mut FsCall)
     requires named { has_name call.now ≡ true }
-    ensures { result ≡ told_call opcode options room call.now }
+    ensures { told.new ≡ told_call opcode options room call.now }
 {
-    told!(call, of_a_node {
+    told!(call, told, of_a_node {
         Lookup { name } Entry, name: span(AT, name.len());
         Symlink { link, name, extra } Entry,
             name: span(AT, name.len()), value: span(behind(AT, name.len()), link.len()),
@@ -107,12 +105,12 @@ fn named_call(opcode: u32, options: u64, room: usize, call: &FileCall<'_>) -> Fs
     } _ => unreachable!())
 }
 
-// A call on an open file or directory, which it names by its handle, as C gets it.
-fn open_file_call(opcode: u32, options: u64, room: usize, call: &FileCall<'_>) -> FsCall
+// Fills a call on an open file or directory, which it names by its handle, as C gets it.
+fn open_file_call(opcode: u32, options: u64, room: usize, call: &FileCall<'_>, told: &mut FsCall)
     requires opened { is_of_open_file call.now ≡ true }
-    ensures { result ≡ told_call opcode options room call.now }
+    ensures { told.new ≡ told_call opcode options room call.now }
 {
-    told!(call, of_a_node {
+    told!(call, told, of_a_node {
         Read { handle, room: most, size, offset, owner, flags } Data,
             handle: *handle, offset: *offset, size: u64::from(*size), data_at: HEADER, data_len: *most as u64,
             flags: *flags, has_owner: u8::from(owner.is_some()), owner: owner.unwrap_or(0);
@@ -140,12 +138,12 @@ fn open_file_call(opcode: u32, options: u64, room: usize, call: &FileCall<'_>) -
     } others {} _ => unreachable!())
 }
 
-/// A call as C gets it, by the opcode of its request, the agreed options, and the length of the reply
+/// Fills a call as C gets it, by the opcode of its request, the agreed options, and the length of the reply
 /// buffer.
-pub(crate) fn told_call(opcode: u32, options: u64, room: usize, call: &FileCall<'_>) -> FsCall
-    ensures { result ≡ told_call opcode options room call.now }
+pub(crate) fn told_call(opcode: u32, options: u64, room: usize, call: &FileCall<'_>, told: &mut FsCall)
+    ensures { told.new ≡ told_call opcode options room call.now }
 {
-    told!(call, of_a_node {
+    told!(call, told, of_a_node {
         Forget { count } None, count: *count;
         Getattr { handle } Attr, has_handle: u8::from(handle.is_some()), handle: handle.unwrap_or(0);
         Setattr { attr, handle, valid } Attr,
@@ -177,11 +175,11 @@ pub(crate) fn told_call(opcode: u32, options: u64, room: usize, call: &FileCall<
             | FileCall::Mkdir { .. } | FileCall::Unlink { .. } | FileCall::Rmdir { .. }
             | FileCall::Rename { .. } | FileCall::Setxattr { .. } | FileCall::Getxattr { .. }
             | FileCall::Removexattr { .. } | FileCall::Create { .. } | FileCall::Link { .. } =>
-            named_call(opcode, options, room, call),
+            named_call(opcode, options, room, call, told),
         FileCall::Read { .. } | FileCall::Write { .. } | FileCall::Release { .. }
             | FileCall::Fsync { .. } | FileCall::Fsyncdir { .. } | FileCall::Flush { .. }
             | FileCall::Readdir { .. } | FileCall::Releasedir { .. } | FileCall::Fallocate { .. }
             | FileCall::Lseek { .. } | FileCall::CopyFileRange { .. } =>
-            open_file_call(opcode, options, room, call)
+            open_file_call(opcode, options, room, call, told)
     )
 }

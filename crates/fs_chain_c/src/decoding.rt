@@ -79,7 +79,7 @@ fn tell(handle: &mut ChainHandle, request: &[u8], told: Decoded<'_>, call: &mut 
     match told {
         Decoded::Call(made) => {
             let options = handle.session().options().bits();
-            *call = call_fields(request, options, handle.room_len(), &made);
+            call_fields(request, options, handle.room_len(), &made, call);
             let answered = settle(handle, answer_unasked(&made));
             call.fault = fault_after(answered);
             0

@@ -51,12 +51,12 @@ pub fn number(request: &[u8], call: &mut FsCall)
     call.unique = unique_in(request);
 }
 
-/// The fields of a call, by its request, the agreed options, and the length of the reply buffer.
-pub fn call_fields(request: &[u8], options: u64, room: usize, call: &FileCall<'_>) -> FsCall
-    ensures { result ≡ call_fields request.now options room call.now }
+/// Fills a call's fields, by its request, the agreed options, and the length of the reply buffer.
+#[inline(never)]
+pub fn call_fields(request: &[u8], options: u64, room: usize, call: &FileCall<'_>, told: &mut FsCall)
+    ensures { told.new ≡ call_fields request.now options room call.now }
 {
-    let mut told = told_call(opcode_in(request), options, room, call);
-    number(request, &mut told);
-    add_label(request, call, &mut told);
-    told
+    told_call(opcode_in(request), options, room, call, told);
+    number(request, told);
+    add_label(request, call, told);
 }

@@ -58,6 +58,7 @@ impl FsStores {
 
 // The host address of so many bytes from a guest address on, for an access; None if they aren't mapped in one
 // piece.
+#[inline(always)]
 pub(crate) fn here(
     handle: &ChainHandle,
     guest: u64,
