@@ -1,23 +1,29 @@
-"""Programs that make random calls of the C library, most of them beside a plain model of their own
-(examples/c/tests): what the scripts can't do, such as several chains in flight."""
+"""The tests of the C library (examples/c/tests), which do what the scripts can't, such as several
+chains in flight. Some make random calls, most of them beside a plain model of their own."""
 
+import re
 import subprocess
 import threading
 from pathlib import Path
 
-# For each second of a run so many worlds, rounds or seconds. A program that takes so many seconds
-# more than a run doesn't end.
-AMOUNTS = {"plain": 100, "answered": 400, "strict": 400, "listed": 10, "clumsy": 0.05}
+# For each second of a run so many worlds, rounds or seconds, by the run's seed.
+AMOUNTS = {
+    "plain": 100, "answered": 400, "strict": 400, "extended": 400, "listed": 10, "clumsy": 0.05}
+# The others that `make check` runs without a number always do the same.
+MAKEFILE = Path(__file__).resolve().parents[2] / "examples/c/Makefile"
+FIXED = re.findall(r"^\t\$\(OUT\)/(\w+)$", MAKEFILE.read_text(), re.MULTILINE)
+# A program that takes so many seconds more than a run doesn't end.
 PATIENCE = 1000
 
 
 class Calls:
-    """The programs of a folder, which are played one after another while the scripts are."""
+    """The tests in a folder, which are played one after another while the scripts are."""
 
     def __init__(self, folder, seconds, seed):
         self.commands = [
             [str(Path(folder) / name), str(int(amount * seconds) + 1), str(seed % 2**31)]
             for name, amount in AMOUNTS.items()]
+        self.commands += [[str(Path(folder) / name)] for name in FIXED]
         self.patience = PATIENCE + seconds
         self.printed = []
         self.failures = []
@@ -40,7 +46,7 @@ class Calls:
         except (OSError, subprocess.TimeoutExpired) as error:
             return str(error)
         said = done.stdout.decode(errors="replace").strip()
-        self.printed.append(said.rpartition("\n")[2])
+        self.printed += said.split("\n")[-1:] if said else []
         return None if done.returncode == 0 else f"ends with {done.returncode}: {said}"
 
     def end(self):

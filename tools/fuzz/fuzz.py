@@ -3,7 +3,7 @@
 what the three print.
 
 usage: fuzz.py SECONDS [SEED], with the paths of built programs in PROGRAM and, if the handle is to
-be played, in HANDLE; and in CALLS the folder of the programs that call the C library, if they are
+be played, in HANDLE; and in CALLS the folder of the tests in C of the library, if they are
 to be played (./run --fuzz has all three). Status 0 if nothing differed, 1 if something did or no
 script with a served chain was compared whole or too many weren't played to their end, 2 if it
 couldn't begin, 130 if it was interrupted before that."""

@@ -166,9 +166,13 @@ class Guest:
         if self.chance(0.15):
             rng.shuffle(parts)
         hole = self.somewhere() - self.start if not self.for_handle and self.chance(0.06) else None
+        # Blocks of more than 64 pages, whose marks need a second word.
+        front = rng.choice([0x3D000, 0x3E000, 0x3F000]) if self.chance(0.05) else 0
         for begin, end in parts:
             if self.chance(0.02):
                 continue
+            if begin == 0 and front <= self.base:
+                begin = -front
             if hole is not None and begin < hole < end - 2:
                 self.region(self.base + begin, hole - begin)
                 begin = hole + rng.choice([1, 1, 2])
@@ -490,8 +494,17 @@ class Guest:
         if self.chance(0.08):
             self.say(f"reset {number_of + self.rng.choice([0, 64])} "
                 f"{self.rng.choice([0, 3, queue.size])} {queue.desc + 8:#x} 0 0")
+        if self.chance(0.12):
+            self.lay_out(queue)
         self.say(f"reset {number_of} {queue.layout()}")
         queue.index, queue.risky = 0, False
+
+    def lay_out(self, queue):
+        """A queue gets another size, and other places."""
+        size = self.rng.choice([1, 2, 4, 8, 16])
+        queue.__init__(size, self.place(16 * size, 16), self.place(6 + 2 * size, 2),
+            self.place(6 + 8 * size, 4))
+        self.put(queue.avail, struct.pack("<HH", self.flags(), 0))
 
     def other(self):
         """A move, a harvest, a reset, a read, another queue's kick."""

@@ -11,11 +11,11 @@
 #include <stdlib.h>
 #include <string.h>
 
-enum { QUEUES = 2, CHAINS = 3, WINDOWS = 6, TURNS = 60 };
+enum { WINDOWS = 6, TURNS = 60 };
 
-static struct pk_queue queues[QUEUES];
-static struct bench benches[CHAINS];
-static struct pk_iotlb table;
+struct pk_queue queues[QUEUES];
+struct bench benches[CHAINS];
+struct pk_iotlb table;
 static unsigned long popped, faulty, missed, pushed;
 
 /* ------------------------------------------------------------- calls */
@@ -25,123 +25,6 @@ static void exchange(struct bench *b) {
     if (!has_iommu) return;
     expect("the table", pk_chain_exchange_iotlb(&b->chain, &table), PK_DONE);
     is_lent = !is_lent;
-}
-
-/* Calls that don't come next while a pop waits for the bytes of a load. */
-static void call_wrongly(struct bench *b, struct pk_queue *q, const struct pk_pop *step) {
-    static uint8_t bytes[PK_LOAD_MAX];
-    uint8_t front[PK_FRONT_MAX], notify;
-    struct pk_pop again;
-    struct pk_stores stores;
-    struct pk_window window;
-    struct pk_chain *c = &b->chain;
-    size_t len = ONE_OF(step->load_len - 1, step->load_len + 1, 2, 16, 64);
-    expect("the state", pk_chain_state(c), PK_STATE_POPPING);
-    expect("other memory", pk_chain_set_memory(c, &device, regions, region_count),
-           PK_CHAIN_IN_FLIGHT);
-    expect("another ticket", pk_chain_set_ticket(c, 1), PK_CHAIN_IN_FLIGHT);
-    if (has_iommu) expect("another table", pk_chain_exchange_iotlb(c, &table), PK_CHAIN_IN_FLIGHT);
-    expect("a reply", pk_reply_bytes(c, b->ticket, 0), PK_WRONG_ORDER);
-    expect("a push", pk_push(c, q, front, sizeof front, &stores), PK_WRONG_ORDER);
-    expect("its end", pk_pushed(c, q, 0, &notify), PK_WRONG_ORDER);
-    expect("a window", pk_request_windows(c, 0, 1, &window, 1), 0);
-    expect("another window", pk_reply_windows(c, 0, 1, &window, 1), 0);
-    expect("a use", pk_uses(c, 0, UINT64_MAX), 0);
-    if (len > PK_LOAD_MAX || len == step->load_len) return;
-    expect("another length", pk_pop(c, q, bytes, len, &again), PK_BAD_ARGUMENT);
-    expect("the load's place", again.load_at, step->load_at);
-    expect("the load's length", again.load_len, step->load_len);
-}
-
-/* Each chain takes the next ticket, modulo 2^32. A faulty one doesn't tell it. */
-static void check_ticket(struct bench *b, uint32_t ticket) {
-    if (b->has_ticket) expect("the ticket", ticket, b->fault ? 0 : b->ticket + 1);
-    b->has_ticket = b->has_ticket || !b->fault;
-    b->ticket = b->fault ? b->ticket + 1 : ticket;
-}
-
-/* Another handle pops the chain and drops it. Returns whether there is one that can be dropped. */
-static bool pop_between(const struct bench *b, struct pk_queue *q) {
-    static uint8_t bytes[PK_LOAD_MAX];
-    struct bench *other = &benches[(size_t)(b - benches + 1) % CHAINS], scratch = {0};
-    struct pk_pop step;
-    size_t len = 0;
-    uint32_t status;
-    if (has_iommu || other->queue || model_pop(&scratch, q).status || scratch.fault) return false;
-    while ((status = pk_pop(&other->chain, q, bytes, len, &step)) == PK_LOAD)
-        memcpy(bytes, (const void *)step.load_at, len = step.load_len);
-    expect("a pop between", status, PK_DONE);
-    other->fault = 0;
-    expect("its drop", pk_drop(&other->chain, q), PK_DONE);
-    check_ticket(other, step.ticket);
-    other->count = 0;
-    return true;
-}
-
-/* Another handle's pop stops the queue, since the driver's index is wrong for a while. */
-static bool stop_between(struct bench *b, struct pk_queue *q, size_t load_len) {
-    static uint8_t bytes[PK_LOAD_MAX];
-    struct bench *other = &benches[(size_t)(b - benches + 1) % CHAINS];
-    uint64_t index = q->avail + 2, before = number_at(index, 2);
-    struct pk_pop step;
-    if (has_iommu || other->queue) return false;
-    put(index, q->next_avail + q->size + 1u, 2);
-    if (number_at(index, 2) == before) return false;
-    expect("a load", pk_pop(&other->chain, q, bytes, 0, &step), PK_LOAD);
-    memcpy(bytes, (const void *)step.load_at, 2);
-    expect("a pop between", pk_pop(&other->chain, q, bytes, 2, &step), PK_AVAIL_TOO_FAR);
-    put(index, before, 2);
-    expect("a pop of a queue that was stopped", pk_pop(&b->chain, q, bytes, load_len, &step),
-           PK_STOPPED);
-    return true;
-}
-
-/* Amid a pop: it may begin again, after a drop or another handle's pop. Returns whether it does. */
-static bool interrupt(struct bench *b, struct pk_queue *q, const struct pk_pop *step) {
-    struct pk_pop none;
-    static uint8_t bytes[PK_LOAD_MAX];
-    switch (below(5)) {
-    case 0: call_wrongly(b, q, step); return false;
-    case 4:
-        if (below(4) || !stop_between(b, q, step->load_len)) return false;
-        break;
-    case 1:
-        if (!pop_between(b, q)) return false;
-        expect("a pop between", pk_pop(&b->chain, q, bytes, step->load_len, &none), PK_OTHER_QUEUE);
-        expect("the drop of a pop", pk_drop(&b->chain, &queues[below(QUEUES)]), PK_DONE);
-        break;
-    case 2: expect("the drop of a pop", pk_drop(&b->chain, &queues[below(QUEUES)]), PK_DONE); break;
-    default: pk_abandon(&b->chain);
-    }
-    expect("the state", pk_chain_state(&b->chain), PK_STATE_FREE);
-    return true;
-}
-
-/* While one handle has the table, no other gets one, and the place has none. */
-static void lend_once(const struct bench *b) {
-    struct bench *other = &benches[(size_t)(b - benches + 1) % CHAINS];
-    expect("no table", pk_chain_exchange_iotlb(&other->chain, &table), PK_DONE);
-    expect("a map in no table", pk_iotlb_map(&table, base, PAGE, 0, READS), PK_WRONG_ORDER);
-    expect("no mapping in it", pk_iotlb_unmap(&table, base, PAGE), PK_WRONG_ORDER);
-}
-
-/* A pop by the library, load by load or with its loads ahead. */
-static uint32_t pop(struct bench *b, struct pk_queue *q, struct pk_pop *step, bool *again) {
-    static uint8_t bytes[PK_LOAD_MAX];
-    struct pk_ring ring = {0};
-    size_t len = 0;
-    uint32_t status;
-    memset(step, 0xa5, sizeof *step);
-    *again = false;
-    pk_ring_find(&ring, q, regions, region_count);
-    if (below(20) == 0)
-        expect("bytes at first", pk_pop(&b->chain, q, bytes, 1, step), PK_BAD_ARGUMENT);
-    if (!has_iommu && below(2)) return pk_pop_ring(&b->chain, q, &ring, step);
-    while ((status = pk_pop(&b->chain, q, bytes, len, step)) == PK_LOAD) {
-        if (below(20) == 0 && (*again = interrupt(b, q, step))) return status;
-        memcpy(bytes, (const void *)step->load_at, len = step->load_len);
-    }
-    return status;
 }
 
 /* The state of a handle is that of the model. */
@@ -361,6 +244,27 @@ static uint32_t push_status(const struct bench *b, const struct pk_queue *q) {
                : PK_NOT_MAPPED;
 }
 
+/* Another queue of the same numbers has other addresses, or another size: the chain isn't its. */
+static void push_elsewhere(struct bench *b, const struct pk_queue *q) {
+    struct pk_queue other = *q, copy = *q;
+    struct pk_stores stores;
+    uint8_t front[PK_FRONT_MAX], notify;
+    uint64_t *places[] = {&other.desc, &other.avail, &other.used};
+    uint64_t *place_of = places[below(3)];
+    *place_of = *place_of >= 64 ? *place_of - 16 : *place_of + 16;
+    if (below(4) == 0) other = *q, other.size *= 2;
+    if (pk_queue_begin(&copy, 0) || other.size > 32768) return;
+    copy = other;
+    if (pk_queue_begin(&copy, 0) != PK_DONE) return; /* its fields aren't valid */
+    copy = other;
+    uint32_t status = b->pushing ? pk_pushed(&b->chain, &copy, 0, &notify)
+                      : b->replied || b->fault
+                          ? pk_push(&b->chain, &copy, front, sizeof front, &stores)
+                          : pk_drop(&b->chain, &copy);
+    expect("another queue of the same numbers", status, PK_OTHER_QUEUE);
+    expect("that queue", memcmp(&copy, &other, sizeof copy) != 0, 0);
+}
+
 static void do_push(struct bench *b, struct pk_queue *q) {
     static const struct pk_stores none;
     struct pk_queue before = *q;
@@ -368,6 +272,7 @@ static void do_push(struct bench *b, struct pk_queue *q) {
     uint8_t front[PK_FRONT_MAX];
     memset(&stores, 0xa5, sizeof stores);
     bool is_lacking = below(8) == 0;
+    if (b->queue == q && below(8) == 0) push_elsewhere(b, q);
     if (!is_lacking) exchange(b);
     uint32_t wanted = push_status(b, q);
     expect("a push", pk_push(&b->chain, q, front, below(PK_FRONT_MAX + 1), &stores), wanted);

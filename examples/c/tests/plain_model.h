@@ -17,6 +17,11 @@ struct bench {
     uint64_t len; /* of the reply */
 };
 
+enum { QUEUES = 2, CHAINS = 3 };
+extern struct pk_queue queues[QUEUES];
+extern struct bench benches[CHAINS];
+extern struct pk_iotlb table;
+
 /* A pop by the model: a status, and what it tells. */
 struct told {
     uint32_t status, access;
@@ -32,5 +37,14 @@ uint64_t element(const struct pk_queue *q, uint16_t at);
 
 /* What a pop of a queue by a free handle tells. A chain is kept in the bench. */
 struct told model_pop(struct bench *b, const struct pk_queue *q);
+
+/* Each chain takes the next ticket, modulo 2^32. A faulty one doesn't tell it. */
+void check_ticket(struct bench *b, uint32_t ticket);
+
+/* While one handle has the table, no other gets one, and the place has none. */
+void lend_once(const struct bench *b);
+
+/* A pop by the library. `again`: it was interrupted, and has to begin again. */
+uint32_t pop(struct bench *b, struct pk_queue *q, struct pk_pop *step, bool *again);
 
 #endif
