@@ -18,31 +18,54 @@ enum { SIZE = 4, LIST = 0x800, SECOND = 1000000000 };
 static const struct row {
     uint8_t opcode, record, names, answer;
 } rows[] = {
-    {1, 0, 1, PK_ANSWER_ENTRY},   {2, 8, 0, PK_ANSWER_NONE},      {3, 16, 0, PK_ANSWER_ATTR},
-    {4, 88, 0, PK_ANSWER_ATTR},   {5, 0, 0, PK_ANSWER_DATA},      {6, 0, 2, PK_ANSWER_ENTRY},
-    {8, 16, 1, PK_ANSWER_ENTRY},  {9, 8, 1, PK_ANSWER_ENTRY},     {10, 0, 1, PK_ANSWER_DONE},
-    {11, 0, 1, PK_ANSWER_DONE},   {12, 8, 2, PK_ANSWER_DONE},     {13, 8, 1, PK_ANSWER_ENTRY},
-    {14, 8, 0, PK_ANSWER_OPEN},   {15, 40, 0, PK_ANSWER_DATA},    {16, 40, 0, PK_ANSWER_WRITE},
-    {17, 0, 0, PK_ANSWER_STATFS}, {18, 24, 0, PK_ANSWER_DONE},    {20, 16, 0, PK_ANSWER_DONE},
-    {21, 8, 1, PK_ANSWER_DONE},   {22, 8, 1, PK_ANSWER_DATA},     {23, 8, 0, PK_ANSWER_DATA},
-    {24, 0, 1, PK_ANSWER_DONE},   {25, 24, 0, PK_ANSWER_DONE},    {26, 64, 0, PK_ANSWER_INIT},
-    {27, 8, 0, PK_ANSWER_OPEN},   {28, 40, 0, PK_ANSWER_ENTRIES}, {29, 24, 0, PK_ANSWER_DONE},
-    {30, 16, 0, PK_ANSWER_DONE},  {34, 8, 0, PK_ANSWER_DONE},     {35, 16, 1, PK_ANSWER_CREATE},
-    {38, 0, 0, PK_ANSWER_DONE},   {43, 32, 0, PK_ANSWER_DONE},    {44, 40, 0, PK_ANSWER_ENTRIES},
-    {45, 16, 2, PK_ANSWER_DONE},  {46, 24, 0, PK_ANSWER_LSEEK},   {47, 56, 0, PK_ANSWER_WRITE},
+    {1, 0, 1, PK_ANSWER_ENTRY},
+    {2, 8, 0, PK_ANSWER_NONE},
+    {3, 16, 0, PK_ANSWER_ATTR},
+    {4, 88, 0, PK_ANSWER_ATTR},
+    {5, 0, 0, PK_ANSWER_DATA},
+    {6, 0, 2, PK_ANSWER_ENTRY},
+    {8, 16, 1, PK_ANSWER_ENTRY},
+    {9, 8, 1, PK_ANSWER_ENTRY},
+    {10, 0, 1, PK_ANSWER_DONE},
+    {11, 0, 1, PK_ANSWER_DONE},
+    {12, 8, 2, PK_ANSWER_DONE},
+    {13, 8, 1, PK_ANSWER_ENTRY},
+    {14, 8, 0, PK_ANSWER_OPEN},
+    {15, 40, 0, PK_ANSWER_DATA},
+    {16, 40, 0, PK_ANSWER_WRITE},
+    {17, 0, 0, PK_ANSWER_STATFS},
+    {18, 24, 0, PK_ANSWER_DONE},
+    {20, 16, 0, PK_ANSWER_DONE},
+    {21, 8, 1, PK_ANSWER_DONE},
+    {22, 8, 1, PK_ANSWER_DATA},
+    {23, 8, 0, PK_ANSWER_DATA},
+    {24, 0, 1, PK_ANSWER_DONE},
+    {25, 24, 0, PK_ANSWER_DONE},
+    {26, 64, 0, PK_ANSWER_INIT},
+    {27, 8, 0, PK_ANSWER_OPEN},
+    {28, 40, 0, PK_ANSWER_ENTRIES},
+    {29, 24, 0, PK_ANSWER_DONE},
+    {30, 16, 0, PK_ANSWER_DONE},
+    {34, 8, 0, PK_ANSWER_DONE},
+    {35, 16, 1, PK_ANSWER_CREATE},
+    {38, 0, 0, PK_ANSWER_DONE},
+    {43, 32, 0, PK_ANSWER_DONE},
+    {44, 40, 0, PK_ANSWER_ENTRIES},
+    {45, 16, 2, PK_ANSWER_DONE},
+    {46, 24, 0, PK_ANSWER_LSEEK},
+    {47, 56, 0, PK_ANSWER_WRITE},
     {50, 8, 0, PK_ANSWER_DONE},
+    /* without a file call */
+    {31, 48, 0, PK_ANSWER_NONE},
+    {33, 48, 0, PK_ANSWER_NONE},
+    {36, 8, 0, PK_ANSWER_NONE},
+    {37, 16, 0, PK_ANSWER_NONE},
+    {40, 24, 0, PK_ANSWER_NONE},
+    {200, 0, 0, PK_ANSWER_NONE},
 };
 enum { ROWS = sizeof rows / sizeof *rows };
-enum {
-    SETATTR = 4,
-    READ = 15,
-    WRITE = 16,
-    SETXATTR = 21,
-    GETXATTR = 22,
-    LISTXATTR = 23,
-    INIT = 26
-};
-enum { READDIR = 28, DESTROY = 38, READDIRPLUS = 44 };
+enum { FORGET = 2, LINK = 13, READ = 15, WRITE = 16, GETXATTR = 22, LISTXATTR = 23, INIT = 26 };
+enum { READDIR = 28, INTERRUPT = 36, DESTROY = 38, READDIRPLUS = 44, ENOSYS_OF = 38 };
 
 static _Alignas(4096) uint8_t memory[MEMORY];
 static const struct pk_region region = {.guest = 0, .len = MEMORY, .host = (uintptr_t)memory};
@@ -357,6 +380,12 @@ static void by_listing(uint32_t ticket) {
 
 static void store(size_t at, uint64_t value, size_t len) { memcpy(memory + at, &value, len); }
 
+static uint64_t loaded(size_t at, size_t len) {
+    uint64_t value = 0;
+    memcpy(&value, memory + at, len);
+    return value;
+}
+
 /* The driver makes a request of the row available. Returns its length. */
 static size_t offer(void) {
     size_t len = 40 + row->record + 2u * row->names;
@@ -366,6 +395,7 @@ static size_t offer(void) {
     store(REQUEST + 4, row->opcode, 4);
     store(REQUEST + 8, number(), 8);
     store(REQUEST + 16, number(), 8);
+    for (size_t at = 24; at < 36; at += 4) store(REQUEST + at, number(), 4);
     size = below(room + 1);
     if (row->answer == PK_ANSWER_ENTRIES) store(REQUEST + 56, size, 4);
     if (row->opcode == WRITE) store(REQUEST + 56, len - 80, 4);
@@ -406,6 +436,7 @@ static void decode(size_t len) {
     for (uint64_t k = below(3); k > 0; k--) {
         expect("too few bytes", pk_decode(&chain, &device, bytes, below(have), &call), PK_MORE);
         expect("the first bytes", call.needed, have);
+        expect("no call", call.kind, 0);
     }
     uint32_t status = pk_decode(&chain, &device, bytes, have, &call);
     if (row->opcode == WRITE) {
@@ -417,11 +448,23 @@ static void decode(size_t len) {
     }
     expect("the request", status, PK_DONE);
     bool is_counted = (row->opcode == GETXATTR || row->opcode == LISTXATTR) && call.size == 0;
+    bool is_call = row->answer != PK_ANSWER_NONE || row->opcode == FORGET;
+    bool has_sender = is_call && row->opcode != INIT && row->opcode != DESTROY;
     expect("its fault", call.fault, 0);
-    expect("its kind", call.kind, row->opcode == 45 ? 12 : row->opcode);
+    expect("its opcode", call.opcode, row->opcode);
+    expect("its number", call.unique, loaded(REQUEST + 8, 8));
+    expect("its node", row->opcode == LINK ? call.node2 : call.node,
+           has_sender ? loaded(REQUEST + 16, 8) : 0);
+    expect("its uid", call.uid, has_sender ? loaded(REQUEST + 24, 4) : 0);
+    expect("its gid", call.gid, has_sender ? loaded(REQUEST + 28, 4) : 0);
+    expect("its pid", call.pid, has_sender ? loaded(REQUEST + 32, 4) : 0);
+    expect("its kind", call.kind, !is_call ? 0 : row->opcode == 45 ? 12 : row->opcode);
     expect("its answer", call.answer, is_counted ? PK_ANSWER_XATTR : row->answer);
     is_answered = row->answer == PK_ANSWER_NONE;
     front = 0, wanted_len = 0, entries = 0, list_len = 0;
+    if (is_call || row->opcode == INTERRUPT) return;
+    begin_reply();
+    expect("the refusal's length", end_reply(ENOSYS_OF, 0), PK_DONE);
 }
 
 static void answer(void) {

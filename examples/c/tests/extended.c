@@ -196,6 +196,8 @@ static void play_round(void) {
     uint32_t opcode = (uint32_t)ONE_OF(SYMLINK, MKNOD, MKDIR, CREATE);
     size_t have, record = make(opcode);
     device.options = ONE_OF(0, CONTEXTS, GROUP, CONTEXTS | GROUP, CONTEXTS | GROUP);
+    uint64_t number = chance();
+    memcpy(request + 8, &number, 8);
     memset(&wanted, 0, sizeof wanted);
     uint32_t fault = read_request(record, opcode == SYMLINK ? 2 : 1), status;
     pop();
@@ -204,6 +206,8 @@ static void play_round(void) {
     if (status == PK_MORE) status = pk_decode(&chain, &device, request, request_len, &call);
     expect("the request", status, PK_DONE);
     expect("its fault", call.fault, fault);
+    expect("its opcode", call.opcode, opcode);
+    expect("its number", call.unique, number);
     expect("its kind", call.kind, fault ? PK_CALL_NONE : opcode);
     faulty += fault != 0, good += fault == 0;
     if (fault == 0) {
