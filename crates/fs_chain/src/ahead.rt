@@ -7,6 +7,7 @@ ghost use Rattle.fs_chain.specs.Ahead.{PopsAhead, ahead_error};
 ghost use Rattle.fs_chain.specs.AheadSteps.{PopsAheadBy};
 ghost use Rattle.fs_chain.specs.Events.{event_fault};
 ghost use Rattle.fs_chain.specs.Queues.{may_take};
+ghost use Rattle.fs_chain.specs.Walks.{IsAllBut, StaysForLoad, left_of, queue_after, state_after, told_of};
 ghost use Rattle.fs_chain.specs.declared.state.ChainState.TheVariants as at;
 ghost use Rattle.fs_chain.specs.declared.loads.LoadOutcome.TheVariants as goes;
 
@@ -15,11 +16,33 @@ use crate::error::ChainError;
 use crate::loads::LoadOutcome;
 use crate::popping::PopOutcome;
 use crate::queue::QueueState;
-use crate::state::ChainState;
+use crate::state::{ChainState, PopId};
 use fs_queue::QueueError;
-use fs_regions::{Course, LoadAhead};
+use fs_regions::{Course, CourseStep, LoadAhead};
 
 impl ChainHandle {
+    // Keeps the result of a pop that didn't go straight, and returns it. It is a function of its own so that
+    // the frequent way doesn't go through its memory.
+    #[cold]
+    #[inline(never)]
+    fn settle_stepwise(
+        &mut self,
+        queue: &mut QueueState,
+        course: Course,
+        pop_id: PopId,
+        step: CourseStep,
+    ) -> PopOutcome
+        ensures told { result ≡ told_of self.new.descriptors.items step }
+        ensures state { self.new.state ≡ state_after course pop_id self.new.descriptors.items step }
+        ensures left { self.new.descriptors.items ≡ left_of step self.old.descriptors.items }
+        ensures stays { StaysForLoad step self.old.descriptors self.new.descriptors }
+        ensures same { IsAllBut self.old self.new }
+        ensures apart { (self.new.part ≡ self.old.part) × (self.new.session ≡ self.old.session) }
+        ensures queue { queue.new ≡ queue_after queue.old step }
+    {
+        self.settle(queue, course, pop_id, step)
+    }
+
     // Begins a pop at the queue's position, and goes on with loads that were made ahead.
     #[inline(always)]
     fn begin_there_ahead(
@@ -40,11 +63,26 @@ impl ChainHandle {
             position: queue.next_avail,
             limit: self.limit,
         };
-        let step = course.begin_ahead(&self.regions, ahead, bytes, &mut self.descriptors);
         let pop_id = queue.pop_id(&self.regions);
-        let walked = self.settle(queue, course, pop_id, step);
-        self.clear_part();
-        walked
+        match course.straight(&self.regions, ahead, bytes, &mut self.descriptors) {
+            Some(head) => {
+                let step = CourseStep::Chain(head, None);
+                let walked = self.settle(queue, course, pop_id, step);
+                self.clear_part();
+                walked
+            }
+            None => {
+                let step = course.begin_stepwise(
+                    &self.regions,
+                    ahead,
+                    bytes,
+                    &mut self.descriptors,
+                );
+                let walked = self.settle_stepwise(queue, course, pop_id, step);
+                self.clear_part();
+                walked
+            }
+        }
     }
 
     // The result of a pop whose used_event or avail_event isn't mapped.

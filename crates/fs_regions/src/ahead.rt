@@ -101,10 +101,11 @@ impl Course {
         step
     }
 
-    // Begins a pop, and goes on with loads that were made ahead, step by step.
+    /// Begins a pop, and goes on with loads that were made ahead, step by step. Their bytes lie one behind
+    /// another. A load is taken only if it is just the one that the pop asks for.
     #[inline(never)]
     #[tactic(auto, using(crate::proofs::Going::begins_so))]
-    fn begin_stepwise(
+    pub fn begin_stepwise(
         &self,
         regions: &GuestMap,
         ahead: &[LoadAhead],
@@ -116,24 +117,5 @@ impl Course {
     {
         let begun = self.begin(regions, descriptors);
         self.go_ahead(regions, begun, ahead, bytes, descriptors)
-    }
-
-    /// Begins a pop, and goes on with loads that were made ahead, whose bytes lie one behind another. A load
-    /// is taken only if it is just the one that the pop asks for.
-    #[inline(always)]
-    pub fn begin_ahead(
-        &self,
-        regions: &GuestMap,
-        ahead: &[LoadAhead],
-        bytes: &[u8],
-        descriptors: &mut Descriptors,
-    ) -> CourseStep
-        ensures { BeginsAhead regions.now self.now.limit (queue_of self.now) (loads_ahead ahead.now bytes.now)
-            descriptors.new result }
-    {
-        match self.straight(regions, ahead, bytes, descriptors) {
-            Some(head) => CourseStep::Chain(head, None),
-            None => self.begin_stepwise(regions, ahead, bytes, descriptors),
-        }
     }
 }

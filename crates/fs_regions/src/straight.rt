@@ -240,7 +240,7 @@ impl Course {
     /// then the list has any descriptors.
     #[inline(always)]
     #[tactic(auto, using(crate::proofs::GoingStraight::goes_straight))]
-    pub(crate) fn straight(
+    pub fn straight(
         &self,
         regions: &GuestMap,
         ahead: &[LoadAhead],
