@@ -6,7 +6,8 @@ use Rattle.fs_queue.specs.Queue.{has_bit}
 use Rattle.fs_chain.specs.Numbers.{chain_error_number}
 use Rattle.fs_chain.specs.Queues.{gave}
 use Rattle.fs_chain.specs.declared.chain_handle.ChainHandle.{ChainHandle}
-use Rattle.fs_chain.specs.declared.error.ChainError.TheVariants.{BadArgument, WrongOrder}
+use Rattle.fs_chain.specs.declared.error.ChainError.{ChainError}
+use Rattle.fs_chain.specs.declared.error.ChainError.TheVariants as error
 use Rattle.fs_chain.specs.declared.queue.QueueState.{QueueState}
 use Rattle.notify.specs.Kicks.{NotifyState, ChecksWish, after}
 use Rattle.notify.specs.Threads.{ThreadedQueue, Walker}
@@ -22,8 +23,10 @@ use Rattle.fs_chain_c.specs.Pushing.{EndsHandlePush}
 use Rattle.fs_chain_c.specs.Queues.{IsQueueState}
 use Rattle.fs_chain_c.proofs.SameQueues.{state_same}
 
-pub no_order : 0 ≡ chain_error_number WrongOrder → ⊥
-no_order is = cc
+pub no_error : (e : ChainError) → 0 ≡ chain_error_number e → ⊥
+no_error error.OutOfMemory is = cc
+no_error error.BadArgument is = cc
+no_error e is = cc
 
 most : (n : ℕ) → n < 2 ^ 16 → max 1 n < 2 ^ 16
 most n low = grind arith
@@ -36,12 +39,9 @@ counted q k is avail used few = (
   subst (λ (n : ℕ). n < 2 ^ 16) (sym is.max_in_flight) (most q.max_in_flight few),
 )
 
-pub no_argument : 0 ≡ chain_error_number BadArgument → ⊥
-no_argument is = cc
-
 wishes_by : StoresAWish → (b : ChainHandle) (q : FsQueue) (told : FsStore) → SetsNotification b q 1 told 0
     → q.next_avail < 2 ^ 16 → q.next_used < 2 ^ 16 → q.max_in_flight < 2 ^ 16 → WishesSo (Some b) q told
-wishes_by law b q told (inl none) avail used few = absurd (no_argument none.1)
+wishes_by law b q told (inl none) avail used few = absurd (no_error error.BadArgument none.1)
 wishes_by law b q told (inr is) avail used few =
     let k = is.1 in
     let small = counted q k is.2 avail used few in (
@@ -61,7 +61,7 @@ wishes_by law b q told (inr is) avail used few =
 pub wishes_so : StoresAWish → (before after : Option ChainHandle) (q : FsQueue) (told : FsStore) (status : ℕ)
     → AsksKicks before q 1 status told after → q.next_avail < 2 ^ 16 → q.next_used < 2 ^ 16 → q.max_in_flight < 2 ^ 16
     → status ≡ 0 → WishesSo before q told
-wishes_so law None None q told status asks avail used few done = absurd (no_order (sym done ∙ asks.0))
+wishes_so law None None q told status asks avail used few done = absurd (no_error error.WrongOrder (sym done ∙ asks.0))
 wishes_so law None (Some b') q told status asks avail used few done = absurd asks
 wishes_so law (Some b) None q told status asks avail used few done = absurd asks
 wishes_so law (Some b) (Some b') q told status asks avail used few done =
@@ -75,7 +75,7 @@ says_so false bytes = refl
 
 checks_by : NotifyIsACheck → (b b' : ChainHandle) (q q' : FsQueue) (seen notify : ℕ) → EndsHandlePush b q seen notify 0 b' q'
     → seen < 2 ^ 16 → q.next_used < 2 ^ 16 → ChecksSo q seen notify
-checks_by law b b' q q' seen notify (inl none) fits used = absurd (no_argument none.2.0)
+checks_by law b b' q q' seen notify (inl none) fits used = absurd (no_error error.BadArgument none.2.0)
 checks_by law b b' q q' seen notify (inr is) fits used =
     let k = is.1 in (
       k,
@@ -92,7 +92,7 @@ checks_by law b b' q q' seen notify (inr is) fits used =
 
 pub checks_so : NotifyIsACheck → (before now : Option ChainHandle) (q q' : FsQueue) (seen notify status : ℕ)
     → EndsPush before q seen status notify now q' → seen < 2 ^ 16 → q.next_used < 2 ^ 16 → status ≡ 0 → ChecksSo q seen notify
-checks_so law None None q q' seen notify status ends fits used done = absurd (no_order (sym done ∙ ends.0))
+checks_so law None None q q' seen notify status ends fits used done = absurd (no_error error.WrongOrder (sym done ∙ ends.0))
 checks_so law None (Some b') q q' seen notify status ends fits used done = absurd ends
 checks_so law (Some b) None q q' seen notify status ends fits used done = absurd ends
 checks_so law (Some b) (Some b') q q' seen notify status ends fits used done =

@@ -1,6 +1,7 @@
 -- Calls of the exports meet the hypotheses of `law_log`.
 use Rattle.std.proofs.Common.{◌≡◌, ◌-◌, ◌^◌, ◌∙◌, ℕ, List, Option, Some, None, ap, drop, min, subst, sym, take}
 use Rattle.std.proofs.lemmas.List.{take_at}
+use Rattle.fs_chain.specs.declared.error.ChainError.TheVariants as error
 use Rattle.fs_chain.specs.declared.chain_handle.ChainHandle.{ChainHandle}
 use Rattle.fs_chain_c.specs.declared.pushing.FsStores.{FsStores}
 use Rattle.fs_chain_c.specs.declared.queue.FsQueue.{FsQueue}
@@ -10,7 +11,7 @@ use Rattle.fs_chain_c.specs.Logging.{PushTellsAddresses, RangesAreRoom}
 use Rattle.fs_chain_c.specs.LogsCalled.{AreItsAddresses, MarksReply, MarksUsed}
 use Rattle.fs_chain_c.specs.Pushing.{PushesHandle}
 use Rattle.fs_chain_c.specs.Ranges.{FillsRanges, TellsRanges}
-use Rattle.fs_chain_c.proofs.CalledLemmas.{no_order}
+use Rattle.fs_chain_c.proofs.CalledLemmas.{no_error}
 
 fills_by : RangesAreRoom → (b : ChainHandle) (from most count : ℕ) (ranges ranges' : List FsRange)
     → FillsRanges b from most ranges ranges' count → AreItsAddresses b from (take count ranges')
@@ -30,7 +31,7 @@ marks_reply law (Some b) (Some b') from most ranges ranges' count tells =
 
 pub marks_used : PushTellsAddresses → (before after : Option ChainHandle) (q q' : FsQueue) (front front' : List ℕ) (told : FsStores)
     (status : ℕ) → Pushes before q front status told after q' front' → status ≡ 0 → MarksUsed q told
-marks_used law None None q q' front front' told status pushes done = absurd (no_order (sym done ∙ pushes.0))
+marks_used law None None q q' front front' told status pushes done = absurd (no_error error.WrongOrder (sym done ∙ pushes.0))
 marks_used law None (Some b') q q' front front' told status pushes done = absurd pushes
 marks_used law (Some b) None q q' front front' told status pushes done = absurd pushes
 marks_used law (Some b) (Some b') q q' front front' told status pushes done =

@@ -5,6 +5,7 @@ use Rattle.fuse_values.specs.declared.call.FileCall.{FileCall}
 use Rattle.server_phases.specs.declared.session.Session.{Session}
 use Rattle.virtiofsd_fuse.specs.Grammar.{meaning}
 use Rattle.virtiofsd_fuse.specs.Serving.{setting}
+use Rattle.fs_chain.specs.declared.error.ChainError.TheVariants as error
 use Rattle.fs_chain.specs.declared.chain_handle.ChainHandle.{ChainHandle}
 use Rattle.fs_chain.specs.declared.decoding.Decoded.{Decoded}
 use Rattle.fs_chain.specs.declared.decoding.Decoded.TheVariants as tells
@@ -17,8 +18,7 @@ use Rattle.fs_chain_c.specs.Decoding.{Decodes, DecodesHandle, DecodesSo}
 use Rattle.fs_chain_c.specs.Replies.{AsksChain}
 use Rattle.fs_chain_c.specs.Spans.{AskedSpansHoldNames, IfCall, SpansHoldNames}
 use Rattle.fs_chain_c.specs.SpansCalled.{DecodesNames, MeansCall, MeansNames}
-use Rattle.fs_chain_c.proofs.ActingLemmas.{no_error}
-use Rattle.fs_chain_c.proofs.CalledLemmas.{no_argument, no_order}
+use Rattle.fs_chain_c.proofs.CalledLemmas.{no_error}
 use Rattle.fs_chain_c.proofs.SpanCalls.{Keeps, asks_of}
 
 -- ---- a request was decoded
@@ -30,13 +30,13 @@ DecodesOne before d request call after =
 
 decodes_by : (b b' : ChainHandle) (d : FsDevice) (request : List ℕ) (call : FsCall) → DecodesHandle b d request call 0 b'
     → DecodesSo b d request call 0 b'
-decodes_by b b' d request call (inl none) = absurd (no_argument none.1)
+decodes_by b b' d request call (inl none) = absurd (no_error error.BadArgument none.1)
 decodes_by b b' d request call (inr (inl why)) = absurd (no_error why.1 why.3)
 decodes_by b b' d request call (inr (inr so)) = so.1
 
 decodes_one : (before after : Option ChainHandle) (d : FsDevice) (request : List ℕ) (call : FsCall) (status : ℕ)
     → AsksChain before d request status call after → status ≡ 0 → DecodesOne before d request call after
-decodes_one None None d request call status asks done = absurd (no_order (sym done ∙ asks.0))
+decodes_one None None d request call status asks done = absurd (no_error error.WrongOrder (sym done ∙ asks.0))
 decodes_one None (Some b') d request call status asks done = absurd asks
 decodes_one (Some b) None d request call status asks done = absurd asks
 decodes_one (Some b) (Some b') d request call status asks done =

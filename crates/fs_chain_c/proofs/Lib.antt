@@ -1,9 +1,6 @@
-pub mod ActingLemmas
-pub mod CalledActs
 pub mod CalledLemmas
 pub mod CalledLogs
 pub mod CalledMoves
-pub mod CalledPops
 pub mod CalledSpans
 mod ChainValues
 mod IotlbValues

@@ -1,4 +1,3 @@
-pub mod Acting
 pub mod Decoding
 pub mod Calls
 pub mod Handles
@@ -6,7 +5,6 @@ pub mod Notifications
 pub mod LawsCalled
 pub mod LogsCalled
 pub mod MovesCalled
-pub mod PopsCalled
 pub mod SpansCalled
 pub mod Listing
 pub mod Memory
