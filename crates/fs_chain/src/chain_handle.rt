@@ -13,7 +13,7 @@ ghost use Rattle.fs_chain.specs.declared.state.ChainState.TheVariants as at;
 use crate::error::ChainError;
 use crate::state::ChainState;
 use crate::window_cursor::WindowCursor;
-use fs_queue::{Descriptors, MOST_LIMIT};
+use fs_queue::{Descriptor, Descriptors, MOST_LIMIT};
 use fs_regions::{GuestMap, window_from};
 use server_phases::Session;
 use std::alloc::Global;
@@ -142,8 +142,9 @@ impl ChainHandle {
         if !self.is_out() {
             return None;
         }
-        passed.pass_to(&self.descriptors, write_only, from);
-        let left = passed.left(&self.descriptors);
+        let descriptors: &[Descriptor] = &self.descriptors;
+        passed.pass_to(descriptors, write_only, from);
+        let left = passed.left(descriptors);
         window_from(&self.regions, left, write_only, from - passed.bytes)
     }
 

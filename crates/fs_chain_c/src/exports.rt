@@ -200,6 +200,27 @@ pub extern "C" fn pk_drop(alloc: Global, chain: &mut FsChain, queue: &mut FsQueu
     status
 }
 
+// Fills the windows of the bytes of one direction from one on, at most so many; returns how many windows.
+#[inline(never)]
+fn tell_windows(
+    alloc: Global,
+    chain: &mut FsChain,
+    write_only: bool,
+    from: u64,
+    len: u64,
+    windows: &mut [FsWindow],
+) -> usize
+    ensures { TellsStretches chain.old.held.value write_only from len windows.old result
+        chain.new.held.value windows.new }
+{
+    let Some(handle) = chain.take(alloc) else {
+        return 0;
+    };
+    let count = fill(&handle, write_only, from, len, windows);
+    *chain = FsChain::of_box(handle);
+    count
+}
+
 /// Fills the windows of a request's bytes from one on, at most so many; returns how many windows.
 #[unsafe(no_mangle)]
 pub extern "C" fn pk_request_windows(
@@ -212,12 +233,7 @@ pub extern "C" fn pk_request_windows(
     ensures { TellsStretches chain.old.held.value false from len windows.old result
         chain.new.held.value windows.new }
 {
-    let Some(handle) = chain.take(alloc) else {
-        return 0;
-    };
-    let count = fill(&handle, false, from, len, windows);
-    *chain = FsChain::of_box(handle);
-    count
+    tell_windows(alloc, chain, false, from, len, windows)
 }
 
 /// Fills the windows of a reply buffer's bytes from one on, at most so many; returns how many windows.
@@ -232,12 +248,7 @@ pub extern "C" fn pk_reply_windows(
     ensures { TellsStretches chain.old.held.value true from len windows.old result
         chain.new.held.value windows.new }
 {
-    let Some(handle) = chain.take(alloc) else {
-        return 0;
-    };
-    let count = fill(&handle, true, from, len, windows);
-    *chain = FsChain::of_box(handle);
-    count
+    tell_windows(alloc, chain, true, from, len, windows)
 }
 
 /// Returns the stores of a push, and writes the reply's front to a buffer. Until C reports them made, no

@@ -1,6 +1,6 @@
 use Rattle.std.proofs.Common.{rules, refl}
 use Rattle.fs_chain_c.proofs.HandleLemmas.{on_handle}
-use Rattle.fs_chain_c.proofs.exports.pk_request_windows.Goals as goal
+use Rattle.fs_chain_c.proofs.exports.tell_windows.Goals as goal
 
 pub returns : goal.returns
 returns c =
