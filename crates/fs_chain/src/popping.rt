@@ -8,8 +8,8 @@ ghost use Rattle.fs_chain.specs.declared.state.ChainState.TheVariants as at;
 use crate::chain_handle::ChainHandle;
 use crate::queue::QueueState;
 use crate::state::{ChainReply, ChainState, InFlight, PopId};
-use fs_queue::{ChainFault, QueueError, count_bytes};
-use fs_regions::{Course, CourseStep};
+use fs_queue::{ChainFault, QueueError};
+use fs_regions::{Course, CourseStep, count_both};
 use vm_memory_core::{IovaRange, Permissions};
 
 /// The result of a pop.
@@ -64,8 +64,8 @@ impl ChainHandle {
         } }
         ensures queue { queue.new ≡ took queue.old }
     {
-        let request_len = count_bytes(&self.descriptors, false) as usize;
-        let room_len = count_bytes(&self.descriptors, true) as usize;
+        let (request_len, room_len) = count_both(&self.descriptors);
+        let (request_len, room_len) = (request_len as usize, room_len as usize);
         queue.take();
         self.state = ChainState::Taken(InFlight {
             course,

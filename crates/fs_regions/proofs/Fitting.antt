@@ -1,10 +1,9 @@
 -- A chain whose buffers are mapped and short enough, and whose push can be made.
-use Rattle.std.proofs.Common.{◌≡◌, ◌∙◌, ℕ, Bool, true, false, ◌+◌, ◌-◌, ◌*◌, ◌^◌, ◌%◌, ◌<◌, ◌≤◌, ◌&&◌, List, [], ◌∷◌, None}
-use Rattle.std.proofs.Common.{refl, ap, sym, subst, arith, nat_lt}
+use Rattle.std.proofs.Common.{◌≡◌, ◌∙◌, ℕ, Bool, true, false, ◌+◌, ◌-◌, ◌*◌, ◌^◌, ◌<◌, ◌≤◌, List, [], ◌∷◌, None}
+use Rattle.std.proofs.Common.{refl, sym, subst, arith}
 use Rattle.std.specs.Prelude.{is_some}
 use Rattle.std.specs.List.{list_all}
-use Rattle.std.proofs.lemmas.Bool.{and_parts, le-ltb, ltb-true}
-use Rattle.std.proofs.lemmas.List.Sums.{sum_by-cons}
+use Rattle.std.proofs.lemmas.Bool.{and_parts}
 use Rattle.std.proofs.Math.Nat.{mod-lt}
 use Rattle.vm_iotlb.specs.declared.permissions.Permissions.{Permissions}
 use Rattle.vm_iotlb.specs.declared.permissions.Permissions.TheVariants.{Read, Write}
@@ -12,9 +11,9 @@ use Rattle.vm_memory.specs.Memory.{Memory, addresses, location, reach}
 use Rattle.fs_queue.specs.declared.layout.QueueLayout.{QueueLayout}
 use Rattle.fs_queue.specs.Chain.{Descriptor, is_writable}
 use Rattle.fs_queue.specs.Queue.{element_at, index_at}
-use Rattle.fs_queue.specs.Taking.{access_of, all_reach, chain_fault, readable, return_fault, total_len, writable}
+use Rattle.fs_queue.specs.Taking.{access_of, all_reach, readable, return_fault, total_len, writable}
 use Rattle.fs_queue.specs.WalkingView.{at_position}
-use Rattle.fs_queue.proofs.TakeLemmas.{below, reach-each}
+use Rattle.fs_queue.proofs.TakeLemmas.{reach-each}
 use Rattle.fs_regions.proofs.Mapping.{cut}
 
 -- ---- the buffers
@@ -37,56 +36,6 @@ pub record Fits (m : Memory) (request reply : ℕ) (ds : List Descriptor) : Type
   pub few_written : total_len (writable ds) ≤ reply
   pub reads : all_reach m Read (readable ds) ≡ true
   pub writes : all_reach m Write (writable ds) ≡ true
-
--- none
-pub fits_none : (m : Memory) (request reply : ℕ) (ds : List Descriptor) → ds ≡ [] → Fits m request reply ds
-fits_none m request reply ds none = subst (λ (xs : List Descriptor). Fits m request reply xs) (sym none)
-    (record { few_read = omega arith; few_written = omega arith; reads = refl; writes = refl })
-
-fits_by : (m : Memory) (request reply reads writes : ℕ) (d : Descriptor) (ds : List Descriptor) (b : Bool) → is_writable d ≡ b
-    → reads ≡ total_len (readable (d ∷ [])) → writes ≡ total_len (writable (d ∷ [])) → reads ≤ request → writes ≤ reply
-    → all_reach m Read (readable (d ∷ [])) ≡ true → all_reach m Write (writable (d ∷ [])) ≡ true
-    → Fits m (request - reads) (reply - writes) ds → Fits m request reply (d ∷ ds)
-fits_by m request reply reads writes d ds true is read written few_read few_written reads_it writes_it rest =
-    let long = rw is at written in
-    let one = sum_by-cons (λ (x : Descriptor). x.len) d [] in
-    let all = sum_by-cons (λ (x : Descriptor). x.len) d (writable ds) in
-    let few = rest.few_read in
-    let some = rest.few_written in
-    record {
-      few_read = rw is (omega (arith, few));
-      few_written = rw is (omega (arith, some, all, one, long, few_written));
-      reads = rw is rest.reads;
-      writes = rw is (rw rest.writes (rw is at writes_it));
-    }
-fits_by m request reply reads writes d ds false is read written few_read few_written reads_it writes_it rest =
-    let long = rw is at read in
-    let one = sum_by-cons (λ (x : Descriptor). x.len) d [] in
-    let all = sum_by-cons (λ (x : Descriptor). x.len) d (readable ds) in
-    let few = rest.few_read in
-    let some = rest.few_written in
-    record {
-      few_read = rw is (omega (arith, few, all, one, long, few_read));
-      few_written = rw is (omega (arith, some));
-      reads = rw is (rw rest.reads (rw is at reads_it));
-      writes = rw is rest.writes;
-    }
-
--- one more in front
-pub fits_on : (m : Memory) (request reply reads writes : ℕ) (d : Descriptor) (ds all : List Descriptor) → all ≡ d ∷ ds
-    → reads ≡ total_len (readable (d ∷ [])) → writes ≡ total_len (writable (d ∷ [])) → reads ≤ request → writes ≤ reply
-    → all_reach m Read (readable (d ∷ [])) ≡ true → all_reach m Write (writable (d ∷ [])) ≡ true
-    → Fits m (request - reads) (reply - writes) ds → Fits m request reply all
-fits_on m request reply reads writes d ds all is read written few_read few_written reads_it writes_it rest =
-    subst (λ (xs : List Descriptor). Fits m request reply xs) (sym is)
-    (fits_by m request reply reads writes d ds (is_writable d) refl read written few_read few_written reads_it writes_it rest)
-
--- then the chain has no fault of its buffers
-pub fits_all : (m : Memory) (limit : ℕ) (ds : List Descriptor) → Fits m limit limit ds → chain_fault m limit ds ≡ None
-fits_all m limit ds fits =
-    let read : nat_lt limit (total_len (readable ds)) ≡ false = le-ltb limit (total_len (readable ds)) fits.few_read in
-    let written : nat_lt limit (total_len (writable ds)) ≡ false = le-ltb limit (total_len (writable ds)) fits.few_written in
-    rw (read, written, fits.reads, fits.writes) refl
 
 -- ---- the push
 

@@ -52,7 +52,8 @@ pub(crate) fn pair(bytes: &[u8]) -> [u8; 2]
     ensures { result ≡ bytes.now }
 {
     let mut pair = [0u8; 2];
-    pair.copy_from_slice(bytes);
+    // The length as a number, so that the compiler makes a load of it.
+    pair.copy_from_slice(&bytes[..2]);
     pair
 }
 

@@ -1,7 +1,7 @@
 //! Tests of a chain without a fault: whether its buffers are mapped and short enough, and its push can be
-//! made. Each takes few look-ups, and says no more than yes.
+//! made. Each takes few look-ups, and says no more than yes. And the lengths of a chain's buffers.
 
-ghost use Rattle.std.specs.Prelude.{◌≡◌, [], ◌∷◌, None, true};
+ghost use Rattle.std.specs.Prelude.{◌≡◌, ◌-◌, ◌^◌, [], ◌∷◌, None, min, true};
 ghost use Rattle.vm_iotlb.specs.declared.permissions.Permissions.TheVariants.{Read, Write};
 ghost use Rattle.vm_memory.specs.Memory.{reach};
 ghost use Rattle.fs_queue.specs.Chain.{is_writable};
@@ -72,6 +72,23 @@ pub(crate) fn has_buffers(regions: &GuestMap, limit: u32, descriptors: &[Descrip
         reply -= writes;
     }
     true
+}
+
+/// How many bytes of a chain's descriptors the device reads, and how many it writes, each at most 2^64 - 1:
+/// in one pass over them.
+#[inline(always)]
+pub fn count_both(descriptors: &[Descriptor]) -> (u64, u64)
+    ensures reads { result.0 ≡ min (total_len (readable descriptors.now)) (2 ^ 64 - 1) }
+    ensures writes { result.1 ≡ min (total_len (writable descriptors.now)) (2 ^ 64 - 1) }
+{
+    let mut request = 0u64;
+    let mut reply = 0u64;
+    for descriptor in descriptors {
+        let (reads, writes) = lens_of(descriptor);
+        request = request.saturating_add(reads);
+        reply = reply.saturating_add(writes);
+    }
+    (request, reply)
 }
 
 /// Whether the chain at a position of a queue can be pushed. If the whole used ring is mapped, one look-up

@@ -21,6 +21,7 @@ pub use ahead::LoadAhead;
 pub use chain::{range_from, window_from};
 pub use course::Course;
 pub use entries::EntriesWalk;
+pub use fits::count_both;
 pub use map::GuestMap;
 pub use misses::missing_from;
 pub use region::MemoryRegion;

@@ -15,8 +15,8 @@ returns-in-Some c =
     record {
       pops = pops_apart c.args.self.now c.settle-walked.new.self c.clear_part.new.self c.args.queue.now c.settle-walked.new.queue _ ds step
           c.pop_id-pop_id.result c.settle-walked.result c.requires.free c.requires.goes c.requires.events c.requires.room
-          (rw c.in-Some.is at c.straight.ensures) c.pop_id-pop_id.ensures (s.told, s.state, s.queue, leaves, s.same) s.left s.stays s.apart.1
-          c.clear_part.ensures.cleared c.clear_part.ensures.apart;
+          (rw c.in-Some.is at c.straight.ensures) c.pop_id-pop_id.ensures (s.told, s.state, s.queue, leaves, s.same) s.left s.stays
+          s.apart.1 c.clear_part.ensures.cleared c.clear_part.ensures.apart;
     }
 
 pub returns-in-None : goal.returns-in-None
