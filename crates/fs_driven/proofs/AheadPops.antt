@@ -1,76 +1,31 @@
 -- A pop by loads ahead drives the run.
-use Rattle.std.proofs.Common.{inl, inr, ◌≡◌, ℕ, Bool, false, List, [], ◌∷◌, ◌++◌, length, Option, Some, None}
-use Rattle.std.proofs.Common.{slice_get}
+use Rattle.std.proofs.Common.{◌≡◌, ℕ, List, [], ◌∷◌, Some, None}
 use Rattle.std.proofs.Common.{refl, subst, sym, ap, ◌∙◌}
-use Rattle.std.specs.Prelude.{Result, Ok, Err, IfErr, IfOk, OnErr, OnOk, if◌then◌else◌}
-use Rattle.std.proofs.Common.{true, ◌⊎◌}
+use Rattle.std.specs.Prelude.{Result, Ok, Err, IfErr, IfOk, OnErr, OnOk}
 use Rattle.std.specs.Borrow.{Bor}
 use Rattle.fs_chain.specs.declared.error.ChainError.{ChainError}
 use Rattle.fs_chain.specs.declared.error.ChainError.TheVariants.{WrongOrder}
-use Rattle.fs_chain.specs.Events.{event_fault, event_miss}
-use Rattle.std.specs.Prelude.{◌+◌, ◌<◌}
-use Rattle.std.proofs.Common.{arith}
-use Rattle.std.proofs.lemmas.Bool.{eq-eqb}
-use Rattle.vm_iotlb.specs.declared.iova.IovaRange.{IovaRange}
-use Rattle.vm_iotlb.specs.declared.permissions.Permissions.{Permissions}
-use Rattle.fs_queue.specs.declared.fault.QueueError.{QueueError}
 use Rattle.fs_chain.specs.Ahead.{PopsAhead, WalksAhead, ahead_error}
 use Rattle.fs_driven.specs.Ahead.{PopsAheadBy}
 use Rattle.fs_driven.proofs.Ahead.{pops_ahead}
-use Rattle.fs_chain.specs.Loads.{GoesSo, IsSame, RefusesWalk, came, whole}
+use Rattle.fs_chain.specs.Loads.{GoesSo, whole}
 use Rattle.fs_chain.specs.Orders.{load_len}
-use Rattle.fs_chain.specs.Walks.{BeginsUnless, BeginsWhere, GoesOnUnless, KeepsStep, LacksEvents, WalksFrom, course_of}
-use Rattle.fs_chain.specs.Walks.{queue_after, state_after, told_of}
-use Rattle.fs_chain.specs.Queues.{pop_id_of}
-use Rattle.fs_queue.specs.Chain.{Descriptor}
-use Rattle.fs_chain.specs.Whole.{AddsSo}
-use Rattle.vm_memory_core.specs.Host.{changed_at}
-use Rattle.fs_queue.specs.declared.fault.ChainFault.{ChainFault}
-use Rattle.fs_queue.specs.Queue.{Queue, with_stop}
-use Rattle.fs_queue.specs.Returning.{stores_after_reply}
-use Rattle.fs_queue.specs.Taking.{after_refusal, stops_queue}
+use Rattle.fs_chain.specs.Walks.{WalksFrom}
 use Rattle.fs_regions.specs.Ahead.{AheadBytes, last_first, loads_ahead}
 use Rattle.fs_regions.specs.declared.ahead.LoadAhead.{LoadAhead}
-use Rattle.fs_regions.specs.Walks.{Loaded, nothing}
-use Rattle.fs_regions.specs.declared.course.Course.{Course}
-use Rattle.fs_regions.specs.declared.step.CourseStep as comes
-use Rattle.fs_regions.specs.declared.step.CourseStep.TheVariants as step
-use Rattle.fs_regions.specs.declared.walk.QueueWalk.{QueueWalk}
-use Rattle.plain_machine.specs.Step.{faulty}
-use Rattle.live_machine.specs.Several as several
-use Rattle.live_machine.specs.Live.{EndsPop, RefusesPop, after_pop, new_chain, phase_by, with_live}
-use Rattle.live_machine.proofs.Queues.{same_some, there_same}
-use Rattle.fs_chain.specs.Holds.{BeginsAPop, ContinuesAPop, EndsBy, HasPopped, PopIs, PopsBy, RefusedBy}
 use Rattle.fs_chain.specs.declared.loads.LoadOutcome as went
 use Rattle.fs_chain.specs.declared.loads.LoadOutcome.TheVariants as wents
 use Rattle.fs_chain.specs.declared.popping.PopOutcome as walked
-use Rattle.fs_chain.specs.declared.popping.PopOutcome.TheVariants as says
-use Rattle.fs_chain.specs.declared.state.PopId.{PopId}
-use Rattle.vm_memory.specs.Memory.{Memory}
-use Rattle.fs_regions.specs.Places.{places_in}
-use Rattle.server_phases.specs.declared.session.Session.{Session}
-use Rattle.live_machine.specs.Several.{LiveQueue, returning}
-use Rattle.live_machine.specs.Live.{EndsPopIn, InFlightChain, LiveEvent}
-use Rattle.live_machine.specs.Live.{Phase}
-use Rattle.live_machine.specs.Live.{PushedWith}
-use Rattle.live_machine.specs.Live.{Happens}
-use Rattle.fs_driven.specs.Desks.{Begun, Desk, Driven, FitsRun, IsReady, Leads, MayPop, desk, no_pop, own, with_pop}
-use Rattle.fs_driven.specs.Told.{DrivesOne, IsLoadedBy, PopTells, Tells, Turn, Unseen, turn}
-use Rattle.fs_driven.specs.Kept.{KeepsMemory}
-use Rattle.fs_chain.specs.Holds.{IsHeldIn, IsQueue}
-use Rattle.fs_chain.specs.Holds.{Machine, Pop}
-use Rattle.fs_chain.specs.Holds.{any_files, live_of}
+use Rattle.fs_driven.specs.Desks.{desk}
+use Rattle.fs_driven.specs.Told.{DrivesOne, Tells, turn}
 use Rattle.fs_chain.specs.Orders.{is_out}
-use Rattle.fs_chain.specs.Together.{Owned, with_handle}
 use Rattle.fs_chain.specs.declared.chain_handle.ChainHandle.{ChainHandle}
 use Rattle.fs_driven.specs.declared.commands.Command.TheVariants as does
 use Rattle.fs_driven.specs.declared.commands.Returned.TheVariants as gives
 use Rattle.fs_chain.specs.declared.queue.QueueState.{QueueState}
 use Rattle.fs_chain.specs.declared.state.ChainState as state
 use Rattle.fs_chain.specs.declared.state.ChainState.TheVariants as at
-use Rattle.fs_driven.proofs.Handles.{Moves, SamePlaces, held_out, idles, joins, others_same}
-use Rattle.fs_driven.proofs.Calls.{HasNoPush, fetched_ready, fits_out, no_error, refuses, same_held, stays_put}
-use Rattle.fs_driven.proofs.Calls.{still}
+use Rattle.fs_driven.proofs.Calls.{no_error, refuses, same_held}
 use Rattle.fs_driven.proofs.Pops.{Popping, begun_keeps, gone_keeps, no_part, part_keeps, popped}
 
 goes_at : (old new : ChainHandle) (q q' : QueueState) (bytes : List ℕ) (told : went.LoadOutcome)

@@ -1,69 +1,43 @@
 -- A call of a handle among others that is refused, or changes nothing of the run.
 use Rattle.std.proofs.Common.{◌≡◌, ℕ, Bool, true, false, List, [], ◌∷◌, ◌++◌, length, Option, Some, None}
 use Rattle.std.proofs.Common.{slice_get}
-use Rattle.std.proofs.Common.{refl, subst, sym, ap, ◌∙◌, ◌≤◌, ◌-◌, zero, suc, arith, eqb-true, ◌==◌, take, length-append}
-use Rattle.std.proofs.lemmas.Bool.{ltb-false}
-use Rattle.std.specs.Borrow.{Bor}
-use Rattle.std.specs.Prelude.{drop, Result, Ok, Err, IfErr, IfOk, OnOk, OnErr, if◌then◌else◌, nat_lt}
-use Rattle.fs_chain.specs.declared.error.ChainError.{ChainError}
-use Rattle.fs_chain.specs.declared.error.ChainError.TheVariants.{BadArgument, WrongOrder}
-use Rattle.fs_chain.specs.Walks.{IsAllBut}
-use Rattle.server_phases.specs.Asking.{IsRequestFront}
-use Rattle.std.specs.Prelude.{◌+◌}
-use Rattle.fs_chain.specs.Loads.{whole}
+use Rattle.std.proofs.Common.{refl, subst, sym, ap, ◌∙◌, zero, suc}
 use Rattle.vm_memory.specs.Memory.{Memory}
 use Rattle.fs_queue.specs.Chain.{Descriptor}
 use Rattle.fs_queue.specs.Returning.{stores_after_reply}
-use Rattle.fs_queue.specs.Taking.{addresses_of, readable, total_len, writable}
 use Rattle.fs_regions.specs.Places.{places_in}
 use Rattle.fs_regions.specs.Walks.{IsLongestStretch, IsThere, IsWalkAt, queue_of}
-use Rattle.fuse_fs.specs.declared.answers.Context.{Context}
-use Rattle.fuse_values.specs.Answers.{answer_of}
-use Rattle.fuse_values.specs.declared.answer.FileAnswer as made_answer
-use Rattle.fuse_values.specs.declared.answer.FileAnswer.TheVariants as value
-use Rattle.virtiofsd_fuse.specs.Grammar.{Meaning, meaning}
-use Rattle.virtiofsd_fuse.specs.Serving.{Setting, setting}
+use Rattle.virtiofsd_fuse.specs.Grammar.{Meaning}
+use Rattle.virtiofsd_fuse.specs.Serving.{Setting}
 use Rattle.plain_machine.specs.Step.{Calls, calls_alone, served_exchange}
-use Rattle.server_phases.specs.Answering.{TellsBytes, forget_calls}
-use Rattle.fuse_fs.specs.Calls.{Done, FileAnswer, FileCall, Forget}
 use Rattle.server_phases.specs.declared.session.Session.{Session}
-use Rattle.live_machine.specs.Several.{LiveQueue, returning}
-use Rattle.live_machine.specs.Live.{Abandoned, Asked, DecodesRequest, Fetched, InFlightChain, LoadsAreMapped}
-use Rattle.live_machine.specs.Live.{LiveEvent, LiveRun, Own}
+use Rattle.live_machine.specs.Several.{returning}
+use Rattle.live_machine.specs.Live.{Abandoned, Asked, Fetched, InFlightChain, LoadsAreMapped}
+use Rattle.live_machine.specs.Live.{LiveEvent, Own}
 use Rattle.live_machine.specs.Live.{Phase, PoppedFaulty}
-use Rattle.live_machine.specs.Live.{ReceivesAnswer, SetsOptions, after_answer}
-use Rattle.live_machine.specs.Live.{after_decoding}
 use Rattle.live_machine.specs.Live.{asked_chain, pop_refusal}
-use Rattle.live_machine.specs.Live.{Happens, room_of, room_of_phase, serving}
+use Rattle.live_machine.specs.Live.{room_of, serving}
 use Rattle.fuse_values.specs.declared.call.FileCall as made_call
-use Rattle.fs_chain.specs.Answers.{CanBeGiven, IfWaits, IsGiven, IsNotTaken, IsWaiting}
-use Rattle.fs_chain.specs.Decoding.{IfUndecoded, KeepsCall, KeepsReply, TellsMeaning, wanted_after, wanted_by}
-use Rattle.fs_driven.specs.Desks.{Begun, Desk, Driven, FitsRun, In, IsReady, Leads, MayPop, desk, own, with_pop}
-use Rattle.fs_driven.specs.Told.{DrivesOne, Tells, Unseen, asked_len_of, data_of, exactly, forgetting}
-use Rattle.fs_driven.specs.Told.{request_of, setting_of, turn}
+use Rattle.fs_chain.specs.Decoding.{KeepsCall, KeepsReply}
+use Rattle.fs_driven.specs.Desks.{Begun, Desk, Driven, FitsRun, IsReady, Leads, MayPop, desk, own, with_pop}
+use Rattle.fs_driven.specs.Told.{DrivesOne, Tells, Unseen, exactly}
+use Rattle.fs_driven.specs.Told.{turn}
 use Rattle.fs_driven.specs.Kept.{IsSameHeld, KeepsMemory}
-use Rattle.fs_chain.specs.Holds.{Answers, Decodes, ForgettingIs, DecodingIs, HoldsChain, IsRepliedWith, served_so}
+use Rattle.fs_chain.specs.Holds.{HoldsChain, IsRepliedWith}
 use Rattle.fs_chain.specs.Holds.{HoldsPop, IsHeldIn, IsOutAs, IsQueue}
 use Rattle.fs_chain.specs.Holds.{Machine, Pop}
-use Rattle.fs_chain.specs.Holds.{any_files, calls_decoded, live_of, queue_with}
-use Rattle.fs_chain.specs.Orders.{ask_error, is_out}
+use Rattle.fs_chain.specs.Holds.{live_of, queue_with}
+use Rattle.fs_chain.specs.Orders.{is_out}
 use Rattle.fs_chain.specs.Rings.{ring_of}
 use Rattle.fs_chain.specs.Together.{Owned, with_handle}
-use Rattle.fs_chain.specs.declared.answering.Replied.{Replied}
 use Rattle.fs_chain.specs.declared.chain_handle.ChainHandle.{ChainHandle}
 use Rattle.fs_driven.specs.declared.commands.Command.{Command}
-use Rattle.fs_driven.specs.declared.commands.Command.TheVariants as does
 use Rattle.fs_driven.specs.declared.commands.Returned.{Returned}
-use Rattle.fs_driven.specs.declared.commands.Returned.TheVariants as gives
-use Rattle.fs_chain.specs.declared.decoding.Decoded.{Decoded}
-use Rattle.fs_chain.specs.declared.decoding.Decoded.TheVariants as asks
 use Rattle.fs_chain.specs.declared.queue.QueueState.{QueueState}
 use Rattle.fs_chain.specs.declared.state.ChainState as state
 use Rattle.fs_chain.specs.declared.state.ChainState.TheVariants as at
 use Rattle.fs_chain.specs.declared.state.InFlight.{InFlight}
-use Rattle.live_machine.proofs.Moved.{joined}
-use Rattle.fs_driven.proofs.Handles.{Moves, SamePlaces, has_own, held_out, here, idles, keeps, not_free, others_same}
-use Rattle.fs_chain.proofs.Together.{chains_of}
+use Rattle.fs_driven.proofs.Handles.{Moves, SamePlaces, has_own, idles, keeps, not_free, others_same}
 
 -- ---- a call that is refused
 

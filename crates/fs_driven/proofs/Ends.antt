@@ -1,6 +1,6 @@
 -- The end of a chain by a handle drives the run: a push in two calls, and a drop.
 use Rattle.std.proofs.Common.{◌≡◌, ℕ, Bool, true, false, List, [], ◌∷◌, ◌++◌, length, Option, Some, None}
-use Rattle.std.proofs.Common.{refl, subst, sym, ap, ◌∙◌, slice_get}
+use Rattle.std.proofs.Common.{refl, subst, sym, ap, ◌∙◌}
 use Rattle.std.specs.Prelude.{if◌then◌else◌, not, nat_lt, take, drop, Result, Ok, Err, IfErr, IfOk, OnOk, OnErr}
 use Rattle.fs_chain.specs.declared.error.ChainError.{ChainError}
 use Rattle.fs_chain.specs.declared.error.ChainError.TheVariants.{OtherQueue, ShortBuffer, WrongOrder}
@@ -15,11 +15,11 @@ use Rattle.fs_queue.specs.ReturningView.{stores_of}
 use Rattle.fs_regions.specs.Places.{places_in}
 use Rattle.plain_machine.specs.Step.{Exchange}
 use Rattle.live_machine.specs.Several.{returning}
-use Rattle.live_machine.specs.Live.{InFlightChain, LiveEvent}
+use Rattle.live_machine.specs.Live.{InFlightChain}
 use Rattle.live_machine.specs.Live.{PushedWith, PushesChain}
 use Rattle.live_machine.specs.Live.{after_push}
 use Rattle.live_machine.specs.Live.{GivesUpChain, after_giving_up}
-use Rattle.fs_driven.specs.Desks.{Begun, Desk, Driven, FitsRun, In, IsReady, IsUnderWay, Leads, MayPop, desk, own}
+use Rattle.fs_driven.specs.Desks.{Begun, FitsRun, IsReady, IsUnderWay, Leads, MayPop, desk, own}
 use Rattle.fs_driven.specs.Desks.{no_pop, with_pop}
 use Rattle.fs_driven.specs.Told.{DrivesOne, GiveUpTells, Tells, Unseen, asked_len_of, exactly, replied_to}
 use Rattle.fs_driven.specs.Told.{turn}
@@ -35,7 +35,7 @@ use Rattle.fs_chain.specs.Holds.{IsQueue, Pop}
 use Rattle.fs_chain.specs.Holds.{Machine, Pushes}
 use Rattle.fs_chain.specs.Holds.{live_of}
 use Rattle.fs_chain.specs.Orders.{is_out}
-use Rattle.fs_chain.specs.Together.{Owned, with_handle}
+use Rattle.fs_chain.specs.Together.{with_handle}
 use Rattle.fs_chain.specs.declared.chain_handle.ChainHandle.{ChainHandle}
 use Rattle.fs_driven.specs.declared.commands.Command.TheVariants as does
 use Rattle.fs_driven.specs.declared.commands.Returned.TheVariants as gives

@@ -1,14 +1,14 @@
 -- A driver of several handles: a call of one of them leaves the others theirs.
 use Rattle.std.proofs.Common.{inl, inr, ◌≡◌, ◌⊎◌, ◌≤◌, ◌^◌, ℕ, Bool, true, false, List, [], ◌∷◌, ◌++◌, Option}
 use Rattle.std.proofs.Common.{Some, None, slice_get}
-use Rattle.std.proofs.Common.{refl, subst, sym, ap, ◌∙◌, eqb-true, ◌==◌, append-nil, append_assoc, map}
+use Rattle.std.proofs.Common.{refl, subst, sym, ap, ◌∙◌, eqb-true, ◌==◌, append_assoc}
 use Rattle.std.specs.Prelude.{if◌then◌else◌, length}
 use Rattle.std.specs.List.{AllByRecursion}
 use Rattle.vm_memory.specs.Memory.{Memory}
 use Rattle.live_machine.specs.Live.{Abandoned, Asked, Fetched, InFlightChain, Own, Phase}
-use Rattle.live_machine.specs.Live.{LiveEvent, PoppedFaulty, PushedWith}
+use Rattle.live_machine.specs.Live.{LiveEvent, PoppedFaulty}
 use Rattle.plain_machine.specs.Step.{Exchange}
-use Rattle.fs_queue.specs.Returning.{Store, stores_after_reply}
+use Rattle.fs_queue.specs.Returning.{stores_after_reply}
 use Rattle.live_machine.specs.Several.{returning}
 use Rattle.live_machine.proofs.Alone.{all_both}
 use Rattle.live_machine.proofs.Moved.{joined}
@@ -16,7 +16,8 @@ use Rattle.live_machine.proofs.Queues.{apart_of, same_some, there_other, there_s
 use Rattle.server_phases.specs.declared.session.Session.{Session}
 use Rattle.fs_chain.specs.Holds.{HoldsChain, IsHeldIn, IsQueue, Machine, Pop, any_files, live_of}
 use Rattle.fs_chain.specs.Orders.{is_out}
-use Rattle.fs_driven.specs.Desks.{Begun, Desk, Driven, FitsRun, In, IsReady, IsUnderWay, desk, own, with_pop}
+use Rattle.fs_driven.specs.Desks.{Begun, Desk, Driven, FitsRun, In, IsLost, IsReady, IsUnderWay, desk, lost, own}
+use Rattle.fs_driven.specs.Desks.{with_pop}
 use Rattle.fs_driven.specs.Told.{Called, Drives, TellsAll, Unseen, seen_of}
 use Rattle.fs_chain.specs.Together.{HasNone, IsHeldBy, IsNot, Owned, with_handle}
 use Rattle.fs_chain.specs.declared.chain_handle.ChainHandle.{ChainHandle}
@@ -39,12 +40,12 @@ among_on : (o x y : Owned) (os : List Owned) → (y ≡ x) ⊎ In y os → (y �
 among_on o x y os (inl e) = inl e
 among_on o x y os (inr m) = inr (inr m)
 
-among : (ob oh : List Owned) (x y : Owned) → In y (ob ++ x ∷ oh) → (y ≡ x) ⊎ In y (ob ++ oh)
+pub among : (ob oh : List Owned) (x y : Owned) → In y (ob ++ x ∷ oh) → (y ≡ x) ⊎ In y (ob ++ oh)
 among [] oh x y is = is
 among (o ∷ ob) oh x y (inl e) = inr (inl e)
 among (o ∷ ob) oh x y (inr m) = among_on o x y (ob ++ oh) (among ob oh x y m)
 
-put : (ob oh : List Owned) (x y : Owned) → In y (ob ++ oh) → In y (ob ++ x ∷ oh)
+pub put : (ob oh : List Owned) (x y : Owned) → In y (ob ++ oh) → In y (ob ++ x ∷ oh)
 put [] oh x y is = inr is
 put (o ∷ ob) oh x y (inl e) = inl e
 put (o ∷ ob) oh x y (inr m) = inr (put ob oh x y m)
@@ -71,6 +72,14 @@ same_number j k d c e = same_some j k (ap (λ (o : Owned). o.handle) e)
 
 same_chain : (j k : ℕ) (d c : InFlightChain) → own j d ≡ own k c → d ≡ c
 same_chain j k d c e = ap (λ (o : Owned). o.chain) e
+
+-- a handle's chain isn't one without a handle
+abbrev IsNobodys : Option ℕ → Type 0
+IsNobodys None = Unit {0}
+IsNobodys (Some k) = ⊥
+
+pub not_lost : (k : ℕ) (d c : InFlightChain) → lost d ≡ own k c → ⊥
+not_lost k d c e = subst (λ (o : Owned). IsNobodys o.handle) e tt
 
 -- another handle's chain isn't handle k's
 others_apart : (j k : ℕ) (d c : InFlightChain) (ob oh : List Owned) → HasNone k ob × HasNone k oh →
@@ -219,9 +228,14 @@ keeps s after i page_size q q' ws ob oh k w new c c' p pops push push' all there
       mine = λ j v d now is. its_own j v d now none (among ob oh (own k c') (own j d) is);
       outs = λ j v now out. its_out j v now out none (by_number k j);
       fits = all_fit s after i page_size q q' ws k w new p pops push push' moves there all.fits;
+      left = λ d m. still_lost d (among ob oh (own k c') (lost d) m);
       still = moves.still;
     }
   where
+    still_lost : (d : InFlightChain) → (lost d ≡ own k c') ⊎ In (lost d) (ob ++ oh) → IsLost i d
+    still_lost d (inl e) = absurd (not_lost k d c' e)
+    still_lost d (inr m) = all.left d (put ob oh (own k c) (lost d) m)
+
     its_own : (j : ℕ) (v : ChainHandle) (d : InFlightChain) → slice_get (with_handle ws k new) j ≡ Some v →
         HasNone k ob × HasNone k oh
         → (own j d ≡ own k c') ⊎ In (own j d) (ob ++ oh) → MineIn i page_size j q' push' d v
@@ -282,6 +296,7 @@ leaves s after i page_size q q' ws ob oh k w new c p pops push push' all there m
           (was.0, moves.others j d v.state apart was.1);
       outs = λ j v now out. its_out j v now out (by_number k j);
       fits = all_fit s after i page_size q q' ws k w new p pops push push' moves there all.fits;
+      left = λ d m. all.left d (put ob oh (own k c) (lost d) m);
       still = moves.still;
     }
   where
@@ -385,13 +400,6 @@ goes_on page_size one two three q q' q'' calls more first later zs is s i os pop
           (tells_both i page_size d mid end p.front p.behind a.0 b.0 a.7 b.7),
     )
 
--- a call before others
-pub goes_first : (page_size : ℕ) (one two three : List ChainHandle) (q q' q'' : QueueState) (c : Called)
-    (more : List Called) → Drives page_size one two q q' (c ∷ []) → Drives page_size two three q' q'' more
-    → Drives page_size one three q q'' (c ∷ more)
-goes_first page_size one two three q q' q'' c more first later =
-    goes_on page_size one two three q q' q'' (c ∷ []) more first later
-
 -- ---- a handle without a chain
 
 pub held_out : (page_size : ℕ) (c : InFlightChain) (p : Phase) (st : state.ChainState) (session : Session) →
@@ -483,6 +491,7 @@ idles s after i page_size q q' ws os k w new p pops push push' all there moves c
           (was.0, moves.others j d v.state apart was.1);
       outs = λ j v now out. its_out j v now out (by_number k j);
       fits = all_fit s after i page_size q q' ws k w new p pops push push' moves there all.fits;
+      left = all.left;
       still = moves.still;
     }
   where
@@ -523,9 +532,14 @@ joins s after i page_size q q' ws os k w new c p pops push push' all there moves
       mine = λ j v d now m. its_own j v d now none (in_last os (own k c) (own j d) m);
       outs = λ j v now out. its_out j v now out (by_number k j);
       fits = all_fit s after i page_size q q' ws k w new p pops push push' moves there all.fits;
+      left = λ d m. still_lost d (in_last os (own k c) (lost d) m);
       still = moves.still;
     }
   where
+    still_lost : (d : InFlightChain) → (lost d ≡ own k c) ⊎ In (lost d) os → IsLost i d
+    still_lost d (inl e) = absurd (not_lost k d c e)
+    still_lost d (inr m) = all.left d m
+
     its_own : (j : ℕ) (v : ChainHandle) (d : InFlightChain) → slice_get (with_handle ws k new) j ≡ Some v
         → ((e : InFlightChain) → In (own k e) os → ⊥) → (own j d ≡ own k c) ⊎ In (own j d) os →
         MineIn i page_size j q' push' d v

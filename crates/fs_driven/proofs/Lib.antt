@@ -6,5 +6,8 @@ pub mod Decoding
 pub mod End
 pub mod Ends
 pub mod Handles
+pub mod Listings
 pub mod Lists
+pub mod Lost
+pub mod Resets
 pub mod Pops

@@ -1,18 +1,16 @@
 -- A call of one of the handles in a list, and calls one behind another.
 use Rattle.std.proofs.Common.{inl, inr, ◌≡◌, ◌⊎◌, ◌<◌, ◌≤◌, ◌+◌, ℕ, zero, suc, List, [], ◌∷◌, ◌++◌, Some, None, arith}
-use Rattle.std.proofs.Common.{get_or, map}
+use Rattle.std.proofs.Common.{get_or}
 use Rattle.std.proofs.Common.{length, slice_get, refl}
 use Rattle.std.proofs.Common.{subst, sym, ap, ◌∙◌, append-nil}
 use Rattle.std.specs.Prelude.{slice_set, take, drop}
 use Rattle.fs_chain.specs.Orders.{is_out}
-use Rattle.fs_driven.proofs.Handles.{Seen, goes_first, goes_on, none_some, not_free, same_first, same_rest}
+use Rattle.fs_driven.proofs.Handles.{Seen, goes_on, none_some, not_free, same_first, same_rest}
 use Rattle.fs_driven.proofs.Pops.{idle_may}
 use Rattle.vm_memory_core.specs.Host.{changed_at}
-use Rattle.live_machine.specs.Live.{LiveEvent}
-use Rattle.fs_driven.specs.Desks.{BeginsDriven, Begun, Desk, Driven, Leads, desk, no_pop}
+use Rattle.fs_driven.specs.Desks.{BeginsDriven, Desk, Leads, desk, no_pop}
 use Rattle.fs_driven.specs.Told.{Called, Drives, DrivesOne, TellsAll, Unseen, call_of, calls_of, seen_of}
-use Rattle.fs_chain.specs.Holds.{Machine, Pop}
-use Rattle.fs_chain.specs.Together.{Owned, with_handle}
+use Rattle.fs_chain.specs.Together.{with_handle}
 use Rattle.fs_chain.specs.declared.chain_handle.ChainHandle.{ChainHandle}
 use Rattle.fs_driven.specs.declared.commands.Command.{Command}
 use Rattle.fs_driven.specs.declared.commands.Returned.{Returned}
@@ -25,7 +23,7 @@ set_changed (y ∷ ys) zero x = refl
 set_changed {A} (y ∷ ys) (suc k) x = ap (λ (l : List A). y ∷ l) (set_changed ys k x)
 
 -- one call
-single : (zs : List Seen) (c : Called) → seen_of zs ≡ c ∷ [] → (u : Unseen) × (zs ≡ (c, u) ∷ [])
+pub single : (zs : List Seen) (c : Called) → seen_of zs ≡ c ∷ [] → (u : Unseen) × (zs ≡ (c, u) ∷ [])
 single [] c is = absurd (none_some c [] is)
 single (z ∷ []) c is = (z.1, ap (λ (x : Called). (x, z.1) ∷ []) (same_first z.0 c [] [] is))
 single (z ∷ y ∷ zs) c is =
@@ -77,7 +75,7 @@ no_place page_size ws k q command past zs is s i os pops push all =
       refl,
       all,
       subst (λ (l : List Seen). TellsAll i page_size d l [] d) (sym z.1)
-          ([], [], d, refl, inr (nowhere ws k past, refl, refl, refl), (refl, refl)),
+          ([], [], d, refl, inr (inl (nowhere ws k past, refl, refl, refl)), (refl, refl)),
     )
 
 -- no calls
@@ -212,26 +210,6 @@ all_so_far page_size ws0 ws q0 q ks before now rs n so past =
     by_end (inr (inl past)) = inr (inl (subst (λ (m : ℕ). m ≤ n) so.whole past))
     by_end (inr (inr past)) = inr (inr past)
 
--- ---- two handles
-
-pub then_first : (page_size : ℕ) (a a' b : ChainHandle) (three : List ChainHandle) (q q' q'' : QueueState)
-    (command : Command) (returned : Returned) (more : List Called)
-    → DrivesOne page_size a a' q q' command returned
-    → Drives page_size (a' ∷ b ∷ []) three q' q'' more
-    → Drives page_size (a ∷ b ∷ []) three q q'' (call_of 0 command returned ∷ more)
-then_first page_size a a' b three q q' q'' command returned more one later =
-    goes_first page_size (a ∷ b ∷ []) (a' ∷ b ∷ []) three q q' q'' (call_of 0 command returned) more
-    (at_place page_size (a ∷ b ∷ []) 0 a a' q q' command returned refl one) later
-
-pub then_second : (page_size : ℕ) (a b b' : ChainHandle) (three : List ChainHandle) (q q' q'' : QueueState)
-    (command : Command) (returned : Returned) (more : List Called)
-    → DrivesOne page_size b b' q q' command returned
-    → Drives page_size (a ∷ b' ∷ []) three q' q'' more
-    → Drives page_size (a ∷ b ∷ []) three q q'' (call_of 1 command returned ∷ more)
-then_second page_size a b b' three q q' q'' command returned more one later =
-    goes_first page_size (a ∷ b ∷ []) (a ∷ b' ∷ []) three q q' q'' (call_of 1 command returned) more
-    (at_place page_size (a ∷ b ∷ []) 1 b b' q q' command returned refl one) later
-
 -- ---- the beginning
 
 -- free handles over the run's memory, while no chain is in flight
@@ -249,5 +227,6 @@ starts s i page_size q ws none queue page small free =
         (free k w there).2,
         idle_may s.limit q.event_index no_pop w (free k w there).0,
       );
+      left = λ c m. absurd m;
       still = λ pushing. refl;
     }

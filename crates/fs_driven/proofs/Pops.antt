@@ -2,11 +2,10 @@
 use Rattle.std.proofs.Common.{inl, inr, ◌≡◌, ℕ, Bool, false, List, [], ◌∷◌, ◌++◌, length, Option, Some, None}
 use Rattle.std.proofs.Common.{slice_get}
 use Rattle.std.proofs.Common.{refl, subst, sym, ap, ◌∙◌}
-use Rattle.std.specs.Prelude.{Result, Ok, Err, IfErr, IfOk, OnErr, OnOk, if◌then◌else◌}
+use Rattle.std.specs.Prelude.{Result, Ok, Err, IfErr, IfOk, OnErr, if◌then◌else◌}
 use Rattle.std.proofs.Common.{true, ◌⊎◌}
 use Rattle.std.specs.Borrow.{Bor}
 use Rattle.fs_chain.specs.declared.error.ChainError.{ChainError}
-use Rattle.fs_chain.specs.declared.error.ChainError.TheVariants.{WrongOrder}
 use Rattle.fs_chain.specs.Events.{event_fault, event_miss}
 use Rattle.std.specs.Prelude.{◌+◌, ◌<◌}
 use Rattle.std.proofs.Common.{arith}
@@ -14,9 +13,6 @@ use Rattle.std.proofs.lemmas.Bool.{eq-eqb}
 use Rattle.vm_iotlb.specs.declared.iova.IovaRange.{IovaRange}
 use Rattle.vm_iotlb.specs.declared.permissions.Permissions.{Permissions}
 use Rattle.fs_queue.specs.declared.fault.QueueError.{QueueError}
-use Rattle.fs_chain.specs.Ahead.{PopsAhead, WalksAhead, ahead_error}
-use Rattle.fs_driven.specs.Ahead.{PopsAheadBy}
-use Rattle.fs_driven.proofs.Ahead.{pops_ahead}
 use Rattle.fs_chain.specs.Loads.{GoesSo, IsSame, RefusesWalk, came, whole}
 use Rattle.fs_chain.specs.Orders.{load_len}
 use Rattle.fs_chain.specs.Walks.{BeginsUnless, BeginsWhere, GoesOnUnless, KeepsStep, LacksEvents, WalksFrom, course_of}
@@ -26,11 +22,9 @@ use Rattle.fs_queue.specs.Chain.{Descriptor}
 use Rattle.fs_chain.specs.Whole.{AddsSo}
 use Rattle.vm_memory_core.specs.Host.{changed_at}
 use Rattle.fs_queue.specs.declared.fault.ChainFault.{ChainFault}
-use Rattle.fs_queue.specs.Queue.{Queue, with_stop}
+use Rattle.fs_queue.specs.Queue.{with_stop}
 use Rattle.fs_queue.specs.Returning.{stores_after_reply}
 use Rattle.fs_queue.specs.Taking.{after_refusal, stops_queue}
-use Rattle.fs_regions.specs.Ahead.{AheadBytes, last_first, loads_ahead}
-use Rattle.fs_regions.specs.declared.ahead.LoadAhead.{LoadAhead}
 use Rattle.fs_regions.specs.Walks.{Loaded, nothing}
 use Rattle.fs_regions.specs.declared.course.Course.{Course}
 use Rattle.fs_regions.specs.declared.step.CourseStep as comes
@@ -55,7 +49,7 @@ use Rattle.live_machine.specs.Live.{Phase}
 use Rattle.live_machine.specs.Live.{PushedWith}
 use Rattle.live_machine.specs.Live.{Happens}
 use Rattle.fs_driven.specs.Desks.{Begun, Desk, Driven, FitsRun, IsReady, Leads, MayPop, desk, no_pop, own, with_pop}
-use Rattle.fs_driven.specs.Told.{DrivesOne, IsLoadedBy, PopTells, Tells, Turn, Unseen, turn}
+use Rattle.fs_driven.specs.Told.{DrivesOne, IsLoadedBy, PopTells, Tells, Turn, turn}
 use Rattle.fs_driven.specs.Kept.{KeepsMemory}
 use Rattle.fs_chain.specs.Holds.{IsHeldIn, IsQueue}
 use Rattle.fs_chain.specs.Holds.{Machine, Pop}
@@ -69,7 +63,7 @@ use Rattle.fs_chain.specs.declared.queue.QueueState.{QueueState}
 use Rattle.fs_chain.specs.declared.state.ChainState as state
 use Rattle.fs_chain.specs.declared.state.ChainState.TheVariants as at
 use Rattle.fs_driven.proofs.Handles.{Moves, SamePlaces, held_out, idles, joins, others_same}
-use Rattle.fs_driven.proofs.Calls.{HasNoPush, fetched_ready, fits_out, no_error, refuses, same_held, stays_put}
+use Rattle.fs_driven.proofs.Calls.{HasNoPush, fetched_ready, fits_out, refuses, stays_put}
 use Rattle.fs_driven.proofs.Calls.{still}
 
 pub idle_may : (limit : ℕ) (event_index : Bool) (p : Pop) (w : ChainHandle) → w.state ≡ at.Free →

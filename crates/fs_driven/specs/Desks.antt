@@ -1,18 +1,19 @@
 -- A driver of several handles over one queue of a run: its calls, one behind another, are a run of the live
 -- machine, and the run's events have what the calls returned.
 use Rattle.std.specs.Prelude.{◌≡◌, ◌⊎◌, ◌≤◌, ◌^◌, ◌==◌, ◌++◌, ℕ, Bool, true, false, List, [], ◌∷◌, Option}
-use Rattle.std.specs.Prelude.{Some, None, if◌then◌else◌, length, map, slice_get, take}
+use Rattle.std.specs.Prelude.{Some, None, if◌then◌else◌, length, slice_get, take}
 use Rattle.vm_memory.specs.Memory.{Memory}
+use Rattle.fs_queue.specs.declared.fault.ChainFault.{ChainFault}
 use Rattle.fs_queue.specs.Returning.{stores_after_reply}
 use Rattle.fs_queue.specs.ReturningView.{stores_of}
 use Rattle.fs_regions.specs.Places.{places_in}
 use Rattle.fs_regions.specs.Walks.{nothing}
 use Rattle.plain_machine.specs.Step.{Exchange}
 use Rattle.live_machine.specs.Several.{returning}
-use Rattle.live_machine.specs.Live.{InFlightChain, LiveEvent, LiveRun, PushedWith}
+use Rattle.live_machine.specs.Live.{Abandoned, InFlightChain, LiveEvent, LiveRun, PushedWith}
 use Rattle.fs_chain.specs.Holds.{HoldsPop, IsQueue, Machine, Pop, any_files, live_of}
 use Rattle.fs_chain.specs.Orders.{is_out}
-use Rattle.fs_chain.specs.Together.{Owned, Together, with_handle}
+use Rattle.fs_chain.specs.Together.{Owned, Together}
 use Rattle.fs_chain.specs.declared.chain_handle.ChainHandle.{ChainHandle}
 use Rattle.fs_chain.specs.declared.pushing.PushStores.{PushStores}
 use Rattle.fs_chain.specs.declared.queue.QueueState.{QueueState}
@@ -27,6 +28,14 @@ In o (x ∷ xs) = (o ≡ x) ⊎ In o xs
 -- the chain of handle k
 abbrev pub own : ℕ → InFlightChain → Owned
 own k c = record { handle = Some k; chain = c }
+
+-- a chain whose handle was freed
+abbrev pub lost : InFlightChain → Owned
+lost c = record { handle = None; chain = c }
+
+-- it is one of queue i, with which nothing more is done
+abbrev pub IsLost : (i : ℕ) → InFlightChain → Type 0
+IsLost i c = (c.queue ≡ i) × (fault : Option ChainFault) × (c.phase ≡ Abandoned fault)
 
 -- a push under way: its handle, the stores that it returned, and the buffer with the reply's front
 pub record Begun : Type 0 where
@@ -69,7 +78,8 @@ FitsRun places limit event_index p w =
 abbrev pub with_pop : (ℕ → Pop) → ℕ → Pop → ℕ → Pop
 with_pop pops k p j = if k == j then p else pops j
 
--- the handles hold the chains of a run, all of queue i, and no others. No FORGET is owed
+-- the handles hold the chains of a run, all of queue i, but those whose handle was freed, and no others. No
+-- FORGET is owed
 pub record Driven (s : Machine) (i page_size : ℕ) (q : QueueState) (ws : List ChainHandle)
     (os : List Owned) (pops : ℕ → Pop) (push : Option Begun) : Type 0 where
   pub all : Together s ws os
@@ -82,6 +92,7 @@ pub record Driven (s : Machine) (i page_size : ℕ) (q : QueueState) (ws : List 
       (c : InFlightChain) × In (own k c) os
   pub fits : (k : ℕ) (w : ChainHandle) → slice_get ws k ≡ Some w →
       FitsRun s.places s.limit q.event_index (pops k) w
+  pub left : (c : InFlightChain) → In (lost c) os → IsLost i c
   pub still : q.pushing ≡ false → push ≡ None
 
 -- what a driver has of a run: its state, the handles and their queue, the chain of each handle, the loads of

@@ -1,12 +1,15 @@
 -- The events of a driver's calls: of each, by its command and what it returned. A refused call has none.
-use Rattle.std.specs.Prelude.{◌≡◌, ◌⊎◌, ◌-◌, ◌==◌, ℕ, zero, suc, Bool, true, false, List, [], ◌∷◌, ◌++◌}
-use Rattle.std.specs.Prelude.{Option, Some, None, Result, Ok, Err, length, map, drop, take, slice_get}
-use Rattle.std.specs.Prelude.{if◌then◌else◌}
+use Rattle.std.specs.Prelude.{◌≡◌, ◌⊎◌, ◌≤◌, ◌-◌, ◌==◌, ℕ, zero, suc, Bool, true, false, List, [], ◌∷◌, ◌++◌}
+use Rattle.std.specs.Prelude.{Option, Some, None, Result, Ok, Err, length, drop, take, slice_get}
+use Rattle.std.specs.Prelude.{All, if◌then◌else◌, option_map}
+use Rattle.vm_memory.specs.Memory.{Memory, reach}
+use Rattle.vm_iotlb.specs.declared.permissions.Permissions.TheVariants.{Write}
+use Rattle.fs_queue.specs.declared.layout.QueueLayout.{QueueLayout}
 use Rattle.fs_queue.specs.ReturningView.{stores_of}
 use Rattle.fs_regions.specs.Ahead.{AheadBytes, last_first, loads_ahead}
 use Rattle.fs_regions.specs.Walks.{Loaded, nothing}
 use Rattle.fs_regions.specs.declared.step.CourseStep.TheVariants as step
-use Rattle.fuse_fs.specs.Calls.{Done, FileCall, Forget}
+use Rattle.fuse_fs.specs.Calls.{Done, Entries, Failed, FileAnswer, FileCall, Forget}
 use Rattle.fuse_fs.specs.declared.answers.Context.{Context}
 use Rattle.fuse_values.specs.Answers.{answer_of}
 use Rattle.fuse_values.specs.declared.answer.FileAnswer as made_answer
@@ -15,20 +18,25 @@ use Rattle.plain_machine.specs.Step.{Exchange}
 use Rattle.virtiofsd_fuse.specs.Grammar.{meaning}
 use Rattle.virtiofsd_fuse.specs.Serving.{setting}
 use Rattle.server_phases.specs.declared.session.Session.{Session}
-use Rattle.live_machine.specs.Live.{Asked, DecodesRequest, EndsPop, GivesUpChain, InFlightChain}
-use Rattle.live_machine.specs.Live.{LiveEvent, Phase, RepliesOwnBytes}
-use Rattle.live_machine.specs.Live.{PushesChain, ReceivesAnswer, RefusesPop, SetsOptions, asked_chain}
+use Rattle.live_machine.specs.Live.{Abandons, Asked, DecodesRequest, EndsPop, GivesUpChain, InFlightChain}
+use Rattle.live_machine.specs.Live.{LiveEvent, Phase, RepliesOwnBytes, ResetsQueue}
+use Rattle.live_machine.specs.Live.{PushesChain, ReceivesAnswer, RefusesPop, SetsOptions, abandoned_chain}
+use Rattle.live_machine.specs.Live.{StoresNotification, asked_chain}
 use Rattle.fs_chain.specs.Ahead.{PopsAhead, ahead_error}
 use Rattle.fs_driven.specs.Ahead.{AddsAhead}
 use Rattle.fs_chain.specs.Answers.{IfWaits, IsGiven, IsNotTaken}
 use Rattle.fs_chain.specs.Decoding.{IfUndecoded, TellsMeaning, wanted_after, wanted_by}
-use Rattle.fs_driven.specs.Desks.{Begun, Desk, Driven, In, Leads, desk, own}
-use Rattle.fs_chain.specs.Holds.{Machine, Pop, calls_decoded}
+use Rattle.fs_driven.specs.Desks.{Begun, Desk, Driven, In, Leads, desk, lost, own}
+use Rattle.fs_chain.specs.Holds.{Machine, Pop, calls_decoded, live_of}
+use Rattle.fs_chain.specs.Listings.{EndsByEntries, EndsByError}
 use Rattle.fs_chain.specs.Loads.{GoesSo, RefusesWalk, whole}
 use Rattle.fs_chain.specs.Orders.{ask_error, end_error, front_of, give_up_error, has_ring, is_out}
 use Rattle.fs_chain.specs.Orders.{push_error, return_error}
 use Rattle.fs_chain.specs.OwnReplies.{own_error}
-use Rattle.fs_chain.specs.Pushes.{IfHasReply, PushesBy}
+use Rattle.fs_chain.specs.Pushes.{IfHasReply, IsFreed, PushesBy}
+use Rattle.fs_chain.specs.Events.{notification_store, store_of}
+use Rattle.fs_chain.specs.Queues.{reset_to}
+use Rattle.fs_chain.specs.Serials.{UnlessRefused, serial_error}
 use Rattle.fs_chain.specs.Together.{Owned, with_handle}
 use Rattle.fs_chain.specs.Walks.{count}
 use Rattle.fs_chain.specs.Whole.{AddsSo}
@@ -39,6 +47,7 @@ use Rattle.fs_driven.specs.declared.commands.Command.TheVariants as does
 use Rattle.fs_driven.specs.declared.commands.Returned.{Returned}
 use Rattle.fs_driven.specs.declared.commands.Returned.TheVariants as gives
 use Rattle.fs_chain.specs.declared.decoding.Decoded.{Decoded}
+use Rattle.fs_chain.specs.declared.event_index.NotificationStore.{NotificationStore}
 use Rattle.fs_chain.specs.declared.decoding.Decoded.TheVariants as asks
 use Rattle.fs_chain.specs.declared.error.ChainError.{ChainError}
 use Rattle.fs_chain.specs.declared.loads.LoadOutcome as went
@@ -210,6 +219,23 @@ TellsReply t serial len u (Ok done) es =
     × (es ≡ RepliesOwnBytes c (replied_to c.phase u (asked_len_of t.was.state)) (exactly len u.bytes)
     t.old.run.options ∷ [])
 
+-- a listing to which no entry was added ends, by this answer to the reading of its directory
+abbrev pub TellsListing : Turn → (serial : ℕ) → FileAnswer → (Result ℕ ChainError → Type 0) →
+    Result ℕ ChainError → List LiveEvent → Type 0
+TellsListing t serial answer Replies (Err e) es =
+    (es ≡ [])
+    × UnlessRefused {A = ℕ} (serial_error t.was.state t.was.serial serial) (Err e) (t.now ≡ t.was)
+    (Replies (Err e))
+TellsListing t serial answer Replies (Ok len) es =
+    (c : InFlightChain)
+    × (call : FileCall)
+    × (request : List ℕ)
+    × (options : ℕ)
+    × In (own t.handle c) t.old.owned
+    × (c.phase ≡ Asked request options [])
+    × (es ≡ ReceivesAnswer c call answer ∷ [])
+    × Replies (Ok len)
+
 -- ---- pushes, and chains that are given up
 
 -- a push begins: no event yet, but its stores are kept
@@ -247,10 +273,22 @@ TellsGiveUp t (Err e) es = (es ≡ []) × (give_up_error t.was.state t.old.queue
 TellsGiveUp t (Ok done) es =
     (give_up_error t.was.state t.old.queue ≡ None) × GiveUpTells t (is_out t.was.state) es
 
+-- a handle is freed: its chain stays in flight, without a handle
+abbrev pub AbandonTells : Turn → (is_out : Bool) → List LiveEvent → Type 0
+AbandonTells t false es = es ≡ []
+AbandonTells t true es =
+    (c : InFlightChain)
+    × In (own t.handle c) t.old.owned
+    × (es ≡ Abandons c ∷ [])
+    × In (lost (abandoned_chain c)) t.new.owned
+
+abbrev pub TellsAbandon : Turn → List LiveEvent → Type 0
+TellsAbandon t es = IsFreed t.was t.now × AbandonTells t (is_out t.was.state) es
+
 -- ---- each call
 
 -- the events of a command of a handle, by what it returned. A request isn't decoded in a session of another
--- page size
+-- page size, and a call of the queue is none of a handle
 abbrev pub Tells : Turn → Command → Unseen → Returned → List LiveEvent → Type 0
 Tells t (does.Pop bytes) u (gives.Popped r) es = TellsPop t bytes.now r es
 Tells t (does.PopAhead ahead bytes) u (gives.PoppedAhead r) es =
@@ -260,9 +298,16 @@ Tells t (does.Decode session front) u gives.OtherSession es =
     (es ≡ []) × (t.now ≡ t.was) × (session.page_size ≡ t.page_size → ⊥)
 Tells t (does.Answer serial answer) u (gives.Answered r) es = TellsAnswer t serial answer u r es
 Tells t (does.Reply serial len) u (gives.Replied r) es = TellsReply t serial len u r es
+Tells t (does.EndListing serial) u (gives.Listed r) es =
+    TellsListing t serial (Entries []) (λ told. EndsByEntries t.was.state t.now.state told) r es
+Tells t (does.FailListing serial errno) u (gives.Listed r) es =
+    TellsListing t serial (Failed errno) (λ told. EndsByError errno t.was.state t.now.state told) r es
 Tells t does.Push u (gives.Began r front) es = TellsPush t r front es
 Tells t (does.Pushed seen) u (gives.Ended r) es = TellsPushed t seen u r es
 Tells t does.GiveUp u (gives.GaveUp r) es = TellsGiveUp t r es
+Tells t does.Abandon u gives.Abandoned es = TellsAbandon t es
+Tells t (does.Reset layout position) u gives.NotOfOne es = (es ≡ []) × (t.now ≡ t.was)
+Tells t (does.Notify wanted) u gives.NotOfOne es = (es ≡ []) × (t.now ≡ t.was)
 Tells t _ u _ es = ⊥
 
 -- a call of a handle is a step of the run, among any other handles, whatever it doesn't see
@@ -275,7 +320,43 @@ DrivesOne page_size w new q q' command returned =
     Leads s i page_size q' (with_handle ws k new)
     (λ es d. Tells (turn i page_size k (desk s ws q os pops push) d w new) command u returned es)
 
--- the events of a call of one of the handles, or of none if there is no such handle
+-- no handle has a chain in flight, and as many as may be in flight fit in the new layout
+abbrev pub HasNoChain : ChainHandle → Type 0
+HasNoChain w = is_out w.state ≡ false
+
+abbrev pub MayReset : List ChainHandle → QueueState → QueueLayout → Type 0
+MayReset ws q layout = All HasNoChain ws × (1 ≤ q.max_in_flight) × (q.max_in_flight ≤ layout.size)
+
+-- the events of a reset: its own, by which no chain is in flight any more, also none without a handle; or
+-- none, if it isn't done
+abbrev pub ResetTells :
+    (i : ℕ) → (d d' : Desk) → QueueLayout → (position : ℕ) → Bool → List LiveEvent → Type 0
+ResetTells i d d' layout position true es =
+    (es ≡ ResetsQueue i (live_of d'.queue) ∷ [])
+    × MayReset d.handles d.queue layout
+    × (d'.queue ≡ reset_to d.queue layout position)
+    × (d'.handles ≡ d.handles)
+    × (d'.owned ≡ [])
+ResetTells i d d' layout position false es =
+    (es ≡ []) × (d' ≡ d) × (MayReset d.handles d.queue layout → ⊥)
+
+-- the event of a store that enables or disables notifications, if its address is mapped
+abbrev pub storing : (i : ℕ) → Memory → Option NotificationStore → List LiveEvent
+storing i places None = []
+storing i places (Some store) =
+    if reach places Write store.address 2 then StoresNotification i (store_of store) ∷ [] else []
+
+-- the events of a call of the queue, which is none of a handle
+abbrev pub TellsOfQueue : (i : ℕ) → (d d' : Desk) → Command → Returned → List LiveEvent → Type 0
+TellsOfQueue i d d' (does.Reset layout position) (gives.Reset done) es =
+    ResetTells i d d' layout position done es
+TellsOfQueue i d d' (does.Notify wanted) (gives.Store store) es =
+    (option_map store_of store ≡ notification_store d.queue wanted)
+    × (es ≡ storing i d.run.places store)
+    × (d' ≡ d)
+TellsOfQueue i d d' _ _ es = ⊥
+
+-- the events of a call of one of the handles, of none if there is no such handle, or of the queue
 abbrev pub TellsCall : (i page_size : ℕ) → (d d' : Desk) → Called → Unseen → List LiveEvent → Type 0
 TellsCall i page_size d d' call u es =
     ((w : ChainHandle)
@@ -287,6 +368,7 @@ TellsCall i page_size d d' call u es =
     × (call.returned ≡ gives.NoHandle)
     × (es ≡ [])
     × (d' ≡ d))
+    ⊎ TellsOfQueue i d d' call.command call.returned es
 
 -- the events of calls one behind another
 abbrev pub TellsAll :

@@ -1,16 +1,19 @@
 //! A driver of several handles over one queue: its calls, one behind another, are a run, whose events have
 //! what they returned.
 
-ghost use Rattle.std.specs.Prelude.{◌≡◌, ◌∷◌, [], ℕ};
-ghost use Rattle.fs_driven.specs.Told.{Drives, DrivesOne, call_of, calls_of};
+ghost use Rattle.std.specs.Prelude.{◌≡◌, ◌∷◌, [], ℕ, Bool, All, true, false};
+ghost use Rattle.fs_driven.specs.Told.{Drives, DrivesOne, HasNoChain, MayReset, call_of, calls_of};
 ghost use Rattle.fs_driven.specs.declared.commands.Command.TheVariants as does;
 ghost use Rattle.fs_driven.specs.declared.commands.Returned.TheVariants as gives;
 
 use fs_chain::{
-    ChainError, ChainHandle, Decoded, LoadOutcome, PopOutcome, PushStores, QueueState, Replied,
+    ChainError, ChainHandle, Decoded, LoadOutcome, NotificationStore, PopOutcome, PushStores,
+    QueueState, Replied,
 };
+use fs_queue::QueueLayout;
 use fs_regions::LoadAhead;
 use fuse_values::FileAnswer;
+use fuse_wire::Errno;
 use server_phases::Session;
 use std::mem;
 
@@ -25,6 +28,10 @@ pub enum Command<'a> {
     Decode(Session, &'a [u8]),
     /// Answers the call of the chain with this number.
     Answer(u32, FileAnswer),
+    /// Ends the listing of the chain with this number, whose directory has no more entries.
+    EndListing(u32),
+    /// Ends it with an error, by which its directory can't be read.
+    FailListing(u32, Errno),
     /// Replies to the chain with this number by so many bytes of the caller's own.
     Reply(u32, usize),
     /// Begins the chain's push.
@@ -33,6 +40,12 @@ pub enum Command<'a> {
     Pushed([u8; 2]),
     /// Gives the chain up, or a pop.
     GiveUp,
+    /// Frees the handle, whose chain stays in flight until the queue is reset.
+    Abandon,
+    /// Resets the queue to a layout and a position, whichever handle is named.
+    Reset(QueueLayout, u16),
+    /// Enables the driver's notifications of new chains, or disables them, whichever handle is named.
+    Notify(bool),
 }
 
 /// What a command returned.
@@ -50,6 +63,8 @@ pub enum Returned<'a> {
     OtherSession,
     /// Of an answer.
     Answered(Result<Replied, ChainError>),
+    /// Of a listing's end: the length of its data.
+    Listed(Result<usize, ChainError>),
     /// Of a reply.
     Replied(Result<(), ChainError>),
     /// Of a push: its stores, and a buffer that begins with the reply's front.
@@ -58,6 +73,15 @@ pub enum Returned<'a> {
     Ended(Result<bool, ChainError>),
     /// Of giving a chain up.
     GaveUp(Result<(), ChainError>),
+    /// The handle is free.
+    Abandoned,
+    /// Of a reset: whether it was done. It isn't while a handle has a chain in flight, or if more chains may
+    /// be in flight than the layout has descriptors, or none.
+    Reset(bool),
+    /// The store that enables notifications, or disables them.
+    Store(Option<NotificationStore>),
+    /// A command of the queue is none for one handle alone.
+    NotOfOne,
 }
 
 /// Decodes a request from its first bytes.
@@ -89,6 +113,33 @@ pub fn drive_answer(
     handle.answer(serial, answer)
 }
 
+/// Ends a listing to which no entry was added: its directory has no more.
+#[tactic(auto, using(crate::proofs::Listings::ended))]
+pub fn drive_end_listing(
+    handle: &mut ChainHandle,
+    queue: &QueueState,
+    serial: u32,
+) -> Result<usize, ChainError>
+    ensures step { (page_size : ℕ) → DrivesOne page_size handle.old handle.new queue.now queue.now
+        (does.EndListing serial) (gives.Listed result) }
+{
+    handle.end(serial)
+}
+
+/// Ends a listing to which no entry was added: its directory can't be read.
+#[tactic(auto, using(crate::proofs::Listings::failed))]
+pub fn drive_fail_listing(
+    handle: &mut ChainHandle,
+    queue: &QueueState,
+    serial: u32,
+    error: Errno,
+) -> Result<usize, ChainError>
+    ensures step { (page_size : ℕ) → DrivesOne page_size handle.old handle.new queue.now queue.now
+        (does.FailListing serial error) (gives.Listed result) }
+{
+    handle.fail(serial, error)
+}
+
 /// Gives up a handle's chain, or its pop.
 #[tactic(auto, using(crate::proofs::Ends::give_up_result))]
 pub fn drive_give_up(handle: &mut ChainHandle, queue: &mut QueueState) -> Result<(), ChainError>
@@ -96,6 +147,15 @@ pub fn drive_give_up(handle: &mut ChainHandle, queue: &mut QueueState) -> Result
         does.GiveUp (gives.GaveUp result) }
 {
     handle.give_up(queue)
+}
+
+/// Frees a handle. Its chain stays in flight until the queue is reset.
+#[tactic(auto, using(crate::proofs::Lost::abandoned))]
+pub fn drive_abandon(handle: &mut ChainHandle, queue: &QueueState)
+    ensures step { (page_size : ℕ) → DrivesOne page_size handle.old handle.new queue.now queue.now
+        does.Abandon gives.Abandoned }
+{
+    handle.abandon();
 }
 
 // Begins the push of a handle's chain: copies the reply's front over the first bytes of a buffer.
@@ -205,6 +265,29 @@ fn begin_push<'a>(handle: &mut ChainHandle, queue: &mut QueueState) -> Returned<
     Returned::Began(stores, front)
 }
 
+// A reset isn't done for one handle alone.
+#[tactic(auto, using(crate::proofs::Resets::no_reset_of_one))]
+fn no_reset_of_one<'a>(
+    handle: &mut ChainHandle,
+    queue: &QueueState,
+    layout: QueueLayout,
+    position: u16,
+) -> Returned<'a>
+    ensures step { (page_size : ℕ) → DrivesOne page_size handle.old handle.new queue.now queue.now
+        (does.Reset layout position) result }
+{
+    Returned::NotOfOne
+}
+
+// Nor is a store of the queue.
+#[tactic(auto, using(crate::proofs::Resets::no_store_of_one))]
+fn no_store_of_one<'a>(handle: &mut ChainHandle, queue: &QueueState) -> Returned<'a>
+    ensures step { (page_size : ℕ) (wanted : Bool) →
+        DrivesOne page_size handle.old handle.new queue.now queue.now (does.Notify wanted) result }
+{
+    Returned::NotOfOne
+}
+
 /// Performs a command for a handle, and returns what it returned. `Push` takes its place.
 pub fn drive_one<'a>(
     handle: &mut ChainHandle,
@@ -226,11 +309,76 @@ pub fn drive_one<'a>(
         Command::Answer(serial, answer) => {
             Returned::Answered(drive_answer(handle, queue, serial, answer))
         }
+        Command::EndListing(serial) => Returned::Listed(drive_end_listing(handle, queue, serial)),
+        Command::FailListing(serial, error) => {
+            Returned::Listed(drive_fail_listing(handle, queue, serial, error))
+        }
         Command::Reply(serial, len) => Returned::Replied(drive_reply(handle, queue, serial, len)),
         Command::Push => begin_push(handle, queue),
         Command::Pushed(seen) => Returned::Ended(drive_pushed(handle, queue, seen)),
         Command::GiveUp => Returned::GaveUp(drive_give_up(handle, queue)),
+        Command::Abandon => {
+            drive_abandon(handle, queue);
+            Returned::Abandoned
+        }
+        Command::Reset(layout, position) => no_reset_of_one(handle, queue, layout, position),
+        Command::Notify(_) => no_store_of_one(handle, queue),
     }
+}
+
+// Whether no handle has a chain in flight.
+fn have_no_chain(handles: &[ChainHandle]) -> bool
+    ensures none { result ≡ true → All HasNoChain handles.now }
+    ensures some { result ≡ false → All HasNoChain handles.now → ⊥ }
+{
+    for handle in handles {
+        if handle.is_out() {
+            return false;
+        }
+    }
+    true
+}
+
+// Whether the queue can be reset to a layout.
+fn may_reset(handles: &[ChainHandle], queue: &QueueState, layout: &QueueLayout) -> bool
+    ensures may { result ≡ true → MayReset handles.now queue.now layout.now }
+    ensures not { result ≡ false → MayReset handles.now queue.now layout.now → ⊥ }
+{
+    if queue.max_in_flight < 1 || layout.size() < queue.max_in_flight {
+        return false;
+    }
+    have_no_chain(handles)
+}
+
+/// Resets the queue, while no handle has a chain in flight. Returns whether it did.
+#[tactic(auto, using(crate::proofs::Resets::reset_done, crate::proofs::Resets::reset_not_done))]
+pub fn drive_reset(
+    handles: &[ChainHandle],
+    queue: &mut QueueState,
+    layout: QueueLayout,
+    position: u16,
+) -> bool
+    ensures step { (page_size k : ℕ) → Drives page_size handles.now handles.now queue.old queue.new
+        (call_of k (does.Reset layout position) (gives.Reset result) ∷ []) }
+{
+    if may_reset(handles, queue, &layout) {
+        queue.reset(layout, position);
+        return true;
+    }
+    false
+}
+
+/// The store that enables the driver's notifications of new chains, or disables them.
+#[tactic(auto, using(crate::proofs::Resets::stored))]
+pub fn drive_notify(
+    handles: &[ChainHandle],
+    queue: &QueueState,
+    wanted: bool,
+) -> Option<NotificationStore>
+    ensures step { (page_size k : ℕ) → Drives page_size handles.now handles.now queue.now queue.now
+        (call_of k (does.Notify wanted) (gives.Store result) ∷ []) }
+{
+    queue.notification_store(wanted)
 }
 
 /// Performs a command for one of several handles, and returns what it returned.
@@ -245,6 +393,12 @@ pub fn drive<'a>(
     ensures step { Drives page_size handles.old handles.new queue.old queue.new
         (call_of k command.old result ∷ []) }
 {
+    if let Command::Reset(layout, position) = command {
+        return Returned::Reset(drive_reset(handles, queue, *layout, *position));
+    }
+    if let Command::Notify(wanted) = command {
+        return Returned::Store(drive_notify(handles, queue, *wanted));
+    }
     if k < handles.len() {
         return drive_one(&mut handles[k], queue, page_size, command);
     }

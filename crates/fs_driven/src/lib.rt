@@ -7,6 +7,7 @@ pub mod laws;
 pub mod two_chains;
 
 pub use commands::{
-    Command, Returned, drive, drive_ahead, drive_all, drive_answer, drive_decode, drive_give_up,
-    drive_one, drive_pop, drive_push, drive_pushed, drive_reply,
+    Command, Returned, drive, drive_abandon, drive_ahead, drive_all, drive_answer, drive_decode,
+    drive_give_up, drive_notify, drive_one, drive_pop, drive_push, drive_pushed, drive_reply,
+    drive_reset,
 };

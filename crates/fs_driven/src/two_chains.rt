@@ -1,115 +1,61 @@
-//! Two chains of a queue by two handles, pushed in either order. That this is a run of the live machine
-//! follows from the contracts of the calls alone.
+//! Two chains of a queue by two handles, pushed in either order: commands of the driver. That they are a run
+//! of the live machine is the contract of `drive_all`.
 
-ghost use Rattle.std.specs.Prelude.{◌≡◌, ◌∷◌, [], true, false};
-ghost use Rattle.fs_driven.specs.Told.{Drives, call_of};
+ghost use Rattle.std.specs.Prelude.{◌∷◌, []};
+ghost use Rattle.fs_driven.specs.Told.{Drives, calls_of};
 ghost use Rattle.fs_driven.specs.declared.commands.Command.TheVariants as does;
-ghost use Rattle.fs_driven.specs.declared.commands.Returned.TheVariants as gives;
 
-use crate::commands::{drive_ahead, drive_answer, drive_decode, drive_push, drive_pushed};
-use fs_chain::{ChainError, ChainHandle, Decoded, PopOutcome, PushStores, QueueState, Replied};
+use crate::commands::{Command, Returned, drive_all};
+use fs_chain::{ChainHandle, QueueState};
 use fs_regions::LoadAhead;
 use fuse_values::FileAnswer;
 use server_phases::Session;
 
-/// What the calls for two chains returned.
+/// What the calls for a chain are given: loads and their bytes, a session and a request in it, and the number
+/// of the chain with an answer.
 #[derive(Drop)]
-pub struct Served<'a> {
-    pub popped: (
-        Result<PopOutcome, ChainError>,
-        Result<PopOutcome, ChainError>,
-    ),
-    pub decoded: (
-        Result<Decoded<'a>, ChainError>,
-        Result<Decoded<'a>, ChainError>,
-    ),
-    pub answered: (Result<Replied, ChainError>, Result<Replied, ChainError>),
-    pub pushed: (
-        Result<PushStores, ChainError>,
-        Result<PushStores, ChainError>,
-    ),
-    pub fronts: ([u8; 160], [u8; 160]),
-    pub ended: (Result<bool, ChainError>, Result<bool, ChainError>),
+pub struct Inputs<'a> {
+    pub ahead: &'a [LoadAhead],
+    pub loaded: &'a [u8],
+    pub session: Session,
+    pub request: &'a [u8],
+    pub serial: u32,
+    pub answer: FileAnswer,
 }
 
-/// Pops two chains by loads that were made ahead, decodes and answers them, and pushes them, the other one
-/// first if `swapped`.
+/// Pops two chains into handles 0 and 1 by loads that were made ahead, decodes and answers them, and pushes
+/// that of handle `first.0`, then that of handle `second.0`, with the two bytes that each push saw. Keeps
+/// what each of the ten calls returned.
 pub fn serve_two<'a>(
-    a: &mut ChainHandle,
-    b: &mut ChainHandle,
+    handles: &mut [ChainHandle],
     queue: &mut QueueState,
-    ahead: &[LoadAhead],
-    loaded: &[u8],
-    other_ahead: &[LoadAhead],
-    other_loaded: &[u8],
-    session: Session,
-    request: &'a [u8],
-    other_session: Session,
-    other_request: &'a [u8],
-    serial: u32,
-    answer: FileAnswer,
-    other_serial: u32,
-    other_answer: FileAnswer,
-    seen: [u8; 2],
-    other_seen: [u8; 2],
-    swapped: bool,
-) -> Served<'a>
-    requires { other_session.page_size ≡ session.page_size }
-    ensures run { swapped ≡ false
-        → Drives session.page_size (a.old ∷ b.old ∷ []) (a.new ∷ b.new ∷ []) queue.old queue.new
-        (call_of 0 (does.PopAhead ahead.entry loaded.entry) (gives.PoppedAhead result.popped.0)
-        ∷ call_of 1 (does.PopAhead other_ahead.entry other_loaded.entry) (gives.PoppedAhead result.popped.1)
-        ∷ call_of 0 (does.Decode session request.entry) (gives.Decoded result.decoded.0)
-        ∷ call_of 1 (does.Decode other_session other_request.entry) (gives.Decoded result.decoded.1)
-        ∷ call_of 0 (does.Answer serial answer) (gives.Answered result.answered.0)
-        ∷ call_of 1 (does.Answer other_serial other_answer) (gives.Answered result.answered.1)
-        ∷ call_of 0 does.Push (gives.Began result.pushed.0 result.fronts.0)
-        ∷ call_of 0 (does.Pushed seen) (gives.Ended result.ended.0)
-        ∷ call_of 1 does.Push (gives.Began result.pushed.1 result.fronts.1)
-        ∷ call_of 1 (does.Pushed other_seen) (gives.Ended result.ended.1) ∷ []) }
-    ensures swapped { swapped ≡ true
-        → Drives session.page_size (a.old ∷ b.old ∷ []) (a.new ∷ b.new ∷ []) queue.old queue.new
-        (call_of 0 (does.PopAhead ahead.entry loaded.entry) (gives.PoppedAhead result.popped.0)
-        ∷ call_of 1 (does.PopAhead other_ahead.entry other_loaded.entry) (gives.PoppedAhead result.popped.1)
-        ∷ call_of 0 (does.Decode session request.entry) (gives.Decoded result.decoded.0)
-        ∷ call_of 1 (does.Decode other_session other_request.entry) (gives.Decoded result.decoded.1)
-        ∷ call_of 0 (does.Answer serial answer) (gives.Answered result.answered.0)
-        ∷ call_of 1 (does.Answer other_serial other_answer) (gives.Answered result.answered.1)
-        ∷ call_of 1 does.Push (gives.Began result.pushed.1 result.fronts.1)
-        ∷ call_of 1 (does.Pushed other_seen) (gives.Ended result.ended.1)
-        ∷ call_of 0 does.Push (gives.Began result.pushed.0 result.fronts.0)
-        ∷ call_of 0 (does.Pushed seen) (gives.Ended result.ended.0) ∷ []) }
+    page_size: u32,
+    one: Inputs<'a>,
+    other: Inputs<'a>,
+    first: (usize, [u8; 2]),
+    second: (usize, [u8; 2]),
+    returned: &mut [Returned<'a>],
+)
+    ensures run { Drives page_size handles.old handles.new queue.old queue.new
+        (calls_of (0 ∷ 1 ∷ 0 ∷ 1 ∷ 0 ∷ 1 ∷ first.0 ∷ first.0 ∷ second.0 ∷ second.0 ∷ [])
+        (does.PopAhead one.entry.ahead one.entry.loaded ∷ does.PopAhead other.entry.ahead other.entry.loaded
+        ∷ does.Decode one.entry.session one.entry.request
+        ∷ does.Decode other.entry.session other.entry.request
+        ∷ does.Answer one.entry.serial one.entry.answer ∷ does.Answer other.entry.serial other.entry.answer
+        ∷ does.Push ∷ does.Pushed first.1 ∷ does.Push ∷ does.Pushed second.1 ∷ []) returned.new) }
 {
-    let popped = drive_ahead(a, queue, ahead, loaded);
-    let other_popped = drive_ahead(b, queue, other_ahead, other_loaded);
-    let decoded = drive_decode(a, queue, session, request);
-    let other_decoded = drive_decode(b, queue, other_session, other_request);
-    let answered = drive_answer(a, queue, serial, answer);
-    let other_answered = drive_answer(b, queue, other_serial, other_answer);
-    if swapped {
-        let (other_pushed, other_front) = drive_push(b, queue);
-        let other_ended = drive_pushed(b, queue, other_seen);
-        let (pushed, front) = drive_push(a, queue);
-        let ended = drive_pushed(a, queue, seen);
-        return Served {
-            popped: (popped, other_popped),
-            decoded: (decoded, other_decoded),
-            answered: (answered, other_answered),
-            pushed: (pushed, other_pushed),
-            fronts: (front, other_front),
-            ended: (ended, other_ended),
-        };
-    }
-    let (pushed, front) = drive_push(a, queue);
-    let ended = drive_pushed(a, queue, seen);
-    let (other_pushed, other_front) = drive_push(b, queue);
-    let other_ended = drive_pushed(b, queue, other_seen);
-    Served {
-        popped: (popped, other_popped),
-        decoded: (decoded, other_decoded),
-        answered: (answered, other_answered),
-        pushed: (pushed, other_pushed),
-        fronts: (front, other_front),
-        ended: (ended, other_ended),
-    }
+    let places = [0, 1, 0, 1, 0, 1, first.0, first.0, second.0, second.0];
+    let mut commands = [
+        Command::PopAhead(one.ahead, one.loaded),
+        Command::PopAhead(other.ahead, other.loaded),
+        Command::Decode(one.session, one.request),
+        Command::Decode(other.session, other.request),
+        Command::Answer(one.serial, one.answer),
+        Command::Answer(other.serial, other.answer),
+        Command::Push,
+        Command::Pushed(first.1),
+        Command::Push,
+        Command::Pushed(second.1),
+    ];
+    drive_all(handles, queue, page_size, &places, &mut commands, returned);
 }

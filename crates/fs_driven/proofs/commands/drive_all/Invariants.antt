@@ -1,4 +1,4 @@
-use Rattle.std.proofs.Common.{◌≡◌, ◌-◌, ◌≤◌, ◌<◌, false, length}
+use Rattle.std.proofs.Common.{◌-◌, length}
 use Rattle.fs_driven.proofs.Lists.{SoFar}
 use Rattle.fs_driven.proofs.commands.drive_all.Given as goal
 

@@ -1,0 +1,204 @@
+-- The end of a listing without entries drives the run: the reading of its directory is answered.
+use Rattle.std.proofs.Common.{◌≡◌, ◌≤◌, ℕ, Bool, true, false, List, [], ◌∷◌, Option, Some, arith}
+use Rattle.std.proofs.Common.{refl, subst, sym, ap, lt-ltb, slice_get}
+use Rattle.std.specs.Prelude.{IsTrue, Result, Ok, Err, IfOk, OnOk, OnErr, nat_lt, ◌&&◌}
+use Rattle.fuse_fs.specs.Calls.{Entries, Failed, FileAnswer, FileCall, suits}
+use Rattle.plain_machine.specs.Step.{Calls}
+use Rattle.server_phases.specs.declared.listing.Listing.{Listing}
+use Rattle.server_phases.specs.declared.listing.ListingReply.{ListingReply}
+use Rattle.virtiofsd_fuse.specs.Listings.{readdir_call}
+use Rattle.live_machine.specs.Live.{InFlightChain, ReceivesAnswer, after_answer, asked_chain}
+use Rattle.fs_chain.specs.Holds.{Machine, Pop}
+use Rattle.fs_chain.specs.HoldsListings.{EndsListing, FailsListing, HasListed, HoldsListing}
+use Rattle.fs_chain.specs.Listings.{EndsByEntries, EndsByError, RepliesBy}
+use Rattle.fs_chain.specs.Orders.{is_out}
+use Rattle.fs_chain.specs.Serials.{UnlessRefused, serial_error}
+use Rattle.fs_chain.specs.Together.{Owned, with_handle}
+use Rattle.fs_chain.specs.Walks.{IsAllButPlace}
+use Rattle.fs_chain.specs.WholeListings.{EndsThere, Unreadable, unreadable_calls}
+use Rattle.fs_chain.specs.declared.chain_handle.ChainHandle.{ChainHandle}
+use Rattle.fs_chain.specs.declared.error.ChainError.{ChainError}
+use Rattle.fs_chain.specs.declared.queue.QueueState.{QueueState}
+use Rattle.fs_chain.specs.declared.state.ChainReply.{ChainReply}
+use Rattle.fs_chain.specs.declared.state.ChainState as state
+use Rattle.fs_chain.specs.declared.state.ChainState.TheVariants as at
+use Rattle.fs_chain.specs.declared.state.InFlight.{InFlight}
+use Rattle.fs_driven.specs.declared.commands.Command.TheVariants as does
+use Rattle.fs_driven.specs.declared.commands.Returned.TheVariants as gives
+use Rattle.fs_driven.specs.Desks.{Begun, Driven, Leads, desk}
+use Rattle.fs_driven.specs.Kept.{KeepsMemory}
+use Rattle.fs_driven.specs.Told.{DrivesOne, TellsListing, turn}
+use Rattle.fs_chain.proofs.HoldsListed.{begins_listing, reads_directory}
+use Rattle.fs_chain.proofs.Together.{chains_of}
+use Rattle.fs_driven.proofs.Handles.{has_own}
+use Rattle.fs_driven.proofs.Answering.{answered_all}
+use Rattle.fs_driven.proofs.Calls.{HasNoPush, refuses, same_held}
+
+-- ---- a listing that has its reply
+
+abbrev IsOkay : Result ℕ ChainError → Type 0
+IsOkay (Ok n) = Unit {0}
+IsOkay (Err e) = ⊥
+
+not_err : (n : ℕ) (e : ChainError) → Ok n ≡ Err e → ⊥
+not_err n e is = subst (λ (r : Result ℕ ChainError). IsOkay r) is tt
+
+-- only a listing has one
+abbrev WasListing : state.ChainState → Type 0
+WasListing st = (out : InFlight) × (l : Listing) × (st ≡ at.Lists out l)
+
+was_listing : (P : Listing → ListingReply → Type 0) (st new : state.ChainState) (len : ℕ) → RepliesBy P st new (Ok len) →
+    WasListing st
+was_listing P (at.Lists out l) new len is = (out, l, refl)
+was_listing P (at.Waits out w) new len is = absurd (not_err len _ is.0)
+was_listing P at.Free new len is = absurd (not_err len _ is.0)
+was_listing P (at.Walking course pop_id walk) new len is = absurd (not_err len _ is.0)
+was_listing P (at.Taken out) new len is = absurd (not_err len _ is.0)
+was_listing P (at.HasReply out kept) new len is = absurd (not_err len _ is.0)
+was_listing P (at.Pushing out) new len is = absurd (not_err len _ is.0)
+
+-- the handle gathers the same listing once its directory was read
+abbrev read_calls : FileCall → FileAnswer → Calls
+read_calls call answer = (call, answer) ∷ []
+
+has_read : (page_size : ℕ) (c : InFlightChain) (w : ChainHandle) (answer : FileAnswer)
+    → (h : HoldsListing page_size c [] [] [] w)
+    → HoldsListing page_size (asked_chain c h.request h.options (read_calls (readdir_call h.asked) answer)) []
+    (read_calls (readdir_call h.asked) answer) [] w
+has_read page_size c w answer h = record {
+  out = h.out;
+  listing = h.listing;
+  state = h.state;
+  is_out = record {
+    taken = h.is_out.taken;
+    ring = h.is_out.ring;
+    head = h.is_out.head;
+    request_len = h.is_out.request_len;
+    room_len = h.is_out.room_len;
+    small = h.is_out.small;
+  };
+  request = h.request;
+  options = h.options;
+  session = h.session;
+  unique = h.unique;
+  asked = h.asked;
+  means = h.means;
+  is_for = h.is_for;
+  holds = h.holds;
+  phase = refl;
+}
+
+no_push : (st : state.ChainState) (out : InFlight) (kept : ChainReply) → st ≡ at.HasReply out kept → HasNoPush st
+no_push st out kept is = subst (λ (x : state.ChainState). HasNoPush x) (sym is) tt
+
+-- the listing of a run whose handle was told that its directory has this answer
+abbrev HasRead : (new : ChainHandle) → FileAnswer → (len : ℕ) → (old : ChainHandle) → Type 0
+HasRead new answer len old =
+    (page_size : ℕ) (c : InFlightChain) → (h : HoldsListing page_size c [] [] [] old) →
+    let calls = read_calls (readdir_call h.asked) answer in
+    HasListed page_size (asked_chain c h.request h.options calls) calls [] h.request h.options h.out len new
+
+listing_drives : (page_size : ℕ) (old new : ChainHandle) (q : QueueState) (serial : ℕ) (answer : FileAnswer)
+    (P : Result ℕ ChainError → Type 0) (len : ℕ)
+    → WasListing old.state → KeepsMemory old new
+    → ((page_size : ℕ) (c : InFlightChain) (h : HoldsListing page_size c [] [] [] old) →
+    IsTrue (suits (readdir_call h.asked) answer))
+    → HasRead new answer len old → P (Ok len)
+    → (ws : List ChainHandle) (k : ℕ) → slice_get ws k ≡ Some old
+    → (s : Machine) (i : ℕ) (os : List Owned) (pops : ℕ → Pop) (push : Option Begun)
+    → Driven s i page_size q ws os pops push
+    → Leads s i page_size q (with_handle ws k new)
+    (λ es d. TellsListing (turn i page_size k (desk s ws q os pops push) d old new) serial answer P (Ok len) es)
+listing_drives page_size old new q serial answer P len was same suited listed told ws k there s i os pops push
+    all =
+    let own_one = all.outs k old there (ap is_out was.2) in
+    let c = own_one.0 in
+    let has = has_own s i page_size q ws os k old c pops push all there own_one.1 in
+    let mine = all.mine k old c there own_one.1 in
+    let h = begins_listing s.page_size c old was.0 was.1 [] was.2 has.holds in
+    let call : FileCall = readdir_call h.asked in
+    let calls : Calls = read_calls call answer in
+    let reads = reads_directory s (chains_of has.ob) (chains_of has.oh) c [] [] old answer has.chains h
+    (suited s.page_size c h) in
+    let r = listed s.page_size c h in
+    let after : Machine = after_answer s (chains_of has.ob) (chains_of has.oh) c h.request h.options calls tt in
+    answered_all s i page_size k q ws has.ob has.oh pops push old new c h.request h.options calls after
+    (ReceivesAnswer c call answer ∷ [])
+    (λ es d. TellsListing (turn i page_size k (desk s ws q os pops push) d old new) serial answer P (Ok len) es)
+    has.driven there mine.0 same r.holds (no_push new.state h.out r.kept r.state) r.none_pending
+    (after, reads.0, refl) refl refl refl refl refl
+    (λ after' os' pops'. (c, call, h.request, h.options, own_one.1, h.phase, refl, told))
+
+-- ---- by what each call ensures
+
+ended_not : (old new : ChainHandle) (q : QueueState) (serial : ℕ) (e : ChainError)
+    → UnlessRefused {A = ℕ} (serial_error old.state old.serial serial) (Err e) (new ≡ old)
+    (EndsByEntries old.state new.state (Err e))
+    → new ≡ old
+    → (page_size : ℕ) → DrivesOne page_size old new q q (does.EndListing serial) (gives.Listed (Err e))
+ended_not old new q serial e told same page_size =
+    refuses page_size old new q (does.EndListing serial) (gives.Listed (Err e)) (same_held old new same)
+    (λ i k d d' u is. (refl, told))
+
+pub ended : (old new : ChainHandle) (q : QueueState) (serial : ℕ) (result : Result ℕ ChainError)
+    → UnlessRefused (serial_error old.state old.serial serial) result (new ≡ old)
+    (EndsByEntries old.state new.state result)
+    → OnOk result (EndsByEntries old.state new.state result)
+    → OnErr result (new ≡ old)
+    → IsAllButPlace old new
+    → IfOk result (λ len. EndsListing old new len)
+    → (page_size : ℕ) → DrivesOne page_size old new q q (does.EndListing serial) (gives.Listed result)
+unfolding DrivesOne EndsListing has_read
+ended old new q serial (Ok len) told ends same stays step page_size ws k there u s i os pops push all =
+    listing_drives page_size old new q serial (Entries []) (λ r. EndsByEntries old.state new.state r) len
+    (was_listing _ old.state new.state len ends) (stays.0.0, stays.0.1)
+    (λ page c h. refl)
+    (λ page c h. step page (asked_chain c h.request h.options (read_calls (readdir_call h.asked) (Entries []))) []
+    EndsThere (read_calls (readdir_call h.asked) (Entries [])) [] (has_read page c old (Entries []) h) tt refl)
+    ends ws k there s i os pops push all
+ended old new q serial (Err e) told ends same stays step page_size ws k there u s i os pops push all =
+    ended_not old new q serial e told same page_size ws k there u s i os pops push all
+
+-- an error's number
+errno_suits : (errno : ℕ) → 1 ≤ errno → errno ≤ 4095 → IsTrue (nat_lt 0 errno && nat_lt errno 4096)
+errno_suits errno low high =
+    let a : nat_lt 0 errno ≡ true = lt-ltb 0 errno (omega arith) in
+    let b : nat_lt errno 4096 ≡ true = lt-ltb errno 4096 (omega arith) in
+    rw a (rw b refl)
+
+unread : (call : FileCall) (with_nodes : Bool) (errno : ℕ) →
+    read_calls call (Failed errno) ≡ unreadable_calls call with_nodes [] errno
+unread call true errno = refl
+unread call false errno = refl
+
+failed_not : (old new : ChainHandle) (q : QueueState) (serial errno : ℕ) (e : ChainError)
+    → UnlessRefused {A = ℕ} (serial_error old.state old.serial serial) (Err e) (new ≡ old)
+    (EndsByError errno old.state new.state (Err e))
+    → new ≡ old
+    → (page_size : ℕ) → DrivesOne page_size old new q q (does.FailListing serial errno) (gives.Listed (Err e))
+failed_not old new q serial errno e told same page_size =
+    refuses page_size old new q (does.FailListing serial errno) (gives.Listed (Err e)) (same_held old new same)
+    (λ i k d d' u is. (refl, told))
+
+pub failed : (old new : ChainHandle) (q : QueueState) (serial errno : ℕ) (result : Result ℕ ChainError)
+    → 1 ≤ errno → errno ≤ 4095
+    → UnlessRefused (serial_error old.state old.serial serial) result (new ≡ old)
+    (EndsByError errno old.state new.state result)
+    → OnOk result (EndsByError errno old.state new.state result)
+    → OnErr result (new ≡ old)
+    → IsAllButPlace old new
+    → IfOk result (λ len. FailsListing errno old new len)
+    → (page_size : ℕ) → DrivesOne page_size old new q q (does.FailListing serial errno) (gives.Listed result)
+unfolding DrivesOne FailsListing has_read
+failed old new q serial errno (Ok len) low high told ends same stays step page_size ws k there u s i os pops push
+    all =
+    listing_drives page_size old new q serial (Failed errno) (λ r. EndsByError errno old.state new.state r) len
+    (was_listing _ old.state new.state len ends) (stays.0.0, stays.0.1)
+    (λ page c h. errno_suits errno low high)
+    (λ page c h. step page (asked_chain c h.request h.options (read_calls (readdir_call h.asked) (Failed errno))) []
+    (Unreadable errno) (read_calls (readdir_call h.asked) (Failed errno)) [] (has_read page c old (Failed errno) h)
+    refl (unread (readdir_call h.asked) h.asked.with_nodes errno))
+    ends ws k there s i os pops push all
+failed old new q serial errno (Err e) low high told ends same stays step page_size ws k there u s i os pops push
+    all =
+    failed_not old new q serial errno e told same page_size ws k there u s i os pops push all

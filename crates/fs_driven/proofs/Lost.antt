@@ -1,0 +1,162 @@
+-- A handle is freed: its chain stays in flight, without a handle.
+use Rattle.std.proofs.Common.{inl, inr, ◌≡◌, ◌⊎◌, ℕ, Bool, true, false, List, [], ◌∷◌, ◌++◌, Option, Some, None}
+use Rattle.std.proofs.Common.{refl, subst, sym, ap, ◌∙◌, slice_get}
+use Rattle.std.proofs.lemmas.List.{map-append}
+use Rattle.fs_regions.specs.Places.{places_in}
+use Rattle.live_machine.specs.Live.{Abandons, InFlightChain, abandoned_chain, after_abandoning}
+use Rattle.live_machine.specs.Live.{fault_of_phase}
+use Rattle.live_machine.proofs.Alone.{all_both, all_left, all_right}
+use Rattle.fs_chain.specs.Holds.{Machine, Pop}
+use Rattle.fs_chain.specs.HoldsAround.{AbandonsChain}
+use Rattle.fs_chain.specs.Orders.{is_out}
+use Rattle.fs_chain.specs.Pushes.{IsFreed}
+use Rattle.fs_chain.specs.Together.{EachHasOne, HasNoMore, IsHeldBy, IsNot, Owned, with_handle}
+use Rattle.fs_chain.specs.declared.chain_handle.ChainHandle.{ChainHandle}
+use Rattle.fs_chain.specs.declared.queue.QueueState.{QueueState}
+use Rattle.fs_chain.specs.declared.state.ChainState as state
+use Rattle.fs_chain.specs.declared.state.ChainState.TheVariants as at
+use Rattle.fs_driven.specs.declared.commands.Command.TheVariants as does
+use Rattle.fs_driven.specs.declared.commands.Returned.TheVariants as gives
+use Rattle.fs_driven.specs.Desks.{Begun, Driven, FitsRun, In, IsLost, Leads, MayPop, desk, lost, no_pop, own, with_pop}
+use Rattle.fs_driven.specs.Told.{AbandonTells, DrivesOne, Tells, turn}
+use Rattle.fs_chain.proofs.Together.{chains_of}
+use Rattle.fs_driven.proofs.Handles.{Moves, among, has_own, here, idles, leaves, not_lost, others_same, put}
+use Rattle.fs_driven.proofs.Calls.{stays_put}
+
+-- ---- one more chain without a handle
+
+abbrev Lacks : ℕ → Owned → Type 0
+Lacks k o = IsNot k o.handle
+
+none_more : (h : Option ℕ) (c : InFlightChain) (ob oh : List Owned) → HasNoMore h (ob ++ oh) →
+    HasNoMore h (ob ++ lost c ∷ oh)
+none_more None c ob oh none = tt
+none_more (Some j) c ob oh none =
+    all_both (Lacks j) ob (lost c ∷ oh) (all_left (Lacks j) ob oh none) (tt, all_right (Lacks j) ob oh none)
+
+once_more : (c : InFlightChain) (ob oh : List Owned) → EachHasOne (ob ++ oh) → EachHasOne (ob ++ lost c ∷ oh)
+once_more c [] oh once = (tt, once)
+once_more c (o ∷ ob) oh once = (none_more o.handle c ob oh once.0, once_more c ob oh once.1)
+
+-- the state of a run whose chains are those, and this one among them
+abbrev amid_chains : Machine → (ob oh : List Owned) → InFlightChain → Machine
+amid_chains s ob oh c = record s { chains = chains_of ob ++ c ∷ chains_of oh }
+
+abbrev without_it : Machine → (ob oh : List Owned) → Machine
+without_it s ob oh = record s { chains = chains_of ob ++ chains_of oh }
+
+loses : (s : Machine) (i page_size : ℕ) (q : QueueState) (ws : List ChainHandle) (ob oh : List Owned)
+    (c : InFlightChain) (pops : ℕ → Pop) (push : Option Begun)
+    → Driven (without_it s ob oh) i page_size q ws (ob ++ oh) pops push → IsLost i c
+    → Driven (amid_chains s ob oh c) i page_size q ws (ob ++ lost c ∷ oh) pops push
+loses s i page_size q ws ob oh c pops push all is_lost =
+    let held = all.all.held in
+    record {
+      all = record {
+        chains = sym (map-append (λ (o : Owned). o.chain) ob (lost c ∷ oh));
+        held = all_both (λ (o : Owned). IsHeldBy s.page_size ws o.handle o.chain) ob (lost c ∷ oh)
+            (all_left (λ (o : Owned). IsHeldBy s.page_size ws o.handle o.chain) ob oh held)
+            (tt, all_right (λ (o : Owned). IsHeldBy s.page_size ws o.handle o.chain) ob oh held);
+        once = once_more c ob oh all.all.once;
+      };
+      queue = all.queue;
+      page = all.page;
+      small = all.small;
+      mine = λ j v d there m. all.mine j v d there (its j d (among ob oh (lost c) (own j d) m));
+      outs = λ j v there out.
+          let was = all.outs j v there out in
+          (was.0, put ob oh (lost c) (own j was.0) was.1);
+      fits = all.fits;
+      left = λ d m. each d (among ob oh (lost c) (lost d) m);
+      still = all.still;
+    }
+  where
+    its : (j : ℕ) (d : InFlightChain) → (own j d ≡ lost c) ⊎ In (own j d) (ob ++ oh) → In (own j d) (ob ++ oh)
+    its j d (inl e) = absurd (not_lost j c d (sym e))
+    its j d (inr m) = m
+
+    each : (d : InFlightChain) → (lost d ≡ lost c) ⊎ In (lost d) (ob ++ oh) → IsLost i d
+    each d (inl e) = subst (λ (o : Owned). IsLost i o.chain) (sym e) is_lost
+    each d (inr m) = all.left d m
+
+-- ---- abandon
+
+-- a handle that is free now
+fits_free : (s : Machine) (q : QueueState) (p : Pop) (old new : ChainHandle) → new.state ≡ at.Free →
+    new.regions ≡ old.regions → new.limit ≡ old.limit
+    → FitsRun s.places s.limit q.event_index p old → FitsRun s.places s.limit q.event_index no_pop new
+fits_free s q p old new free regions limit was = (
+  was.0 ∙ ap places_in (sym regions),
+  was.1 ∙ sym limit,
+  subst (λ (st : state.ChainState). MayPop s.limit q.event_index no_pop new st) (sym free) tt,
+)
+
+-- the next push is stored where it was, and no handle's push ends
+abandoned_moves : (s : Machine) (i page_size k : ℕ) (q : QueueState) (ws : List ChainHandle) (os : List Owned)
+    (pops : ℕ → Pop) (push : Option Begun) (old new : ChainHandle) (chains : List InFlightChain)
+    → Driven s i page_size q ws os pops push → slice_get ws k ≡ Some old → IsFreed old new
+    → Moves s (record s { chains = chains }) i page_size k q q no_pop push push new
+abandoned_moves s i page_size k q ws os pops push old new chains all there freed = record {
+  page = refl;
+  limit = refl;
+  places = refl;
+  queue = all.queue;
+  event = refl;
+  fits = fits_free s q (pops k) old new freed.0.3 freed.0.0.0 freed.0.0.1 (all.fits k old there);
+  others = others_same page_size k q q push (λ head len. refl);
+  still = all.still;
+}
+
+pub abandoned : (old new : ChainHandle) (q : QueueState) → IsFreed old new → AbandonsChain new
+    → (page_size : ℕ) → DrivesOne page_size old new q q does.Abandon gives.Abandoned
+unfolding DrivesOne AbandonsChain
+abandoned old new q freed abandons page_size ws k there u s i os pops push all = by_out (is_out old.state) refl
+  where
+    by_out : (b : Bool) → is_out old.state ≡ b → Leads s i page_size q (with_handle ws k new)
+        (λ es d. Tells (turn i page_size k (desk s ws q os pops push) d old new) does.Abandon u gives.Abandoned es)
+    by_out false none = (
+      [],
+      s,
+      os,
+      with_pop pops k no_pop,
+      push,
+      refl,
+      idles s s i page_size q q ws os k old new no_pop pops push push all there
+          (stays_put s i page_size k q q no_pop push new all.queue refl (λ head len. refl) refl all.still
+          (fits_free s q (pops k) old new freed.0.3 freed.0.0.0 freed.0.0.1 (all.fits k old there))) refl none
+          (ap is_out freed.0.3),
+      (
+        freed,
+        subst (λ (b : Bool). AbandonTells (turn i page_size k (desk s ws q os pops push)
+            (desk s (with_handle ws k new) q os (with_pop pops k no_pop) push) old new) b []) (sym none) refl,
+      ),
+    )
+    by_out true some =
+        let own_one = all.outs k old there some in
+        let c = own_one.0 in
+        let has = has_own s i page_size q ws os k old c pops push all there own_one.1 in
+        let mine = all.mine k old c there own_one.1 in
+        let e = abandons s (chains_of has.ob) (chains_of has.oh) c has.chains in
+        let after : Machine = after_abandoning s (chains_of has.ob) (chains_of has.oh) c in
+        let c' : InFlightChain = abandoned_chain c in
+        let rest : Driven (without_it s has.ob has.oh) i page_size q (with_handle ws k new) (has.ob ++ has.oh)
+        (with_pop pops k no_pop) push =
+        leaves s (without_it s has.ob has.oh) i page_size q q ws has.ob has.oh k old new c no_pop pops push push
+        has.driven there (abandoned_moves s i page_size k q ws os pops push old new
+        (chains_of has.ob ++ chains_of has.oh) all there freed) refl (ap is_out freed.0.3) in (
+          Abandons c ∷ [],
+          after,
+          has.ob ++ lost c' ∷ has.oh,
+          with_pop pops k no_pop,
+          push,
+          (after, e.0, refl),
+          loses s i page_size q (with_handle ws k new) has.ob has.oh c' (with_pop pops k no_pop) push rest
+              (mine.0, fault_of_phase c.phase, refl),
+          (
+            freed,
+            subst (λ (b : Bool). AbandonTells (turn i page_size k (desk s ws q os pops push)
+                (desk after (with_handle ws k new) q (has.ob ++ lost c' ∷ has.oh) (with_pop pops k no_pop) push)
+                old new) b (Abandons c ∷ [])) (sym some)
+                (c, own_one.1, refl, here has.ob has.oh (lost c')),
+          ),
+        )
