@@ -21,7 +21,8 @@ mod waiting {
     }
 }
 
-#[cfg(not(feature = "std"))]
+#[cfg(any(test, not(feature = "std")))]
+#[cfg_attr(feature = "std", allow(dead_code))] // its tests alone use it
 #[allow(unsafe_code)]
 mod spinning {
     use core::cell::UnsafeCell;
@@ -57,5 +58,58 @@ mod spinning {
             // the value exists: each is made here.
             f(unsafe { &mut *self.value.get() })
         }
+    }
+}
+
+#[cfg(all(test, feature = "std"))]
+mod tests {
+    use std::panic::{catch_unwind, AssertUnwindSafe};
+    use std::sync::atomic::{AtomicBool, Ordering};
+    use std::thread;
+    use std::time::Duration;
+
+    const COUNT: u32 = 20_000;
+
+    /// One thread at a time is within, also if one panics there.
+    macro_rules! test_locks {
+        ($($name:ident: $lock:ty;)*) => { $(
+            #[test]
+            fn $name() {
+                let (lock, is_within) = (<$lock>::default(), AtomicBool::new(false));
+                let add = || {
+                    for _ in 0..COUNT {
+                        lock.with(|count| {
+                            assert!(!is_within.swap(true, Ordering::Relaxed));
+                            *count += 1;
+                            is_within.store(false, Ordering::Relaxed);
+                        });
+                    }
+                };
+                thread::scope(|scope| (0..3).for_each(|_| drop(scope.spawn(add))));
+                assert_eq!(lock.with(|count| *count), 3 * COUNT);
+                let panics = || lock.with(|_| panic!("under the lock, as the test wants it"));
+                assert!(catch_unwind(AssertUnwindSafe(panics)).is_err());
+                assert_eq!(lock.with(|count| *count), 3 * COUNT);
+            }
+        )* };
+    }
+
+    test_locks! {
+        of_std: super::waiting::Lock<u32>;
+        without_std: super::spinning::Lock<u32>;
+    }
+
+    /// A thread waits as long as another is within.
+    #[test]
+    fn another_thread_waits() {
+        let (lock, entered) = (super::spinning::Lock::<()>::default(), AtomicBool::new(false));
+        thread::scope(|scope| {
+            lock.with(|()| {
+                scope.spawn(|| lock.with(|()| entered.store(true, Ordering::Relaxed)));
+                thread::sleep(Duration::from_millis(50));
+                assert!(!entered.load(Ordering::Relaxed));
+            });
+        });
+        assert!(entered.into_inner());
     }
 }

@@ -144,3 +144,121 @@ fn errors_are_the_systems() {
         assert_eq!(guest.serve(&Files(&closed)).1, Replied::Error(22));
     }
 }
+
+/// So many pieces, which are more than a system call takes. They lie apart.
+const PIECES: u64 = 150;
+
+fn piece_at(k: u64) -> (u64, u32) {
+    (0x10_0000 + 0x400 * k, (k % 13 + 1) as u32 * 7)
+}
+
+/// The size of their queue: no chain is longer.
+const WIDE: u16 = 256;
+
+/// Offers a request with these pieces behind it, or behind its reply's header, in a table.
+fn offer_pieces(guest: &mut Guest, request: &[u8], is_read: bool) -> u32 {
+    guest.queue = Queue::new(QueueLayout { size: WIDE, ..layout() }, guest.offered).unwrap();
+    guest.memory.write(REQUEST, request);
+    let mut buffers = vec![Buffer(REQUEST, request.len() as u32, false)];
+    buffers.extend(Some(Buffer(ROOM, 16, true)).filter(|_| is_read));
+    let pieces = (0..PIECES).map(piece_at);
+    buffers.extend(pieces.clone().map(|(at, len)| Buffer(at, len, is_read)));
+    buffers.extend(Some(Buffer(ROOM, 24, true)).filter(|_| !is_read));
+    guest.draw(TABLE, 0, &buffers);
+    guest.descriptor(DESCRIPTORS, 3, (TABLE, 16 * buffers.len() as u32, INDIRECT, 0));
+    guest.memory.write(AVAILABLE + 4 + 2 * u64::from(guest.offered % WIDE), &[3, 0]);
+    guest.memory.write(AVAILABLE + 2, &guest.offered.wrapping_add(1).to_le_bytes());
+    pieces.map(|(_, len)| len).sum()
+}
+
+fn serve_wide(guest: &mut Guest, files: &Files<'_>) -> Served {
+    let served = if guest.way == Way::Methods {
+        guest.worker.serve(&mut guest.queue, &guest.device, files, &guest.memory)
+    } else {
+        by_values::serve(guest, files)
+    };
+    served.unwrap().expect("a chain waits")
+}
+
+#[test]
+fn data_is_in_more_pieces_than_a_call_takes() {
+    let total: u32 = (0..PIECES).map(|k| piece_at(k).1).sum();
+    let bytes = pattern(total as usize + 20);
+    for way in WAYS {
+        // All of it, up to the file's end in the second call's pieces, and in the first's.
+        for cut in [0, total / 3, total - 100] {
+            let file = Temporary::new("many", &bytes[..bytes.len() - 10 - cut as usize]);
+            let mut guest = Guest::by(way);
+            assert_eq!(offer_pieces(&mut guest, &read_args(10, total), true), total);
+            let served = serve_wide(&mut guest, &Files(&file.1));
+            assert_eq!(served.reply_len, 16 + total - cut, "{way:?} {cut}");
+            let mut found = Vec::new();
+            (0..PIECES).for_each(|k| {
+                found.extend(guest.memory.read(piece_at(k).0, piece_at(k).1 as usize));
+            });
+            let len = (total - cut) as usize;
+            assert!(found[..len] == bytes[10..10 + len], "{way:?} {cut}");
+            assert!(found[len..].iter().all(|byte| *byte == 0), "{way:?} {cut}");
+        }
+        let file = Temporary::new("many", b"0123456789");
+        let mut guest = Guest::by(way);
+        let mut at = 0;
+        for (place, len) in (0..PIECES).map(piece_at) {
+            guest.memory.write(place, &bytes[at..at + len as usize]);
+            at += len as usize;
+        }
+        let mut write = request(16, 5, &args().q(3).q(7).d(total).bytes(&[0; 20]).0);
+        write[..4].copy_from_slice(&(80 + total).to_le_bytes());
+        offer_pieces(&mut guest, &write, false);
+        assert_eq!(serve_wide(&mut guest, &Files(&file.1)).reply_len, 24);
+        assert_eq!(number(&guest.memory.read(ROOM + 16, 4), 0, 4), u64::from(total));
+        assert!(fs::read(&file.0).unwrap() == [b"0123456", &bytes[..at]].concat(), "{way:?}");
+    }
+}
+
+/// Memory that lacks a stretch, or has the first byte of it alone.
+struct Lacking<'m> {
+    memory: &'m Memory,
+    from: usize,
+    is_short: bool,
+}
+
+impl GuestMemory for Lacking<'_> {
+    fn get_slice(&self, at: usize, len: usize) -> Option<GuestSlice<'_>> {
+        let lacks = (self.from..self.from + 0x400).contains(&at);
+        let len = if lacks && self.is_short { 1 } else { len };
+        self.memory.get_slice(at, len).filter(|_| !lacks || self.is_short)
+    }
+}
+
+/// Data ends before the piece that the memory lacks. If that is the first one, the call fails.
+#[test]
+fn pieces_that_the_memory_lacks() {
+    for (k, is_read, is_short) in (0..20).map(|k| (k * 5, k % 2 == 0, k % 3 == 0)) {
+        let file = Temporary::new("lacks", &pattern(20_000));
+        let mut guest = Guest::new();
+        let size = 10_000;
+        let mut asked = if is_read {
+            read_args(0, size)
+        } else {
+            request(16, 5, &args().q(3).q(0).d(size).bytes(&[0; 20]).0)
+        };
+        let wanted: u32 = (0..k).map(|k| piece_at(k).1).sum();
+        let total: u32 = (0..PIECES).map(|k| piece_at(k).1).sum();
+        asked[..4].copy_from_slice(&(80 + if is_read { 0 } else { total }).to_le_bytes());
+        offer_pieces(&mut guest, &asked, is_read);
+        let from = guest.memory.host + piece_at(k).0 as usize;
+        let Guest { worker, queue, device, memory, .. } = &mut guest;
+        let memory = Lacking { memory, from, is_short };
+        let served = worker.serve(queue, device, &Files(&file.1), &memory).unwrap().unwrap();
+        let error = number(&guest.memory.read(ROOM + 4, 4), 0, 4) as i32;
+        if k == 0 {
+            assert_eq!((served.reply_len, error), (16, -14), "EFAULT");
+        } else if is_read {
+            assert_eq!((served.reply_len, error), (16 + wanted, 0), "{k}");
+        } else {
+            let count = number(&guest.memory.read(ROOM + 16, 4), 0, 4);
+            assert_eq!((served.reply_len, error, count), (24, 0, u64::from(wanted)), "{k}");
+        }
+    }
+}

@@ -1,0 +1,186 @@
+//! How a queue is served by a `Builder`: how many chains are in flight, what is refused and when,
+//! and what `stop_within` and `set_memory` leave as it was.
+#![cfg(target_os = "linux")]
+mod guest;
+
+use guest::recorder::entry;
+use guest::request;
+use guest::running::*;
+use pitskhomu::live::{new_event, Builder, Error, Serving};
+use pitskhomu::*;
+use std::error::Error as _;
+use std::io::{self, Read as _, Write as _};
+use std::sync::atomic::Ordering;
+use std::sync::{Arc, Mutex};
+use std::thread;
+use std::time::Duration;
+
+type Kept = Arc<Mutex<Vec<Reply>>>;
+
+/// Serves a queue of this size by a handler that keeps each reply object.
+fn keep(size: u16, build: impl FnOnce(Builder) -> Builder) -> (Arc<Memory>, Driver, Serving, Kept) {
+    let (memory, kept) = (Memory::new(), Kept::default());
+    let (driver, kick, call) = Driver::new(&memory, false);
+    let keeps = kept.clone();
+    let handler = move |request: Request<'_>| keeps.lock().unwrap().push(request.reply);
+    let queue = Queue::new(QueueLayout { size, ..layout() }, 0).unwrap();
+    // What the queue has is replaced.
+    let queue = queue.with_max_in_flight(2).unwrap();
+    let builder = build(Builder::new(Arc::default(), memory.clone(), &[region()]));
+    let serving = builder.start_by_values(queue, kick, call, Arc::new(handler)).unwrap();
+    (memory, driver, serving, kept)
+}
+
+fn lookup() -> Vec<u8> {
+    request(1, 1, b"hello\0")
+}
+
+fn take(kept: &Kept) -> Option<Reply> {
+    kept.lock().unwrap().pop()
+}
+
+/// As many chains are in flight as there are threads, or as were asked for, but no more than the
+/// queue has descriptors.
+#[test]
+fn so_many_chains_are_in_flight() {
+    for (threads, in_flight, wanted) in
+        [(0, 0, 1), (1, 0, 1), (1, 1, 1), (3, 0, 3), (3, 2, 3), (2, 5, 5), (1, 8, 8)]
+    {
+        let build = |builder: Builder| builder.threads(threads).in_flight(in_flight);
+        let (_, mut driver, serving, kept) = keep(SIZE, build);
+        let count = || kept.lock().unwrap().len();
+        assert_eq!(serving.in_flight(), 0);
+        (0..8).for_each(|slot| driver.offer(slot, &lookup(), 144));
+        until(|| count() == wanted);
+        thread::sleep(Duration::from_millis(20));
+        assert_eq!((count(), usize::from(serving.in_flight())), (wanted, wanted), "{threads}");
+        // Each answer lets the next one in.
+        for answered in 1..=8 {
+            until(|| count() > 0);
+            take(&kept).unwrap().send(entry()).unwrap();
+            assert_eq!(driver.wait().1, 144);
+            until(|| count() == wanted.min(8 - answered));
+        }
+        assert_eq!((serving.in_flight(), serving.refused()), (0, None));
+        assert_eq!(serving.stop().max_in_flight(), wanted as u16);
+    }
+    // A queue of 4 descriptors has at most 2 of these chains.
+    for (threads, in_flight) in [(1, 100), (9, 0), (2, u16::MAX)] {
+        let build = |builder: Builder| builder.threads(threads).in_flight(in_flight);
+        let (memory, driver, serving, kept) = keep(4, build);
+        let mut driver = driver;
+        driver.offer(0, &lookup(), 144);
+        until(|| kept.lock().unwrap().len() == 1);
+        take(&kept).unwrap().send(entry()).unwrap();
+        until(|| memory.half(USED + 2).load(Ordering::Acquire) == 1);
+        assert_eq!(serving.stop().max_in_flight(), 4);
+    }
+}
+
+/// A stop that waits in vain leaves the queue as it was, as often as it is tried, and a chain
+/// that is offered meanwhile is popped afterwards.
+#[test]
+fn a_stop_may_be_tried_again() {
+    let (_, mut driver, mut serving, kept) = keep(SIZE, |builder| builder.in_flight(3));
+    let count = || kept.lock().unwrap().len();
+    for round in 1..4 {
+        driver.offer(round - 1, &lookup(), 144);
+        until(|| count() == usize::from(round));
+        serving = serving.stop_within(Duration::ZERO).expect_err("an answer is wanting");
+        assert_eq!((serving.in_flight(), serving.refused()), (round, None));
+    }
+    take(&kept).unwrap().send(entry()).unwrap();
+    assert_eq!(driver.wait(), (2, 144));
+    while let Some(reply) = take(&kept) {
+        reply.send(entry()).unwrap();
+    }
+    let queue = serving.stop_within(PATIENCE).expect("all answers have come");
+    assert_eq!((queue.next_avail(), queue.next_used(), queue.in_flight()), (3, 3, 0));
+    assert_eq!((driver.wait().1, driver.wait().1), (144, 144));
+    // Nothing is in flight: it stops at once.
+    let (_, _driver, serving, _) = keep(SIZE, |builder| builder.threads(2));
+    assert_eq!(serving.stop_within(Duration::ZERO).expect("it is idle").next_avail(), 0);
+}
+
+/// The first refusal is kept, and its event is signalled. A stop and a reset end all the same.
+#[test]
+fn a_refused_queue_ends() {
+    for (threads, is_reset) in [(1, false), (3, false), (1, true), (3, true)] {
+        let err = new_event().unwrap();
+        let own = err.try_clone().unwrap();
+        let (memory, mut driver, serving, kept) =
+            keep(SIZE, |builder| builder.threads(threads).in_flight(4).err(own));
+        driver.offer(0, &lookup(), 144);
+        until(|| kept.lock().unwrap().len() == 1);
+        assert!((&err).read(&mut [0; 8]).is_err() && serving.refused().is_none());
+        memory.half(AVAILABLE + 2).store(SIZE + 7, Ordering::Release);
+        (&driver.kick).write_all(&1u64.to_ne_bytes()).unwrap();
+        until(|| (&err).read(&mut [0; 8]).is_ok());
+        assert_eq!(serving.refused(), Some(Status::AvailTooFar));
+        // Nothing is popped, and what is in flight is answered.
+        memory.half(AVAILABLE + 2).store(2, Ordering::Release);
+        serving.look();
+        let reply = take(&kept).unwrap();
+        if is_reset {
+            let before = memory.read(0, LEN);
+            serving.reset();
+            assert!(reply.is_cancelled());
+            let unsent = reply.send(entry()).expect_err("it is too late");
+            assert_eq!(unsent.cancelled().undo, [Undo::Forget(entry().node)]);
+            assert!(memory.read(0, LEN) == before);
+            continue;
+        }
+        reply.send(entry()).unwrap();
+        let queue = serving.stop();
+        assert_eq!((queue.stopped(), queue.in_flight()), (Some(Status::AvailTooFar), 0));
+        assert_eq!((queue.next_avail(), driver.used()), (1, Some((0, 144))));
+        assert!(kept.lock().unwrap().is_empty());
+    }
+}
+
+/// New memory that is refused leaves the old one, in each worker. A chain in flight keeps the
+/// memory that it was popped with.
+#[test]
+fn memory_is_set_for_the_next_chains() {
+    struct Moved(Arc<Memory>, usize);
+    impl GuestMemory for Moved {
+        fn get_slice(&self, at: usize, len: usize) -> Option<GuestSlice<'_>> {
+            self.0.get_slice(at.checked_sub(self.1)?, len)
+        }
+    }
+    let (memory, mut driver, serving, kept) = keep(SIZE, |builder| builder.in_flight(4));
+    let count = || kept.lock().unwrap().len();
+    let moved = |host| (Arc::new(Moved(memory.clone(), host)), Region { host, ..region() });
+    driver.offer(0, &lookup(), 144);
+    until(|| count() == 1);
+    for k in 1..4 {
+        let (there, region) = moved(0x100_0000 * k);
+        serving.set_memory(there, &[region]).unwrap();
+        let (odd, region) = moved(0x1000);
+        let overlap = [region, region];
+        assert_eq!(serving.set_memory(odd, &overlap), Err(Status::BadArgument));
+        driver.offer(k as u16, &lookup(), 144);
+        until(|| count() == k + 1);
+    }
+    // The first three memories are kept by chains in flight, the last one by the queue too.
+    assert_eq!(Arc::strong_count(&memory), 2 + 4, "ours, the driver's and those of four workers");
+    let mut replies = std::mem::take(&mut *kept.lock().unwrap());
+    replies.drain(..).for_each(|reply| reply.send(entry()).unwrap());
+    let mut slots: Vec<u16> = (0..4).map(|_| driver.wait().0).collect();
+    slots.sort_unstable();
+    assert_eq!((slots, serving.refused()), (vec![0, 1, 2, 3], None));
+}
+
+#[test]
+fn errors_are_of_both_kinds() {
+    let status = Error::from(Status::ChainInFlight);
+    assert!(matches!(status, Error::Status(Status::ChainInFlight)));
+    assert_eq!(status.to_string(), Status::ChainInFlight.to_string());
+    let source = status.source().and_then(|source| source.downcast_ref::<Status>());
+    assert_eq!(source, Some(&Status::ChainInFlight));
+    let system = Error::from(io::Error::from_raw_os_error(24));
+    assert!(matches!(&system, Error::System(error) if error.raw_os_error() == Some(24)));
+    assert_eq!(system.to_string(), io::Error::from_raw_os_error(24).to_string());
+    let source = system.source().and_then(|source| source.downcast_ref::<io::Error>());
+    assert_eq!(source.and_then(io::Error::raw_os_error), Some(24));
+}
