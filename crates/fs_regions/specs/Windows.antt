@@ -1,11 +1,29 @@
 -- The addresses of the bytes of a chain's request and reply buffer.
-use Rattle.std.specs.Prelude.{◌≡◌, ℕ, ◌<◌, ◌≤◌, ◌+◌, ◌-◌, ◌%◌, ◌^◌, min, Bool, List, ◌∷◌, ◌++◌, take, drop}
-use Rattle.std.specs.Prelude.{Some, None}
+use Rattle.std.specs.Prelude.{◌≡◌, ◌⊎◌, ℕ, ◌<◌, ◌≤◌, ◌+◌, ◌-◌, ◌%◌, ◌^◌, min, Bool, List, ◌∷◌, ◌++◌, take, drop}
+use Rattle.std.specs.Prelude.{Option, Some, None}
+use Rattle.vm_memory_core.specs.Host.{Place}
 use Rattle.vm_memory_core.specs.Window.{Window, places_of}
 use Rattle.vm_memory.specs.Memory.{addresses, located, location}
+use Rattle.vm_memory.specs.Slices.{IsWindowAt}
 use Rattle.fs_queue.specs.Chain.{Descriptor}
 use Rattle.fs_queue.specs.Taking.{total_len, access_of, of_direction, addresses_of}
 use Rattle.fs_regions.specs.Places.{Mapped, left_in, places_in}
+
+-- some addresses lie in one piece, from this place on: the longest window of them has them all. A place is
+-- the number of a block, and an offset there, added
+abbrev pub LiesAt : (ℕ → Option Place) → (addr len left at : ℕ) → Type 0
+LiesAt where_is addr len left at =
+    (v : Window)
+    × IsWindowAt where_is addr len v
+    × (v.len ≡ min len left)
+    × (v.len ≡ len)
+    × (at ≡ (v.block + v.offset) % 2 ^ 64)
+
+-- they don't lie in one piece: the first has no place, or the longest window of them is shorter
+abbrev pub LiesApart : (ℕ → Option Place) → (addr len left : ℕ) → Type 0
+LiesApart where_is addr len left =
+    (where_is addr ≡ None)
+    ⊎ ((v : Window) × IsWindowAt where_is addr len v × (v.len ≡ min len left) × (v.len ≡ len → ⊥))
 
 -- byte `from` of some descriptors is byte `skip` of this descriptor
 abbrev pub StandsIn : List Descriptor → (from : ℕ) → (d : Descriptor) → (skip : ℕ) → Type 0

@@ -37,10 +37,8 @@ impl LoadAhead {
         if len == 0 || self.len != len {
             return false;
         }
-        match regions.window_at(walk.address(), len, Permissions::Read) {
-            Some(window) => {
-                window.len() == len && window.block().wrapping_add(window.block_offset()) == self.at
-            }
+        match regions.place_at(walk.address(), len, Permissions::Read) {
+            Some(at) => at == self.at,
             None => false,
         }
     }

@@ -12,6 +12,7 @@ ghost use Rattle.vm_memory.specs.Layout.{left_at};
 ghost use Rattle.vm_memory.specs.Memory.{addresses, location, reach};
 ghost use Rattle.vm_memory.specs.Slices.{IsWindowAt};
 ghost use Rattle.vm_memory.specs.Translated.{translated, translated_left};
+ghost use Rattle.fs_regions.specs.Windows.{LiesApart, LiesAt};
 ghost use Rattle.fs_regions.specs.Places.{behind, left_in, own_table, places_in, untranslated, with_table};
 
 use crate::regions::GuestRegions;
@@ -214,6 +215,58 @@ impl GuestMap {
         match &self.table {
             None => self.regions.window_at(addr, most),
             Some(table) => window_by(&self.regions, table, addr, most, access),
+        }
+    }
+
+    // The place of `len` addresses from one on, if there is no table and they lie in one region.
+    #[inline(always)]
+    fn place_in_region(&self, addr: u64, len: usize, access: Permissions) -> Option<usize>
+        requires { 0 < len }
+        ensures { IfSome result
+            (LiesAt (location (places_in self.now) access) addr len (left_in (places_in self.now) addr)) }
+    {
+        match &self.table {
+            None => self.regions.place_at(addr, len),
+            Some(_) => None,
+        }
+    }
+
+    // The place of `len` addresses from one on, by the longest window there. It is a function of its own so
+    // that a memory without a table doesn't make the window.
+    #[cold]
+    #[inline(never)]
+    fn place_of_window(&self, addr: u64, len: usize, access: Permissions) -> Option<usize>
+        requires { 0 < len }
+        ensures some { IfSome result
+            (LiesAt (location (places_in self.now) access) addr len (left_in (places_in self.now) addr)) }
+        ensures none { result ≡ None
+            → LiesApart (location (places_in self.now) access) addr len (left_in (places_in self.now) addr) }
+    {
+        match self.window_at(addr, len, access) {
+            Some(window) => {
+                if window.len() == len {
+                    Some(window.block().wrapping_add(window.block_offset()))
+                } else {
+                    None
+                }
+            }
+            None => None,
+        }
+    }
+
+    /// The place of `len` addresses from one on: the number of the block, and the offset there, added. None
+    /// if they aren't mapped for an access in one piece.
+    #[inline(always)]
+    pub fn place_at(&self, addr: u64, len: usize, access: Permissions) -> Option<usize>
+        requires { 0 < len }
+        ensures some { IfSome result
+            (LiesAt (location (places_in self.now) access) addr len (left_in (places_in self.now) addr)) }
+        ensures none { result ≡ None
+            → LiesApart (location (places_in self.now) access) addr len (left_in (places_in self.now) addr) }
+    {
+        match self.place_in_region(addr, len, access) {
+            Some(at) => Some(at),
+            None => self.place_of_window(addr, len, access),
         }
     }
 

@@ -1,6 +1,6 @@
 //! A region of a guest's memory, which lies in host memory.
 
-ghost use Rattle.std.specs.Prelude.{◌≡◌};
+ghost use Rattle.std.specs.Prelude.{◌≡◌, ◌+◌, ◌%◌, ◌^◌};
 ghost use Rattle.vm_iotlb.specs.Table.{is_within};
 ghost use Rattle.fs_regions.specs.Places.{region_if};
 
@@ -59,6 +59,14 @@ impl MemoryRegion {
         ensures { result ≡ is_within self.now.start self.now.size addr }
     {
         self.start <= addr && addr - self.start < self.size
+    }
+
+    /// The place of an offset: the region's number, and the offset, added.
+    #[inline(always)]
+    pub(crate) fn place_of(&self, offset: u64) -> usize
+        ensures { result ≡ (self.now.block + offset) % 2 ^ 64 }
+    {
+        self.number.wrapping_add(offset as usize)
     }
 }
 

@@ -7,6 +7,7 @@ ghost use Rattle.vm_memory.specs.Memory.{reach};
 ghost use Rattle.vm_memory.specs.Slices.{IsWindowAt};
 ghost use Rattle.fs_regions.specs.Places.{places_in, untranslated};
 ghost use Rattle.fs_regions.specs.Making.{Makes};
+ghost use Rattle.fs_regions.specs.Windows.{LiesAt};
 
 use crate::region::MemoryRegion;
 use std::alloc::Global;
@@ -138,6 +139,26 @@ impl GuestRegions {
             → result ≡ reach (places_in (untranslated self.now)) access addr len }
     {
         self.regions.has_range(GuestAddress(addr), len)
+    }
+
+    /// The place of `len` addresses from one on, if they lie in one region: its number, and the offset
+    /// there, added.
+    #[inline(always)]
+    pub fn place_at(&self, addr: u64, len: usize) -> Option<usize>
+        requires { 0 < len }
+        ensures { IfSome result (LiesAt (place self.now) addr len (left_at self.now addr)) }
+    {
+        match self.find(addr) {
+            Some(region) => {
+                let offset = addr - region.start_addr().0;
+                if len as u64 <= region.len() - offset {
+                    Some(region.place_of(offset))
+                } else {
+                    None
+                }
+            }
+            None => None,
+        }
     }
 
     /// The longest window of at most `most` bytes from an address on: its block is the region's number, and
