@@ -7,6 +7,9 @@
 //! one.
 #![allow(unsafe_code)]
 
+mod records;
+mod tables;
+
 use crate::errno::Errno;
 use crate::kept::KeptWindows;
 use crate::memory::{GuestRange, Region, Window};
@@ -15,6 +18,8 @@ use crate::status::Status;
 use crate::sys::{self, state, status};
 use crate::CStr;
 use core::ptr;
+pub(crate) use records::{restore, save};
+pub(crate) use tables::{free_iotlb, map_iotlb, new_iotlb, unmap_iotlb};
 
 /// How far the handle's chain is.
 #[derive(Clone, Copy, Debug, PartialEq, Eq)]
@@ -88,6 +93,8 @@ pub(crate) enum Added {
 pub(crate) struct Chain {
     handle: sys::Chain,
     ticket: u32,
+    /// The library's state of the handle, as its last call left it.
+    progress: Progress,
     /// The windows of a chain that was popped with a table. They are valid until it is returned,
     /// even if the table changes.
     kept: Option<KeptWindows>,
@@ -106,10 +113,17 @@ impl Drop for Chain {
 
 impl Chain {
     pub const fn new() -> Chain {
-        Chain { handle: sys::Chain { at: ptr::null_mut(), state: 0 }, ticket: 0, kept: None }
+        let handle = sys::Chain { at: ptr::null_mut(), state: 0 };
+        Chain { handle, ticket: 0, progress: Progress::Free, kept: None }
     }
 
     pub fn progress(&self) -> Progress {
+        debug_assert_eq!(self.progress, self.state());
+        self.progress
+    }
+
+    /// The library's own word for it.
+    fn state(&self) -> Progress {
         // SAFETY: as the module says.
         match unsafe { sys::pk_chain_state(&self.handle) } {
             state::POPPED => Progress::Popped,
@@ -168,6 +182,7 @@ impl Chain {
         match status {
             status::DONE => {
                 self.ticket = pop.ticket;
+                self.progress = if pop.fault == 0 { Progress::Popped } else { Progress::Replied };
                 Ok(PopStep::InFlight)
             }
             status::IDLE => Ok(PopStep::Idle),
@@ -219,7 +234,7 @@ impl Chain {
     pub fn unpop(&mut self, queue: &mut Queue) -> Result<(), Status> {
         // SAFETY: as the module says.
         Status::check(unsafe { sys::pk_drop(&mut self.handle, queue.numbers_mut()) })?;
-        self.kept = None;
+        (self.kept, self.progress) = (None, Progress::Free);
         Ok(())
     }
 
@@ -235,7 +250,7 @@ impl Chain {
 
     /// Frees the handle without its queue.
     pub fn abandon(&mut self) {
-        self.kept = None;
+        (self.kept, self.progress) = (None, Progress::Free);
         // SAFETY: as the module says.
         unsafe { sys::pk_abandon(&mut self.handle) }
     }
@@ -308,9 +323,11 @@ impl Chain {
         call: &mut sys::Call,
     ) -> Result<Decoded, Status> {
         // SAFETY: as the module says.
-        match unsafe {
+        let status = unsafe {
             sys::pk_decode(&mut self.handle, device, request.as_ptr(), request.len(), call)
-        } {
+        };
+        self.progress = self.state();
+        match status {
             status::DONE => Ok(Decoded::Call),
             status::MORE => Ok(Decoded::More(call.needed as usize)),
             number => Err(Status::of(number)),
@@ -319,17 +336,21 @@ impl Chain {
 
     pub fn reply_done(&mut self) -> Result<Replied, Status> {
         // SAFETY: as the module says.
-        replied(unsafe { sys::pk_reply_err(&mut self.handle, self.ticket, 0) })
+        replied(&mut self.progress, unsafe { sys::pk_reply_err(&mut self.handle, self.ticket, 0) })
     }
 
     pub fn reply_error(&mut self, error: Errno) -> Result<Replied, Status> {
         // SAFETY: as the module says.
-        replied(unsafe { sys::pk_reply_err(&mut self.handle, self.ticket, error.number()) })
+        replied(&mut self.progress, unsafe {
+            sys::pk_reply_err(&mut self.handle, self.ticket, error.number())
+        })
     }
 
     pub fn reply_entry(&mut self, entry: &sys::Entry) -> Result<Replied, Status> {
         // SAFETY: as the module says.
-        replied(unsafe { sys::pk_reply_entry(&mut self.handle, self.ticket, entry) })
+        replied(&mut self.progress, unsafe {
+            sys::pk_reply_entry(&mut self.handle, self.ticket, entry)
+        })
     }
 
     pub fn reply_create(
@@ -339,7 +360,7 @@ impl Chain {
         options: u32,
     ) -> Result<Replied, Status> {
         // SAFETY: as the module says.
-        replied(unsafe {
+        replied(&mut self.progress, unsafe {
             sys::pk_reply_create(&mut self.handle, self.ticket, entry, handle, options)
         })
     }
@@ -351,42 +372,58 @@ impl Chain {
         nanos: u32,
     ) -> Result<Replied, Status> {
         // SAFETY: as the module says.
-        replied(unsafe { sys::pk_reply_attr(&mut self.handle, self.ticket, attr, secs, nanos) })
+        replied(&mut self.progress, unsafe {
+            sys::pk_reply_attr(&mut self.handle, self.ticket, attr, secs, nanos)
+        })
     }
 
     pub fn reply_open(&mut self, handle: u64, options: u32) -> Result<Replied, Status> {
         // SAFETY: as the module says.
-        replied(unsafe { sys::pk_reply_open(&mut self.handle, self.ticket, handle, options) })
+        replied(&mut self.progress, unsafe {
+            sys::pk_reply_open(&mut self.handle, self.ticket, handle, options)
+        })
     }
 
     pub fn reply_data(&mut self, len: u64) -> Result<Replied, Status> {
         // SAFETY: as the module says.
-        replied(unsafe { sys::pk_reply_data(&mut self.handle, self.ticket, len) })
+        replied(&mut self.progress, unsafe {
+            sys::pk_reply_data(&mut self.handle, self.ticket, len)
+        })
     }
 
     pub fn reply_xattr(&mut self, len: u32) -> Result<Replied, Status> {
         // SAFETY: as the module says.
-        replied(unsafe { sys::pk_reply_xattr(&mut self.handle, self.ticket, len) })
+        replied(&mut self.progress, unsafe {
+            sys::pk_reply_xattr(&mut self.handle, self.ticket, len)
+        })
     }
 
     pub fn reply_write(&mut self, count: u32) -> Result<Replied, Status> {
         // SAFETY: as the module says.
-        replied(unsafe { sys::pk_reply_write(&mut self.handle, self.ticket, count) })
+        replied(&mut self.progress, unsafe {
+            sys::pk_reply_write(&mut self.handle, self.ticket, count)
+        })
     }
 
     pub fn reply_statfs(&mut self, statfs: &sys::Statfs) -> Result<Replied, Status> {
         // SAFETY: as the module says.
-        replied(unsafe { sys::pk_reply_statfs(&mut self.handle, self.ticket, statfs) })
+        replied(&mut self.progress, unsafe {
+            sys::pk_reply_statfs(&mut self.handle, self.ticket, statfs)
+        })
     }
 
     pub fn reply_lseek(&mut self, offset: u64) -> Result<Replied, Status> {
         // SAFETY: as the module says.
-        replied(unsafe { sys::pk_reply_lseek(&mut self.handle, self.ticket, offset) })
+        replied(&mut self.progress, unsafe {
+            sys::pk_reply_lseek(&mut self.handle, self.ticket, offset)
+        })
     }
 
     pub fn reply_init(&mut self, device: &mut sys::Device, wanted: u64) -> Result<Replied, Status> {
         // SAFETY: as the module says.
-        replied(unsafe { sys::pk_reply_init(&mut self.handle, self.ticket, device, wanted) })
+        replied(&mut self.progress, unsafe {
+            sys::pk_reply_init(&mut self.handle, self.ticket, device, wanted)
+        })
     }
 
     pub fn add(
@@ -444,19 +481,23 @@ impl Chain {
     pub fn reply_entries(&mut self) -> Result<Replied, Status> {
         let mut len = 0;
         // SAFETY: as the module says.
-        replied(unsafe { sys::pk_reply_entries(&mut self.handle, self.ticket, &mut len) })
+        replied(&mut self.progress, unsafe {
+            sys::pk_reply_entries(&mut self.handle, self.ticket, &mut len)
+        })
     }
 
     /// The reply is the `len` bytes that the caller stored in the reply buffer.
     pub fn reply_bytes(&mut self, len: u64) -> Result<(), Status> {
         // SAFETY: as the module says.
-        Status::check(unsafe { sys::pk_reply_bytes(&mut self.handle, self.ticket, len) })
+        Status::check(unsafe { sys::pk_reply_bytes(&mut self.handle, self.ticket, len) })?;
+        self.progress = Progress::Replied;
+        Ok(())
     }
 
     pub fn push(&mut self, queue: &mut Queue, front: &mut [u8]) -> Result<sys::Stores, Status> {
         let mut stores = sys::Stores::default();
         // SAFETY: as the module says.
-        Status::check(unsafe {
+        let pushed = Status::check(unsafe {
             sys::pk_push(
                 &mut self.handle,
                 queue.numbers_mut(),
@@ -464,8 +505,9 @@ impl Chain {
                 front.len(),
                 &mut stores,
             )
-        })?;
-        Ok(stores)
+        });
+        self.progress = if pushed.is_ok() { Progress::Free } else { self.state() };
+        pushed.map(|()| stores)
     }
 
     /// Whether to notify the driver.
@@ -479,13 +521,16 @@ impl Chain {
     }
 }
 
-fn replied(number: u32) -> Result<Replied, Status> {
-    match number {
-        status::DONE => Ok(Replied::Whole),
-        status::NO_ROOM => Ok(Replied::NoRoom),
-        status::ENTRIES => Ok(Replied::Entries),
-        _ => Err(Status::of(number)),
-    }
+/// The result of an answer. A refused one changes nothing.
+fn replied(progress: &mut Progress, number: u32) -> Result<Replied, Status> {
+    let replied = match number {
+        status::DONE => Replied::Whole,
+        status::NO_ROOM => Replied::NoRoom,
+        status::ENTRIES => Replied::Entries,
+        _ => return Err(Status::of(number)),
+    };
+    *progress = Progress::Replied;
+    Ok(replied)
 }
 
 fn added(number: u32) -> Result<Added, Status> {
@@ -495,34 +540,6 @@ fn added(number: u32) -> Result<Added, Status> {
         status::LIST_FAILS => Ok(Added::NoRoom),
         _ => Err(Status::of(number)),
     }
-}
-
-/// Makes a table without a mapping in its place.
-pub(crate) fn new_iotlb(place: &mut sys::Iotlb) -> Result<(), Status> {
-    // SAFETY: as the module says.
-    Status::check(unsafe { sys::pk_iotlb_new(place) })
-}
-
-/// Frees a place and its table.
-pub(crate) fn free_iotlb(place: &mut sys::Iotlb) {
-    // SAFETY: as the module says; of zeros it does nothing.
-    unsafe { sys::pk_iotlb_free(place) }
-}
-
-pub(crate) fn map_iotlb(
-    place: &mut sys::Iotlb,
-    iova: u64,
-    len: u64,
-    guest: u64,
-    access: u32,
-) -> Result<(), Status> {
-    // SAFETY: as the module says.
-    Status::check(unsafe { sys::pk_iotlb_map(place, iova, len, guest, access) })
-}
-
-pub(crate) fn unmap_iotlb(place: &mut sys::Iotlb, iova: u64, len: u64) -> Result<(), Status> {
-    // SAFETY: as the module says.
-    Status::check(unsafe { sys::pk_iotlb_unmap(place, iova, len) })
 }
 
 /// Resets a queue.
@@ -547,46 +564,4 @@ pub(crate) fn build() -> &'static str {
 pub(crate) fn is_name(name: &[u8]) -> bool {
     // SAFETY: as the module says.
     unsafe { sys::pk_is_name(name.as_ptr(), name.len()) == 1 }
-}
-
-/// The length of the record, also with `ShortBuffer`, and whether it is in the buffer.
-pub(crate) fn save(
-    device: &sys::Device,
-    queues: &[sys::Queue],
-    buffer: &mut [u8],
-) -> (usize, Result<(), Status>) {
-    let mut len = 0;
-    // SAFETY: as the module says.
-    let number = unsafe {
-        sys::pk_save(
-            device,
-            queues.as_ptr(),
-            queues.len(),
-            buffer.as_mut_ptr(),
-            buffer.len(),
-            &mut len,
-        )
-    };
-    (len, Status::check(number))
-}
-
-/// The number of queues in the record.
-pub(crate) fn restore(
-    device: &mut sys::Device,
-    queues: &mut [sys::Queue],
-    record: &[u8],
-) -> Result<usize, Status> {
-    let mut count = 0;
-    // SAFETY: as the module says.
-    let number = unsafe {
-        sys::pk_restore(
-            device,
-            queues.as_mut_ptr(),
-            queues.len(),
-            record.as_ptr(),
-            record.len(),
-            &mut count,
-        )
-    };
-    Status::check(number).map(|()| count)
 }

@@ -240,10 +240,11 @@ impl Mapped {
 struct State {
     queue: Queue,
     mapped: Arc<Mapped>,
-    /// The workers that have no chain.
-    idle: Vec<Seat>,
+    /// The workers that have no chain. They move often, and are large.
+    #[allow(clippy::vec_box)]
+    idle: Vec<Box<Seat>>,
     /// Those whose chain waits for an answer, by their numbers.
-    waiting: Vec<Option<Seat>>,
+    waiting: Vec<Option<Box<Seat>>>,
     refused: Option<Status>,
     /// The number of workers that are gone with a thread.
     lost: usize,
@@ -454,7 +455,7 @@ impl Serving {
         let mapped = Arc::new(Mapped { memory, regions: regions.to_vec() });
         let mut state = self.shared.threads.lock();
         // So no worker without a chain keeps the old memory.
-        let set = |seat: &mut Seat| seat.use_memory(&self.shared.device, &mapped);
+        let set = |seat: &mut Box<Seat>| seat.use_memory(&self.shared.device, &mapped);
         state.idle.iter_mut().try_for_each(set)?;
         state.mapped = mapped.clone();
         drop(state);

@@ -77,6 +77,13 @@ pub(crate) fn load_u16(memory: &dyn GuestMemory, at: usize) -> u16 {
     memory.get_slice(at, 2).map_or(0, |slice| slice.load_u16())
 }
 
+/// Stores a 32-bit number of a ring.
+pub(crate) fn store_u32(memory: &dyn GuestMemory, at: usize, number: u32) {
+    if let Some(slice) = memory.get_slice(at, 4) {
+        slice.store_u32(number);
+    }
+}
+
 /// Stores a 16-bit number of a ring, at an even address.
 pub(crate) fn store_u16(memory: &dyn GuestMemory, at: usize, number: u16) {
     debug_assert_eq!(at % 2, 0);

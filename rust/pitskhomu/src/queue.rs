@@ -162,6 +162,14 @@ impl Queue {
         Ok(())
     }
 
+    /// Whether a pop gets as far as the available index: the queue was set up, wasn't stopped, and
+    /// may have another chain in flight.
+    pub(crate) const fn may_pop(&self) -> bool {
+        let sys::Queue { reset_count, stopped, size, .. } = self.numbers;
+        let has_room = self.in_flight() < self.max_in_flight();
+        reset_count != 0 && stopped == 0 && size != 0 && has_room
+    }
+
     /// The queue's size and addresses.
     #[must_use]
     pub const fn layout(&self) -> QueueLayout {

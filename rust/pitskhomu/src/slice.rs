@@ -6,7 +6,8 @@
 use core::fmt;
 use core::marker::PhantomData;
 use core::mem::size_of;
-use core::sync::atomic::{AtomicU16, AtomicU8, AtomicUsize, Ordering};
+use core::slice;
+use core::sync::atomic::{AtomicU16, AtomicU32, AtomicU8, AtomicUsize, Ordering};
 
 /// Consecutive bytes of the guest's memory, which the guest and other threads may write at the same
 /// time. The worker copies out of them and into them, each byte once, by relaxed atomic accesses.
@@ -111,6 +112,18 @@ impl<'m> GuestSlice<'m> {
         Some(unsafe { &*at.cast::<AtomicUsize>() })
     }
 
+    /// The words of the first `len` bytes, if the slice may be accessed by words and begins with a
+    /// whole one.
+    #[allow(clippy::cast_ptr_alignment)] // the test comes before the cast
+    fn words(&self, len: usize) -> &'m [AtomicUsize] {
+        let word = size_of::<usize>();
+        if !self.is_wide || len < word || len > self.len || self.at as usize % word != 0 {
+            return &[];
+        }
+        // SAFETY: as of `word`, of each of these.
+        unsafe { slice::from_raw_parts(self.at.cast::<AtomicUsize>(), len / word) }
+    }
+
     /// The first two bytes as a number, if the slice is long enough and aligned.
     #[allow(clippy::cast_ptr_alignment)] // the test comes before the cast
     fn half(&self) -> Option<&'m AtomicU16> {
@@ -125,7 +138,12 @@ impl<'m> GuestSlice<'m> {
     /// Copies bytes out of the slice, from the first on, as many as both have. Returns their
     /// number.
     pub fn load(&self, bytes: &mut [u8]) -> usize {
-        let (len, mut done) = (self.len.min(bytes.len()), 0);
+        let len = self.len.min(bytes.len());
+        let words = self.words(len);
+        for (word, to) in words.iter().zip(bytes.chunks_exact_mut(size_of::<usize>())) {
+            to.copy_from_slice(&word.load(Ordering::Relaxed).to_ne_bytes());
+        }
+        let mut done = words.len() * size_of::<usize>();
         while done < len {
             if let Some(word) = self.word(done, len) {
                 let loaded = word.load(Ordering::Relaxed).to_ne_bytes();
@@ -142,7 +160,14 @@ impl<'m> GuestSlice<'m> {
     /// Copies bytes into the slice, from the first on, as many as both have. Returns their number.
     #[allow(clippy::must_use_candidate)] // a caller who knows the length needs no number
     pub fn store(&self, bytes: &[u8]) -> usize {
-        let (len, mut done) = (self.len.min(bytes.len()), 0);
+        let len = self.len.min(bytes.len());
+        let words = self.words(len);
+        for (word, from) in words.iter().zip(bytes.chunks_exact(size_of::<usize>())) {
+            let mut stored = [0; size_of::<usize>()];
+            stored.copy_from_slice(from);
+            word.store(usize::from_ne_bytes(stored), Ordering::Relaxed);
+        }
+        let mut done = words.len() * size_of::<usize>();
         while done < len {
             if let Some(word) = self.word(done, len) {
                 let mut stored = [0; size_of::<usize>()];
@@ -165,6 +190,18 @@ impl<'m> GuestSlice<'m> {
         let mut bytes = [0; 2];
         self.load(&mut bytes);
         u16::from_le_bytes(bytes)
+    }
+
+    /// Stores a ring's le32, in one store if the slice is wide and aligned.
+    #[allow(clippy::cast_ptr_alignment)] // the test comes before the cast
+    pub(crate) fn store_u32(&self, number: u32) {
+        let size = size_of::<AtomicU32>();
+        if self.is_wide && self.len >= size && self.at as usize % size == 0 {
+            // SAFETY: as of `word`.
+            unsafe { &*self.at.cast::<AtomicU32>() }.store(number.to_le(), Ordering::Relaxed);
+        } else {
+            self.store(&number.to_le_bytes());
+        }
     }
 
     /// Stores a ring's le16, in one store if the slice is wide and aligned.

@@ -131,6 +131,10 @@ pub struct Worker {
     misses: Vec<Miss>,
     /// The rings of the queue that it popped from last, if they are in its regions.
     ring: Option<ahead::Ring>,
+    /// The loads of its pop that were made ahead.
+    ahead: ahead::Loads,
+    /// A table was lent since the regions were set: addresses are I/O addresses.
+    has_table: bool,
     /// The bytes of a pop's loads.
     loaded: Vec<u8>,
     /// The request, as far as it was loaded.
@@ -195,6 +199,8 @@ impl Worker {
             regions: 0,
             layout: Vec::new(),
             ring: None,
+            ahead: ahead::Loads::default(),
+            has_table: false,
             misses: Vec::new(),
             loaded: Vec::new(),
             request: Vec::new(),
@@ -244,7 +250,7 @@ impl Worker {
         layout.extend_from_slice(regions);
         self.chain.set_memory(&device.numbers(), regions)?;
         (self.regions, self.layout) = (memory::next_regions(), layout);
-        self.ring = None;
+        (self.ring, self.has_table) = (None, false);
         Ok(())
     }
 
@@ -354,9 +360,15 @@ impl Worker {
                 return popping.0.gather_misses().map(|()| Popped::Missing)
             }
             PopStep::Missed => return Err(Status::OtherTable), // the table isn't lent
-            PopStep::Idle | PopStep::Load => return Ok(Popped::Idle),
+            PopStep::Idle | PopStep::Load => {
+                mem::forget(popping); // the handle is free
+                return Ok(Popped::Idle);
+            }
         }
         mem::forget(popping);
+        if self.pop.fault != 0 {
+            self.call = sys::Call::default();
+        }
         self.id = RequestId::next();
         if !core::ptr::eq(self.session.as_ptr(), Arc::as_ptr(queue.session())) {
             self.session = Arc::downgrade(queue.session());
@@ -364,9 +376,11 @@ impl Worker {
         Ok(Popped::Chain)
     }
 
-    /// Forgets what belongs to the chain before.
+    /// Forgets what belongs to the chain before. Of its call these are read also if no call is
+    /// decoded; a chain with a fault has none, and gets all of it.
     fn forget_last(&mut self) {
-        self.call = sys::Call::default();
+        let call = &mut self.call;
+        (call.kind, call.answer, call.opcode, call.unique, call.fault) = Default::default();
         self.is_asked = false;
         self.replied = Replied::Whole;
         (self.counts, self.used, self.decoded) = (Counts::default(), 0, 0);

@@ -136,3 +136,26 @@ fn workers_of_a_queue_share_it() {
     assert_eq!(serve(&mut guest, 1), 0);
     assert_eq!((pop(&mut guest), loads(&guest)), (Ok(false), 1));
 }
+
+/// A look at a ring without a chain is idle only if the queue may be popped.
+#[test]
+fn a_ring_without_a_chain_is_refused_too() {
+    let mut guest = Guest::new();
+    let region = Region { guest: 0, len: LEN as u64, host: guest.memory.host };
+    let mut other = Worker::new();
+    let wrong = other.pop(&mut guest.queue, &guest.memory);
+    assert_eq!(wrong, Err(Status::WrongOrder), "no memory was set");
+    other.set_memory(&guest.device, &[region]).unwrap();
+    assert_eq!(other.pop(&mut Queue::default(), &guest.memory), Err(Status::BadArgument));
+    offer(&mut guest, 1);
+    assert_eq!(other.pop(&mut guest.queue, &guest.memory), Ok(true));
+    assert_eq!(pop(&mut guest), Err(Status::ChainInFlight));
+    other.unpop(&mut guest.queue).unwrap();
+    serve(&mut guest, 1);
+    assert_eq!(pop(&mut guest), Ok(false));
+    let mut table = Iotlb::new().unwrap();
+    drop(guest.worker.lend(&mut table).unwrap());
+    assert_eq!(pop(&mut guest), Err(Status::OtherTable), "its addresses are I/O addresses");
+    guest.worker.set_memory(&guest.device, &[region]).unwrap();
+    assert_eq!(pop(&mut guest), Ok(false));
+}

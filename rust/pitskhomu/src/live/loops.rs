@@ -3,7 +3,9 @@ use super::events::Events;
 use crate::queue::Queue;
 use crate::status::Status;
 use crate::worker::Popped;
+use core::hint;
 use core::ops::{Deref, DerefMut};
+use core::sync::atomic::{AtomicUsize, Ordering};
 use std::fs::File;
 use std::io;
 use std::sync::{Condvar, Mutex, MutexGuard, PoisonError};
@@ -184,10 +186,14 @@ impl<Q: Queued> Locked<Q> {
         set: impl FnOnce(&mut Q) -> Result<bool, Status>,
     ) -> Result<bool, Status> {
         let (begun, next) = self.queued.next_chain();
-        let has_place = enabled && self.queued.queue().has_event_index();
-        let telling = Some((begun, enabled, if has_place { next } else { 0 }));
+        let has_index = self.queued.queue().has_event_index();
+        let telling = Some((begun, enabled, if enabled && has_index { next } else { 0 }));
         if !self.queued.may_tell() || self.told == telling {
             return Ok(false); // [OmitsWish], if it is wanted
+        }
+        if has_index && !enabled {
+            self.told = telling; // nothing is stored for that (VIRTIO 1.2, 2.7.10)
+            return Ok(false);
         }
         // [Wishes, WishIsThere], or [Silences]: a store of avail_event or of the used ring's flags,
         // and a full barrier
@@ -299,7 +305,13 @@ pub struct Loop<Q> {
     /// Notified when a chain is popped or returned while somebody waits, and by `notify_waiting`.
     changed: Condvar,
     pub(super) events: Events,
+    /// The number of threads on their way to the lock, from a call. Each looks for a chain then.
+    coming: AtomicUsize,
 }
+
+/// A thread that comes from its call tries the lock so often before it waits for it by a system
+/// call: another thread has it for a pop and a push, which take less time than that.
+const TRIES: u32 = 100;
 
 impl<Q: Queued> Loop<Q> {
     /// A queue that no thread serves yet, and for which no event of the driver's is set.
@@ -324,12 +336,37 @@ impl<Q: Queued> Loop<Q> {
             waiters: 0,
             is_missing: false,
         };
-        Loop { state: Mutex::new(state), changed: Condvar::new(), events }
+        let (state, coming) = (Mutex::new(state), AtomicUsize::new(0));
+        Loop { state, changed: Condvar::new(), events, coming }
     }
 
     /// Locks the queue. Chains may be in flight.
     pub fn lock(&self) -> MutexGuard<'_, Locked<Q>> {
         self.state.lock().unwrap_or_else(PoisonError::into_inner)
+    }
+
+    /// Locks the queue for a thread that comes from its call, and is going to look for a chain.
+    pub(super) fn come_back(&self) -> MutexGuard<'_, Locked<Q>> {
+        if let Ok(state) = self.state.try_lock() {
+            return state;
+        }
+        self.coming.fetch_add(1, Ordering::SeqCst);
+        let state = self.try_for_a_while().unwrap_or_else(|| self.lock());
+        self.coming.fetch_sub(1, Ordering::SeqCst); // under the lock
+        state
+    }
+
+    fn try_for_a_while(&self) -> Option<MutexGuard<'_, Locked<Q>>> {
+        (0..TRIES).find_map(|_| {
+            hint::spin_loop();
+            self.state.try_lock().ok()
+        })
+    }
+
+    /// Whether another thread waits for the lock, which this thread has, and looks for a chain
+    /// then.
+    pub(super) fn another_comes(&self) -> bool {
+        self.coming.load(Ordering::SeqCst) > 0
     }
 
     /// Sets or removes the event of the driver's notifications. Then call `look`, since chains may

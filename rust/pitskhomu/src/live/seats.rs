@@ -8,6 +8,7 @@ use crate::memory;
 use crate::queue::Queue;
 use crate::status::Status;
 use crate::worker::{Popped, Worker};
+use alloc::boxed::Box;
 use alloc::sync::Arc;
 use alloc::vec::Vec;
 use core::mem;
@@ -79,13 +80,13 @@ impl Seat {
         device: &Device,
         mapped: &Arc<Mapped>,
         answered: &Arc<Answered>,
-    ) -> Result<Seat, Status> {
+    ) -> Result<Box<Seat>, Status> {
         let (state, answered) = (AtomicU8::new(BUSY), answered.clone());
         let bell = Arc::new(Bell { number, state, answered });
         let mut worker = Worker::new();
         worker.set_waker(Some(bell.clone().into()))?;
         worker.set_memory(device, &mapped.regions)?;
-        Ok(Seat { number, worker, mapped: mapped.clone(), bell })
+        Ok(Box::new(Seat { number, worker, mapped: mapped.clone(), bell }))
     }
 
     /// Tells the worker of new memory.
@@ -129,7 +130,7 @@ impl Queued for State {
 /// What a thread has: a worker, while it has the lock, or a chain.
 pub(super) struct Hand<'s> {
     shared: &'s Shared,
-    seat: Option<Seat>,
+    seat: Option<Box<Seat>>,
     /// Its chain waited, and the answer has come.
     is_resumed: bool,
     /// The driver is to be interrupted.
@@ -163,7 +164,7 @@ impl Shared {
     }
 
     /// Goes on with a chain without the lock: `None` if it waits for its answer from now on.
-    fn go_on(&self, mut seat: Seat, answered: Result<bool, Status>) -> Option<Seat> {
+    fn go_on(&self, mut seat: Box<Seat>, answered: Result<bool, Status>) -> Option<Box<Seat>> {
         let mut answered = answered;
         // a push refuses a chain without a reply
         while answered == Ok(false) {
@@ -232,14 +233,21 @@ impl Server<State> for Hand<'_> {
             Some(seat) => seat,
             None => return false,
         };
-        if !state.is_reset {
-            match seat.worker.push(&mut state.queue, &*seat.mapped.memory) {
-                Ok(served) => self.owed |= served.notify,
-                Err(status) => self.shared.refuse(state, status),
+        let pushed = if state.is_reset {
+            Err(None)
+        } else {
+            seat.worker.push(&mut state.queue, &*seat.mapped.memory).map_err(Some)
+        };
+        match pushed {
+            Ok(served) => self.owed |= served.notify,
+            Err(status) => {
+                if let Some(status) = status {
+                    self.shared.refuse(state, status);
+                }
+                seat.worker.mark_data(&*seat.mapped.memory);
+                self.cancelled = seat.worker.abandon();
             }
         }
-        seat.worker.mark_data(&*seat.mapped.memory); // of a chain that isn't pushed
-        self.cancelled = seat.worker.abandon();
         state.idle.push(seat);
         self.cancelled.is_some()
     }

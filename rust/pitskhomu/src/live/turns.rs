@@ -89,15 +89,18 @@ impl<Q: Queued> Locked<Q> {
     /// looks again later. Returns whether the caller must wake a thread after it has released the
     /// lock: if they can't be enabled, or a chain is available. One at a time is enough: it pops a
     /// chain, and wakes the next. (In the model the threads' event is pending from here on until
-    /// that thread has the lock, so others are `GoesBusy` without a call of their own.)
-    fn hand_on(&mut self, server: &mut impl Server<Q>) -> bool {
+    /// that thread has the lock, so others are `GoesBusy` without a call of their own.) Nor is one
+    /// woken while another thread `comes` from its call to the lock: it looks for a chain, and does
+    /// the same then.
+    fn hand_on(&mut self, server: &mut impl Server<Q>, comes: bool) -> bool {
         let is_for_another = self.sleeping > 0 && self.has_room();
         // [Wishes] or [OmitsWish]; with nobody asleep [Silences]
         let told =
             self.tell(is_for_another, |queued| server.set_notification(queued, is_for_another));
         // [GoesBusy] if no chain is left, or a thread is woken already. Else [Signals], and then
         // [GoesBusy]. With nobody asleep [Unlocks].
-        let wakes = is_for_another && !self.is_woken && (told.is_err() || self.has_more(server));
+        let is_due = is_for_another && !self.is_woken && !comes;
+        let wakes = is_due && (told.is_err() || self.has_more(server));
         self.is_woken |= wakes;
         wakes
     }
@@ -122,7 +125,7 @@ impl<Q: Queued> Loop<Q> {
     /// Answers the chain that the server has, without the lock, and returns it.
     fn answer<'a, S: Server<Q>>(&'a self, server: &mut S) -> MutexGuard<'a, Locked<Q>> {
         let has_reply = server.answer();
-        let mut state = self.lock(); // [Comes, Enters]
+        let mut state = self.come_back(); // [Comes, Enters]
         if !has_reply {
             return state;
         }
@@ -133,9 +136,14 @@ impl<Q: Queued> Loop<Q> {
             self.notify_waiting();
         }
         if must_undo {
+            // others may rely on this thread, which makes calls of the file system first
+            let wakes = state.hand_on(server, self.another_comes());
             drop(state);
+            if wakes {
+                self.look();
+            }
             server.undo();
-            state = self.lock();
+            state = self.come_back();
         }
         state
     }
@@ -152,7 +160,7 @@ impl<Q: Queued> Loop<Q> {
         if state.is_awaited() {
             self.notify_waiting();
         }
-        let wakes = state.hand_on(server);
+        let wakes = state.hand_on(server, self.another_comes());
         drop(state);
         server.interrupt();
         if wakes {

@@ -27,7 +27,7 @@ pub(super) struct Ring {
 
 /// The loads of a pop. Their bytes lie one behind another in the worker's `loaded`.
 #[derive(Default)]
-struct Loads {
+pub(super) struct Loads {
     ahead: [sys::LoadAhead; MOST],
     count: usize,
     len: usize,
@@ -46,11 +46,16 @@ impl Entry {
     const INDIRECT: u16 = 4;
 
     fn at(bytes: &[u8], index: usize) -> Entry {
-        let mut entry = bytes[ENTRY * index..][..ENTRY].chunks_exact(2);
-        let mut two = || entry.next().map_or(0, |two| u16::from_le_bytes([two[0], two[1]]));
-        let mut four = || u32::from(two()) | u32::from(two()) << 16;
-        let address = u64::from(four()) | u64::from(four()) << 32;
-        Entry { address, len: four(), flags: two(), next: two() }
+        let mut entry = [0; ENTRY];
+        entry.copy_from_slice(&bytes[ENTRY * index..][..ENTRY]);
+        let entry = u128::from_le_bytes(entry);
+        #[allow(clippy::cast_possible_truncation)] // each takes its own bits
+        Entry {
+            address: entry as u64,
+            len: (entry >> 64) as u32,
+            flags: (entry >> 96) as u16,
+            next: (entry >> 112) as u16,
+        }
     }
 
     fn has_next(&self) -> bool {
@@ -64,15 +69,19 @@ impl Entry {
 
 impl Worker {
     /// Pops a chain by loads that are made ahead, and returns the end of the pop, or that it asks
-    /// for a load.
+    /// for a load. A look at a queue that can be popped, and whose available index is that of its
+    /// next chain, is idle by the library's contract: it isn't called for that.
     pub(super) fn pop_ahead(
         &mut self,
         queue: &mut Queue,
         memory: &dyn GuestMemory,
     ) -> Result<PopStep, Status> {
-        let loads = self.load_ahead(queue, memory)?;
-        let bytes = &self.loaded[..loads.len];
-        self.chain.pop_ahead(queue, &loads.ahead[..loads.count], bytes, &mut self.pop)
+        let is_idle = self.load_ahead(queue, memory)?;
+        if is_idle && queue.may_pop() && !self.has_table {
+            return Ok(PopStep::Idle);
+        }
+        let Loads { ahead, count, len } = &self.ahead;
+        self.chain.pop_ahead(queue, &ahead[..*count], &self.loaded[..*len], &mut self.pop)
     }
 
     /// The number of the `len` bytes from a guest address on, if one region has them.
@@ -97,67 +106,69 @@ impl Worker {
         self.ring
     }
 
-    /// Makes the loads of the next pop, as far as they can be told.
-    fn load_ahead(&mut self, queue: &mut Queue, memory: &dyn GuestMemory) -> Result<Loads, Status> {
-        let mut loads = Loads::default();
+    /// Makes the loads of the next pop, as far as they can be told. Returns whether the available
+    /// index shows no chain.
+    fn load_ahead(&mut self, queue: &mut Queue, memory: &dyn GuestMemory) -> Result<bool, Status> {
         grow(&mut self.loaded, MOST_BYTES)?;
+        (self.ahead.count, self.ahead.len) = (0, 0);
         let ring = match self.ring(queue.layout()) {
             Some(ring) => ring,
-            None => return Ok(loads),
+            None => return Ok(false),
         };
         let (size, position) = (ring.layout.size, queue.next_avail());
+        let at = ring.available.wrapping_add(2);
         let index = queue.seen_index(self.regions).unwrap_or_else(|| {
-            let index = memory::load_u16(memory, ring.available.wrapping_add(2));
+            let index = memory::load_u16(memory, at);
             queue.see_index(index, self.regions);
             index
         });
         fence(Ordering::Acquire);
-        self.loaded[..2].copy_from_slice(&index.to_le_bytes());
-        loads.ahead[0] = sys::LoadAhead { at: ring.available.wrapping_add(2), len: 2 };
-        (loads.count, loads.len) = (1, 2);
+        self.add_number(at, index);
         if index == position || size == 0 {
-            return Ok(loads);
+            return Ok(index == position);
         }
-        let entry = 4 + 2 * usize::from(position & (size - 1));
-        self.add(&mut loads, memory, ring.available.wrapping_add(entry), 2);
-        let head = u16::from_le_bytes([self.loaded[2], self.loaded[3]]);
-        self.load_chain(&mut loads, memory, &ring, head);
+        let at = ring.available.wrapping_add(4 + 2 * usize::from(position & (size - 1)));
+        let head = memory::load_u16(memory, at);
+        self.add_number(at, head);
+        self.load_chain(memory, &ring, head);
         fence(Ordering::Acquire);
-        Ok(loads)
+        Ok(false)
     }
 
-    /// Makes a load, and returns its place in `loaded`; `None` if there is no room for it.
-    fn add(
-        &mut self,
-        loads: &mut Loads,
-        memory: &dyn GuestMemory,
-        at: usize,
-        len: usize,
-    ) -> Option<usize> {
-        let from = loads.len;
-        let bytes = self.loaded.get_mut(from..from + len)?;
-        *loads.ahead.get_mut(loads.count)? = sys::LoadAhead { at, len };
-        match bytes {
-            two @ [_, _] => two.copy_from_slice(&memory::load_u16(memory, at).to_le_bytes()),
-            bytes => memory::load(memory, at, bytes),
-        }
-        (loads.count, loads.len) = (loads.count + 1, from + len);
+    /// A load of one of the ring's numbers, which was made: one of the first two.
+    fn add_number(&mut self, at: usize, number: u16) {
+        let Loads { ahead, count, len } = &mut self.ahead;
+        self.loaded[*len..*len + 2].copy_from_slice(&number.to_le_bytes());
+        ahead[*count] = sys::LoadAhead { at, len: 2 };
+        (*count, *len) = (*count + 1, *len + 2);
+    }
+
+    /// Makes a load of descriptors, and returns its place in `loaded`; `None` if there is no room
+    /// for it.
+    fn add(&mut self, memory: &dyn GuestMemory, at: usize, bytes: usize) -> Option<usize> {
+        let Loads { ahead, count, len } = &mut self.ahead;
+        let from = *len;
+        let to = self.loaded.get_mut(from..from + bytes)?;
+        *ahead.get_mut(*count)? = sys::LoadAhead { at, len: bytes };
+        memory::load(memory, at, to);
+        (*count, *len) = (*count + 1, from + bytes);
         Some(from)
     }
 
     /// Makes the loads of a chain's descriptors from its head on.
-    fn load_chain(&mut self, loads: &mut Loads, memory: &dyn GuestMemory, ring: &Ring, head: u16) {
-        let (mut index, mut left) = (usize::from(head), usize::from(ring.layout.size));
-        while index < usize::from(ring.layout.size) {
-            let count = MOST_OWN.min(usize::from(ring.layout.size) - index).min(left);
+    fn load_chain(&mut self, memory: &dyn GuestMemory, ring: &Ring, head: u16) {
+        let size = usize::from(ring.layout.size);
+        let (mut index, mut left) = (usize::from(head), size);
+        while index < size {
+            let count = MOST_OWN.min(size - index).min(left);
             let at = ring.descriptors.wrapping_add(ENTRY * index);
-            let from = match self.add(loads, memory, at, ENTRY * count) {
+            let from = match self.add(memory, at, ENTRY * count) {
                 Some(from) => from,
                 None => return,
             };
-            let (last, walked) = follow(&self.loaded[from..loads.len], index, count);
+            let (last, walked) = follow(&self.loaded[from..self.ahead.len], index, count);
             if last.is_table() {
-                return self.load_table(loads, memory, &last);
+                return self.load_table(memory, &last);
             }
             if !last.has_next() || left <= walked {
                 return;
@@ -167,13 +178,13 @@ impl Worker {
     }
 
     /// Makes the load of an indirect table, if it is in one region and no longer than a load.
-    fn load_table(&mut self, loads: &mut Loads, memory: &dyn GuestMemory, entry: &Entry) {
+    fn load_table(&mut self, memory: &dyn GuestMemory, entry: &Entry) {
         let len = entry.len as usize;
         if len % ENTRY != 0 {
             return;
         }
         if let Some(at) = self.place(entry.address, u64::from(entry.len)) {
-            self.add(loads, memory, at, len);
+            self.add(memory, at, len);
         }
     }
 }

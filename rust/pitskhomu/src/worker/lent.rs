@@ -142,6 +142,7 @@ impl Worker {
     /// ```
     pub fn lend<'w>(&'w mut self, iotlb: &'w mut Iotlb) -> Result<Lent<'w>, Status> {
         self.chain.exchange_iotlb(iotlb.place_mut())?;
+        self.has_table = true;
         Ok(Lent { worker: self, iotlb })
     }
 

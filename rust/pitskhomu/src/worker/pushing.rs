@@ -92,8 +92,8 @@ impl Worker {
             store_room(&mut self.chain, memory, sys::HEADER, &self.list[..len]);
         }
         store_room(&mut self.chain, memory, 0, &self.front[..stores.front_len]);
-        memory::store(memory, stores.id_at, &stores.id.to_le_bytes());
-        memory::store(memory, stores.len_at, &stores.len.to_le_bytes());
+        memory::store_u32(memory, stores.id_at, stores.id);
+        memory::store_u32(memory, stores.len_at, stores.len);
         fence(Ordering::Release);
         memory::store_u16(memory, stores.index_at, stores.index);
         if memory.is_logging() {

@@ -63,6 +63,8 @@ struct Fake {
     forgotten: Vec<u32>,
     /// What happens while it asks.
     meanwhile: Option<Box<dyn FnMut() + Send>>,
+    /// The next push is to be undone, and this happens meanwhile.
+    undoes: Option<Box<dyn FnOnce() + Send>>,
 }
 
 impl Server<Ring> for Fake {
@@ -97,7 +99,13 @@ impl Server<Ring> for Fake {
     fn push(&mut self, ring: &mut Ring) -> bool {
         let numbers = ring.queue.numbers_mut();
         numbers.next_used = numbers.next_used.wrapping_add(1);
-        false
+        self.undoes.is_some()
+    }
+
+    fn undo(&mut self) {
+        if let Some(undoes) = self.undoes.take() {
+            undoes();
+        }
     }
 
     fn interrupt(&mut self) {}
@@ -142,16 +150,55 @@ fn what_could_not_be_said_is_said_again() {
 #[test]
 fn one_thread_at_a_time_is_woken() {
     let (looping, mut server) = (ring(1, 2), Fake::default());
-    assert!(looping.lock().hand_on(&mut server) && !looping.lock().hand_on(&mut server));
+    assert!(
+        looping.lock().hand_on(&mut server, false) && !looping.lock().hand_on(&mut server, false)
+    );
     looping.lock().available = 0;
     assert_eq!(looping.serve_all(&mut server), Rest::Event); // it has come
-    assert!(!looping.lock().hand_on(&mut server), "no chain is available");
+    assert!(!looping.lock().hand_on(&mut server, false), "no chain is available");
     looping.lock().available = 1;
-    assert!(looping.lock().hand_on(&mut server));
+    assert!(!looping.lock().hand_on(&mut server, true), "another thread comes to the lock");
+    assert!(looping.lock().hand_on(&mut server, false));
     looping.lock().sleeping = 0;
     looping.lock().is_woken = false;
-    assert!(!looping.lock().hand_on(&mut server), "nobody sleeps");
+    assert!(!looping.lock().hand_on(&mut server, false), "nobody sleeps");
     assert_eq!(looping.lock().told, Some((0, false, 0)));
+}
+
+/// A thread that undoes an answer makes calls of the file system. Nobody relies on it meanwhile.
+#[test]
+fn a_thread_that_undoes_hands_on() {
+    let looping = Arc::new(ring(2, 2));
+    let other = looping.clone();
+    let undoes = move || assert!(other.lock().is_woken, "a chain is available");
+    let mut server = Fake { undoes: Some(Box::new(undoes)), ..Fake::default() };
+    let mut state = looping.lock();
+    assert_eq!(state.pop(&mut server), Looked::Popped);
+    drop(state);
+    drop(looping.answer(&mut server));
+    assert!(server.undoes.is_none());
+}
+
+/// While a thread comes back from its call to the lock, no other is woken.
+#[test]
+fn a_thread_that_comes_back_is_known() {
+    let (looping, has_begun, end) = held(2);
+    has_begun.recv_timeout(SOON).unwrap();
+    let (mut state, begun) = (looping.lock(), Instant::now());
+    assert!(!looping.another_comes());
+    end.send(()).unwrap();
+    while !looping.another_comes() {
+        assert!(begun.elapsed() < SOON);
+        thread::yield_now();
+    }
+    state.sleeping = 1;
+    assert!(!state.hand_on(&mut Fake::default(), looping.another_comes()));
+    state.sleeping = 0;
+    drop(state);
+    has_begun.recv_timeout(SOON).unwrap();
+    assert!(!looping.another_comes());
+    end.send(()).unwrap();
+    until(&looping, |state| state.queue.next_used() == 2);
 }
 
 /// While a thread asks, another one pops the chain, or none does.
