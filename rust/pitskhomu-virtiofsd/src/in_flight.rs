@@ -36,7 +36,9 @@ impl Doing {
     pub fn begin(&self, chain: u64) {
         self.asks(0, 0);
         for flag in [&self.is_away, &self.is_waiting, &self.is_dropped, &self.is_late] {
-            flag.store(false, Ordering::SeqCst);
+            if flag.load(Ordering::SeqCst) {
+                flag.store(false, Ordering::SeqCst); // slower than the load, and seldom wanted
+            }
         }
         self.chain.store(chain, Ordering::Relaxed);
     }

@@ -58,6 +58,8 @@ pub struct State {
     is_refused: bool,
     /// The number of threads that serve the ring.
     served_by: usize,
+    /// The guest's memory. Chains in flight keep the one that they were taken from.
+    memory: Arc<Table>,
     /// The memory over which chains were in flight when the ring was closed.
     over: Option<Arc<Table>>,
     call: Option<Arc<Notifier>>,
@@ -81,6 +83,11 @@ impl State {
     pub fn queue_if_begun(&self) -> Option<Result<Queue, Status>> {
         let Numbers { layout, next_avail, .. } = self.numbers;
         (layout.size != 0 && layout.descriptors != 0).then(|| Queue::new(layout, next_avail))
+    }
+
+    /// Sets the memory for the next chains.
+    pub fn set_memory(&mut self, memory: &Table) {
+        self.memory = Arc::new(memory.clone());
     }
 
     /// Has the queue reset, also after a refusal, with the numbers that it has then.
@@ -172,15 +179,15 @@ pub trait Server {
     /// Forgets the IOMMU's refusals: the next call is for another chain.
     fn forget_refusals(&mut self);
 
-    /// Makes the reply to the chain that was taken. `doing` gets the request's opcode and number
-    /// meanwhile. The ring isn't locked.
-    fn answer(&mut self, doing: &Doing);
+    /// Makes the reply to the chain that was taken, over the memory that it was taken from. `doing`
+    /// gets the request's opcode and number meanwhile. The ring isn't locked.
+    fn answer(&mut self, doing: &Doing, memory: &Table);
 
     /// Returns the chain to the driver. The result is whether to notify the driver.
-    fn give_back(&mut self, queue: &mut Queue) -> Result<bool, Status>;
+    fn give_back(&mut self, queue: &mut Queue, memory: &Arc<Table>) -> Result<bool, Status>;
 
     /// Forgets the chain, which was dropped.
-    fn abandon(&mut self) {}
+    fn abandon(&mut self, _memory: &Arc<Table>) {}
 
     /// Whether a call is to be undone, since the guest doesn't get its answer.
     fn must_undo(&self) -> bool {

@@ -47,10 +47,8 @@ pub struct Core<F> {
     is_ending: AtomicBool,
     /// To the thread that ends sessions, once it runs.
     ending: OnceLock<SyncSender<SyncSender<()>>>,
+    /// The rings have copies of their own, so that threads of different rings share no count.
     memory: RwLock<Arc<Table>>,
-    /// The same memory for each ring, so that threads of different rings share no lock and no
-    /// count.
-    of_rings: Vec<RwLock<Arc<Table>>>,
 }
 
 /// The arguments of `Core::new`.
@@ -79,11 +77,10 @@ impl<F: ServedFs> Core<F> {
         }
         let late: Arc<AtomicUsize> = Arc::default();
         let ring = |index| Ring::new(index, if index == 0 { 1 } else { threads }, late.clone());
-        let rings = (0..=request_queues).map(ring).collect::<io::Result<_>>()?;
+        let rings: Vec<Ring> = (0..=request_queues).map(ring).collect::<io::Result<_>>()?;
         // All have the same log and the same IOMMU.
         let memory = Table::default();
-        let own = |_| RwLock::new(Arc::new(memory.clone()));
-        let of_rings = (0..=request_queues).map(own).collect();
+        rings.iter().for_each(|ring| ring.lock().set_memory(&memory));
         Ok(Core {
             fs,
             device: pitskhomu::Device::default(),
@@ -95,18 +92,12 @@ impl<F: ServedFs> Core<F> {
             is_ending: AtomicBool::new(false),
             ending: OnceLock::new(),
             memory: RwLock::new(Arc::new(memory)),
-            of_rings,
         })
     }
 
     /// The current memory.
     pub fn memory(&self) -> Arc<Table> {
         self.memory.read().unwrap_or_else(PoisonError::into_inner).clone()
-    }
-
-    /// The same memory, for a thread of this ring.
-    pub fn memory_of(&self, ring: usize) -> Arc<Table> {
-        self.of_rings[ring].read().unwrap_or_else(PoisonError::into_inner).clone()
     }
 
     /// Replaces the memory. Chains in flight are served and returned over the memory that they were
@@ -116,10 +107,7 @@ impl<F: ServedFs> Core<F> {
         let (old, new) = (self.memory(), Arc::new(table));
         self.rings.iter().for_each(|ring| ring.leave_memory(&old, &new, patience));
         let mut locked: Vec<_> = self.rings.iter().map(Ring::lock).collect();
-        for memory in &self.of_rings {
-            let own = Arc::new(Table::clone(&new));
-            *memory.write().unwrap_or_else(PoisonError::into_inner) = own;
-        }
+        locked.iter_mut().for_each(|state| state.set_memory(&new));
         *self.memory.write().unwrap_or_else(PoisonError::into_inner) = new.clone();
         for (ring, state) in self.rings.iter().zip(&mut locked) {
             ring.enter_memory(state, &new);
@@ -214,9 +202,6 @@ pub struct QueueWorker<F> {
     /// The number of the memory whose regions the worker has, and whether its addresses are I/O
     /// addresses.
     told: Option<(u64, bool)>,
-    /// The memory of the chain in flight. It is dropped with the chain, so that memory which the
-    /// front-end removes doesn't stay mapped.
-    memory: Option<Arc<Table>>,
     /// A call whose answer the guest doesn't get, until it is undone, and its memory.
     cancelled: Option<(Cancelled, Arc<Table>)>,
     /// The chain was taken with an IOMMU's table.
@@ -233,7 +218,6 @@ impl<F: ServedFs> QueueWorker<F> {
             index,
             worker: pitskhomu::Worker::new(),
             told: None,
-            memory: None,
             cancelled: None,
             is_translated: false,
             refused: BTreeSet::new(),
@@ -248,6 +232,11 @@ impl<F: ServedFs> QueueWorker<F> {
             self.told = told;
         }
         Ok(())
+    }
+
+    /// Forgets the worker's chain, and keeps its call until it is undone.
+    fn forget_chain(&mut self, memory: &Arc<Table>) {
+        self.cancelled = self.worker.abandon().map(|cancelled| (cancelled, memory.clone()));
     }
 
     fn log(&self, served: &pitskhomu::Served) {
@@ -266,15 +255,11 @@ impl<F: ServedFs> QueueWorker<F> {
 impl<F: ServedFs> Server for QueueWorker<F> {
     fn take(&mut self, queue: &mut Queue, memory: &Arc<Table>) -> Result<Taken, Status> {
         self.work_over(memory)?;
-        let taken = if memory.iommu().is_on() {
-            self.take_translated(queue, memory)?
-        } else if self.worker.pop(queue, &**memory)? {
-            Taken::Chain
-        } else {
-            Taken::Idle
-        };
-        self.memory = (taken == Taken::Chain).then(|| memory.clone());
-        Ok(taken)
+        if memory.iommu().is_on() {
+            return self.take_translated(queue, memory);
+        }
+        let is_popped = self.worker.pop(queue, &**memory)?;
+        Ok(if is_popped { Taken::Chain } else { Taken::Idle })
     }
 
     fn ask(&mut self, memory: &Table, cancel: &Cancel) -> Asked {
@@ -286,15 +271,17 @@ impl<F: ServedFs> Server for QueueWorker<F> {
     }
 
     fn forget_refusals(&mut self) {
-        self.refused.clear();
+        if !self.refused.is_empty() {
+            self.refused.clear();
+        }
     }
 
     /// A call at which the file system panics is answered EIO, and the thread continues.
-    fn answer(&mut self, doing: &Doing) {
-        let (core, Some(memory)) = (&self.core, &self.memory) else { return };
+    fn answer(&mut self, doing: &Doing, memory: &Table) {
+        let core = &self.core;
         let ring = &core.rings[self.index];
         let adapter = Adapter { fs: &core.fs, ring, memory, doing, flags: core.flags };
-        let mut answer = || self.worker.answer(&core.device, &adapter, &**memory);
+        let mut answer = || self.worker.answer(&core.device, &adapter, memory);
         let answered = catch_unwind(AssertUnwindSafe(&mut answer)).or_else(|_| {
             // the hook of start::log logs the panic
             debug!("queue {}: a call panicked, and is answered EIO", self.index);
@@ -309,26 +296,28 @@ impl<F: ServedFs> Server for QueueWorker<F> {
         }
     }
 
-    fn give_back(&mut self, queue: &mut Queue) -> Result<bool, Status> {
-        let memory = self.memory.take().ok_or(Status::WrongOrder)?;
+    fn give_back(&mut self, queue: &mut Queue, memory: &Arc<Table>) -> Result<bool, Status> {
         let served = if self.is_translated {
-            self.give_back_translated(queue, &memory)
+            self.give_back_translated(queue, memory)
         } else {
-            self.worker.push(queue, &*memory)
+            self.worker.push(queue, &**memory)
         };
-        // there is one only if this was refused, so the guest gets no answer
-        self.cancelled = self.worker.abandon().map(|cancelled| (cancelled, memory));
-        served.map(|served| {
-            self.log(&served);
-            served.notify
-        })
+        match served {
+            Ok(served) => {
+                self.log(&served);
+                Ok(served.notify)
+            }
+            Err(status) => {
+                self.forget_chain(memory); // the guest gets no answer
+                Err(status)
+            }
+        }
     }
 
-    fn abandon(&mut self) {
-        let Some(memory) = self.memory.take() else { return };
+    fn abandon(&mut self, memory: &Arc<Table>) {
         self.is_translated = false; // `Ring::drop_chains` has released the ring's pages
-        self.worker.mark_data(&*memory);
-        self.cancelled = self.worker.abandon().map(|cancelled| (cancelled, memory));
+        self.worker.mark_data(&**memory);
+        self.forget_chain(memory);
     }
 
     fn must_undo(&self) -> bool {

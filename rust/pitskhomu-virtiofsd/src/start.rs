@@ -313,7 +313,7 @@ fn start_thread<F: ServedFs>(core: Arc<Core<F>>, index: usize) -> Result<(), Fai
             error!("queue {index} isn't served: unshare(CLONE_FS): {}", io::Error::last_os_error());
             return;
         }
-        core.rings[index].run(&mut worker, || core.memory_of(index));
+        core.rings[index].run(&mut worker);
     })?;
     Ok(())
 }

@@ -10,26 +10,25 @@ use std::sync::atomic::Ordering;
 use std::sync::Arc;
 
 /// A thread of the ring.
-struct Thread<'r, S, M> {
+struct Thread<'r, S> {
     ring: &'r Ring,
     server: &'r mut S,
     doing: &'r Doing,
-    /// Gets the memory, under the ring's lock: the front-end's thread has the lock while it changes
-    /// it.
-    memory: M,
-    /// The memory of this look for a chain; none while the thread sleeps, so that what the
-    /// front-end removes doesn't stay mapped.
+    /// The memory of this look for a chain, and of the chain; none while the thread sleeps, so that
+    /// what the front-end removes doesn't stay mapped.
     table: Option<Arc<Table>>,
     /// The event by which the driver is to be interrupted.
     owed: Option<Arc<Notifier>>,
 }
 
-impl<S: Server, M: Fn() -> Arc<Table>> live::Server<State> for Thread<'_, S, M> {
-    fn looks(&mut self, _state: &State, is_same: bool) {
+impl<S: Server> live::Server<State> for Thread<'_, S> {
+    fn looks(&mut self, state: &State, is_same: bool) {
         if !is_same {
             self.server.forget_refusals();
         }
-        self.table = Some((self.memory)());
+        if !self.table.as_ref().is_some_and(|table| Arc::ptr_eq(table, &state.memory)) {
+            self.table = Some(state.memory.clone());
+        }
     }
 
     /// With new numbers none is taken until the chains in flight are returned with the old ones. A
@@ -57,15 +56,18 @@ impl<S: Server, M: Fn() -> Arc<Table>> live::Server<State> for Thread<'_, S, M> 
     }
 
     fn answer(&mut self) -> bool {
-        self.server.answer(self.doing);
+        if let Some(table) = &self.table {
+            self.server.answer(self.doing, table);
+        }
         true
     }
 
     fn push(&mut self, state: &mut State) -> bool {
+        let Some(table) = &self.table else { return false }; // it has that of its chain
         if self.doing.is_dropped() {
-            self.server.abandon();
+            self.server.abandon(table);
         } else {
-            match self.server.give_back(&mut state.queue) {
+            match self.server.give_back(&mut state.queue, table) {
                 Ok(true) => self.owed = state.interrupt(),
                 // or the queue was refused, and has begun again since
                 Ok(false) | Err(Status::OtherQueue) => {}
@@ -126,12 +128,12 @@ impl<S: Server, M: Fn() -> Arc<Table>> live::Server<State> for Thread<'_, S, M> 
 
 impl Ring {
     /// The loop of each of the ring's threads, until the process ends.
-    pub fn run(&self, server: &mut impl Server, memory: impl Fn() -> Arc<Table>) {
+    pub fn run(&self, server: &mut impl Server) {
         let mut state = self.lock();
         state.served_by += 1;
         let doing = &self.doing[state.served_by - 1]; // at most `threads` run
         drop(state);
-        let mut thread = Thread { ring: self, server, doing, memory, table: None, owed: None };
+        let mut thread = Thread { ring: self, server, doing, table: None, owed: None };
         if let Err(e) = self.served.run(&mut thread) {
             error!("queue {} isn't served any more: {e}", self.index);
         }
@@ -162,9 +164,9 @@ mod tests {
 
         fn forget_refusals(&mut self) {}
 
-        fn answer(&mut self, _doing: &Doing) {}
+        fn answer(&mut self, _doing: &Doing, _memory: &Table) {}
 
-        fn give_back(&mut self, _queue: &mut Queue) -> Result<bool, Status> {
+        fn give_back(&mut self, _: &mut Queue, _: &Arc<Table>) -> Result<bool, Status> {
             Ok(false)
         }
 
@@ -185,7 +187,7 @@ mod tests {
         let (is_started, is_enabled, is_mapped) = (true, true, true);
         **ring.lock() = State { is_started, is_enabled, is_mapped, ..State::default() };
         // it ends with the process
-        thread::spawn(move || ring.run(&mut Asked(asked), Arc::default));
+        thread::spawn(move || ring.run(&mut Asked(asked)));
         assert_eq!(answers.recv_timeout(Duration::from_secs(20)), Ok(()));
     }
 }

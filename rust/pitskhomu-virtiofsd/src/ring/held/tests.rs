@@ -41,7 +41,6 @@ struct Holding {
     ring: Arc<Ring>,
     worker: Worker,
     device: Device,
-    memory: Option<Arc<Table>>,
     number: usize,
     begins: Sender<usize>,
     ends: Receiver<()>,
@@ -53,7 +52,6 @@ impl Server for Holding {
     fn take(&mut self, queue: &mut Queue, memory: &Arc<Table>) -> Result<Popped, Status> {
         self.worker.set_memory(&self.device, &memory.regions())?;
         let is_taken = self.worker.pop(queue, &**memory)?;
-        self.memory = is_taken.then(|| memory.clone());
         Ok(if is_taken { Popped::Chain } else { Popped::Idle })
     }
 
@@ -63,28 +61,25 @@ impl Server for Holding {
 
     fn forget_refusals(&mut self) {}
 
-    fn answer(&mut self, doing: &Doing) {
-        let memory = self.memory.clone().expect("a chain");
+    fn answer(&mut self, doing: &Doing, memory: &Table) {
         let _ = self.ring.call_host(doing, || {
             self.begins.send(self.number).expect("who listens");
             self.ends.recv().expect("an end");
         });
-        self.worker.answer(&self.device, &Empty, &*memory).expect("an answer");
+        self.worker.answer(&self.device, &Empty, memory).expect("an answer");
     }
 
-    fn give_back(&mut self, queue: &mut Queue) -> Result<bool, Status> {
-        let memory = self.memory.take().expect("a chain");
+    fn give_back(&mut self, queue: &mut Queue, memory: &Arc<Table>) -> Result<bool, Status> {
         let pushed = if self.fails.swap(false, Ordering::SeqCst) {
             Err(Status::OutOfMemory)
         } else {
-            self.worker.push(queue, &*memory).map(|served| served.notify)
+            self.worker.push(queue, &**memory).map(|served| served.notify)
         };
         let _ = self.worker.abandon();
         pushed
     }
 
-    fn abandon(&mut self) {
-        self.memory = None;
+    fn abandon(&mut self, _memory: &Arc<Table>) {
         let _ = self.worker.abandon();
     }
 
@@ -110,8 +105,8 @@ impl Server for Silent {
         Asked::NotAll
     }
     fn forget_refusals(&mut self) {}
-    fn answer(&mut self, _doing: &Doing) {}
-    fn give_back(&mut self, _queue: &mut Queue) -> Result<bool, Status> {
+    fn answer(&mut self, _doing: &Doing, _memory: &Table) {}
+    fn give_back(&mut self, _: &mut Queue, _: &Arc<Table>) -> Result<bool, Status> {
         Ok(false)
     }
     fn set_notification(
@@ -162,15 +157,15 @@ impl Tried {
                 ring: ring.clone(),
                 worker: Worker::new(),
                 device: Device::default(),
-                memory: None,
                 number,
                 begins: begins.clone(),
                 ends,
                 fails: Arc::clone(&fails),
             };
-            let (ring, memory) = (ring.clone(), memory.clone());
+            let ring = ring.clone();
+            ring.lock().memory = memory.clone();
             // it ends with the process
-            thread::spawn(move || ring.run(&mut server, || memory.clone()));
+            thread::spawn(move || ring.run(&mut server));
         }
         let (ends, others) = (all.remove(0), all);
         let tried = Tried { ring, memory, begins: begun, ends, others, fails, offered: 0 };
