@@ -1,9 +1,10 @@
-/* What a request costs by a daemon, without a guest: rows DAEMON DIR COUNT. Requests as a Linux
- * guest cuts them: header, arguments, data, the reply's header and its data in pieces of their own,
- * which a table of the request's own names; one at a time, and several at once. Prints for each
- * kind the least of five runs of COUNT requests, in nanoseconds for a request: with the driver's
- * kicks and sleeps. And of all five what the daemon took of the processor for a request, and how
- * often for a thousand of them one side told the other. DIR gets a file `rows`. */
+/* What a request costs by a daemon, without a guest: rows DAEMON DIR COUNT [ROW AT_ONCE], of all
+ * rows, or of one (from 0 on), one at a time (1) or several at once (0). Requests as a Linux guest
+ * cuts them: header, arguments, data, the reply's header and its data in pieces of their own, which
+ * a table of the request's own names. Prints for each kind the least of five runs of COUNT
+ * requests, in nanoseconds for a request: with the driver's kicks and sleeps. And of all five what
+ * the daemon took of the processor for a request, and how often for a thousand of them one side
+ * told the other. DIR gets a file `rows`. */
 #include "front.h"
 #include <fcntl.h>
 #include <linux/fuse.h>
@@ -148,7 +149,7 @@ static void make_file(const char *dir) {
 }
 
 int main(int argc, char **argv) {
-    if (argc < 4) die("usage: rows DAEMON DIR COUNT");
+    if (argc != 4 && argc != 6) die("usage: rows DAEMON DIR COUNT [ROW AT_ONCE]");
     unsigned count = (unsigned)strtoul(argv[3], NULL, 10);
     make_file(argv[2]);
     front_begin(&front, argv[1], argv[2], NULL);
@@ -158,8 +159,10 @@ int main(int argc, char **argv) {
     node = look_up(&front, ROOT, "rows");
     file = open_node(&front, node, O_RDWR);
     for (size_t k = 0; k < sizeof rows / sizeof *rows; k++) {
-        print_row(&rows[k], count, 1);
-        print_row(&rows[k], count, rows[k].most_at_once);
+        if (argc == 6 && strtoul(argv[4], NULL, 10) != k) continue;
+        for (unsigned several = 0; several < 2; several++)
+            if (argc == 4 || (argv[5][0] == '1') != several)
+                print_row(&rows[k], count, several ? rows[k].most_at_once : 1);
     }
     front_leave(&front);
     return 0;

@@ -1,5 +1,5 @@
 # The daemon and virtiofsd in turn: sourced by ./test. `times` has a guest read, write and look up;
-# `rows` has a driver ask without a guest.
+# `rows` has a driver ask without a guest, and `instructions` counts what that takes.
 
 # Says which server is to be tried in each of so many rounds, in turn.
 turns() {
@@ -109,10 +109,72 @@ rows() {
     compare "$work"/rows.ROW.{ours,virtiofsd}
     echo "of these on the daemon's processors:"
     compare "$work"/rows.PROCESSOR.{ours,virtiofsd}
-    echo "notifications of the device for 1000 requests:"
+    echo "available buffer notifications for 1000 requests:"
     compare "$work"/rows.KICKS.{ours,virtiofsd}
-    echo "and of the driver:"
+    echo "and used buffer notifications:"
     compare "$work"/rows.CALLS.{ours,virtiofsd}
+    ! perf_counts || instructions
+}
+
+# Whether perf counts a process's instructions on this machine.
+perf_counts() {
+    [ -n "$(type -P perf)" ] && perf stat -x, -e instructions:u true 2>&1 | grep -q '^[0-9]'
+}
+
+# A daemon of a kind whose user instructions are counted, by perf or by valgrind.
+make_counted() {
+    local kind=$1 counter program=("$DAEMON")
+    [ "$kind" = ours ] || program=("$root/usr/lib64/ld-linux-x86-64.so.2" --library-path
+        "$root/usr/lib/x86_64-linux-gnu" "$root/usr/libexec/virtiofsd")
+    if perf_counts; then
+        counter=(perf stat -x, -e instructions:u -o "$work/counted.out")
+    else
+        counter=(valgrind -q --tool=callgrind "--callgrind-out-file=$work/counted.out")
+    fi
+    cat > "$work/counted" << END
+#!/usr/bin/env bash
+words=(--sandbox none --seccomp none)
+while [ \$# -gt 0 ]; do
+    case $kind-\$1 in
+    virtiofsd---num-request-queues) shift 2 ;;
+    *) words+=("\$1") && shift ;;
+    esac
+done
+exec ${counter[*]@Q} ${program[*]@Q} "\${words[@]}"
+END
+    chmod +x "$work/counted"
+}
+
+# The instructions of so many requests of a row, with those of a start and an end.
+count_row() {
+    EVENT_INDEX=${EVENT_INDEX:-1} "$work/rows" "$work/counted" "$work/rows-share" "$@" \
+        > "$work/counted.lines" 2> "$work/counted.errors" ||
+        failure "instructions: $(tail -n 3 "$work/counted.errors")"
+    sed -nE 's/^(totals: )?([0-9]+)($|,.*)/\2/p' "$work/counted.out" | head -n 1
+}
+
+# User instructions of a request, which no other load of the machine changes: the difference of two
+# runs. Without perf, valgrind counts; then the driver is much the faster side.
+instructions() {
+    local kind row once few many of what
+    take_virtiofsd
+    compile rows rows.c front.c
+    mkdir -p "$work/rows-share"
+    rm -f "$work"/instructions.*
+    for kind in ours virtiofsd; do
+        make_counted "$kind"
+        for row in 0 1 2 3 4 5 6 7 8; do
+            for once in 1 0; do
+                of=$((row < 5 ? 1 : 16)) # rows.c makes fewer of the large ones
+                few=$(count_row $((64 * of)) $row $once)
+                many=$(count_row $((320 * of)) $row $once)
+                what=$(sed -n 's/^ROW [^:]*: //p' "$work/counted.lines")
+                printf '%d\t%s\n' $(((many - few) / (5 * 256))) "$what"
+            done
+        done > "$work/instructions.$kind"
+    done
+    echo "user instructions of a request, twice each: ours, virtiofsd, ratio"
+    compare "$work"/instructions.{ours,virtiofsd}
 }
 
 # git, and an archive of a repository with FILES files, 50 a directory: the guest's disk.
