@@ -140,7 +140,13 @@ fn open_file_call(opcode: u32, options: u64, room: usize, call: &FileCall<'_>, t
 
 /// Fills a call as C gets it, by the opcode of its request, the agreed options, and the length of the reply
 /// buffer.
-pub(crate) fn told_call(opcode: u32, options: u64, room: usize, call: &FileCall<'_>, told: &mut FsCall)
+pub(crate) fn told_call(
+    opcode: u32,
+    options: u64,
+    room: usize,
+    call: &FileCall<'_>,
+    told: &mut FsCall,
+)
     ensures { told.new ≡ told_call opcode options room call.now }
 {
     told!(call, told, of_a_node {

@@ -53,7 +53,13 @@ pub fn number(request: &[u8], call: &mut FsCall)
 
 /// Fills a call's fields, by its request, the agreed options, and the length of the reply buffer.
 #[inline(never)]
-pub fn call_fields(request: &[u8], options: u64, room: usize, call: &FileCall<'_>, told: &mut FsCall)
+pub fn call_fields(
+    request: &[u8],
+    options: u64,
+    room: usize,
+    call: &FileCall<'_>,
+    told: &mut FsCall,
+)
     ensures { told.new ≡ call_fields request.now options room call.now }
 {
     told_call(opcode_in(request), options, room, call, told);

@@ -260,6 +260,7 @@ ends_with_whole_copy m fine copied' unmarked none = record {
       where
         not_none : false ≡ true → ⊥
         not_none h = cc
+
     same_at : (a : ℕ) (is : Bool) → (m.copy a == m.bytes a) ≡ is → m.copy a ≡ m.bytes a
     same_at a true is = eqb-true (m.copy a) (m.bytes a) is
     same_at a false is =
