@@ -4,6 +4,7 @@
  * author answers by any function of pitskhomu.h, with random numbers, until one is taken. Each
  * status, the reply's bytes and its length are compared with those of the model. */
 #include "chance.h"
+#include "plain_fields.h"
 #include <pitskhomu.h>
 #include <stdbool.h>
 #include <stdio.h>
@@ -64,7 +65,8 @@ static const struct row {
     {200, 0, 0, PK_ANSWER_NONE},
 };
 enum { ROWS = sizeof rows / sizeof *rows };
-enum { FORGET = 2, LINK = 13, READ = 15, WRITE = 16, GETXATTR = 22, LISTXATTR = 23, INIT = 26 };
+enum { FORGET = 2, LINK = 13, READ = 15, WRITE = 16, SETXATTR = 21, GETXATTR = 22 };
+enum { LISTXATTR = 23, INIT = 26 };
 enum { READDIR = 28, INTERRUPT = 36, DESTROY = 38, READDIRPLUS = 44, ENOSYS_OF = 38 };
 
 static _Alignas(4096) uint8_t memory[MEMORY];
@@ -391,6 +393,8 @@ static size_t offer(void) {
     size_t len = 40 + row->record + 2u * row->names;
     if (row->opcode == WRITE) len += below(2) ? below(0x800) : 0;
     memset(memory + REQUEST, 0, 256);
+    for (size_t at = 40; at < 40u + row->record && row->opcode != INIT; at += 4)
+        store(REQUEST + at, number(), 4);
     store(REQUEST, len, 4);
     store(REQUEST + 4, row->opcode, 4);
     store(REQUEST + 8, number(), 8);
@@ -400,6 +404,7 @@ static size_t offer(void) {
     if (row->answer == PK_ANSWER_ENTRIES) store(REQUEST + 56, size, 4);
     if (row->opcode == WRITE) store(REQUEST + 56, len - 80, 4);
     if (row->opcode == READ) store(REQUEST + 56, below(2) ? size : number(), 4);
+    if (row->opcode == SETXATTR) store(REQUEST + 40, 0, 4);
     if (row->opcode == GETXATTR || row->opcode == LISTXATTR) store(REQUEST + 40, below(500), 4);
     if (row->opcode == INIT) {
         store(REQUEST + 40, 7 | UINT64_C(38) << 32, 8);
@@ -452,6 +457,8 @@ static void decode(size_t len) {
     bool has_sender = is_call && row->opcode != INIT && row->opcode != DESTROY;
     expect("its fault", call.fault, 0);
     expect("its opcode", call.opcode, row->opcode);
+    const char *stray = stray_field(&call);
+    if (stray) expect(stray, 1, 0);
     expect("its number", call.unique, loaded(REQUEST + 8, 8));
     expect("its node", row->opcode == LINK ? call.node2 : call.node,
            has_sender ? loaded(REQUEST + 16, 8) : 0);

@@ -62,6 +62,7 @@ static uint32_t table_fault(const struct part *part, uint64_t flags, bool inside
 static uint32_t walk(struct bench *b, const struct pk_queue *q, struct told *told) {
     uint64_t at = q->desc, of = q->size, index = b->head, more[2] = {0};
     bool inside = false;
+    b->table_len = 0;
     for (b->count = 0;;) {
         struct part part;
         if (index >= of) return PK_FAULT_NEXT_OUT_OF_TABLE;
@@ -69,7 +70,8 @@ static uint32_t walk(struct bench *b, const struct pk_queue *q, struct told *tol
         if (fault || told->status) return fault;
         if (more[0] & INDIRECT) {
             if ((fault = table_fault(&part, more[0], inside))) return fault;
-            at = part.at, of = part.len / 16, index = 0, inside = true;
+            at = b->table = part.at, of = part.len / 16, index = 0, inside = true;
+            b->table_len = part.len;
             continue;
         }
         if (b->count == q->size) return PK_FAULT_TOO_LONG;

@@ -14,7 +14,8 @@ struct bench {
     uint16_t head, position;
     uint8_t *used_index;
     bool replied, pushing, has_ticket;
-    uint64_t len; /* of the reply */
+    uint64_t len;              /* of the reply */
+    uint64_t table, table_len; /* the indirect table, if the walk came to one */
 };
 
 enum { QUEUES = 2, CHAINS = 3 };

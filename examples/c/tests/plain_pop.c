@@ -102,11 +102,45 @@ void lend_once(const struct bench *b) {
     expect("no mapping in it", pk_iotlb_unmap(&table, base, PAGE), PK_WRONG_ORDER);
 }
 
+/* Whether a load's bytes are those of an area of the device's addresses. */
+static bool is_in(const struct pk_pop *step, uint64_t at, uint64_t len) {
+    uintptr_t load = step->load_at;
+    size_t left = step->load_len;
+    bool began = false;
+    for (uint64_t piece; len > 0; at += piece, len -= piece) {
+        uintptr_t here = (uintptr_t)place(at, READS);
+        piece = here ? left_at(at) : PAGE - at % PAGE;
+        if (piece > len) piece = len;
+        bool begins = here && load >= here && load - here < piece;
+        if (began && load != here) return false;
+        if (!began && !begins) continue;
+        size_t part = (size_t)(piece - (load - here));
+        if (left <= part) return true;
+        began = true, load += part, left -= part;
+    }
+    return false;
+}
+
+/* A pop loads the available index, then the ring's entry, then entries of the two tables. */
+static void check_load(const struct bench *b, const struct pk_queue *q, const struct pk_pop *step,
+                       unsigned number) {
+    uint64_t slot = q->avail + 4 + 2 * (uint64_t)(q->next_avail % q->size);
+    if (number < 2) {
+        expect("a load of the ring", step->load_len, 2);
+        expect("its place", step->load_at, (uintptr_t)place(number ? slot : q->avail + 2, READS));
+    } else {
+        expect("a load beside the tables",
+               is_in(step, q->desc, 16 * (uint64_t)q->size) || is_in(step, b->table, b->table_len),
+               true);
+    }
+}
+
 /* A pop by the library, load by load or with its loads ahead. */
 uint32_t pop(struct bench *b, struct pk_queue *q, struct pk_pop *step, bool *again) {
     static uint8_t bytes[PK_LOAD_MAX];
     struct pk_ring ring = {0};
     size_t len = 0;
+    unsigned number = 0;
     uint32_t status;
     memset(step, 0xa5, sizeof *step);
     *again = false;
@@ -115,6 +149,7 @@ uint32_t pop(struct bench *b, struct pk_queue *q, struct pk_pop *step, bool *aga
         expect("bytes at first", pk_pop(&b->chain, q, bytes, 1, step), PK_BAD_ARGUMENT);
     if (!has_iommu && below(2)) return pk_pop_ring(&b->chain, q, &ring, step);
     while ((status = pk_pop(&b->chain, q, bytes, len, step)) == PK_LOAD) {
+        check_load(b, q, step, number++);
         if (below(20) == 0 && (*again = interrupt(b, q, step))) return status;
         memcpy(bytes, (const void *)step->load_at, len = step->load_len);
     }
