@@ -1,12 +1,11 @@
 //! Queries of a handle: allowed at any time, and they change nothing.
 
-ghost use Rattle.std.specs.Prelude.{◌≡◌, ◌<◌, ◌≤◌, IfSome, OnSome, None, true, min};
+ghost use Rattle.std.specs.Prelude.{◌≡◌, ◌<◌, ◌≤◌, IfSome, OnSome, None, true};
 ghost use Rattle.vm_memory.specs.Memory.{location};
-ghost use Rattle.vm_memory.specs.Slices.{IsWindowAt};
 ghost use Rattle.fs_queue.specs.Taking.{total_len, of_direction};
 ghost use Rattle.fs_regions.specs.Places.{left_in, places_in};
 ghost use Rattle.fs_regions.specs.Walks.{asked_len};
-ghost use Rattle.fs_regions.specs.Windows.{IsRangeFrom};
+ghost use Rattle.fs_regions.specs.Windows.{IsRangeFrom, LiesApart, LiesAt};
 ghost use Rattle.fs_chain.specs.Numbers.{state_number};
 ghost use Rattle.fs_chain.specs.Orders.{is_free, is_listing, is_out, load_len, room_len};
 
@@ -14,19 +13,20 @@ use crate::chain_handle::ChainHandle;
 use crate::state::ChainState;
 use fs_regions::range_from;
 use server_phases::Session;
-use vm_memory_core::{Permissions, VolatileSlice};
+use vm_memory_core::Permissions;
 
 impl ChainHandle {
-    /// The longest window of at most `most` bytes from a guest address on, for an access. None if the
-    /// address isn't mapped.
+    /// The place of `len` bytes from a guest address on: the number of the block, and the offset there,
+    /// added. None if they aren't mapped for an access in one piece.
     #[inline(always)]
-    pub fn window_at(&self, addr: u64, most: usize, access: Permissions) -> Option<VolatileSlice>
-        requires { 0 < most }
-        ensures none { result ≡ None → location (places_in self.now.regions) access addr ≡ None }
-        ensures some { IfSome result (IsWindowAt (location (places_in self.now.regions) access) addr most) }
-        ensures longest { IfSome result (λ w. w.len ≡ min most (left_in (places_in self.now.regions) addr)) }
+    pub fn place_at(&self, addr: u64, len: usize, access: Permissions) -> Option<usize>
+        requires { 0 < len }
+        ensures some { IfSome result (LiesAt (location (places_in self.now.regions) access) addr len
+            (left_in (places_in self.now.regions) addr)) }
+        ensures none { result ≡ None → LiesApart (location (places_in self.now.regions) access) addr len
+            (left_in (places_in self.now.regions) addr) }
     {
-        self.regions.window_at(addr, most, access)
+        self.regions.place_at(addr, len, access)
     }
 
     /// Whether no chain is being popped, and none is in flight.

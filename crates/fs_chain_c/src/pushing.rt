@@ -5,7 +5,7 @@ ghost use Rattle.fs_chain_c.specs.Pushing.{DropsHandleChain, DropsKept, EndsHand
 ghost use Rattle.fs_chain_c.specs.Pushing.{HaveNoPlaces, IsNotHere, PushesHandle, ReturnsKept, StandsHere};
 ghost use Rattle.fs_chain_c.specs.Pushing.{TellsStores, no_stores};
 
-use crate::popping::{NOT_MAPPED, host_at};
+use crate::popping::NOT_MAPPED;
 use crate::queue::FsQueue;
 use fs_chain::{ChainError, ChainHandle, PushStores, QueueState};
 use vm_memory_core::Permissions;
@@ -69,16 +69,7 @@ pub(crate) fn here(
     ensures some { IfSome result (StandsHere handle.now.regions access guest len) }
     ensures none { result ≡ None → IsNotHere handle.now.regions access guest len }
 {
-    match handle.window_at(guest, len, access) {
-        Some(window) => {
-            if window.len() == len {
-                Some(host_at(&window))
-            } else {
-                None
-            }
-        }
-        None => None,
-    }
+    handle.place_at(guest, len, access)
 }
 
 // The stores of a push by their host addresses; None if one isn't mapped.
