@@ -42,7 +42,8 @@ static const uint64_t has[52] = {
     [PK_CALL_OPEN] = OPEN,
     [PK_CALL_READ] = USE | HAS(has_owner),
     [PK_CALL_WRITE] = USE | HAS(has_owner) | HAS(delayed) | HAS(kill_priv),
-    [PK_CALL_RELEASE] = HAS(handle) | HAS(flags) | HAS(flush) | HAS(unlock) | HAS(owner) | HAS(has_owner),
+    [PK_CALL_RELEASE] = HAS(handle) | HAS(flags) | HAS(flush) | HAS(unlock) | HAS(owner) |
+                      HAS(has_owner),
     [PK_CALL_FSYNC] = HAS(handle) | HAS(data_only),
     [PK_CALL_SETXATTR] = HAS(name) | HAS(value) | HAS(flags) | HAS(setxattr_flags),
     [PK_CALL_GETXATTR] = HAS(name) | HAS(size) | DATA,
