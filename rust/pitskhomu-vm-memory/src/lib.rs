@@ -110,11 +110,12 @@ impl<B: Bitmap + 'static> MappedMemory<B> {
         self.stretches.iter().enumerate().map(region).collect()
     }
 
-    /// The place of the region that has the `len` bytes from a number on, and their offset in it.
-    fn find(&self, at: usize, len: usize) -> Option<(usize, usize)> {
+    /// The region that has the `len` bytes from a number on, and their offset in it.
+    fn find(&self, at: usize, len: usize) -> Option<(&Stretch, usize)> {
         let (region, offset) = (at >> OFFSET_BITS, at & ((1 << OFFSET_BITS) - 1));
-        let left = self.stretches.get(region)?.len.checked_sub(offset as u64)?;
-        (left > 0 && len as u64 <= left).then_some((region, offset))
+        let stretch = self.stretches.get(region)?;
+        let left = stretch.len.checked_sub(offset as u64)?;
+        (left > 0 && len as u64 <= left).then_some((stretch, offset))
     }
 
     /// The number of a guest address.
@@ -129,8 +130,8 @@ impl<B: Bitmap + 'static> MappedMemory<B> {
     /// writes by it. `at` is a number, such as that of a window of a READ or WRITE.
     #[must_use]
     pub fn slice(&self, at: usize, len: usize) -> Option<VolatileSlice<'_, BS<'_, B>>> {
-        let (region, offset) = self.find(at, len)?;
-        regions(&self.memory).nth(region)?.get_slice(MemoryRegionAddress(offset as u64), len).ok()
+        let (_, offset) = self.find(at, len)?;
+        regions(&self.memory).nth(at >> OFFSET_BITS)?.get_slice(MemoryRegionAddress(offset as u64), len).ok()
     }
 
     /// The same by a guest address, which is looked up.
@@ -142,8 +143,8 @@ impl<B: Bitmap + 'static> MappedMemory<B> {
 
 impl<B: Bitmap + 'static> GuestMemory for MappedMemory<B> {
     fn get_slice(&self, at: usize, len: usize) -> Option<GuestSlice<'_>> {
-        let (region, offset) = self.find(at, len)?;
-        let host = self.stretches[region].host as *mut u8;
+        let (stretch, offset) = self.find(at, len)?;
+        let host = stretch.host as *mut u8;
         // SAFETY: the bytes are in a region that `self.memory` keeps mapped as long as it lives, so
         // as long as the slice. vm-memory makes no reference to them, and returns none but to
         // atomic numbers.

@@ -94,6 +94,9 @@ impl<Q: Queued> Locked<Q> {
     /// the same then.
     fn hand_on(&mut self, server: &mut impl Server<Q>, comes: bool) -> bool {
         let is_for_another = self.sleeping > 0 && self.has_room();
+        if !is_for_another && matches!(self.told, Some((_, false, _))) {
+            return false; // they are disabled since the last one, or since the queue has begun
+        }
         // [Wishes] or [OmitsWish]; with nobody asleep [Silences]
         let told =
             self.tell(is_for_another, |queued| server.set_notification(queued, is_for_another));

@@ -12,6 +12,7 @@ use pitskhomu::{
     Node, Popped, QueueLayout, Status, Worker,
 };
 use std::fs::File;
+use std::io::Read;
 use std::os::fd::FromRawFd;
 use std::sync::atomic::AtomicBool;
 use std::sync::mpsc::{channel, Receiver, Sender};
@@ -127,6 +128,13 @@ fn store(memory: &Table, guest: u64, bytes: &[u8]) {
     memory.get_slice(at, bytes.len()).expect("bytes").store(bytes);
 }
 
+fn event() -> File {
+    // SAFETY: no memory is touched.
+    let fd = unsafe { libc::eventfd(0, libc::EFD_NONBLOCK | libc::EFD_CLOEXEC) };
+    // SAFETY: the descriptor is new, and nothing else owns it.
+    unsafe { File::from_raw_fd(fd) }
+}
+
 /// A ring that runs, with its threads, and the driver's side of it.
 struct Tried {
     ring: Arc<Ring>,
@@ -192,11 +200,7 @@ impl Tried {
 
     fn start(&self, base: u16) {
         self.ring.tell(|numbers| (numbers.layout, numbers.next_avail) = (LAYOUT, base));
-        // SAFETY: no memory is touched.
-        let fd = unsafe { libc::eventfd(0, libc::EFD_NONBLOCK | libc::EFD_CLOEXEC) };
-        // SAFETY: the descriptor is new, and nothing else owns it.
-        let kick = unsafe { File::from_raw_fd(fd) };
-        self.ring.start(kick, &self.memory).expect("a start");
+        self.ring.start(event(), &self.memory).expect("a start");
     }
 
     fn stop(&self) -> u16 {
@@ -265,6 +269,24 @@ fn a_stop_does_not_wait_for_the_host() {
         assert!(tried.waits_for(tried.offered));
         assert_eq!(tried.ring.held(), None);
     }
+}
+
+/// Two chains are available at once. The first is returned, and the driver interrupted, before the
+/// host has the second one's call: that may be a slow one.
+#[test]
+fn no_reply_waits_for_the_next_call() {
+    let (mut tried, mut call) = (Tried::new(), event());
+    tried.ring.set_call(Some(call.try_clone().expect("a descriptor"))).expect("a call");
+    store(&tried.memory, LAYOUT.available + 2, &[2, 0]);
+    tried.offered = 2;
+    tried.ring.look();
+    for returned in 0..2 {
+        tried.begins.recv_timeout(SOON).expect("a call");
+        assert_eq!(tried.returned(), Some(returned));
+        assert_eq!(call.read(&mut [0; 8]).is_ok(), returned > 0);
+        tried.end_call();
+    }
+    assert!(tried.waits_for(2));
 }
 
 /// Whether `GET_VRING_BASE` is answered in time, on a thread of its own.
