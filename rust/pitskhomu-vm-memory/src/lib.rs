@@ -131,7 +131,8 @@ impl<B: Bitmap + 'static> MappedMemory<B> {
     #[must_use]
     pub fn slice(&self, at: usize, len: usize) -> Option<VolatileSlice<'_, BS<'_, B>>> {
         let (_, offset) = self.find(at, len)?;
-        regions(&self.memory).nth(at >> OFFSET_BITS)?.get_slice(MemoryRegionAddress(offset as u64), len).ok()
+        let region = regions(&self.memory).nth(at >> OFFSET_BITS)?;
+        region.get_slice(MemoryRegionAddress(offset as u64), len).ok()
     }
 
     /// The same by a guest address, which is looked up.
