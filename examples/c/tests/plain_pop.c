@@ -23,7 +23,7 @@ static void call_wrongly(struct bench *b, struct pk_queue *q, const struct pk_po
     expect("a window", pk_request_windows(c, 0, 1, &window, 1), 0);
     expect("another window", pk_reply_windows(c, 0, 1, &window, 1), 0);
     expect("a use", pk_uses(c, 0, UINT64_MAX), 0);
-    if (step->load_len > 2 && step->load_len < 16) len = 16; /* the rest of an entry */
+    if (step->load_len < 16) len = ONE_OF(17, 64); /* 16 may be the whole entry for its part */
     if (len > PK_LOAD_MAX || len == step->load_len) return;
     expect("another length", pk_pop(c, q, bytes, len, &again), PK_BAD_ARGUMENT);
     expect("the load's place", again.load_at, step->load_at);
