@@ -279,6 +279,17 @@ static void by_statfs(uint32_t ticket) {
           status_of(false, ticket, row->answer == PK_ANSWER_STATFS));
 }
 
+/* Bytes of the author's own, in place of an answer. */
+static void by_bytes(uint32_t ticket) {
+    uint64_t len = below(3) ? below(room + 1) : ONE_OF(room + 1, UINT32_MAX, chance() | 1 << 20);
+    uint32_t status = is_answered             ? PK_WRONG_ORDER
+                      : ticket != call.ticket ? PK_OTHER_CALL
+                      : len > room            ? PK_LONG_REPLY
+                                              : PK_DONE;
+    expect("own bytes", pk_reply_bytes(&chain, ticket, len), status);
+    if (status == PK_DONE) is_answered = true, front = 0, wanted_len = len;
+}
+
 /* What a server agrees on by itself, by the bits of FUSE_INIT. */
 static uint64_t default_options(void) {
     static const uint8_t own[] = {0, 3, 5, 11, 12, 15, 18, 22, 27, 30, 34, 40};
@@ -451,7 +462,10 @@ static void decode(size_t len) {
         expect("the bytes that are needed", call.needed, len);
         status = pk_decode(&chain, &device, bytes, len, &call);
     }
+    struct pk_call again = {.kind = 7, .ticket = 7};
     expect("the request", status, PK_DONE);
+    expect("it again", pk_decode(&chain, &device, bytes, have, &again), PK_WRONG_ORDER);
+    expect("no call", again.kind | again.ticket, 0);
     bool is_counted = (row->opcode == GETXATTR || row->opcode == LISTXATTR) && call.size == 0;
     bool is_call = row->answer != PK_ANSWER_NONE || row->opcode == FORGET;
     bool has_sender = is_call && row->opcode != INIT && row->opcode != DESTROY;
@@ -484,6 +498,10 @@ static void answer(void) {
         [PK_ANSWER_STATFS] = by_statfs, [PK_ANSWER_WRITE] = by_number,
         [PK_ANSWER_LSEEK] = by_number,  [PK_ANSWER_ENTRIES] = by_listing,
         [PK_ANSWER_INIT] = by_init};
+    if (below(40) == 0) {
+        by_bytes(ticket);
+        return;
+    }
     by[below(3) ? call.answer : below(sizeof by / sizeof *by)](ticket);
 }
 

@@ -425,6 +425,37 @@ static void do_map(void) {
     if (has_iommu) change_pages(page, count, below(4) != 0);
 }
 
+/* ------------------------------------------------------------- handles */
+
+/* A free handle gets its memory, in place of other memory or of none, and mostly its first ticket.
+ * Its table goes. */
+static void give_memory(struct bench *b) {
+    struct pk_device other = device;
+    struct pk_queue *q = &queues[0];
+    struct pk_store store;
+    other.limit = (uint32_t)ONE_OF(PK_REQUEST_MAX, device.limit, 0x80000000);
+    if (below(2))
+        expect("other memory", pk_chain_set_memory(&b->chain, &other, regions, below(2)), PK_DONE);
+    if (has_iommu) exchange(b); /* a table that goes is the test's own one */
+    if (has_iommu) exchange(b);
+    expect("the memory", pk_chain_set_memory(&b->chain, &device, regions, region_count), PK_DONE);
+    if (has_iommu) {
+        /* the addresses are the guest's until the handle has a table */
+        has_iommu = false;
+        bool is_there = !(q->event_index) && reaches(q->used, 2, WRITES);
+        if (!q->event_index)
+            expect("without a table", pk_set_notification(&b->chain, q, 1, &store),
+                   is_there ? PK_DONE : PK_NOT_MAPPED);
+        has_iommu = true;
+        exchange(b);
+        exchange(b);
+    }
+    uint32_t first = (uint32_t)ONE_OF(0, UINT32_MAX, chance());
+    if (below(3) == 0) return;
+    expect("a ticket", pk_chain_set_ticket(&b->chain, first), PK_DONE);
+    b->ticket = first - 1, b->has_ticket = true;
+}
+
 /* ------------------------------------------------------------- worlds */
 
 static void begin_queue(struct pk_queue *q) {
@@ -452,10 +483,9 @@ static void begin_world(void) {
     for (size_t k = 0; k < QUEUES; k++) begin_queue(&queues[k]);
     for (struct bench *b = benches; b < benches + CHAINS; b++) {
         *b = (struct bench){0};
-        expect("the memory", pk_chain_set_memory(&b->chain, &device, regions, region_count),
-               PK_DONE);
-        exchange(b); /* once a handle had a table, its addresses are I/O addresses */
-        exchange(b);
+        expect("no table", pk_chain_set_ticket(&b->chain, 1), PK_WRONG_ORDER);
+        expect("its memory", pk_chain_set_memory(&b->chain, &device, regions, 0), PK_DONE);
+        give_memory(b);
     }
 }
 
@@ -474,7 +504,10 @@ static void turn(void) {
     case 3:
         if (below(4) == 0 || q->stopped || q->pushing) do_reset(q);
         break;
-    case 4: do_move(); break;
+    case 4:
+        do_move();
+        if (!b->queue) give_memory(b);
+        break;
     case 5: look(b); break;
     default:
         if (below(3)) offer(q);

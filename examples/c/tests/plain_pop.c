@@ -4,7 +4,8 @@
 #include <string.h>
 
 /* Calls that don't come next while a pop waits for the bytes of a load. */
-static void call_wrongly(struct bench *b, struct pk_queue *q, const struct pk_pop *step) {
+static void call_wrongly(struct bench *b, struct pk_queue *q, const struct pk_pop *step,
+                         bool is_rest) {
     static uint8_t bytes[PK_LOAD_MAX];
     uint8_t front[PK_FRONT_MAX], notify;
     struct pk_pop again;
@@ -23,7 +24,9 @@ static void call_wrongly(struct bench *b, struct pk_queue *q, const struct pk_po
     expect("a window", pk_request_windows(c, 0, 1, &window, 1), 0);
     expect("another window", pk_reply_windows(c, 0, 1, &window, 1), 0);
     expect("a use", pk_uses(c, 0, UINT64_MAX), 0);
-    if (step->load_len < 16) len = ONE_OF(17, 64); /* 16 may be the whole entry for its part */
+    /* A whole entry may be passed for its first part, but not for the rest of it. */
+    if (len == 16 && step->load_len < 16 && !is_rest) return;
+    if (is_rest && below(2)) len = 16;
     if (len > PK_LOAD_MAX || len == step->load_len) return;
     expect("another length", pk_pop(c, q, bytes, len, &again), PK_BAD_ARGUMENT);
     expect("the load's place", again.load_at, step->load_at);
@@ -74,11 +77,12 @@ static bool stop_between(struct bench *b, struct pk_queue *q, size_t load_len) {
 }
 
 /* Amid a pop: it may begin again, after a drop or another handle's pop. Returns whether it does. */
-static bool interrupt(struct bench *b, struct pk_queue *q, const struct pk_pop *step) {
+static bool interrupt(struct bench *b, struct pk_queue *q, const struct pk_pop *step,
+                      bool is_rest) {
     struct pk_pop none;
     static uint8_t bytes[PK_LOAD_MAX];
     switch (below(5)) {
-    case 0: call_wrongly(b, q, step); return false;
+    case 0: call_wrongly(b, q, step, is_rest); return false;
     case 4:
         if (below(4) || !stop_between(b, q, step->load_len)) return false;
         break;
@@ -139,7 +143,7 @@ static void check_load(const struct bench *b, const struct pk_queue *q, const st
 uint32_t pop(struct bench *b, struct pk_queue *q, struct pk_pop *step, bool *again) {
     static uint8_t bytes[PK_LOAD_MAX];
     struct pk_ring ring = {0};
-    size_t len = 0;
+    size_t len = 0, part = 0;
     unsigned number = 0;
     uint32_t status;
     memset(step, 0xa5, sizeof *step);
@@ -150,7 +154,10 @@ uint32_t pop(struct bench *b, struct pk_queue *q, struct pk_pop *step, bool *aga
     if (!has_iommu && below(2)) return pk_pop_ring(&b->chain, q, &ring, step);
     while ((status = pk_pop(&b->chain, q, bytes, len, step)) == PK_LOAD) {
         check_load(b, q, step, number++);
-        if (below(20) == 0 && (*again = interrupt(b, q, step))) return status;
+        bool is_rest = part % 16 != 0;
+        if (below(is_rest ? 3 : 20) == 0 && (*again = interrupt(b, q, step, is_rest)))
+            return status;
+        part = number > 2 ? part + step->load_len : 0;
         memcpy(bytes, (const void *)step->load_at, len = step->load_len);
     }
     return status;
