@@ -2,12 +2,14 @@
  * same numbers: one load by load, the other by loads ahead, which are right, cut short, wrong,
  * repeated, exchanged or overlapping. Result, queue and windows have to be the same, and a list
  * that is wrong from its n-th load on costs the calls of just the loads from there on. */
+#define _DEFAULT_SOURCE
 #include "pitskhomu.h"
 #include "chance.h"
 #include <stdbool.h>
 #include <stdio.h>
 #include <stdlib.h>
 #include <string.h>
+#include <sys/mman.h>
 
 enum {
     SIZE = 8,
@@ -22,10 +24,26 @@ enum {
 };
 enum { NEXT = 1, WRITE = 2, INDIRECT = 4 };
 
-static _Alignas(4096) uint8_t memory[MEMORY];
+static uint8_t *memory; /* a page that can't be read follows */
 static struct pk_device device = PK_DEVICE;
 static struct pk_region regions[2];
 static size_t region_count;
+static size_t table_len;         /* of each indirect table */
+static size_t desc = DESC, avail = AVAIL;
+static uint64_t base;            /* the guest address of memory[0] */
+static bool may_end;             /* rings may go over the end of the memory */
+
+/* The program gets the calls of pk_pop, and counts them: pk_pop_ring makes some. */
+static size_t pop_calls;
+uint32_t __real_pk_pop(struct pk_chain *chain, struct pk_queue *queue, const uint8_t *loaded,
+                       size_t loaded_len, struct pk_pop *pop);
+uint32_t __wrap_pk_pop(struct pk_chain *chain, struct pk_queue *queue, const uint8_t *loaded,
+                       size_t loaded_len, struct pk_pop *pop);
+uint32_t __wrap_pk_pop(struct pk_chain *chain, struct pk_queue *queue, const uint8_t *loaded,
+                       size_t loaded_len, struct pk_pop *pop) {
+    pop_calls++;
+    return __real_pk_pop(chain, queue, loaded, loaded_len, pop);
+}
 
 /* A chain's loads as pk_pop asked for them. */
 struct loads {
@@ -41,10 +59,12 @@ static void expect(const char *what, uint64_t found, uint64_t wanted) {
     exit(1);
 }
 
-static void put(size_t at, uint64_t value, size_t len) { memcpy(memory + at, &value, len); }
+static void put(size_t at, uint64_t value, size_t len) {
+    if (at + len <= MEMORY) memcpy(memory + at, &value, len);
+}
 
 static void lay_entry(size_t at, uint64_t address, uint32_t len, uint16_t flags, uint16_t next) {
-    put(at, address, 8);
+    put(at, base + address, 8);
     put(at + 8, len, 4);
     put(at + 12, flags, 2);
     put(at + 14, next, 2);
@@ -58,25 +78,31 @@ static uint32_t some_len(void) {
 /* Memory as a hostile guest might have it, chosen so that most chains go some way. `next_avail`
  * is the position of the next available chain. */
 static void lay_chance(uint16_t next_avail) {
-    size_t count = 1 + below(ENTRIES);
-    memset(memory, 0, sizeof memory);
+    size_t count = below(4) ? 1 + below(ENTRIES) : 256 - below(4);
+    desc = below(8) ? DESC : MEMORY - 16 * SIZE;
+    avail = below(8) ? AVAIL : MEMORY - 16 * SIZE - 6 - 2 * SIZE;
+    if (desc == DESC && below(8) == 0) avail = MEMORY - 6 - 2 * SIZE;
+    if (may_end && below(16) == 0) desc = MEMORY - 16 * (1 + below(SIZE - 1));
+    if (may_end && below(16) == 0) avail = MEMORY - 2 * (3 + below(SIZE));
+    memset(memory, 0, MEMORY);
+    table_len = 16 * count;
     for (size_t k = 0; k < SIZE; k++) {
         bool ends = below(4) == 0, table = below(4) == 0;
         uint16_t flags = (uint16_t)((ends ? 0 : NEXT) | (below(2) ? WRITE : 0));
         uint16_t next = (uint16_t)(below(3) ? (k + 1) % SIZE : below(SIZE + 1));
         if (table)
-            lay_entry(DESC + 16 * k, TABLE + 16 * below(4), (uint32_t)(16 * count),
+            lay_entry(desc + 16 * k, TABLE + 16 * below(4), (uint32_t)table_len,
                       (uint16_t)(INDIRECT | (below(8) ? 0 : NEXT)), next);
         else
-            lay_entry(DESC + 16 * k, BUFFERS + 64 * k, some_len(), flags, next);
+            lay_entry(desc + 16 * k, BUFFERS + 64 * k, some_len(), flags, next);
     }
     for (size_t k = 0; k < ENTRIES; k++)
         lay_entry(TABLE + 16 * k, BUFFERS + k, 1,
                   (uint16_t)(below(200) ? NEXT | (k > 20 ? WRITE : 0) : WRITE),
                   (uint16_t)(below(50) ? k + 1 : below(ENTRIES)));
     for (size_t k = 0; k < SIZE; k++)
-        put(AVAIL + 4 + 2 * k, below(40) ? below(SIZE) : SIZE, 2);
-    put(AVAIL + 2, next_avail + (below(30) ? 1 + below(SIZE) : SIZE + 1), 2);
+        put(avail + 4 + 2 * k, below(40) ? below(SIZE) : SIZE, 2);
+    put(avail + 2, next_avail + (below(30) ? 1 + below(SIZE) : SIZE + 1), 2);
 }
 
 static void make_handle(struct pk_chain *chain) {
@@ -170,19 +196,36 @@ static struct pk_queue fresh = {
  * end behind the memory: their first 3 elements are in it, half of the next one, and no other. */
 static struct pk_queue after_pops(uint16_t count) {
     struct pk_queue queue = fresh;
-    if (below(8) == 0) queue.used = MEMORY - 32;
+    queue.desc = base + desc, queue.avail = base + avail;
+    queue.used = base + (below(8) ? USED : MEMORY - 32);
     queue.next_avail = count, queue.next_used = (uint16_t)(count - below(SIZE));
     return queue;
 }
 
+/* How many of a pop's loads pk_pop_ring makes ahead: five, but none of a table that is longer than
+ * a load, or that isn't in one region; and none at all if a ring isn't. */
+static size_t made_ahead(const struct loads *loads) {
+    uintptr_t tables = (uintptr_t)memory + TABLE, end = tables + 0x1000, table = 0;
+    if (desc + 16 * SIZE > MEMORY || avail + 6 + 2 * SIZE > MEMORY) return 0;
+    for (size_t k = 0; k < loads->count; k++) {
+        uintptr_t at = loads->ahead[k].at;
+        if (at >= tables && at < end + 0x1000 && table == 0) table = at; /* its first load */
+        if (k == 5 || (table && table_len > PK_LOAD_MAX)) return k;
+        if (table && region_count == 2 && table + table_len > end) return k;
+    }
+    return loads->count;
+}
+
 static void try_one(void) {
     static struct loads loads, list;
-    struct pk_queue queue = after_pops((uint16_t)below(0x10000)), second = queue, third = queue;
+    struct pk_queue queue, second, third;
     struct pk_chain chain, other, ringing;
     struct pk_pop pop, step;
     struct pk_ring ring = {0};
     uint32_t status, found;
-    lay_chance(queue.next_avail);
+    uint16_t next_avail = (uint16_t)below(0x10000);
+    lay_chance(next_avail);
+    queue = second = third = after_pops(next_avail);
     make_handle(&chain);
     make_handle(&other);
     make_handle(&ringing);
@@ -200,7 +243,10 @@ static void try_one(void) {
         /* a long chain's descriptors may lack room: then it asks earlier */
         if (loads.len < 2 * 2 + 64) expect("the calls", calls, 1 + loads.count - from);
         pk_ring_find(&ring, &third, regions, region_count);
+        pop_calls = 0;
         expect("by the ring", pk_pop_ring(&ringing, &third, &ring, &step), status);
+        if (pop.fault != PK_FAULT_TOO_LONG) /* that asks for a load more */
+            expect("the ring's calls", pop_calls, loads.count - made_ahead(&loads));
         compare(&chain, &ringing, &queue, &third, &pop, &step);
     }
     pk_chain_free(&chain);
@@ -214,7 +260,7 @@ static void refuses(void) {
     struct pk_queue queue = fresh, second = fresh, before;
     struct pk_chain chain, other, zeros = {0};
     struct pk_pop pop;
-    memset(memory, 0, sizeof memory);
+    memset(memory, 0, MEMORY);
     lay_entry(DESC, BUFFERS, 40, NEXT, 1);
     lay_entry(DESC + 16, BUFFERS + 64, 16, WRITE, 0);
     put(AVAIL + 2, 1, 2);
@@ -255,8 +301,15 @@ static void refuses(void) {
     pk_chain_free(&other);
 }
 
+static void map_memory(void) {
+    memory = mmap(NULL, MEMORY + 4096, PROT_READ | PROT_WRITE, MAP_PRIVATE | MAP_ANONYMOUS, -1, 0);
+    if (memory == MAP_FAILED || mprotect(memory + MEMORY, 4096, PROT_NONE)) exit(1);
+}
+
 int main(int argc, char **argv) {
     long tries = argc > 1 ? atol(argv[1]) : 20000;
+    map_memory();
+    may_end = true;
     chance_begin(0x9e3779b97f4a7c15u);
     regions[0] = (struct pk_region){0, MEMORY, (uintptr_t)memory};
     region_count = 1;
@@ -271,7 +324,13 @@ int main(int argc, char **argv) {
     /* there is memory for the longest buffers, of which nothing is loaded */
     regions[0].len = 0x400000;
     region_count = 1;
+    may_end = false;
     for (long k = 0; k < tries; k++) try_one();
-    printf("ahead: %ld chains\n", 3 * tries);
+    /* the guest has all from 4 GiB on */
+    base = UINT64_C(1) << 32;
+    may_end = true;
+    regions[0] = (struct pk_region){0, base + MEMORY, (uintptr_t)memory - (uintptr_t)base};
+    for (long k = 0; k < tries; k++) try_one();
+    printf("ahead: %ld chains\n", 4 * tries);
     return 0;
 }

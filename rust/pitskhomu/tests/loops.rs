@@ -226,6 +226,11 @@ fn misses_are_mapped_meanwhile() {
 fn a_queue_that_is_closed_goes_on() {
     for (threads, has_event_index) in [(1, true), (3, false), (3, true)] {
         let mut tried = Tried::new(threads, has_event_index);
+        // A stop doesn't wait for chains whose addresses are missed: so none is.
+        let mapped =
+            tried.platform.table.lock().unwrap().map(SHIFT, LEN as u64, 0, Access::ReadWrite);
+        mapped.unwrap();
+        run(&mut tried.driver, 1, 1);
         let (platform, is_over) = (tried.platform.clone(), Arc::new(AtomicBool::new(false)));
         let over = is_over.clone();
         let stopping = thread::spawn(move || {

@@ -164,3 +164,26 @@ fn entries_of_another_request_give_no_node() {
     assert_eq!(guest.reply(served.reply_len as usize).data().len(), 32);
     assert!(guest.worker.cancelled().is_none());
 }
+
+/// No reset, and no queue that is restored, is that of a chain in flight: their numbers are the
+/// process's (`tools/pk_numbers.c`).
+#[test]
+fn a_chain_is_refused_after_any_number_of_resets() {
+    let mut guest = Guest::new();
+    let first = guest.offered;
+    let fresh = || Queue::new(layout(), first).unwrap();
+    let record = guest.device.save(&[fresh(), fresh()]).unwrap();
+    guest.offer_request(&request(1, 5, b"name\0"), 144);
+    let Guest { worker, queue, device, memory, .. } = &mut guest;
+    assert_eq!(worker.pop(queue, memory), Ok(true));
+    for turn in 0..40_000 {
+        if turn % 100 == 0 {
+            for mut restored in device.restore(&record).unwrap() {
+                assert_eq!(worker.unpop(&mut restored), Err(Status::OtherQueue), "{turn}");
+            }
+        }
+        queue.begin(fresh()).unwrap();
+        assert_eq!(worker.unpop(queue), Err(Status::OtherQueue), "{turn}");
+        assert!(worker.has_chain() && queue.next_avail() == first);
+    }
+}

@@ -472,29 +472,29 @@ impl FileSystem for ByWindows<'_> {
     }
 }
 
+/// Copies the rings, the request and the reply buffer.
+fn copy(from: &Memory, to: &Memory) {
+    for (at, len) in [(0, REQUEST as usize + 0x1000), (ROOM, 0x2000)] {
+        to.write(at, &from.read(at, len));
+    }
+}
+
 #[test]
 fn data_moves_by_windows() {
     let mut guest = Guest::new();
-    let memory = Memory::new(LEN, guest.memory.host);
-    memory.write(0, &guest.memory.read(0, LEN));
-    let memory = std::mem::replace(&mut guest.memory, memory);
     // The file system has a reference of its own to the memory that is served.
+    let memory = Memory::new(LEN, guest.memory.host);
     let by_windows = ByWindows(&memory);
-    let bytes = request(15, 1, &args().q(3).q(0).d(100).bytes(&[0; 20]).0);
-    memory.write(REQUEST, &bytes);
-    guest.memory.write(REQUEST, &bytes);
     let mut ask = |bytes: &[u8], room| {
         guest.offer_request(bytes, room);
-        memory.write(0, &guest.memory.read(0, ROOM as usize));
-        let served = guest
-            .worker
-            .serve(&mut guest.queue, &guest.device, &by_windows, &memory)
-            .unwrap()
-            .unwrap();
-        guest.memory.write(0, &memory.read(0, LEN));
+        copy(&guest.memory, &memory);
+        let Guest { worker, queue, device, .. } = &mut guest;
+        let served = worker.serve(queue, device, &by_windows, &memory).unwrap().unwrap();
+        copy(&memory, &guest.memory);
         served
     };
-    assert_eq!(ask(&bytes, 116).reply_len, 116);
+    let read = request(15, 1, &args().q(3).q(0).d(100).bytes(&[0; 20]).0);
+    assert_eq!(ask(&read, 116).reply_len, 116);
     assert_eq!(memory.read(ROOM + 0x1000, 10), b"by windows");
     let write = request(16, 1, &args().q(3).q(0).d(5).bytes(&[0; 20]).bytes(b"hello").0);
     assert_eq!(ask(&write, 24).reply_len, 24);
