@@ -177,8 +177,18 @@ class Guest:
                 self.region(self.base + begin, hole - begin)
                 begin = hole + rng.choice([1, 1, 2])
             self.region(self.base + begin, end - begin)
+        if self.chance(0.05):
+            self.far_regions()
         if self.chance(0.1):
             self.change_regions()
+
+    def far_regions(self):
+        """Many regions of a page, behind or before all others, among which an address is sought."""
+        step = 0x10000 if self.base < 2**63 else -0x10000
+        for place in range(1, self.rng.choice([5, 12, 30, 56])):
+            if 0 <= self.base + step * place < 2**64 - 0x1000:
+                self.say(f"region {self.base + step * place:#x} 0x1000")
+                self.blocks += 1
 
     def region(self, base, size):
         """A region with a block of its own."""

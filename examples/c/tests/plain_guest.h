@@ -5,7 +5,7 @@
 #include <pitskhomu.h>
 #include <stdbool.h>
 
-enum { PAGE = 0x1000, PAGES = 40, REGIONS = 6, IO_PAGES = 48, LONGEST = 32 };
+enum { PAGE = 0x1000, PAGES = 40, REGIONS = 40, IO_PAGES = 48, LONGEST = 32 };
 enum { READS = PK_ACCESS_READ, WRITES = PK_ACCESS_WRITE };
 
 /* A descriptor that joins a chain. */
