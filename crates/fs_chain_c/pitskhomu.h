@@ -89,8 +89,8 @@
  *
  * PROVED, for any arguments of these types: each function returns, never panics, and accesses only
  * the memory of its arguments. It has the effect of the call of the handle of crates/fs_chain. Of
- * that, loads, calls, replies (but your own bytes) and stores follow from the bytes passed, by
- * VIRTIO 1.2 and the FUSE grammar, for one chain, and in Rattle for many in flight (PROVED.md).
+ * that, loads, calls, replies (but your own bytes) and stores follow from the bytes and answers
+ * passed, by VIRTIO 1.2 and the FUSE grammar: of one chain, in Rattle of many (PROVED.md).
  * TESTED, not proved: that pk_chain_free frees all; calls on a chain that moves between threads;
  * inline functions; the numbers that pk_chain_set_memory, pk_queue_begin and pk_restore give, which
  * are C (tools/pk_numbers.c); which error is returned if PK_OUT_OF_MEMORY and a later one apply.
@@ -170,8 +170,8 @@ enum pk_status {
                              regions (rule 6), or not in the table: map it */
     PK_PUSHING = 78,      /* another chain of the queue is between pk_push and pk_pushed: end it */
     PK_OTHER_CALL = 79,   /* the ticket isn't the chain's: a late answer. Undo what it counted */
-    PK_OTHER_TABLE = 80,  /* the chain was popped with another table, with none, or with one that
-                             isn't lent; or the table moved the used ring: lend the pop's table */
+    PK_OTHER_TABLE = 80,  /* the chain was popped with a table, and none is lent, or the other way
+                             round; or the table moved the used index: lend the pop's table */
     /* 81 to 90: pk_restore takes nothing of this record. 89: an allocation failed; call later.
        90: the device has another page size or limit. */
     PK_RECORD_TRUNCATED = 81, PK_RECORD_BAD_MAGIC = 82, PK_RECORD_BAD_VERSION = 83,
