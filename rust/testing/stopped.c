@@ -25,6 +25,7 @@ enum {
 static void end_call_unseen(const char *what) {
     uint8_t *before = malloc(MEMORY);
     if (!before) die("no memory");
+    usleep(100000); /* a thread that has answered enables kicks again, and sleeps */
     memcpy(before, front.memory, MEMORY);
     close(lease);
     usleep(300000);
