@@ -74,7 +74,7 @@
  * without the rule loses a notification, or stops the queue.
  *   - Before a thread sleeps, after its last pop: pk_set_notification(1), the store, a full
  *     barrier, and one more pop. That pop must load the available index again (taker_waits, late).
- *     Sleep if it returns PK_IDLE, or if `max_in_flight` are in flight.
+ *     Sleep if it returns PK_IDLE, or if `max_in_flight` are in flight. Else take the steps again.
  *   - A thread that calls pk_pop or pk_set_notification while another thread of the queue sleeps
  *     also takes these steps before it releases the lock (rearms_again). Without EVENT_IDX it may
  *     omit the store if the queue's last one was the same. If its handle holds a chain, it loads
@@ -133,8 +133,8 @@ extern "C" {
  * zeros, and then PK_BAD_ARGUMENT, if a field of the queue or device is invalid. */
 enum pk_status {
     PK_DONE = 0, /* the next call, as enum pk_state says */
-    /* 2 to 8 stop the queue: set DEVICE_NEEDS_RESET, and notify the driver (2.1.2). Push what is in
-     * flight, and pop again after the queue's reset. */
+    /* 2 to 8 stop the queue: set DEVICE_NEEDS_RESET, and send a notification of a configuration
+     * change (2.1.2). Push what is in flight, and pop again after the queue's reset. */
     PK_STOPPED = 1,                 /* it was stopped before */
     PK_AVAIL_INDEX_UNREACHABLE = 2, /* the available index isn't mapped */
     PK_AVAIL_TOO_FAR = 3,           /* more chains are available than the queue's size */
@@ -202,7 +202,7 @@ enum pk_request_fault {
  * group, if `has_group`, and `label_name` and `label`, if `has_label` (FUSE_SECURITY_CTX). Not
  * passed on: FATTR_LOCKOWNER, and the flags of COPY_FILE_RANGE. */
 enum pk_call_kind {
-    PK_CALL_NONE = 0,         /* -> none: the reply is known (ENOSYS of locks), or none is sent */
+    PK_CALL_NONE = 0,         /* -> none: it is answered already (unknown opcodes), or never */
     PK_CALL_LOOKUP = 1,       /* name -> entry */
     PK_CALL_FORGET = 2,       /* count (nlookup): node's look-up count falls by it -> none */
     PK_CALL_GETATTR = 3,      /* handle, if has_handle -> attr */
@@ -283,8 +283,8 @@ struct pk_queue {
 
 /* Resets a queue, also before its first pop: no chain of it is in flight, and it isn't stopped.
  * pk_restore does the same. `next_avail` is the number of SET_VRING_BASE, or 0. Calls with earlier
- * chains are refused. Enable notifications next: an earlier device may have left them disabled.
- * Errors: PK_BAD_ARGUMENT (your fields are invalid). */
+ * chains are refused. Before DRIVER_OK neither pop nor store (2.1.2); then enable notifications: an
+ * earlier device may have left them disabled. Errors: PK_BAD_ARGUMENT (your fields are invalid). */
 uint32_t pk_queue_begin(struct pk_queue *queue, uint16_t next_avail) PK_CHECK;
 
 /* A region of the guest's memory: its guest address, its length in bytes, and its host address, to
@@ -474,7 +474,8 @@ struct pk_call {
     uint64_t node, handle, offset, size, owner, options, count; /* options: flags | flags2 << 32 */
     uint64_t node2, handle2, offset2;
     struct pk_span name, name2, value;
-    uint64_t data_at, data_len; /* WRITE: in the request. Answers of data: in the reply buffer */
+    uint64_t data_at, data_len; /* WRITE: the data in the request. Answers of data and entries: room
+                                   in the reply buffer. READ, WRITE: go by `size` if that is less */
     uint32_t flags, mode, umask, rdev, valid; /* mode: with its type; umask is applied already,
                                                  unless FUSE_DONT_MASK was agreed on */
     uint8_t has_handle, has_owner, delayed, kill_priv, flush, unlock, data_only, has_group;

@@ -13,8 +13,8 @@ struct pk_ring {
     uint32_t reset_count; /* of the queue, as `index` was loaded */
     uint16_t size;        /* of the queue, as the rings were found */
     uint16_t index;       /* the available index that was loaded last */
-    uint16_t has_index;   /* 0: load it. Set it to 0 after you loaded it otherwise (by pk_pop, or
-                             before a sleep), since an older index stops the queue */
+    uint16_t has_index;   /* 0: load it. Set it to 0 after you loaded it otherwise (by pk_pop, or to
+                             compare it with next_avail), since an older index stops the queue */
 };
 
 /* The loads of a pop, made ahead. */

@@ -166,11 +166,12 @@ static uint32_t do_read(const struct pk_call *call) {
 static uint32_t do_write(const struct pk_call *call) {
     struct file *f = file_of(call->node);
     if (!f) return pk_reply_err(&chain, call->ticket, ENOENT);
-    if (call->offset > CONTENTS || call->data_len > CONTENTS - call->offset)
+    uint64_t len = least(call->size, call->data_len);
+    if (call->offset > CONTENTS || len > CONTENTS - call->offset)
         return pk_reply_err(&chain, call->ticket, EFBIG);
-    if (call->offset + call->data_len > f->attr.size) set_size(f, call->offset + call->data_len);
-    gather(&chain, call->data_at, f->contents + call->offset, call->data_len);
-    return pk_reply_write(&chain, call->ticket, (uint32_t)call->data_len);
+    if (call->offset + len > f->attr.size) set_size(f, call->offset + len);
+    gather(&chain, call->data_at, f->contents + call->offset, len);
+    return pk_reply_write(&chain, call->ticket, (uint32_t)len);
 }
 
 /* Lists the entries from the offset on. An entry's offset is here the number of the next file. */
