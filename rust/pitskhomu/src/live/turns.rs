@@ -163,6 +163,15 @@ impl<Q: Queued> Loop<Q> {
         if state.is_awaited() {
             self.notify_waiting();
         }
+        self.hand_on_and_answer(state, server)
+    }
+
+    /// Has the next chain served by others too, if there is one, and answers the server's.
+    fn hand_on_and_answer<'a, S: Server<Q>>(
+        &'a self,
+        mut state: MutexGuard<'a, Locked<Q>>,
+        server: &mut S,
+    ) -> MutexGuard<'a, Locked<Q>> {
         let wakes = state.hand_on(server, self.another_comes());
         drop(state);
         server.interrupt();
@@ -182,9 +191,7 @@ impl<Q: Queued> Loop<Q> {
         loop {
             server.looks(&state, turn.asked_for.take() == Some(state.next_chain()));
             if server.resumes(&mut state) {
-                drop(state);
-                server.interrupt();
-                state = self.answer(server);
+                state = self.hand_on_and_answer(state, server);
                 continue;
             }
             let looked = state.pop(server);
