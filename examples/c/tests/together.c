@@ -91,11 +91,12 @@ static bool is_allowed(const struct list *list) {
            (uint16_t)(queue.next_avail - list->position + 1) < SIZE;
 }
 
+/* No load lies at an odd address. By 2 more an entry would be the next chain's, with wrong bytes. */
 static void spoil(struct list *list) {
     switch (below(8)) {
     case 0: list->count = below(list->count + 1); break;
     case 1: list->len = below(list->len + 1); break;
-    case 2: list->ahead[below(list->count)].at += 2; break;
+    case 2: list->ahead[below(list->count)].at += 1; break;
     case 3: list->ahead[below(list->count)].len += 2; break;
     case 4: list->ahead[1] = list->ahead[2]; break;
     case 5: add(list, DESC + 16 * below(SIZE - 4), 64); break; /* more than are needed */
