@@ -91,7 +91,7 @@ static bool is_allowed(const struct list *list) {
            (uint16_t)(queue.next_avail - list->position + 1) < SIZE;
 }
 
-/* No load lies at an odd address. By 2 more an entry would be the next chain's, with wrong bytes. */
+/* No load lies at an odd address. By 2 more an entry is the next chain's, with wrong bytes. */
 static void spoil(struct list *list) {
     switch (below(8)) {
     case 0: list->count = below(list->count + 1); break;
