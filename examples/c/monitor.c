@@ -237,7 +237,9 @@ static uint32_t answer(const struct pk_call *call) {
     case PK_CALL_READDIRPLUS: return do_readdir(call);
     case PK_CALL_RELEASE:
     case PK_CALL_RELEASEDIR: return pk_reply_err(&chain, call->ticket, 0);
-    default: return pk_reply_err(&chain, call->ticket, ENOSYS);
+    default: /* also kinds of later versions, which may have no reply */
+        return call->answer == PK_ANSWER_NONE ? PK_DONE
+                                              : pk_reply_err(&chain, call->ticket, ENOSYS);
     }
 }
 
