@@ -282,7 +282,7 @@ struct pk_queue {
 };
 
 /* Resets a queue, also before its first pop: no chain of it is in flight, and it isn't stopped.
- * pk_restore does the same. `next_avail` is the number of SET_VRING_BASE, or 0. Calls with earlier
+ * pk_restore does the same. `next_avail` is the number of SET_VRING_BASE, or 0. Pushes of earlier
  * chains are refused. Before DRIVER_OK neither pop nor store (2.1.2); then enable notifications: an
  * earlier device may have left them disabled. Errors: PK_BAD_ARGUMENT (your fields are invalid). */
 uint32_t pk_queue_begin(struct pk_queue *queue, uint16_t next_avail) PK_CHECK;
