@@ -10,7 +10,7 @@ use pitskhomu::live::{new_event, Builder, Error, Serving};
 use pitskhomu::*;
 use std::error::Error as _;
 use std::io::{self, Read as _, Write as _};
-use std::sync::atomic::Ordering;
+use std::sync::atomic::{AtomicBool, AtomicU64, Ordering};
 use std::sync::{Arc, Mutex};
 use std::thread;
 use std::time::Duration;
@@ -169,6 +169,52 @@ fn memory_is_set_for_the_next_chains() {
     let mut slots: Vec<u16> = (0..4).map(|_| driver.wait().0).collect();
     slots.sort_unstable();
     assert_eq!((slots, serving.refused()), (vec![0, 1, 2, 3], None));
+}
+
+/// Opens a file once the test says so, and counts what is undone.
+#[derive(Default)]
+struct Slow {
+    is_within: AtomicBool,
+    may_end: AtomicBool,
+    released: AtomicU64,
+}
+
+impl FileSystem for Slow {
+    fn lookup(&self, _: &Context, _: Node, _: &CStr) -> Answer<Entry> {
+        Err(Errno::ENOENT)
+    }
+    fn getattr(&self, _: &Context, _: Node, _: Option<Handle>) -> Answer<(Attributes, Duration)> {
+        Err(Errno::EIO)
+    }
+    fn open(&self, _: &Context, _: Node, _: Open) -> Answer<Opened> {
+        self.is_within.store(true, Ordering::Release);
+        until(|| self.may_end.load(Ordering::Acquire));
+        Ok(Opened::new(Handle(0x1234)))
+    }
+    fn release(&self, _: &Context, node: Node, release: Release) -> Answer<()> {
+        assert_eq!((node, release.handle, release.flags), (Node(5), Handle(0x1234), 0x8002));
+        self.released.fetch_add(1, Ordering::Release);
+        Ok(())
+    }
+}
+
+/// The queue is reset while a thread is in a call: the answer is undone, and nothing is stored.
+#[test]
+fn a_call_that_a_reset_overtakes_is_undone() {
+    let (memory, files) = (Memory::new(), Arc::new(Slow::default()));
+    let (mut driver, kick, call) = Driver::new(&memory, false);
+    let serving = Builder::new(Arc::default(), memory.clone(), &[region()])
+        .start(Queue::new(layout(), 0).unwrap(), kick, call, files.clone())
+        .unwrap();
+    driver.offer(0, &request(14, 5, &guest::args().d(0x8002).d(0).0), 32);
+    until(|| files.is_within.load(Ordering::Acquire));
+    let before = memory.read(0, LEN);
+    let resetting = thread::spawn(move || serving.reset());
+    thread::sleep(Duration::from_millis(20));
+    files.may_end.store(true, Ordering::Release);
+    resetting.join().unwrap();
+    assert_eq!(files.released.load(Ordering::Acquire), 1);
+    assert!(driver.used().is_none() && memory.read(0, LEN) == before);
 }
 
 #[test]

@@ -166,3 +166,36 @@ fn marks_come_between_the_stores_and_the_end_of_the_push() {
     assert_eq!(load, [AVAILABLE]);
     assert_eq!(marked, vec![stores.len(); guest.memory.marks.take().len()]);
 }
+
+/// The memory panics at a store of a READ's data: what may have been stored is marked.
+#[test]
+fn a_log_hears_of_a_store_that_panics() {
+    struct Puts;
+    impl FileSystem for Puts {
+        fn lookup(&self, _: &Context, _: Node, _: &CStr) -> Answer<Entry> {
+            Err(Errno::ENOENT)
+        }
+        fn getattr(
+            &self,
+            _: &Context,
+            _: Node,
+            _: Option<Handle>,
+        ) -> Answer<(Attributes, std::time::Duration)> {
+            Err(Errno::EIO)
+        }
+        fn read(&self, _: &Context, _: Node, _: ReadFile, data: &mut ReadData<'_>) -> Answer<()> {
+            assert_eq!(data.put(b"first"), 5);
+            data.put(&[7; 40]);
+            Ok(())
+        }
+    }
+    let range = |guest, len| GuestRange { guest, len };
+    let mut guest = Guest::new();
+    guest.memory.is_logging.set(true);
+    guest.offer_request(&request(15, 1, &args().q(3).q(0).d(100).bytes(&[0; 20]).0), 116);
+    guest.memory.panics_at.set(Some(ROOM + 0x1005));
+    assert!(catch_unwind(AssertUnwindSafe(|| guest.serve(&Puts))).is_err());
+    guest.memory.panics_at.set(None);
+    assert_eq!(guest.serve(&Puts).1, Replied::Error(5));
+    assert_eq!(guest.memory.marks.take()[..2], [range(ROOM, 16), range(ROOM + 0x1000, 45)]);
+}

@@ -188,6 +188,11 @@ fn records_that_are_refused() {
     let device = Device::default();
     assert_eq!(device.save(&[]), Err(Status::BadArgument));
     assert_eq!(device.save(&[Queue::default()]), Err(Status::BadArgument));
+    let many = |count| (0..count).map(|_| queues().remove(0)).collect::<Vec<_>>();
+    assert_eq!(device.save(&many(65)), Err(Status::BadArgument));
+    let most = device.restore(&device.save(&many(64)).unwrap()).unwrap();
+    assert!(most.len() == 64 && most.iter().all(|queue| queue.max_in_flight() == 1));
+    assert_eq!((Queue::default().max_in_flight(), queues()[0].max_in_flight()), (1, 1));
     let record = device.save(&queues()).unwrap();
     let restored =
         |target: &Device, record: &[u8]| target.restore(record).map(|queues| queues.len());
@@ -259,6 +264,12 @@ fn times_have_less_than_a_second_of_nanoseconds() {
     assert_eq!(Time::from(epoch + Duration::new(3, 4)), time(3, 4));
     assert_eq!(Time::from(epoch - Duration::new(3, 0)), time(-3, 0));
     assert_eq!(Time::from(epoch - Duration::new(3, 4)), time(-4, 999_999_996));
+    let (seconds, nanos) = (0x0102_0304_0506, 0x1a2b_3c4d);
+    assert_eq!(Time::from(epoch + Duration::new(seconds, nanos)), time(seconds as i64, nanos));
+    let before = Time::from(epoch - Duration::new(seconds, nanos));
+    assert_eq!(before, time(-(seconds as i64) - 1, 1_000_000_000 - nanos));
+    let guests = GuestTime { seconds: i64::MIN + 7, nanos };
+    assert_eq!(GuestTime::from(Time::try_from(guests).unwrap()), guests);
 }
 
 /// SETATTR of a time that is none fails; a number of an attribute that isn't set may be any.

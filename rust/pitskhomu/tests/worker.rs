@@ -500,3 +500,34 @@ fn data_moves_by_windows() {
     assert_eq!(ask(&write, 24).reply_len, 24);
     assert_eq!(memory.read(ROOM + 0x1000, 4), 5u32.to_le_bytes());
 }
+
+/// The memory panics at a load that the library asks for amid a pop: the pop is over, the worker
+/// takes other memory, and the chain is popped again.
+#[test]
+fn a_pop_ends_if_the_memory_panics() {
+    let down = [15, 11, 7, 3, 14, 10, 6, 2, 13];
+    for at in [14, 6, 13] {
+        let (mut guest, recorder) = (Guest::new(), Recorder::default());
+        guest.memory.write(REQUEST, &request(1, 1, HELLO));
+        for (k, index) in down.into_iter().enumerate() {
+            let next = down.get(k + 1).copied();
+            let buffer = if k == 0 {
+                (REQUEST, 46, NEXT)
+            } else {
+                let flags = next.map_or(0, |_| NEXT) | DEVICE_WRITES;
+                (ROOM + 0x1000 * k as u64, 18, flags)
+            };
+            let descriptor = (buffer.0, buffer.1, buffer.2, next.unwrap_or(0));
+            guest.descriptor(DESCRIPTORS, index, descriptor);
+        }
+        guest.offer(down[0]);
+        guest.memory.panics_at.set(Some(DESCRIPTORS + 16 * at));
+        panics(&mut guest, &recorder);
+        guest.memory.panics_at.set(None);
+        assert!(!guest.worker.has_chain() && guest.queue.in_flight() == 0);
+        let region = Region { guest: 0, len: LEN as u64, host: guest.memory.host };
+        assert_eq!(guest.worker.set_memory(&guest.device, &[region]), Ok(()), "{at}");
+        let served = serve(&mut guest, &recorder).unwrap().unwrap();
+        assert_eq!((served.head, served.reply_len, recorder.taken().len()), (15, 144, 1));
+    }
+}
