@@ -614,9 +614,8 @@ uint32_t pk_pushed(struct pk_chain *chain, struct pk_queue *queue, uint16_t seen
 struct pk_store { uintptr_t at; uint16_t value; uint8_t len; };
 /* Returns the store that enables (1) or disables (0) available buffer notifications (VIRTIO 1.2,
  * 2.7.10). It is to the used ring's flags at guest address `used`, or with event_index to
- * avail_event at used + 4 + 8 * size. With event_index nothing is stored to disable them. Of the
- * chain it uses only regions and table.
- * Errors: the usual; PK_NOT_MAPPED (map the bytes in the table, and call again). */
+ * avail_event at used + 4 + 8 * size. With event_index nothing is stored to disable them. It uses
+ * the chain's regions and table. Errors: the usual; PK_NOT_MAPPED (map the bytes, call again). */
 uint32_t pk_set_notification(struct pk_chain *chain, const struct pk_queue *queue, uint32_t enabled,
                              struct pk_store *store) PK_CHECK PK_FILLS(4);
 
