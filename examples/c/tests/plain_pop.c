@@ -84,7 +84,9 @@ static bool interrupt(struct bench *b, struct pk_queue *q, const struct pk_pop *
     switch (below(5)) {
     case 0: call_wrongly(b, q, step, is_rest); return false;
     case 4:
-        if (below(4) || !stop_between(b, q, step->load_len)) return false;
+        /* only a whole load is refused at once, not a part of an entry; two bytes may be one */
+        if (is_rest || below(4) || step->load_len % 16 > (b->table_len ? 0 : 2)) return false;
+        if (!stop_between(b, q, step->load_len)) return false;
         break;
     case 1:
         if (!pop_between(b, q)) return false;
