@@ -96,9 +96,9 @@ numbered! {
         Pushing = 78, "another chain of the queue is being returned";
         /// A late answer: it is to a call of an earlier chain.
         OtherCall = 79, "a late answer, to a call of an earlier chain";
-        /// The chain was popped with another table, or with none; or the table moved the used ring.
-        /// The worker keeps the chain: lend its table, and push again. Of a pop: the worker's table
-        /// isn't lent.
+        /// The chain was popped with a table, and none is lent, or the other way round; or the
+        /// table moved the used index. The worker keeps the chain: lend its table, and push again.
+        /// Of a pop: the worker's table isn't lent.
         OtherTable = 80, "it isn't the table of the chain's pop";
         /// A record that ends early.
         RecordTruncated = 81, "the record ends early";

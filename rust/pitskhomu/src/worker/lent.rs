@@ -70,8 +70,8 @@ impl Lent<'_> {
     ///
     /// # Errors
     /// - Those of [`Worker::push`]. `NotMapped`: a part of the rings isn't mapped any more.
-    /// - `OtherTable`: the table isn't that of the pop, or has the used ring elsewhere. The worker
-    ///   keeps the chain: lend the right table, and push again.
+    /// - `OtherTable`: the table has the used index elsewhere than the pop's. The worker keeps the
+    ///   chain: lend the right table, and push again.
     pub fn push(&mut self, queue: &mut Queue, memory: &dyn GuestMemory) -> Result<Served, Status> {
         if !self.worker.chain.is_translated() {
             return Err(Status::WrongOrder);
