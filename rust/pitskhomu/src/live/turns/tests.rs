@@ -49,6 +49,9 @@ fn ring(available: u16, sleeping: usize) -> Loop<Ring> {
 struct Fake {
     /// So many looks miss addresses.
     missing: u32,
+    /// So many pops are refused, for these reasons.
+    refusals: Vec<Status>,
+    answers: u32,
     /// So many times notifications can't be enabled or disabled, for this reason.
     untold: Vec<Status>,
     asked: Option<Asked>,
@@ -76,6 +79,9 @@ impl Server<Ring> for Fake {
 
     fn pop(&mut self, ring: &mut Ring) -> Result<Popped, Status> {
         self.pops += 1;
+        if let Some(status) = self.refusals.pop() {
+            return Err(status);
+        }
         if self.missing > 0 {
             self.missing -= 1;
             return Ok(Popped::Missing);
@@ -89,6 +95,7 @@ impl Server<Ring> for Fake {
     }
 
     fn answer(&mut self) -> bool {
+        self.answers += 1;
         if let Some((begins, ends)) = &self.calls {
             begins.send(()).unwrap();
             ends.recv().unwrap();
@@ -261,6 +268,68 @@ fn a_refused_notification_refuses_the_queue() {
         assert_eq!(looping.serve_all(&mut server), Rest::Event);
         assert_eq!((looping.lock().refused, server.asks), (refused, 1));
     }
+}
+
+/// A page that a chain's buffers need is refused: the chain gets its fault at the next pop.
+#[test]
+fn a_refused_page_of_a_chain_refuses_no_queue() {
+    let looping = ring(1, 1);
+    let asked = Some(Asked::Refused);
+    let mut server = Fake { missing: 1, asked, ..Fake::default() };
+    assert_eq!(looping.serve_all(&mut server), Rest::Event);
+    let state = looping.lock();
+    assert_eq!((state.refused, server.asks, server.answers), (None, 1, 1));
+    assert_eq!((state.queue.next_used(), state.popped, state.returned), (1, 1, 1));
+}
+
+/// What a pop's refusal does: it is tried again, waited for, or refuses the queue. Nothing is
+/// answered, and no address is asked for.
+#[test]
+fn refusals_of_a_pop() {
+    for (status, rest, refused) in [
+        (Status::ChainInFlight, Rest::Event, None),
+        (Status::OutOfMemory, Rest::Again, None),
+        (Status::RecordOutOfMemory, Rest::Again, None),
+        (Status::AvailTooFar, Rest::Event, Some(Status::AvailTooFar)),
+        (Status::OtherTable, Rest::Event, Some(Status::OtherTable)),
+    ] {
+        let looping = ring(0, 1);
+        // Notifications are enabled first, and chains are looked for once more.
+        let refusals = vec![status; 2];
+        let mut server = Fake { refusals, asked: Some(Asked::All), ..Fake::default() };
+        assert_eq!(looping.serve_all(&mut server), rest, "{status}");
+        let state = looping.lock();
+        assert_eq!((state.refused, server.asks, server.answers), (refused, 0, 0), "{status}");
+        assert_eq!((state.popped, state.returned, state.sleeping), (0, 0, 1), "{status}");
+        assert!(!state.is_missing);
+    }
+}
+
+/// Chains of which no thread was notified are popped before a stop.
+#[test]
+fn a_stop_has_the_chains_looked_for() {
+    let looping = Arc::new(ring(0, 0));
+    let threads = looping.clone();
+    thread::spawn(move || threads.run(&mut Fake::default())); // it ends with the process
+    until(&looping, |state| state.sleeping == 1 && state.told.is_some());
+    thread::sleep(MOMENT);
+    let mut state = looping.lock();
+    state.available = 3;
+    let state = looping.pop_until(state, 3, || SOON);
+    let state = looping.settle(state, SOON);
+    assert_eq!((state.queue.next_avail(), state.queue.next_used()), (3, 3));
+}
+
+/// Who closes waits beside who settles: each ends its own wait.
+#[test]
+fn a_close_ends_no_other_wait() {
+    let looping = ring(0, 0);
+    let mut state = looping.lock();
+    state.waiters = 2;
+    let state = looping.close(state, || false);
+    assert_eq!((state.waiters, state.until), (2, None));
+    let state = looping.settle(state, Duration::from_millis(1));
+    assert_eq!((state.waiters, state.until), (2, Some(0)));
 }
 
 /// A loop with a thread whose calls begin and end by the test's channels.
