@@ -1,6 +1,13 @@
 /* pitskhomu_names.h: the name of each number of pitskhomu.h's enums, and of no other; the pairs of
- * a BATCH_FORGET; the length of an entry. */
+ * a BATCH_FORGET; the length of an entry; which libraries a program runs with. */
+#define pk_version told_version /* the library's version is what the test says */
+#define PITSKHOMU_NAMES_H
 #include <pitskhomu.h>
+#undef PITSKHOMU_NAMES_H
+/* As of a header that has had minor versions. */
+#undef PK_VERSION
+#define PK_VERSION 0x20005u
+#include <pitskhomu_names.h>
 #include <stdio.h>
 #include <stdlib.h>
 #include <string.h>
@@ -157,6 +164,20 @@ static void check_lengths(void) {
     expect("with nodes", pk_direntry_len(SIZE_MAX / 2 + 1, 1), SIZE_MAX / 2 + UINT64_C(153));
 }
 
+static uint32_t version_told;
+
+uint32_t told_version(void) { return version_told; }
+
+/* A program runs with each later library of its major number, the header says, and with no other. */
+static void check_versions(void) {
+    for (uint32_t major = 0; major < 5; major++)
+        for (uint32_t minor = 0; minor < 0x10000; minor++) {
+            version_told = major << 16 | minor;
+            int wanted = major == 2 && minor >= 5;
+            expect("it is compatible", (uint64_t)pk_is_compatible(), (uint64_t)wanted);
+        }
+}
+
 int main(void) {
     check_names(pk_status_name, statuses, COUNT(statuses));
     check_names(pk_state_name, states, COUNT(states));
@@ -165,6 +186,7 @@ int main(void) {
     check_names(pk_call_name, calls, COUNT(calls));
     check_pairs();
     check_lengths();
+    check_versions();
     printf("names: %zu\n", COUNT(statuses) + COUNT(states) + COUNT(faults) + COUNT(request_faults) +
                                COUNT(calls));
     return 0;

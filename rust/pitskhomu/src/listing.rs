@@ -299,3 +299,35 @@ fn entry_len(name_len: usize, with_node: bool) -> usize {
     let head = if with_node { 152 } else { 24 };
     (head + name_len + 7) & !7
 }
+
+#[cfg(test)]
+mod tests {
+    use super::*;
+    use crate::CStr;
+
+    fn entry_of(name: &CStr) -> DirectoryEntry<'_> {
+        DirectoryEntry::new(name, 9, 1, FileKind::REGULAR)
+    }
+
+    /// struct fuse_dirent has 24 bytes before the name, and struct fuse_entry_out 128. An entry is
+    /// padded to 8 bytes. An entry behind another one fits exactly if it can be added.
+    #[test]
+    fn what_fits_is_added() {
+        let first = CString::new("first").unwrap();
+        for (with_nodes, head, before) in [(false, 24, 32), (true, 152, 160)] {
+            for len in [1, 7, 8, 9, 16, 255] {
+                let name = CString::new(alloc::vec![b'n'; len]).unwrap();
+                let len = (head + len + 7) / 8 * 8;
+                for room in before..before + len + 9 {
+                    let mut list = Listing::owned(room, with_nodes, room as u64);
+                    assert_eq!(list.add(entry_of(&first)), Ok(true));
+                    assert_eq!(list.left(), room - before);
+                    let fits = list.fits(name.as_bytes());
+                    assert_eq!(fits, before + len <= room, "{len} of {room}");
+                    assert_eq!(list.add(entry_of(&name)), Ok(fits), "{len} of {room}");
+                    assert_eq!(list.fits(b""), fits && head + before + len <= room);
+                }
+            }
+        }
+    }
+}
