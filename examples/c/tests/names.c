@@ -168,7 +168,7 @@ static uint32_t version_told;
 
 uint32_t told_version(void) { return version_told; }
 
-/* A program runs with each later library of its major number, the header says, and with no other. */
+/* A program runs with each later library of its major number, and with no other. */
 static void check_versions(void) {
     for (uint32_t major = 0; major < 5; major++)
         for (uint32_t minor = 0; minor < 0x10000; minor++) {
