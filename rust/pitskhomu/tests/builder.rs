@@ -198,9 +198,10 @@ impl FileSystem for Slow {
     }
 }
 
-/// The queue is reset while a thread is in a call: the answer is undone, and nothing is stored.
-#[test]
-fn a_call_that_a_reset_overtakes_is_undone() {
+/// Resets a queue while a thread is in a call, which ends after so many milliseconds. Returns
+/// whether the reset was first: then the answer is undone, and nothing is stored. Else the guest
+/// has it.
+fn is_overtaken(milliseconds: u64) -> bool {
     let (memory, files) = (Memory::new(), Arc::new(Slow::default()));
     let (mut driver, kick, call) = Driver::new(&memory, false);
     let serving = Builder::new(Arc::default(), memory.clone(), &[region()])
@@ -210,11 +211,18 @@ fn a_call_that_a_reset_overtakes_is_undone() {
     until(|| files.is_within.load(Ordering::Acquire));
     let before = memory.read(0, LEN);
     let resetting = thread::spawn(move || serving.reset());
-    thread::sleep(Duration::from_millis(20));
+    thread::sleep(Duration::from_millis(milliseconds));
     files.may_end.store(true, Ordering::Release);
     resetting.join().unwrap();
-    assert_eq!(files.released.load(Ordering::Acquire), 1);
-    assert!(driver.used().is_none() && memory.read(0, LEN) == before);
+    let is_first = driver.used().is_none();
+    assert_eq!(files.released.load(Ordering::Acquire), u64::from(is_first));
+    assert!(!is_first || memory.read(0, LEN) == before);
+    is_first
+}
+
+#[test]
+fn a_call_that_a_reset_overtakes_is_undone() {
+    assert!((4..15).any(|k| is_overtaken(1 << k)), "no reset is before the end of its call");
 }
 
 #[test]
