@@ -216,10 +216,10 @@ enum pk_call_kind {
     PK_CALL_LINK = 13,        /* node gets the name in the directory node2 -> entry */
     PK_CALL_OPEN = 14,        /* flags (O_ of Linux x86), kill_priv -> open */
     PK_CALL_READ = 15,        /* handle, offset, data_len, size, flags, owner, has_owner -> data */
-    PK_CALL_WRITE = 16,       /* handle, offset, size, data_at, data_len, flags, owner, delayed,
-                                 kill_priv -> write */
+    PK_CALL_WRITE = 16,       /* handle, offset, size, data_at, data_len, flags, owner, has_owner,
+                                 delayed, kill_priv -> write */
     PK_CALL_STATFS = 17,      /* -> statfs */
-    PK_CALL_RELEASE = 18,     /* handle, flags, flush, unlock, owner -> done */
+    PK_CALL_RELEASE = 18,     /* handle, flags, flush, unlock, owner, has_owner -> done */
     PK_CALL_FSYNC = 20, PK_CALL_FSYNCDIR = 30, /* handle, data_only -> done */
     PK_CALL_SETXATTR = 21,    /* name, value, flags, setxattr_flags -> done */
     PK_CALL_GETXATTR = 22,    /* name, size, data_len -> xattr if size is 0, else data */
