@@ -71,32 +71,34 @@ mod tests {
     const COUNT: u32 = 20_000;
 
     /// One thread at a time is within, also if one panics there.
-    macro_rules! test_locks {
-        ($($name:ident: $lock:ty;)*) => { $(
-            #[test]
-            fn $name() {
-                let (lock, is_within) = (<$lock>::default(), AtomicBool::new(false));
-                let add = || {
-                    for _ in 0..COUNT {
-                        lock.with(|count| {
-                            assert!(!is_within.swap(true, Ordering::Relaxed));
-                            *count += 1;
-                            is_within.store(false, Ordering::Relaxed);
-                        });
-                    }
-                };
-                thread::scope(|scope| (0..3).for_each(|_| drop(scope.spawn(add))));
-                assert_eq!(lock.with(|count| *count), 3 * COUNT);
-                let panics = || lock.with(|_| panic!("under the lock, as the test wants it"));
-                assert!(catch_unwind(AssertUnwindSafe(panics)).is_err());
-                assert_eq!(lock.with(|count| *count), 3 * COUNT);
-            }
-        )* };
+    macro_rules! lets_one_in {
+        ($lock:ty) => {
+            let (lock, is_within) = (<$lock>::default(), AtomicBool::new(false));
+            let add = || {
+                for _ in 0..COUNT {
+                    lock.with(|count| {
+                        assert!(!is_within.swap(true, Ordering::Relaxed));
+                        *count += 1;
+                        is_within.store(false, Ordering::Relaxed);
+                    });
+                }
+            };
+            thread::scope(|scope| (0..3).for_each(|_| drop(scope.spawn(add))));
+            assert_eq!(lock.with(|count| *count), 3 * COUNT);
+            let panics = || lock.with(|_| panic!("under the lock, as the test wants it"));
+            assert!(catch_unwind(AssertUnwindSafe(panics)).is_err());
+            assert_eq!(lock.with(|count| *count), 3 * COUNT);
+        };
     }
 
-    test_locks! {
-        of_std: super::waiting::Lock<u32>;
-        without_std: super::spinning::Lock<u32>;
+    #[test]
+    fn of_std() {
+        lets_one_in!(super::waiting::Lock<u32>);
+    }
+
+    #[test]
+    fn without_std() {
+        lets_one_in!(super::spinning::Lock<u32>);
     }
 
     /// A thread waits as long as another is within.
