@@ -10,7 +10,7 @@ use pitskhomu::live::{new_event, Builder, Error, Serving};
 use pitskhomu::*;
 use std::error::Error as _;
 use std::io::{self, Read as _, Write as _};
-use std::sync::atomic::{AtomicBool, AtomicU64, Ordering};
+use std::sync::atomic::{AtomicBool, AtomicU64, AtomicUsize, Ordering};
 use std::sync::{Arc, Mutex};
 use std::thread;
 use std::time::Duration;
@@ -223,6 +223,82 @@ fn is_overtaken(milliseconds: u64) -> bool {
 #[test]
 fn a_call_that_a_reset_overtakes_is_undone() {
     assert!((4..15).any(|k| is_overtaken(1 << k)), "no reset is before the end of its call");
+}
+
+/// A stop comes while the only thread is in a call, for which it has disabled notifications. The
+/// driver notifies for its next chain all the same: the device that goes on may wait for that.
+#[test]
+fn a_stop_leaves_notifications_enabled() {
+    for has_event_index in [false, true] {
+        let (memory, files) = (Memory::new(), Arc::new(Slow::default()));
+        let (mut driver, kick, call) = Driver::new(&memory, has_event_index);
+        let queue = Queue::new(layout(), 0).unwrap().with_event_index(has_event_index);
+        let serving = Builder::new(Arc::default(), memory.clone(), &[region()])
+            .start(queue, kick, call, files.clone())
+            .unwrap();
+        driver.offer(0, &request(14, 5, &guest::args().d(0x8002).d(0).0), 32);
+        until(|| files.is_within.load(Ordering::Acquire));
+        let flags = memory.half(USED).load(Ordering::Acquire);
+        assert_eq!(flags, u16::from(!has_event_index));
+        let stopping = thread::spawn(move || serving.stop());
+        thread::sleep(Duration::from_millis(100)); // the stop has begun
+        files.may_end.store(true, Ordering::Release);
+        assert_eq!(stopping.join().unwrap().next_used(), 1);
+        let before = driver.kicks;
+        driver.offer(1, &lookup(), 144);
+        assert_eq!(driver.kicks, before + 1, "{has_event_index}");
+    }
+}
+
+/// Looks up, and tells the system's name of its thread.
+#[derive(Default)]
+struct Named(AtomicUsize);
+
+impl FileSystem for Named {
+    fn lookup(&self, _: &Context, _: Node, _: &CStr) -> Answer<Entry> {
+        // SAFETY: it takes no argument.
+        self.0.store(unsafe { pthread_self() }, Ordering::Release);
+        Ok(entry())
+    }
+    fn getattr(&self, _: &Context, _: Node, _: Option<Handle>) -> Answer<(Attributes, Duration)> {
+        Err(Errno::EIO)
+    }
+}
+
+extern "C" {
+    fn pthread_self() -> usize;
+    fn pthread_kill(thread: usize, signal: i32) -> i32;
+    fn signal(signal: i32, handler: extern "C" fn(i32)) -> usize;
+}
+
+/// How many signals were handled.
+static SIGNALS: AtomicU64 = AtomicU64::new(0);
+
+extern "C" fn count_signal(_: i32) {
+    SIGNALS.fetch_add(1, Ordering::SeqCst);
+}
+
+/// A signal interrupts a thread's wait for an event (EINTR), and the thread waits on.
+#[test]
+fn a_signal_ends_no_thread() {
+    const SIGUSR1: i32 = 10;
+    // SAFETY: the handler only adds to an atomic number.
+    unsafe { signal(SIGUSR1, count_signal) };
+    let (memory, files) = (Memory::new(), Arc::new(Named::default()));
+    let (mut driver, kick, call) = Driver::new(&memory, false);
+    let serving = Builder::new(Arc::default(), memory, &[region()])
+        .start(Queue::new(layout(), 0).unwrap(), kick, call, files.clone())
+        .unwrap();
+    for slot in 0..3 {
+        driver.offer(slot, &lookup(), 144);
+        assert_eq!(driver.wait(), (slot, 144));
+        thread::sleep(Duration::from_millis(50)); // the thread waits
+        let before = SIGNALS.load(Ordering::SeqCst);
+        // SAFETY: the thread is joined by `serving` alone, which ends later.
+        assert_eq!(unsafe { pthread_kill(files.0.load(Ordering::Acquire), SIGUSR1) }, 0);
+        until(|| SIGNALS.load(Ordering::SeqCst) > before);
+    }
+    assert_eq!((serving.stop().next_used(), driver.used()), (3, None));
 }
 
 #[test]

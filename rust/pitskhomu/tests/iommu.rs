@@ -302,6 +302,27 @@ fn a_chain_of_a_table_goes_back_with_one() {
     assert_eq!(Worker::new().lend(&mut iotlb).err(), Some(Status::WrongOrder), "no memory");
 }
 
+/// A pop with a table is undone, and the IOMMU is turned off: the chain is popped without a table.
+#[test]
+fn a_pop_that_is_undone_leaves_no_window() {
+    let (mut guest, mut iotlb) = guest();
+    let first = guest.queue.next_avail();
+    offer(&mut guest);
+    take_by_misses(&mut guest, &mut iotlb);
+    guest.worker.unpop(&mut guest.queue).unwrap();
+    let region = Region { guest: 0, len: LEN as u64, host: guest.memory.host };
+    guest.worker.set_memory(&guest.device, &[region]).unwrap();
+    guest.queue = Queue::new(layout(), first).unwrap();
+    let parts = [Buffer(REQUEST, 46, false), Buffer(ROOM + 0x2000, 144, true)];
+    guest.draw(DESCRIPTORS, 0, &parts);
+    assert_eq!(guest.worker.pop(&mut guest.queue, &guest.memory), Ok(true));
+    answer(&mut guest);
+    let served = guest.worker.push(&mut guest.queue, &guest.memory).unwrap();
+    assert_eq!(served.reply_len, 144);
+    assert_eq!(number(&guest.memory.read(ROOM + 0x2000, 4), 0, 4), 144);
+    assert_eq!(guest.memory.read(ROOM, 16), [0; 16]);
+}
+
 #[test]
 fn a_push_by_another_table_leaves_the_chain_with_the_worker() {
     let (mut guest, mut iotlb) = guest();

@@ -222,6 +222,20 @@ fn after_the_end_an_answer_is_refused() {
     }
 }
 
+/// An answer that is of another kind too: nobody gets EIO for it any more.
+#[test]
+fn after_the_end_an_answer_of_another_kind_is_late() {
+    for (k, end) in ends().into_iter().enumerate() {
+        let mut guest = Guest::new();
+        let reply = lookup(&mut guest);
+        let _next = end(&mut guest);
+        let before = seen(&guest);
+        let unsent = reply.send(Response::Written(1)).expect_err("it is too late");
+        assert_eq!(unsent.status(), Status::OtherCall, "{k}");
+        assert!(seen(&guest) == before);
+    }
+}
+
 #[test]
 fn after_the_end_a_dropped_object_does_nothing() {
     for end in ends() {
