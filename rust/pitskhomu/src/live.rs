@@ -452,6 +452,8 @@ impl Serving {
         memory: Arc<M>,
         regions: &[Region],
     ) -> Result<(), Status> {
+        // If each worker has a chain, none of them finds what is wrong with the regions.
+        Worker::new().set_memory(&self.shared.device, regions)?;
         let mapped = Arc::new(Mapped { memory, regions: regions.to_vec() });
         let mut state = self.shared.threads.lock();
         // So no worker without a chain keeps the old memory.
