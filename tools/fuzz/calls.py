@@ -8,7 +8,8 @@ from pathlib import Path
 
 # For each second of a run so many worlds, rounds or seconds, by the run's seed.
 AMOUNTS = {
-    "plain": 100, "answered": 400, "strict": 400, "extended": 400, "listed": 10, "clumsy": 0.05}
+    "plain": 100, "answered": 400, "strict": 400, "extended": 400, "listed": 10, "clumsy": 0.05,
+    "ringed": 5000}
 # The others that `make check` runs without a number always do the same.
 MAKEFILE = Path(__file__).resolve().parents[2] / "examples/c/Makefile"
 FIXED = re.findall(r"^\t\$\(OUT\)/(\w+)$", MAKEFILE.read_text(), re.MULTILINE)

@@ -15,7 +15,7 @@ from collections import Counter
 from pathlib import Path
 
 from calls import Calls
-from guests import long_script, wraps
+from guests import long_script, wide_write, wraps
 from hostile import heavy
 from machine import LACKING, TooMuchWork, play
 from programs import Built
@@ -63,6 +63,7 @@ class Fuzzer:
         fixed = [(f"stored script {index}", script) for index, script in enumerate(store)]
         fixed.append(("a script of 1 MiB", long_script(0)))
         fixed.append(("a script that is too long", long_script(1)))
+        fixed.append(("a script of a wide write", wide_write()))
         if self.end - time.monotonic() > SECONDS_TO_WRAP:
             fixed.append(("a script that wraps an index", wraps()))
             fixed.append(("a script of kicks that cost much", heavy()))

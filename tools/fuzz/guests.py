@@ -564,3 +564,11 @@ def long_script(more):
     """A script of 1 MiB and so many bytes more, most of it a comment."""
     begin = b"queue 4 0 0x100 0x200\nharvest\n#"
     return begin + b"x" * (2**20 + more - len(begin))
+
+
+def wide_write():
+    """A script of one write over 64 whole pages and a byte on either side, whose marks are taken."""
+    pages = 64 * 4096
+    write = f"write {pages - 1:#x} " + "5a" * (pages + 2)
+    lines = ["queue 4 0 0x100 0x200", "region 0 0x100000", write, "harvest"]
+    return "\n".join(lines).encode() + b"\n"

@@ -128,10 +128,43 @@ static void move(struct pk_chain *chain) {
     find(chain);
 }
 
+/* The longest table behind two loads of the queue's own: it has no room among the loads that are
+ * made ahead, and nothing is written behind them. */
+static void keep_within(void) {
+    enum { MANY = 512, TABLE = 0x4000, ALL = 0x6000 };
+    static _Alignas(4096) uint8_t guest[ALL];
+    static struct {
+        struct pk_ring_loads loads;
+        uint8_t behind[PK_LOAD_MAX];
+    } kept;
+    struct pk_region all = {0, ALL, (uintptr_t)guest};
+    struct pk_queue wide = {.avail = 0x2000, .used = 0x3000, .size = MANY, .max_in_flight = 1};
+    struct pk_ring found = {0};
+    const uint64_t table = TABLE;
+    const uint32_t len = PK_LOAD_MAX;
+    const uint16_t offered = 1, next = NEXT, indirect = 4, second = 8;
+    memcpy(guest + wide.avail + 2, &offered, 2);
+    memcpy(guest + 12, &next, 2);
+    memcpy(guest + 14, &second, 2);
+    memcpy(guest + 16 * second, &table, 8);
+    memcpy(guest + 16 * second + 8, &len, 4);
+    memcpy(guest + 16 * second + 12, &indirect, 2);
+    expect("a wide queue", pk_queue_begin(&wide, 0), PK_DONE);
+    pk_ring_find(&found, &wide, &all, 1);
+    memset(guest + TABLE, 0x5a, PK_LOAD_MAX);
+    memset(kept.behind, 0xa5, sizeof kept.behind);
+    pk_ring_guess(&wide, &found, &kept.loads);
+    expect("loads ahead", kept.loads.count, 4);
+    expect("their bytes", kept.loads.len, 4 + 64 + 64);
+    for (size_t k = 0; k < sizeof kept.behind; k++)
+        expect("a byte behind them", kept.behind[k], 0xa5);
+}
+
 int main(int argc, char **argv) {
     long turns = argc > 1 ? atol(argv[1]) : 100000;
     struct pk_chain chain = {0};
     chance_begin(0x2545f4914f6cdd1du);
+    keep_within();
     lay();
     reset(0xfff0);
     find(&chain);
