@@ -567,7 +567,7 @@ def long_script(more):
 
 
 def wide_write():
-    """A script of one write over 64 whole pages and a byte on either side, whose marks are taken."""
+    """A script of a write over 64 whole pages and a byte on either side: their marks are taken."""
     pages = 64 * 4096
     write = f"write {pages - 1:#x} " + "5a" * (pages + 2)
     lines = ["queue 4 0 0x100 0x200", "region 0 0x100000", write, "harvest"]
