@@ -90,7 +90,7 @@ static uint64_t total(const struct bench *b, bool is_written) {
     return sum;
 }
 
-/* The fault of a chain's buffers. A miss is told: of the request, then of the reply buffer. */
+/* The fault of a chain's buffers. *told gets a miss, the request's before the reply buffer's. */
 static uint32_t buffers_fault(const struct bench *b, struct told *told) {
     uint32_t fault = 0;
     if (total(b, false) > device.limit || total(b, true) > device.limit) return PK_FAULT_OVER_LIMIT;
