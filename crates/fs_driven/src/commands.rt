@@ -42,9 +42,9 @@ pub enum Command<'a> {
     GiveUp,
     /// Frees the handle, whose chain stays in flight until the queue is reset.
     Abandon,
-    /// Resets the queue to a layout and a position, whichever handle is named.
+    /// Resets the queue to a layout and a position. Any handle may be named.
     Reset(QueueLayout, u16),
-    /// Enables the driver's notifications of new chains, or disables them, whichever handle is named.
+    /// Enables the driver's notifications of new chains, or disables them. Any handle may be named.
     Notify(bool),
 }
 
