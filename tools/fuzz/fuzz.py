@@ -9,6 +9,7 @@ script with a served chain was compared whole or too many weren't played to thei
 couldn't begin, 130 if it was interrupted before that."""
 
 import os
+import random
 import sys
 import time
 from collections import Counter
@@ -17,6 +18,7 @@ from pathlib import Path
 from calls import Calls
 from guests import long_script, wide_write, wraps
 from hostile import heavy
+from lacking import Lacking
 from machine import LACKING, TooMuchWork, play
 from programs import Built
 from scripts import made, stored
@@ -32,6 +34,8 @@ RANDOM_TO_COUNT, MOST_LEFT = 1000, 0.03
 SERVED = "whole scripts with a served chain"
 SEED = "seed"
 UP_TO = "up to "
+# Each so many random scripts one is played with too little memory.
+SELDOM = 8
 
 
 class Device:
@@ -45,10 +49,11 @@ class Device:
 class Fuzzer:
     """What was tried and what differed."""
 
-    def __init__(self, devices, seed, end):
+    def __init__(self, devices, seed, end, lacking):
         self.devices = devices
         self.seed = seed
         self.end = end
+        self.lacking = lacking
         self.coverage = Counter()
         self.scripts = 0
         self.random = 0
@@ -71,8 +76,24 @@ class Fuzzer:
         while self.differences < MOST_DIFFERENCES and (fixed or time.monotonic() < self.end):
             played, fixed = fixed[:size - 1], fixed[size - 1:]
             seeds = range(self.seed, self.seed + size - len(played))
-            self.compare([(f"{SEED} {seed}", made(seed, store)) for seed in seeds] + played)
+            made_ones = [(f"{SEED} {seed}", made(seed, store)) for seed in seeds]
+            self.compare(made_ones + played)
+            for (name, script), seed in zip(made_ones, seeds):
+                if seed % SELDOM == 0:
+                    self.lack(name, script, seed)
             self.seed = seeds.stop
+
+    def lack(self, name, script, seed):
+        """Plays a script with one request for memory refused, and tells what is wrong."""
+        number = int(2 ** random.Random(seed).uniform(0, 9))
+        wrong = self.lacking.fault(script, number)
+        self.coverage["lacks memory", "as it is to be" if wrong is None else "otherwise"] += 1
+        if wrong is not None:
+            self.differences += 1
+            FOLDER.mkdir(exist_ok=True)
+            path = FOLDER / f"without memory {name}.fs".replace(" ", "_")
+            path.write_bytes(script)
+            say(f"\nDIFFERENCE of the program without memory: {name}, {path}\n  {wrong}")
 
     def compare(self, named):
         """Plays scripts on all, and tells each difference."""
@@ -194,7 +215,8 @@ def main(arguments):
     say(f"seed {seed}")
     named = [("the program", os.environ["PROGRAM"]), ("the handle", os.environ.get("HANDLE"))]
     devices = [Device(name, path) for name, path in named if path]
-    fuzzer = Fuzzer(devices, seed, time.monotonic() + seconds)
+    lacking = Lacking(os.environ["PROGRAM"])
+    fuzzer = Fuzzer(devices, seed, time.monotonic() + seconds, lacking)
     calls = Calls(os.environ["CALLS"], seconds, seed) if os.environ.get("CALLS") else None
     try:
         fuzzer.run()

@@ -7,9 +7,10 @@ from collections import Counter
 
 from grammar import Fault, Files, NAMES, Server
 from memory import (
-    LAST, NO_SUCH_QUEUE, PAGE, Memory, Refused, TooMuchWork, bytes_at, length_of, singles)
+    LAST, NO_MEMORY, NO_SUCH_QUEUE, PAGE, Memory, Refused, TooMuchWork, bytes_at, length_of,
+    singles)
 
-__all__ = ["LACKING", "TooMuchWork", "play"]
+__all__ = ["LACKING", "Player", "TooMuchWork", "play"]
 LIMIT = 0x101000
 LONGEST_SCRIPT = 1 << 20
 
@@ -285,9 +286,14 @@ class Player:
     # The program doesn't know these.
     HANDLES = ("event_index", "notify", "drop")
 
-    def __init__(self, work):
+    def __init__(self, work, lacking=None):
         self.coverage = Counter()
         self.machine = Machine(work, self.coverage)
+        # For which line memory lacks, and of a kick for which of its chains; None if there is
+        # enough. A region's block may be there already.
+        self.lacking = lacking
+        # Where each line's output begins.
+        self.begins = []
         self.began = False
         self.printed = []
         self.number = 0
@@ -334,12 +340,20 @@ class Player:
             self.on_program = text_of([*self.printed, f"line {self.number}: not a command"])
         self.began = self.began or name != "queue"
         self.coverage["command", name] += 1
+        self.begins.append((len(self.printed), self.number))
         try:
+            if name not in ("kick", "region"):
+                self.allocate()
             lines = getattr(self, name)(*arguments)
         except Refused as refused:
             self.coverage["refused " + name, refused.number] += 1
             lines = [f"refused {refused.number}"]
         self.printed += lines
+
+    def allocate(self, part=0):
+        """Memory for a part of a command: a chain of a kick, or a region behind its block."""
+        if self.lacking == (self.number, part):
+            raise Refused(NO_MEMORY)
 
     def queue(self, *layout):
         """One more queue."""
@@ -366,7 +380,9 @@ class Player:
 
     def region(self, base, size):
         """A block and a region over it."""
+        self.allocate(0)
         block = self.machine.memory.new_block(size)
+        self.allocate(1)
         self.machine.memory.insert(base, block)
         return [f"block {block}"]
 
@@ -412,7 +428,8 @@ class Player:
             raise Refused(NO_QUEUE)
         lines = []
         try:
-            for _ in range(most):
+            for done in range(most):
+                self.allocate(done)
                 if not self.machine.memory.fits_handle():
                     self.lack()
                 step = self.machine.step(self.machine.queues[index])

@@ -9,6 +9,7 @@ from busy import Busy
 from guests import Guest
 from hostile import Hostile
 from make_requests import number
+from mapped import Mapped
 
 ROOT = Path(__file__).resolve().parents[2]
 GREATEST_REGION = 1 << 20
@@ -50,7 +51,7 @@ def made(seed, store):
     """The script of a seed."""
     rng = random.Random(seed)
     while True:
-        guest = rng.choice([Guest, Busy, Hostile])
+        guest = rng.choice([Guest, Busy, Hostile, Mapped])
         kind = rng.random()
         script = rng.choice(store) if kind < 0.1 else guest(rng).script()
         if kind < 0.3:

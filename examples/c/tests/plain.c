@@ -7,6 +7,7 @@
  * itself. */
 #include "chance.h"
 #include "plain_model.h"
+#include "scarce.h"
 #include <stdio.h>
 #include <stdlib.h>
 #include <string.h>
@@ -385,8 +386,15 @@ static void change_pages(uint64_t page, uint64_t count, bool is_mapped) {
     uint64_t guest = guest_page(to), stop = guest + count * PAGE;
     uint32_t wanted = PK_DONE;
     if (is_mapped ? end <= at || stop <= guest : end < at && end != 0) wanted = PK_BAD_ARGUMENT;
+    scarce_begin();
     uint32_t status = is_mapped ? pk_iotlb_map(&table, at, count * PAGE, guest, access)
                                 : pk_iotlb_unmap(&table, at, count * PAGE);
+    if (scarce_end()) {
+        expect("a change without memory", status, PK_OUT_OF_MEMORY);
+        if (below(2)) return;
+        status = is_mapped ? pk_iotlb_map(&table, at, count * PAGE, guest, access)
+                           : pk_iotlb_unmap(&table, at, count * PAGE);
+    }
     expect(is_mapped ? "pk_iotlb_map" : "pk_iotlb_unmap", status, wanted);
     for (uint64_t k = 0; k < count && wanted == PK_DONE; k++)
         map_page(page + k, is_mapped, guest + k * PAGE, access);
@@ -438,7 +446,13 @@ static void give_memory(struct bench *b) {
         expect("other memory", pk_chain_set_memory(&b->chain, &other, regions, below(2)), PK_DONE);
     if (has_iommu) exchange(b); /* a table that goes is the test's own one */
     if (has_iommu) exchange(b);
-    expect("the memory", pk_chain_set_memory(&b->chain, &device, regions, region_count), PK_DONE);
+    scarce_begin();
+    uint32_t status = pk_chain_set_memory(&b->chain, &device, regions, region_count);
+    if (scarce_end()) {
+        expect("memory without memory", status, PK_OUT_OF_MEMORY);
+        status = pk_chain_set_memory(&b->chain, &device, regions, region_count);
+    }
+    expect("the memory", status, PK_DONE);
     if (has_iommu) {
         /* the addresses are the guest's until the handle has a table */
         has_iommu = false;

@@ -1,6 +1,7 @@
 /* Pops by the library, for plain.c: load by load or with loads ahead, and interrupted. */
 #include "chance.h"
 #include "plain_model.h"
+#include "scarce.h"
 #include <string.h>
 
 /* Calls that don't come next while a pop waits for the bytes of a load. */
@@ -141,6 +142,36 @@ static void check_load(const struct bench *b, const struct pk_queue *q, const st
     }
 }
 
+/* A call of pk_pop. One that lacks memory changes nothing, and is made again. */
+static uint32_t pop_part(struct bench *b, struct pk_queue *q, const uint8_t *bytes, size_t len,
+                         struct pk_pop *step) {
+    struct pk_queue before = *q;
+    struct pk_pop asked = *step;
+    uint32_t state = pk_chain_state(&b->chain);
+    scarce_begin();
+    uint32_t status = pk_pop(&b->chain, q, bytes, len, step);
+    if (!scarce_end()) return status;
+    expect("a pop without memory", status, PK_OUT_OF_MEMORY);
+    expect("the queue then", memcmp(&before, q, sizeof before) != 0, 0);
+    expect("the state then", pk_chain_state(&b->chain), state);
+    if (len) expect("the load's place then", step->load_at, asked.load_at);
+    if (len) expect("the load's length then", step->load_len, asked.load_len);
+    return pk_pop(&b->chain, q, bytes, len, step);
+}
+
+/* A pop in one call. One that lacks memory is under way: it is dropped, and begins again. */
+static uint32_t pop_at_once(struct bench *b, struct pk_queue *q, struct pk_ring *ring,
+                            struct pk_pop *step) {
+    struct pk_queue before = *q;
+    scarce_begin();
+    uint32_t status = pk_pop_ring(&b->chain, q, ring, step);
+    if (!scarce_end()) return status;
+    expect("a pop without memory", status, PK_OUT_OF_MEMORY);
+    expect("the queue then", memcmp(&before, q, sizeof before) != 0, 0);
+    expect("the drop of a pop", pk_drop(&b->chain, q), PK_DONE);
+    return pk_pop_ring(&b->chain, q, ring, step);
+}
+
 /* A pop by the library, load by load or with its loads ahead. */
 uint32_t pop(struct bench *b, struct pk_queue *q, struct pk_pop *step, bool *again) {
     static uint8_t bytes[PK_LOAD_MAX];
@@ -153,8 +184,8 @@ uint32_t pop(struct bench *b, struct pk_queue *q, struct pk_pop *step, bool *aga
     pk_ring_find(&ring, q, regions, region_count);
     if (below(20) == 0)
         expect("bytes at first", pk_pop(&b->chain, q, bytes, 1, step), PK_BAD_ARGUMENT);
-    if (!has_iommu && below(2)) return pk_pop_ring(&b->chain, q, &ring, step);
-    while ((status = pk_pop(&b->chain, q, bytes, len, step)) == PK_LOAD) {
+    if (!has_iommu && below(2)) return pop_at_once(b, q, &ring, step);
+    while ((status = pop_part(b, q, bytes, len, step)) == PK_LOAD) {
         check_load(b, q, step, number++);
         bool is_rest = part % 16 != 0;
         if (below(is_rest ? 3 : 20) == 0 && (*again = interrupt(b, q, step, is_rest)))
