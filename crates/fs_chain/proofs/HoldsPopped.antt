@@ -54,7 +54,7 @@ use Rattle.fs_chain.specs.declared.state.ChainState.TheVariants as at
 use Rattle.fs_chain.specs.declared.state.InFlight.{InFlight}
 use Rattle.fs_chain.specs.declared.state.PopId.{PopId}
 use Rattle.fs_chain.proofs.HoldsQueues.{begun_room, goes_at}
-use Rattle.fs_chain.proofs.WholeOffers.{fits_limit}
+use Rattle.fs_chain.proofs.Lengths.{fits_limit}
 
 -- ---- refusals
 

@@ -13,6 +13,7 @@ pub mod HoldsListed
 pub mod SoFar
 pub mod PoppingAhead
 pub mod LeftOut
+pub mod Lengths
 pub mod LoadLemmas
 pub mod Offering
 pub mod Passing
@@ -24,7 +25,6 @@ pub mod WholeChains
 pub mod WholeEntries
 pub mod WholeListings
 pub mod WholeMemory
-pub mod WholeOffers
 pub mod WholeSeen
 pub mod WholeSteps
 pub mod WholeWalks

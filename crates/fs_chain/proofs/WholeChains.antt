@@ -78,7 +78,8 @@ use Rattle.fs_chain.specs.Whole.{
   queue_back,
   step_loads,
 }
-use Rattle.fs_chain.proofs.WholeOffers.{is_within, fits_limit}
+use Rattle.live_machine.proofs.Within.{is_within}
+use Rattle.fs_chain.proofs.Lengths.{fits_limit}
 use Rattle.fs_chain.proofs.WholeWalks.{walk_comes}
 use Rattle.fs_chain.proofs.WholeCalls.{AnsweredSo, by_call, by_fault, by_reply_kept}
 use Rattle.fs_chain.proofs.WholeEntries.{listed_session}

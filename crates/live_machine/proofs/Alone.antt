@@ -200,7 +200,7 @@ all_reach_same m n same access (d ∷ ds) =
 lost_over : (m n : Memory) → location m ≡ location n → (lost : List Load) → All (IsLost n) lost → All (IsLost m) lost
 lost_over m n same lost all = λ k d few. let l = all k d few in (l.0, reach_same m n same Read (slice_index_or lost k d).address 16 ∙ l.1)
 
-offers_over : (m n : Memory) → location m ≡ location n → (limit : ℕ) (q : Queue) (loaded : Loaded) (request : List ℕ) (o : Offer)
+pub offers_over : (m n : Memory) → location m ≡ location n → (limit : ℕ) (q : Queue) (loaded : Loaded) (request : List ℕ) (o : Offer)
     → OffersBy n limit q loaded request o
     → OffersBy m limit q loaded request o
 offers_over m n same limit q loaded request o by =
@@ -226,7 +226,7 @@ entries_over m n same [] all = tt
 entries_over m n same (l ∷ ls) all =
     ((all.0.0, reach_same m n same Read l.address 16 ∙ all.0.1), entries_over m n same ls all.1)
 
-mapped_over : (m n : Memory) → location m ≡ location n → (q : Queue) (loaded : Loaded) → LoadsAreMapped n q loaded →
+pub mapped_over : (m n : Memory) → location m ≡ location n → (q : Queue) (loaded : Loaded) → LoadsAreMapped n q loaded →
     LoadsAreMapped m q loaded
 mapped_over m n same q loaded mapped = record {
   index = λ some. reach_same m n same Read (avail_index_at q) 2 ∙ mapped.index some;
@@ -347,6 +347,7 @@ returned_is_step_by {F} {G} may other s now after es c x notice last used seen m
       record {
         lost = made.lost;
         lost_are = made.all_lost;
+        ring = made.ring;
         mapped = mapped_over m.memory c.places first.places c.taken c.loaded so.2;
         step = subst (λ (k : Option Queue). StepOfBy other m c.queue k (chain_loads c made.lost) (calls_in c.phase)
             (Exchanged x (tells seen)) (effects_of c x last seen) (after_alone m c files)) (sym first.queue)

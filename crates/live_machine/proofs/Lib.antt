@@ -20,4 +20,6 @@ pub mod RewrittenRun
 pub mod Rounds
 pub mod Serial
 pub mod SeveralRuns
+pub mod Steps
 pub mod Stored
+pub mod Within

@@ -7,7 +7,7 @@ use Rattle.std.proofs.lemmas.Bool.{eq-eqb, eqb-true}
 use Rattle.vm_memory_core.specs.Host.{changed_at}
 use Rattle.vm_memory.specs.Memory.{Memory}
 use Rattle.fs_queue.specs.Chain.{Descriptor}
-use Rattle.fs_queue.specs.Queue.{with_stop}
+use Rattle.fs_queue.specs.Queue.{Queue, with_stop}
 use Rattle.fs_queue.specs.Taking.{return_fault, stops_queue}
 use Rattle.fs_regions.specs.declared.step.CourseStep as comes
 use Rattle.fs_regions.specs.declared.step.CourseStep.TheVariants as step
@@ -317,20 +317,29 @@ module _ (i : ℕ) where
 
 -- ---- the places of chains that are out, and those of now
 
--- their queues' returns have places by both
+-- the layout of a queue
+abbrev pub laid : Queue → Queue
+laid q = record q { position = 0; stopped = false }
+
+-- a queue's returns have places by both, and it is laid out as when the chain was taken
+abbrev IfTied : (m : Memory) → (taken : Queue) → (now : Memory) → Option LiveQueue → Type 0
+IfTied m taken now None = Unit {0}
+IfTied m taken now (Some w) = KeepsReturns m now w × (laid w.queue ≡ laid taken)
+
+-- so are their queues
 abbrev Tied : (now : Memory) → List LiveQueue → InFlightChain → Type 0
-Tied now ws c = IfKeepsReturns c.places now (slice_get ws c.queue)
+Tied now ws c = IfTied c.places c.taken now (slice_get ws c.queue)
 
 abbrev AllTied : {F : Type 0} → LiveState F → Type 0
 AllTied s = AllByRecursion (Tied s.places s.queues) s.chains
 
 -- a queue whose parts stay keeps them so
 abbrev StaysLaid : LiveQueue → LiveQueue → Type 0
-StaysLaid v v' = (m m' : Memory) → KeepsReturns m m' v → KeepsReturns m m' v'
+StaysLaid v v' = ((m m' : Memory) → KeepsReturns m m' v → KeepsReturns m m' v') × (laid v'.queue ≡ laid v.queue)
 
 refusal_moves : (v : LiveQueue) (stops : Bool) → StaysLaid v (record v { queue = if stops then with_stop v.queue else v.queue })
-refusal_moves v true m m' keeps = record { returns = keeps.returns; event = keeps.event }
-refusal_moves v false m m' keeps = record { returns = keeps.returns; event = keeps.event }
+refusal_moves v true = (λ m m' keeps. record { returns = keeps.returns; event = keeps.event }, refl)
+refusal_moves v false = (λ m m' keeps. record { returns = keeps.returns; event = keeps.event }, refl)
 
 one_tied : (now : Memory) (ws : List LiveQueue) (j : ℕ) (v v' : LiveQueue) (c : InFlightChain) (b : Bool) → (j == c.queue) ≡ b
     → slice_get ws j ≡ Some v → StaysLaid v v' → Tied now ws c
@@ -338,10 +347,11 @@ one_tied : (now : Memory) (ws : List LiveQueue) (j : ℕ) (v v' : LiveQueue) (c 
 one_tied now ws j v v' c true is at moves tied =
     let same : j ≡ c.queue = eqb-true j c.queue is in
     let here : slice_get ws c.queue ≡ Some v = ap (λ (n : ℕ). slice_get ws n) (sym same) ∙ at in
-    subst (λ (k : Option LiveQueue). IfKeepsReturns c.places now k) (sym (there_same ws j c.queue (λ _. v') v same here))
-    (moves c.places now (subst (λ (k : Option LiveQueue). IfKeepsReturns c.places now k) here tied))
+    let old : IfTied c.places c.taken now (Some v) = subst (λ (k : Option LiveQueue). IfTied c.places c.taken now k) here tied in
+    subst (λ (k : Option LiveQueue). IfTied c.places c.taken now k) (sym (there_same ws j c.queue (λ _. v') v same here))
+    (moves.0 c.places now old.0, moves.1 ∙ old.1)
 one_tied now ws j v v' c false is at moves tied =
-    subst (λ (k : Option LiveQueue). IfKeepsReturns c.places now k) (sym (there_other ws j c.queue (λ _. v') (apart_of j c.queue is))) tied
+    subst (λ (k : Option LiveQueue). IfTied c.places c.taken now k) (sym (there_other ws j c.queue (λ _. v') (apart_of j c.queue is))) tied
 
 all_tied : (now : Memory) (ws : List LiveQueue) (j : ℕ) (v v' : LiveQueue) (cs : List InFlightChain) → slice_get ws j ≡ Some v →
     StaysLaid v v'
@@ -384,7 +394,7 @@ one_left_tied now ws j v c cs true is tied rest =
     subst (AllByRecursion (Tied now (changed_at ws j (λ _. v)))) (sym (kept_not (λ c. not (c.queue == j)) c cs false (ap not is))) rest
 one_left_tied now ws j v c cs false is tied rest =
     let other : Tied now (changed_at ws j (λ _. v)) c =
-    subst (λ (k : Option LiveQueue). IfKeepsReturns c.places now k)
+    subst (λ (k : Option LiveQueue). IfTied c.places c.taken now k)
     (sym (there_other ws j c.queue (λ _. v) (λ same. apart_of c.queue j is (sym same)))) tied in
     subst (AllByRecursion (Tied now (changed_at ws j (λ _. v)))) (sym (kept_not (λ c. not (c.queue == j)) c cs true (ap not is)))
     (other, rest)
@@ -395,15 +405,17 @@ left_tied now ws j v [] all = tt
 left_tied now ws j v (c ∷ cs) all = one_left_tied now ws j v c cs (c.queue == j) refl all.0 (left_tied now ws j v cs all.1)
 
 -- other places keep them
-joined_tied : (m now m' : Memory) (q : Option LiveQueue) → IfKeepsReturns m now q → IfKeepsReturns now m' q → IfKeepsReturns m m' q
-joined_tied m now m' None one two = tt
-joined_tied m now m' (Some w) one two = record { returns = λ p. two.returns p ∙ one.returns p; event = two.event ∙ one.event }
+joined_tied : (m : Memory) (taken : Queue) (now m' : Memory) (q : Option LiveQueue) → IfTied m taken now q → IfKeepsReturns now m' q →
+    IfTied m taken m' q
+joined_tied m taken now m' None one two = tt
+joined_tied m taken now m' (Some w) one two =
+    (record { returns = λ p. two.returns p ∙ one.0.returns p; event = two.event ∙ one.0.event }, one.1)
 
 mapped_tied : {F : Type 0} (s : LiveState F) (m' : Memory) (cs : List InFlightChain) → AllByRecursion (KeepsQueue s m') cs →
     AllByRecursion (Tied s.places s.queues) cs → AllByRecursion (Tied m' s.queues) cs
 mapped_tied s m' [] keeps all = tt
 mapped_tied s m' (c ∷ cs) keeps all =
-    (joined_tied c.places s.places m' (slice_get s.queues c.queue) all.0 keeps.0, mapped_tied s m' cs keeps.1 all.1)
+    (joined_tied c.places c.taken s.places m' (slice_get s.queues c.queue) all.0 keeps.0, mapped_tied s m' cs keeps.1 all.1)
 
 refusal_tied : {F : Type 0} (s : LiveState F) (j : ℕ) (v : LiveQueue) (stops : Bool) → slice_get s.queues j ≡ Some v → AllTied s
     → AllTied (record s { queues = changed_at s.queues j (λ _. record v { queue = if stops then with_stop v.queue else v.queue }) })
@@ -423,11 +435,11 @@ walk_tied {F} s mid j v loaded ds (step.Chain head fault) at h all =
     let c = new_chain s j v loaded ds head fault in
     let ws = changed_at s.queues j (λ _. took v) in
     let mine : Tied s.places ws c =
-    subst (λ (k : Option LiveQueue). IfKeepsReturns s.places s.places k) (sym (there_same s.queues j j (λ _. took v) v refl at))
-    (record { returns = λ p. refl; event = refl }) in
+    subst (λ (k : Option LiveQueue). IfTied s.places v.queue s.places k) (sym (there_same s.queues j j (λ _. took v) v refl at))
+    (record { returns = λ p. refl; event = refl }, refl) in
     subst (λ (k : LiveState F). AllTied k) (sym h.1)
     (all_both (Tied s.places ws) s.chains (c ∷ []) (all_tied s.places s.queues j v (took v) s.chains at
-    (λ m m' keeps. record { returns = keeps.returns; event = keeps.event }) all) (mine, tt))
+    (λ m m' keeps. record { returns = keeps.returns; event = keeps.event }, refl) all) (mine, tt))
 
 ties : {F : Type 0} (may : May F) (s mid : LiveState F) (e : LiveEvent) → Happens may s e mid → AllTied s → AllTied mid
 ties may s mid (EndsPop j loaded ds came) h all = walk_tied s mid j h.w loaded ds came h.there h.ends all
@@ -443,7 +455,7 @@ ties {F} may s mid (ReceivesAnswer c call answer) h all =
 ties {F} may s mid (PushesChain c x notice last used seen) h all =
     subst (λ (k : LiveState F). AllTied k) (sym h.state)
     (all_tied s.places s.queues c.queue h.w (gave h.w) (h.before ++ h.behind) h.there
-    (λ m m' keeps. record { returns = keeps.returns; event = keeps.event })
+    (λ m m' keeps. record { returns = keeps.returns; event = keeps.event }, refl)
     (one_less_tied s.places s.queues h.before h.behind c s.chains h.out all))
 ties {F} may s mid (StoresNotification j store) h all = subst (λ (k : LiveState F). AllTied k) (sym h.state) all
 ties {F} may s mid (ResetsQueue j v) h all =
@@ -452,7 +464,7 @@ ties {F} may s mid (FillsBuffer c stores) h all = subst (λ (k : LiveState F). A
 ties {F} may s mid (GivesUpChain c) h all =
     subst (λ (k : LiveState F). AllTied k) (sym h.state)
     (all_tied s.places s.queues c.queue h.w (gave_up h.w) (h.before ++ h.behind) h.there
-    (λ m m' keeps. record { returns = keeps.returns; event = keeps.event })
+    (λ m m' keeps. record { returns = keeps.returns; event = keeps.event }, refl)
     (one_less_tied s.places s.queues h.before h.behind c s.chains h.out all))
 ties {F} may s mid (Abandons c) h all =
     subst (λ (k : LiveState F). AllTied k) (sym h.state)
@@ -469,6 +481,17 @@ ties {F} may s mid (MovesDevice m' queues) h all =
 run_ties : {F : Type 0} (may : May F) (s now : LiveState F) (es : List LiveEvent) → LiveRun may s es now → AllTied s → AllTied now
 run_ties {F} may s now [] run all = subst (λ (k : LiveState F). AllTied k) (sym run) all
 run_ties may s now (e ∷ es) run all = run_ties may run.0 now es run.2 (ties may s run.0 e run.1 all)
+
+-- a chain that is out of a run keeps its queue's layout
+pub laid_there : {F : Type 0} (may : May F) (s now : LiveState F) (es : List LiveEvent) (c : InFlightChain)
+    (before behind : List InFlightChain) (w : LiveQueue)
+    → s.chains ≡ [] → LiveRun may s es now → now.chains ≡ before ++ c ∷ behind → slice_get now.queues c.queue ≡ Some w
+    → laid w.queue ≡ laid c.taken
+laid_there may s now es c before behind w none run out there =
+    let start : AllTied s = subst (AllByRecursion (Tied s.places s.queues)) (sym none) tt in
+    let tied : Tied now.places now.queues c =
+    tied_there now.places now.queues before behind c now.chains out (run_ties may s now es run start) in
+    (subst (λ (k : Option LiveQueue). IfTied c.places c.taken now.places k) there tied).1
 
 -- ---- a chain that goes back
 
@@ -505,7 +528,7 @@ returns_have_places {F} may s now after es c x notice last used seen none even r
     let tied : Tied now.places now.queues c =
     tied_there now.places now.queues h.before h.behind c now.chains h.out (run_ties may s now es run start) in
     let next : Next c.places h.w =
-    back_there now.places c.places h.w (subst (λ (k : Option LiveQueue). IfKeepsReturns c.places now.places k) h.there tied) ahead in
+    back_there now.places c.places h.w (subst (λ (k : Option LiveQueue). IfTied c.places c.taken now.places k) h.there tied).0 ahead in
     let walked : Walked now.limit c = walked_there may s now es c h.before h.behind none run h.out in
     let fetched = fetched_fits c.places now.limit c.taken c.loaded c.descriptors c.head (fault_of_phase c.phase) walked.0 in (
       h.w,

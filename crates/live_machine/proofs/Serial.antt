@@ -270,7 +270,7 @@ room_in_offer (Some o) = room_offered o
 room_in_offer None = []
 
 -- an exchange by loads that a memory has is a step over it
-step_over : {F : Type 0} (may : May F) (before : State F) (files : F) (c : InFlightChain) (x : Exchange) (last : ℕ) (seen : List ℕ)
+pub step_over : {F : Type 0} (may : May F) (before : State F) (files : F) (c : InFlightChain) (x : Exchange) (last : ℕ) (seen : List ℕ)
     (m : Memory)
     → Exchanging may before files c x last seen → location m ≡ location before.memory → slice_get before.queues c.queue ≡ Some c.taken
     → HasLoaded m c.taken c.loaded (request_of_phase c.phase) → FindFlags m c.taken (effects_of c x last seen).acts

@@ -9,3 +9,4 @@ pub mod Rounds
 pub mod Runs
 pub mod Serial
 pub mod Several
+pub mod Steps

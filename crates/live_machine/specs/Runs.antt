@@ -16,7 +16,7 @@ use Rattle.fuse_fs.specs.Calls.{FileRun}
 use Rattle.virtiofsd_fuse.specs.Serving.{May}
 use Rattle.plain_machine.specs.MarkedPages.{Marks, returned_addresses}
 use Rattle.plain_machine.specs.Step.{State, Exchange, Exchanged}
-use Rattle.fs_regions.specs.Walks.{IsLost, OffersBy}
+use Rattle.fs_regions.specs.Walks.{IsLost, OffersBy, RingIsAsked}
 use Rattle.plain_machine.specs.StepBy.{Act, StepLoads, StepBy, ReturnsBy, after_stores, return_acts}
 use Rattle.plain_machine.specs.StepBy.{return_stores, stores_among}
 use Rattle.live_machine.specs.Several.{LiveQueue, InFlightId, QueueEvent, RunsOver, UsedFrom, heads_taken}
@@ -105,6 +105,7 @@ pub record IsAStep {G : Type 0} (other : May G) (m : State G) (files : G) (w : L
     (x : Exchange) (last : ℕ) (used : List Store) (seen : List ℕ) (notice : Bool) : Type 0 where
   pub lost : List Load
   pub lost_are : All (IsLost m.memory) lost
+  pub ring : RingIsAsked m.memory c.taken c.loaded
   pub mapped : LoadsAreMapped m.memory c.taken c.loaded
   pub step : StepBy other m c.queue (chain_loads c lost) (calls_in c.phase) (Exchanged x (tells seen))
       (record {

@@ -1,7 +1,7 @@
--- What is offered by loads: a request and a room within the limit, and never want of memory.
-use Rattle.std.proofs.Common.{◌≡◌, ℕ, ◌≤◌, Bool, true, false, List, [], ◌∷◌, ◌++◌, length, ◌+◌, ◌^◌, Option, Some, None, refl, subst, sym}
-use Rattle.std.proofs.Common.{ap, ◌∙◌, arith, length-append}
-use Rattle.std.specs.Prelude.{if◌then◌else◌, ◌==◌, ◌||◌, not, nat_lt, option_map, option_and_then, flat_map, replicate}
+-- What is offered by loads: a request and a room within the limit, and never a refusal for want of memory.
+use Rattle.std.proofs.Common.{◌≡◌, ℕ, ◌≤◌, Bool, true, false, List, [], ◌∷◌, length, ◌+◌, Option, Some, None, refl, subst, sym}
+use Rattle.std.proofs.Common.{ap, ◌∙◌, length-append}
+use Rattle.std.specs.Prelude.{if◌then◌else◌, ◌==◌, ◌||◌, not, nat_lt, option_map, option_and_then, flat_map}
 use Rattle.std.proofs.lemmas.Bool.{eqb-true, ltb-false}
 use Rattle.vm_iotlb.specs.declared.permissions.Permissions.TheVariants.{Read, Write}
 use Rattle.vm_memory.specs.Memory.{Memory, addresses, bytes}
@@ -15,13 +15,10 @@ use Rattle.fs_queue.specs.Chain.{Descriptor, Found, IsChain, HasFault, StopsQueu
 use Rattle.fs_queue.specs.Loads.{Load, holding, index_load, entry_load, chain_exactly}
 use Rattle.fs_queue.specs.OfferLoads.{without_request, without_chain, without_loads, without_entry, available_by, with_request, with_loaded}
 use Rattle.fs_queue.specs.OfferLoads.{on_waits, offer_by}
-use Rattle.fs_queue.specs.Taking.{readable, writable, total_len, all_reach, RequestAndRoom, IsRequest, CannotFetch, Offer, Refuses, Offers}
-use Rattle.fs_queue.specs.Taking.{offer_of, addresses_of}
+use Rattle.fs_queue.specs.Taking.{readable, writable, total_len, all_reach, IsRequest, CannotFetch, Offer, Refuses, Offers}
+use Rattle.fs_queue.specs.Taking.{offer_of}
 use Rattle.fs_queue.specs.Taking as taking
-use Rattle.fs_regions.specs.Walks.{Loaded, OffersBy}
-use Rattle.fs_chain.specs.Walks.{count}
 use Rattle.fs_queue.proofs.TakeLemmas.{length-addresses_of}
-use Rattle.std.proofs.lemmas.List.{length-replicate}
 use Rattle.std.proofs.lemmas.List.Sums.{sum_by-cons}
 use Rattle.fs_queue.proofs.ReadLemmas.{length-bytes}
 
@@ -181,20 +178,3 @@ is_within m limit q index entry ls request o is =
     says_is (IsWithin limit) (offer_by m limit q index entry ls request) o
     (by_stop m limit q.stopped index entry ls request (option_and_then (on_waits m limit q ls request) (available_by q index entry))
     (of_waits m limit q ls request (available_by q index entry) (waits_is q index entry))) is
-
--- ---- a chain that is offered whole
-
--- its lengths aren't cut at 2^64, and its room is at most 2^31 bytes long, if the limit is
-pub fits_limit : (m : Memory) (limit : ℕ) (q : Queue) (loaded : Loaded) (ds : List Descriptor) (head : ℕ) → limit ≤ 2 ^ 31
-    → ((request : List ℕ) → length request ≡ total_len (readable ds)
-    → OffersBy m limit q loaded request (Offers head (IsRequest request (addresses_of (writable ds)))))
-    → (count false ds ≡ total_len (readable ds)) × (length (addresses_of (writable ds)) ≡ count true ds) × (count true ds ≤ 2 ^ 31)
-fits_limit m limit q loaded ds head small offers =
-    let n = total_len (readable ds) in
-    let by = offers (replicate n 0) (length-replicate n 0) in
-    let within = is_within m limit q loaded.index loaded.entry (loaded.entries ++ by.1) (replicate n 0)
-    (Offers head (IsRequest (replicate n 0) (addresses_of (writable ds)))) by.3 in
-    let few : n ≤ limit = subst (λ (k : ℕ). k ≤ limit) (length-replicate n 0) within.0 in
-    let room_is = length-addresses_of (writable ds) in
-    let fits : total_len (writable ds) ≤ limit = subst (λ (k : ℕ). k ≤ limit) room_is within.1 in
-    (omega (arith, few, small), room_is ∙ omega (arith, fits, small), omega (arith, fits, small))

@@ -1,0 +1,150 @@
+-- A pop without a chain is a step by its loads, and a returned chain is one over a memory that has its loads.
+use Rattle.std.proofs.Common.{◌≡◌, ℕ, Bool, List, [], ◌∷◌, ◌++◌, length, Option, refl, subst, sym, ap, ◌∙◌, append-nil}
+use Rattle.std.specs.Prelude.{false, flat_map}
+use Rattle.vm_memory.specs.Memory.{Memory, bytes, stored_all}
+use Rattle.vm_memory.proofs.Places.{stored_all-append}
+use Rattle.fs_queue.specs.Chain.{Descriptor}
+use Rattle.fs_queue.specs.Queue.{Queue}
+use Rattle.fs_queue.specs.Returning.{Store, stores_after_reply, tells, wants_notice, writes_of}
+use Rattle.fs_queue.specs.Taking.{Offer, Refuses, after_refusal}
+use Rattle.fs_queue.specs.Taking as taking
+use Rattle.fs_queue.specs.declared.fault.QueueError.{QueueError}
+use Rattle.fs_queue.specs.declared.fault.QueueError.TheVariants as stop
+use Rattle.fs_queue.proofs.ReadLemmas.{length-bytes}
+use Rattle.fs_regions.specs.declared.step.CourseStep as comes
+use Rattle.fs_regions.specs.declared.step.CourseStep.TheVariants as step
+use Rattle.fs_regions.specs.Walks.{Loaded, OffersBy}
+use Rattle.virtiofsd_fuse.specs.Serving.{May}
+use Rattle.plain_machine.specs.declared.error.DeviceError.TheVariants as device
+use Rattle.plain_machine.specs.Step.{State, StepEnd, Idle, Refused, Exchanged, Step, with_queue}
+use Rattle.plain_machine.specs.StepBy.{ActsBy, FindFlags, StepOfBy, after_stores, reply_stores, return_acts, return_stores, stores_among}
+use Rattle.live_machine.specs.Live.{LiveState, PushesChain, PushedWith, EndsPopIn, LoadsAreMapped, calls_in, event_acts}
+use Rattle.live_machine.specs.Live.{room_of}
+use Rattle.live_machine.specs.Runs.{after_alone}
+use Rattle.live_machine.specs.Several.{LiveQueue, returning, seen_at, wants}
+use Rattle.live_machine.specs.Steps.{IsBeforePop, IsPopStep, PopIsStepBy, ReturnedIsStep, StepOfPop, no_effects, pop_loads}
+use Rattle.live_machine.proofs.Alone.{Walked, exchange_of, mapped_over, offers_over, walked_there}
+use Rattle.live_machine.proofs.Placed.{laid, laid_there}
+use Rattle.live_machine.proofs.Queues.{same_some}
+use Rattle.live_machine.proofs.Serial.{step_over}
+use Rattle.live_machine.proofs.Within.{is_within}
+
+-- ---- a pop without a chain
+
+-- a refusal that is no want of memory
+refused_so : {G : Type 0} (may : May G) (m : State G) (i : ℕ) (q : Queue) (e : QueueError) → (e ≡ stop.OutOfMemory → ⊥)
+    → ActsBy may m i q (Refuses e) [] (Refused (device.Queue e)) no_effects (with_queue m i (after_refusal q e))
+refused_so may m i q stop.OutOfMemory isnt = absurd (isnt refl)
+refused_so may m i q e isnt = (refl, refl, refl, refl)
+
+-- what is offered over the run's mappings is offered over the machine's
+offered_there : {F G : Type 0} (s : LiveState F) (i : ℕ) (w : LiveQueue) (m : State G) (loaded : Loaded) (o : Offer)
+    → IsBeforePop s i w m → OffersBy s.places s.limit w.queue loaded [] o → OffersBy m.memory m.limit w.queue loaded [] o
+offered_there s i w m loaded o first by =
+    subst (λ (k : ℕ). OffersBy m.memory k w.queue loaded [] o) (sym first.limit)
+    (offers_over m.memory s.places first.places s.limit w.queue loaded [] o by)
+
+step_of : {F G : Type 0} (may : May G) (s : LiveState F) (i : ℕ) (w : LiveQueue) (m : State G) (loaded : Loaded) (o : Offer) (end : StepEnd)
+    (after : State G)
+    → IsBeforePop s i w m → LoadsAreMapped s.places w.queue loaded → OffersBy m.memory m.limit w.queue loaded [] o
+    → ActsBy may m i w.queue o [] end no_effects after → IsPopStep may m i w.queue loaded end after
+step_of may s i w m loaded o end after first mapped by acts = record {
+  lost = by.1;
+  lost_are = by.2;
+  ring = by.0;
+  mapped = mapped_over m.memory s.places first.places w.queue loaded mapped;
+  step = subst (λ (k : Option Queue). StepOfBy may m i k (pop_loads loaded by.1) [] end no_effects after) (sym first.queue) (o, by.3, acts);
+}
+
+by_result : {F G : Type 0} (may : May G) (s after : LiveState F) (i : ℕ) (w : LiveQueue) (m : State G) (loaded : Loaded)
+    (ds : List Descriptor) (came : comes.CourseStep)
+    → IsBeforePop s i w m → LoadsAreMapped s.places w.queue loaded → EndsPopIn s i w loaded ds came after
+    → StepOfPop may m i w.queue loaded came
+by_result may s after i w m loaded ds step.Idle first mapped ends =
+    step_of may s i w m loaded taking.Idle Idle m first mapped (offered_there s i w m loaded taking.Idle first ends.0)
+    (refl, record { same = refl; no_call = refl }, refl)
+by_result may s after i w m loaded ds (step.Refused e) first mapped ends =
+    let by = offered_there s i w m loaded (Refuses e) first ends.0 in
+    let isnt = is_within m.memory m.limit w.queue loaded.index loaded.entry (loaded.entries ++ by.1) [] (Refuses e) by.3 in
+    step_of may s i w m loaded (Refuses e) (Refused (device.Queue e)) (with_queue m i (after_refusal w.queue e)) first mapped by
+    (refused_so may m i w.queue e isnt)
+by_result may s after i w m loaded ds came first mapped ends = tt
+
+pub pop_is_step_by : {F G : Type 0} (may : May F) (other : May G) → PopIsStepBy may other
+pop_is_step_by {F} {G} may other s after i loaded ds came w m there h first =
+    let same : h.w ≡ w = same_some h.w w (sym h.there ∙ there) in
+    by_result other s after i w m loaded ds came first
+    (subst (λ (k : LiveQueue). LoadsAreMapped s.places k.queue loaded) same h.mapped)
+    (subst (λ (k : LiveQueue). EndsPopIn s i k loaded ds came after) same h.ends)
+
+-- ---- the stores of a return, and the two bytes that are loaded behind them
+
+-- the stores are those among its acts
+among_return : (stores : List Store) (seen : List ℕ) → stores_among (return_acts stores seen) ≡ stores
+among_return [] seen = refl
+among_return (store ∷ stores) seen = ap (λ (l : List Store). store ∷ l) (among_return stores seen)
+
+-- one store, and then others
+stored_in_turn :
+    (m : Memory) (store : Store) (stores : List Store) → after_stores m (store ∷ stores) ≡ after_stores (after_stores m (store ∷ [])) stores
+stored_in_turn m store stores =
+    stored_all-append (writes_of store) (flat_map writes_of stores) m
+    ∙ ap (λ (l : List (ℕ × ℕ)). stored_all (stored_all m l) (flat_map writes_of stores)) (sym (append-nil (writes_of store)))
+
+finds_last : (m : Memory) (q : Queue) (stores : List Store) (seen : List ℕ) → seen ≡ bytes (after_stores m stores) q.avail 2 →
+    FindFlags m q (return_acts stores seen)
+unfolding stored_all
+finds_last m q [] seen is = (is, tt)
+finds_last m q (store ∷ stores) seen is =
+    finds_last (after_stores m (store ∷ [])) q stores seen (is ∙ ap (λ (k : Memory). bytes k q.avail 2) (stored_in_turn m store stores))
+
+-- a chain that goes back at the position of its walk, to a queue of the same layout
+used_there : (w : LiveQueue) (q : Queue) (head len : ℕ) → laid w.queue ≡ laid q → w.next_used ≡ q.position →
+    stores_after_reply (returning w) head len ≡ stores_after_reply q head len
+used_there w q head len same at =
+    ap (λ (k : Queue). stores_after_reply (record k { position = w.next_used }) head len) same
+    ∙ ap (λ (p : ℕ). stores_after_reply (record q { position = p }) head len) at
+
+-- ---- a chain over a memory
+
+by_flags_told : (w : LiveQueue) (m : Memory) (avail : ℕ) (seen : List ℕ) (notice : Bool)
+    → notice ≡ wants w seen → w.queue.avail ≡ avail → w.event_index ≡ false → seen ≡ bytes m (seen_at w) 2
+    → notice ≡ tells (bytes m avail 2)
+by_flags_told w m avail seen notice told same no_event found =
+    let at : seen_at w ≡ avail = (rw no_event refl) ∙ same in
+    let flags : wants w seen ≡ tells seen = rw no_event refl in
+    told ∙ flags ∙ ap tells (found ∙ ap (λ (a : ℕ). bytes m a 2) at)
+
+pub returned_is_step : {F G : Type 0} (may : May F) (other : May G) → ReturnedIsStep may other
+returned_is_step {F} {G} may other s now after es c x notice last used seen m files w none run h served there in_order first calls has =
+    let so : Walked m.limit c =
+    subst (λ (k : ℕ). Walked k c) (sym first.limit) (walked_there may s now es c h.before h.behind none run h.out) in
+    let goes : PushedWith m.page_size c c.phase x = subst (λ (k : ℕ). PushedWith k c c.phase x) (sym first.page_size) h.goes in
+    let stores = return_stores c.taken c.head (room_of c) x.reply last in
+    let left = after_stores m.memory stores in
+    let flags = bytes left c.taken.avail 2 in
+    let made = exchange_of other m files c.places c.queue c.taken c.loaded c.descriptors c.head c.phase x last flags first.places served so
+    first.options goes (length-bytes left c.taken.avail 2) calls in
+    let stepped = step_over other m files c x last flags m.memory made refl first.queue has.loads
+    (finds_last m.memory c.taken stores flags refl) has.apart in
+    let P : List Store → Type 0 = λ ss. Step other m c.queue (calls_in c.phase)
+    (Exchanged x (wants_notice (after_stores m.memory ss) c.taken))
+    (record (after_alone m c files) { memory = after_stores m.memory ss }) in
+    let by_stores : P stores =
+    subst (λ (ss : List Store). Step other m c.queue (calls_in c.phase) (Exchanged x (tells flags))
+    (record (after_alone m c files) { memory = after_stores m.memory ss })) (among_return stores flags) stepped in
+    let same : h.w ≡ w = same_some h.w w (sym h.there ∙ there) in
+    let layout : laid w.queue ≡ laid c.taken = laid_there may s now es c h.before h.behind w none run h.out there in
+    let used_is : used ≡ stores_after_reply c.taken c.head (length x.reply) =
+    h.used_is ∙ ap (λ (k : LiveQueue). stores_after_reply (returning k) c.head (length x.reply)) same
+    ∙ used_there w c.taken c.head (length x.reply) layout in_order in
+    let mine : stores_among (event_acts (PushesChain c x notice last used seen)) ≡ stores =
+    among_return (reply_stores (room_of c) x.reply last ++ used) seen
+    ∙ ap (λ (u : List Store). reply_stores (room_of c) x.reply last ++ u) used_is in
+    let event = PushesChain c x notice last used seen in
+    let there_now = after_stores m.memory (stores_among (event_acts event)) in
+    record {
+      step = subst P (sym mine) by_stores;
+      by_flags = λ no_event found. by_flags_told w there_now c.taken.avail seen notice
+          (h.told ∙ ap (λ (k : LiveQueue). wants k seen) same) (ap (λ (q : Queue). q.avail) layout) no_event found;
+    }
