@@ -72,8 +72,8 @@ impl<F: ServedFs> Core<F> {
     /// queue, and one the high-priority queue.
     pub fn new(parts: Parts<F>) -> io::Result<Core<F>> {
         let Parts { fs, request_queues, threads, flags, descriptors, always_agreed } = parts;
-        if pitskhomu::version() != pitskhomu::VERSION {
-            return Err(io::Error::other("the archive is of another version than the wrapper"));
+        if !pitskhomu::is_compatible() {
+            return Err(io::Error::other("the archive lacks functions that the wrapper calls"));
         }
         let late: Arc<AtomicUsize> = Arc::default();
         let ring = |index| Ring::new(index, if index == 0 { 1 } else { threads }, late.clone());

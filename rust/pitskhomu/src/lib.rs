@@ -126,11 +126,23 @@ pub use worker::{Lent, Popped, Served, Worker};
 /// left by 16 bits, and the minor one.
 pub const VERSION: u32 = sys::VERSION;
 
-/// The version of the linked archive. If the two may be of different releases, compare it once with
-/// [`VERSION`]: the major numbers have to be the same, and the archive's minor number not less.
+/// The version of the linked archive, which may be of another release: [`is_compatible`] compares
+/// it with [`VERSION`].
 #[must_use]
 pub fn version() -> u32 {
     chain::version()
+}
+
+/// Whether the linked archive has all that this crate calls (`pk_is_compatible`): the major numbers
+/// are the same, and the archive's minor number isn't less. Ask once, before the first call.
+#[must_use]
+pub fn is_compatible() -> bool {
+    runs_with(VERSION, version())
+}
+
+/// Whether a program of this version of the header runs with a library of that one.
+const fn runs_with(program: u32, library: u32) -> bool {
+    library >> 16 == program >> 16 && library >= program
 }
 
 /// What the linked archive is, for logs: its release and commit, and the logic that proved it or
@@ -145,4 +157,20 @@ pub fn build() -> &'static str {
 #[must_use]
 pub fn is_name(name: &[u8]) -> bool {
     chain::is_name(name)
+}
+
+#[cfg(test)]
+mod tests {
+    use super::{is_compatible, runs_with, version, VERSION};
+
+    // A program runs with each later library of its major number, and with no other.
+    #[test]
+    fn a_later_library_of_the_same_major_number_is_compatible() {
+        for library in 0..0x5_0000 {
+            let (major, minor) = (library >> 16, library & 0xffff);
+            assert_eq!(runs_with(0x2_0005, library), major == 2 && minor >= 5, "{library:#x}");
+        }
+        assert!(runs_with(0xffff_ffff, 0xffff_ffff) && !runs_with(0xffff_fffe, 0x1_ffff));
+        assert_eq!(is_compatible(), version() >> 16 == 1 && version() & 0xffff >= VERSION & 0xffff);
+    }
 }
