@@ -463,3 +463,10 @@ uint64_t open_node(struct front *front, uint64_t node, uint32_t flags) {
     memcpy(&out, reply.data, sizeof out);
     return out.fh;
 }
+
+void wait_for_opening(int lease) {
+    for (int tries = 0; fcntl(lease, F_GETLEASE) == F_WRLCK; tries++) {
+        if (tries == 20000) die("the file isn't opened");
+        usleep(1000);
+    }
+}

@@ -111,4 +111,7 @@ void begin_session(struct front *front);
 uint64_t look_up(struct front *front, uint64_t parent, const char *name);
 uint64_t open_node(struct front *front, uint64_t node, uint32_t flags);
 
+/* Waits until the back-end opens a file on which this process has a lease: the chain was walked. */
+void wait_for_opening(int lease);
+
 #endif

@@ -6,6 +6,7 @@
 #include "checks.h"
 #include <fcntl.h>
 #include <linux/fuse.h>
+#include <poll.h>
 #include <stdio.h>
 #include <stdlib.h>
 #include <string.h>
@@ -147,7 +148,7 @@ void hold(const char *dir, uint64_t node) {
     uint16_t before = returned(1);
     lease = lease_slow(dir);
     send_apart(1, SLOW_SLOT, FUSE_OPEN, node, &in, sizeof in, 16 + 16);
-    usleep(300000);
+    wait_for_opening(lease);
     if (returned(1) != before) die("the request takes no time");
 }
 
@@ -196,8 +197,9 @@ static void messages(const char *dir, uint64_t node, unsigned seconds) {
     close(lease);
     check("the slow one is returned",
           is_returned(1, (uint16_t)(before + 1)) && is_slow_one(used_at(1)));
-    usleep(50000);
-    check("the driver is interrupted where it is to be now", read(call, &word, sizeof word) > 0);
+    /* marks and interrupt come behind the used index */
+    check("the driver is interrupted where it is to be now",
+          poll(&(struct pollfd){call, POLLIN, 0}, 1, 20000) == 1);
     check("and not where it was to be", read(front.rings[1].call, &word, sizeof word) < 0);
     check("the slow one's page is marked", log[page / 4096 / 8] >> page / 4096 % 8 & 1);
     check("the used ring's page is marked",
