@@ -31,13 +31,16 @@ snapshot() {
 }
 
 # Runs a program of the tests over the daemon; what it prints is shown. THREADS of the environment
-# is the daemon's --thread-pool-size; with EVENT_INDEX=1 the driver takes VIRTIO_F_EVENT_IDX.
+# is the daemon's --thread-pool-size; with EVENT_INDEX=1 the driver takes VIRTIO_F_EVENT_IDX. Where
+# answers have to come within milliseconds, both have real-time priority, if that is allowed.
 try() {
-    local program=$1 what=$2 status=0
+    local program=$1 what=$2 status=0 priority=()
     make_yard "$what"
+    case $what in held) ! chrt -f 1 true 2> "$work/none" || priority=(chrt -f 1) ;; esac
     (
         ulimit -f 65536
-        exec timeout $((SECONDS_EACH + 600)) "$work/$program" "$DAEMON" "$work/yard/share" "${@:2}"
+        exec "${priority[@]}" timeout $((SECONDS_EACH + 600)) \
+            "$work/$program" "$DAEMON" "$work/yard/share" "${@:2}"
     ) > "$work/$program-$what" 2> "$work/$program-$what.errors" || status=$?
     cat "$work/$program-$what"
     ! grep -a -E 'FAILED|panicked' "$work/$program-$what.errors" || failure "$program $what"
