@@ -19,7 +19,8 @@ from calls import Calls
 from guests import long_script, wide_write, wraps
 from hostile import heavy
 from lacking import Lacking
-from machine import LACKING, TooMuchWork, play
+from machine import LACKING, Player, TooMuchWork, play
+from malformed import malformed
 from programs import Built
 from scripts import made, stored
 from shrink import shrunk
@@ -66,6 +67,8 @@ class Fuzzer:
         batch has a seed's, so that one can be played again."""
         store = stored()
         fixed = [(f"stored script {index}", script) for index, script in enumerate(store)]
+        fixed += [(f"malformed line {index}", script)
+            for index, script in enumerate(malformed(Player.COMMANDS))]
         fixed.append(("a script of 1 MiB", long_script(0)))
         fixed.append(("a script that is too long", long_script(1)))
         fixed.append(("a script of a wide write", wide_write()))
