@@ -362,13 +362,13 @@ static void by_listing(uint32_t ticket) {
     uint8_t name[300];
     struct pk_entry e = some_entry();
     size_t len = list_len && below(8) ? list_len : below(LIST + 1),
-           name_len = below(4) ? 1 + below(30) : below(300);
+           name_len = below(4) ? 1 + below(30) : below(2) ? 254 + below(3) : below(300);
     uint64_t offset = number(), most;
     bool plus = row->opcode == READDIRPLUS ? below(12) : !below(12), is_bad;
     memset(name, 'n', sizeof name);
     if (name_len && below(9) == 0) name[below(name_len)] = '/';
     if (below(5) == 0) name[0] = name[1] = '.';
-    if (below(3)) name_len = name_len < 8 ? name_len : 1 + name_len % 8;
+    if (below(3)) name_len = name_len < 8 || name_len > 253 ? name_len : 1 + name_len % 8;
     if (below(4)) e.attr.mode = (uint32_t)(below(8) * 2 * 4096 + below(4096));
     is_bad = name_len == 0 || name_len > 255 || memchr(name, '/', name_len) ||
              !is_type(e.attr.mode / 4096 % 16);
