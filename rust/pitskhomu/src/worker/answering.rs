@@ -86,6 +86,7 @@ impl Worker {
         self.replied = match self.chain.reply_error(Errno::EIO) {
             Err(Status::OtherKind) => self.chain.reply_done()?,
             Err(Status::WrongOrder) => {
+                self.load_front(memory); // the memory may have panicked amid its first load
                 self.reply_error(memory, Errno::EIO)?;
                 Replied::Whole
             }

@@ -1,4 +1,6 @@
 //! Threads over a ring that is two numbers, with an IOMMU and calls that end when the test says so.
+mod chance;
+
 use super::*;
 use crate::live::events::{new_event, signal};
 use crate::queue::{Queue, QueueLayout};
