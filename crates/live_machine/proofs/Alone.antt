@@ -1,5 +1,5 @@
 -- Each chain by itself.
-use Rattle.std.proofs.Common.{◌≡◌, ℕ, Bool, List, [], ◌∷◌, ◌++◌, length, filter, Option, Some, None, refl, subst, sym, ap, ◌∙◌}
+use Rattle.std.proofs.Common.{◌≡◌, ℕ, Bool, List, [], ◌∷◌, ◌++◌, length, filter, Option, Some, None, slice_get, refl, subst, sym, ap, ◌∙◌}
 use Rattle.std.specs.Prelude.{All, not, ◌==◌, ◌≤◌, ◌+◌, ◌^◌, ◌&&◌, is_some, nat_lt, true, false}
 use Rattle.std.specs.List.{AllByRecursion, list_all, slice_index_or}
 use Rattle.vm_iotlb.specs.declared.permissions.Permissions.{Permissions}
@@ -35,7 +35,8 @@ use Rattle.live_machine.specs.Live.{IsMappedEntry, IsUnreplied, LoadsAreMapped}
 use Rattle.live_machine.specs.Live.{LiveRun, EndsPopIn}
 use Rattle.live_machine.specs.Live.{PushedWith, abandoned_chain, new_chain, fault_of_phase, own_exchange, room_of_phase, room_of, calls_in}
 use Rattle.live_machine.specs.Live.{serving}
-use Rattle.live_machine.specs.Runs.{OwnIsReturned, ReturnedIsStepBy, IsAskedIn, IsServedPhase, after_alone, chain_loads, options_left}
+use Rattle.live_machine.specs.Runs.{OwnIsReturned, ReturnedIsStepBy, IsAStep, IsAskedIn, IsBefore, IsServedPhase, after_alone, chain_loads}
+use Rattle.live_machine.specs.Runs.{options_left}
 
 -- ---- lists of chains
 
@@ -135,7 +136,7 @@ own_walked limit c (Asked asked options calls) request reply is un few h = (
 )
 own_walked limit c p request reply is un few h = absurd un
 
-keeps : {F : Type 0} (may : May F) (s after : LiveState F) (e : LiveEvent) → Happens may s e after → AllWalked s → AllWalked after
+pub keeps : {F : Type 0} (may : May F) (s after : LiveState F) (e : LiveEvent) → Happens may s e after → AllWalked s → AllWalked after
 keeps may s after (EndsPop i loaded ds came) h all = walk_keeps s after i h.w loaded ds came h.ends h.mapped all
 keeps {F} may s after (RefusesPop i e) h all = subst (λ (k : LiveState F). AllWalked k) (sym h.state) all
 keeps {F} may s after (DecodesRequest c request told) h all =
@@ -335,10 +336,14 @@ walked_there may s now es c before behind none run out =
     let start : AllWalked s = subst (AllByRecursion (Walked s.limit)) (sym none) tt in
     (one_walked now before behind c out (run_keeps may s now es run start)).1
 
-pub returned_is_step_by : {F G : Type 0} (may : May F) (other : May G) → ReturnedIsStepBy may other
-returned_is_step_by {F} {G} may other s now after es c x notice last used seen m files none run h served first calls =
-    let so : Walked m.limit c =
-    subst (λ (k : ℕ). Walked k c) (sym first.limit) (walked_there may s now es c h.before h.behind none run h.out) in
+-- a chain that was walked and goes back is a step
+pub step_by_walk : {F G : Type 0} (may : May F) (other : May G) (now after : LiveState F) (c : InFlightChain) (x : Exchange) (notice : Bool)
+    (last : ℕ) (used : List Store) (seen : List ℕ) (m : State G) (files : G)
+    → Walked now.limit c → Happens may now (PushesChain c x notice last used seen) after → IsServedPhase c.phase → IsBefore now c m
+    → FileRun other m.files (calls_in c.phase) files
+    → (w : LiveQueue) × (slice_get now.queues c.queue ≡ Some w) × IsAStep other m files w c x last used seen notice
+step_by_walk {F} {G} may other now after c x notice last used seen m files walked h served first calls =
+    let so : Walked m.limit c = subst (λ (k : ℕ). Walked k c) (sym first.limit) walked in
     let goes : PushedWith m.page_size c c.phase x = subst (λ (k : ℕ). PushedWith k c c.phase x) (sym first.page_size) h.goes in
     let made = exchange_of other m files c.places c.queue c.taken c.loaded c.descriptors c.head c.phase x last seen first.places served so
     first.options goes h.two calls in (
@@ -356,6 +361,11 @@ returned_is_step_by {F} {G} may other s now after es c x notice last used seen m
         notice_is = h.told;
       },
     )
+
+pub returned_is_step_by : {F G : Type 0} (may : May F) (other : May G) → ReturnedIsStepBy may other
+returned_is_step_by may other s now after es c x notice last used seen m files none run h served first calls =
+    step_by_walk may other now after c x notice last used seen m files (walked_there may s now es c h.before h.behind none run h.out) h
+    served first calls
 
 -- a chain that goes back with its caller's own bytes
 pub own_is_returned : {F : Type 0} (G : Type 0) (may : May F) → OwnIsReturned G may

@@ -1,6 +1,7 @@
 -- A pop without a chain is a step by its loads, and a returned chain is one over a memory that has its loads.
-use Rattle.std.proofs.Common.{◌≡◌, ℕ, Bool, List, [], ◌∷◌, ◌++◌, length, Option, refl, subst, sym, ap, ◌∙◌, append-nil}
+use Rattle.std.proofs.Common.{◌≡◌, ℕ, Bool, List, [], ◌∷◌, ◌++◌, length, Option, Some, slice_get, refl, subst, sym, ap, ◌∙◌, append-nil}
 use Rattle.std.specs.Prelude.{false, flat_map}
+use Rattle.std.specs.List.{AllByRecursion}
 use Rattle.vm_memory.specs.Memory.{Memory, bytes, stored_all}
 use Rattle.vm_memory.proofs.Places.{stored_all-append}
 use Rattle.fs_queue.specs.Chain.{Descriptor}
@@ -14,16 +15,19 @@ use Rattle.fs_queue.proofs.ReadLemmas.{length-bytes}
 use Rattle.fs_regions.specs.declared.step.CourseStep as comes
 use Rattle.fs_regions.specs.declared.step.CourseStep.TheVariants as step
 use Rattle.fs_regions.specs.Walks.{Loaded, OffersBy}
+use Rattle.fuse_fs.specs.Calls.{FileRun}
 use Rattle.virtiofsd_fuse.specs.Serving.{May}
 use Rattle.plain_machine.specs.declared.error.DeviceError.TheVariants as device
-use Rattle.plain_machine.specs.Step.{State, StepEnd, Idle, Refused, Exchanged, Step, with_queue}
+use Rattle.plain_machine.specs.Step.{State, StepEnd, Idle, Refused, Exchange, Exchanged, Step, with_queue}
 use Rattle.plain_machine.specs.StepBy.{ActsBy, FindFlags, StepOfBy, after_stores, reply_stores, return_acts, return_stores, stores_among}
-use Rattle.live_machine.specs.Live.{LiveState, PushesChain, PushedWith, EndsPopIn, LoadsAreMapped, calls_in, event_acts}
-use Rattle.live_machine.specs.Live.{room_of}
-use Rattle.live_machine.specs.Runs.{after_alone}
+use Rattle.live_machine.specs.Live.{InFlightChain, LiveState, LiveEvent, PushesChain, PushedWith, EndsPopIn, Happens, LoadsAreMapped}
+use Rattle.live_machine.specs.Live.{calls_in, event_acts, room_of}
+use Rattle.live_machine.specs.Runs.{IsBefore, IsServedPhase, after_alone}
 use Rattle.live_machine.specs.Several.{LiveQueue, returning, seen_at, wants}
-use Rattle.live_machine.specs.Steps.{IsBeforePop, IsPopStep, PopIsStepBy, ReturnedIsStep, StepOfPop, no_effects, pop_loads}
-use Rattle.live_machine.proofs.Alone.{Walked, exchange_of, mapped_over, offers_over, walked_there}
+use Rattle.live_machine.specs.Steps.{HasLoadsOf, IsAStepOver, IsBeforePop, IsInOrder, IsPopStep, PopIsStepBy, ReturnedBesideIsStep}
+use Rattle.live_machine.specs.Steps.{ReturnedIsStep, RunBeside, StepOfPop, no_effects, pop_loads}
+use Rattle.live_machine.proofs.Alone.{AllWalked, Walked, exchange_of, keeps, mapped_over, offers_over, one_walked, step_by_walk}
+use Rattle.live_machine.proofs.Alone.{walked_there}
 use Rattle.live_machine.proofs.Placed.{laid, laid_there}
 use Rattle.live_machine.proofs.Queues.{same_some}
 use Rattle.live_machine.proofs.Serial.{step_over}
@@ -99,11 +103,14 @@ finds_last m q (store ∷ stores) seen is =
     finds_last (after_stores m (store ∷ [])) q stores seen (is ∙ ap (λ (k : Memory). bytes k q.avail 2) (stored_in_turn m store stores))
 
 -- a chain that goes back at the position of its walk, to a queue of the same layout
-used_there : (w : LiveQueue) (q : Queue) (head len : ℕ) → laid w.queue ≡ laid q → w.next_used ≡ q.position →
-    stores_after_reply (returning w) head len ≡ stores_after_reply q head len
-used_there w q head len same at =
-    ap (λ (k : Queue). stores_after_reply (record k { position = w.next_used }) head len) same
-    ∙ ap (λ (p : ℕ). stores_after_reply (record q { position = p }) head len) at
+in_order : (w : LiveQueue) (c : InFlightChain) → laid w.queue ≡ laid c.taken → w.next_used ≡ c.taken.position → IsInOrder w c
+in_order w c same at =
+    ap (λ (q : Queue). record q { position = w.next_used; stopped = c.taken.stopped }) same
+    ∙ ap (λ (p : ℕ). record (c.taken) { position = p }) at
+
+used_there : (w : LiveQueue) (c : InFlightChain) (head len : ℕ) → IsInOrder w c →
+    stores_after_reply (returning w) head len ≡ stores_after_reply c.taken head len
+used_there w c head len order = ap (λ (q : Queue). stores_after_reply q head len) order
 
 -- ---- a chain over a memory
 
@@ -115,10 +122,15 @@ by_flags_told w m avail seen notice told same no_event found =
     let flags : wants w seen ≡ tells seen = rw no_event refl in
     told ∙ flags ∙ ap tells (found ∙ ap (λ (a : ℕ). bytes m a 2) at)
 
-pub returned_is_step : {F G : Type 0} (may : May F) (other : May G) → ReturnedIsStep may other
-returned_is_step {F} {G} may other s now after es c x notice last used seen m files w none run h served there in_order first calls has =
-    let so : Walked m.limit c =
-    subst (λ (k : ℕ). Walked k c) (sym first.limit) (walked_there may s now es c h.before h.behind none run h.out) in
+-- a chain that was walked and goes back is a step over a memory that has its loads
+over_walk : {F G : Type 0} (may : May F) (other : May G) (now after : LiveState F) (c : InFlightChain) (x : Exchange) (notice : Bool)
+    (last : ℕ) (used : List Store) (seen : List ℕ) (m : State G) (files : G) (w : LiveQueue)
+    → Walked now.limit c → Happens may now (PushesChain c x notice last used seen) after → IsServedPhase c.phase
+    → slice_get now.queues c.queue ≡ Some w → IsBefore now c m → FileRun other m.files (calls_in c.phase) files
+    → IsInOrder w c → HasLoadsOf m.memory c last
+    → IsAStepOver other m files w c x (PushesChain c x notice last used seen) seen notice
+over_walk {F} {G} may other now after c x notice last used seen m files w walked h served there first calls order has =
+    let so : Walked m.limit c = subst (λ (k : ℕ). Walked k c) (sym first.limit) walked in
     let goes : PushedWith m.page_size c c.phase x = subst (λ (k : ℕ). PushedWith k c c.phase x) (sym first.page_size) h.goes in
     let stores = return_stores c.taken c.head (room_of c) x.reply last in
     let left = after_stores m.memory stores in
@@ -134,10 +146,9 @@ returned_is_step {F} {G} may other s now after es c x notice last used seen m fi
     subst (λ (ss : List Store). Step other m c.queue (calls_in c.phase) (Exchanged x (tells flags))
     (record (after_alone m c files) { memory = after_stores m.memory ss })) (among_return stores flags) stepped in
     let same : h.w ≡ w = same_some h.w w (sym h.there ∙ there) in
-    let layout : laid w.queue ≡ laid c.taken = laid_there may s now es c h.before h.behind w none run h.out there in
     let used_is : used ≡ stores_after_reply c.taken c.head (length x.reply) =
     h.used_is ∙ ap (λ (k : LiveQueue). stores_after_reply (returning k) c.head (length x.reply)) same
-    ∙ used_there w c.taken c.head (length x.reply) layout in_order in
+    ∙ used_there w c c.head (length x.reply) order in
     let mine : stores_among (event_acts (PushesChain c x notice last used seen)) ≡ stores =
     among_return (reply_stores (room_of c) x.reply last ++ used) seen
     ∙ ap (λ (u : List Store). reply_stores (room_of c) x.reply last ++ u) used_is in
@@ -146,5 +157,38 @@ returned_is_step {F} {G} may other s now after es c x notice last used seen m fi
     record {
       step = subst P (sym mine) by_stores;
       by_flags = λ no_event found. by_flags_told w there_now c.taken.avail seen notice
-          (h.told ∙ ap (λ (k : LiveQueue). wants k seen) same) (ap (λ (q : Queue). q.avail) layout) no_event found;
+          (h.told ∙ ap (λ (k : LiveQueue). wants k seen) same) (ap (λ (q : Queue). q.avail) order) no_event found;
     }
+
+pub returned_is_step : {F G : Type 0} (may : May F) (other : May G) → ReturnedIsStep may other
+returned_is_step may other s now after es c x notice last used seen m files w none run h served there at first calls has =
+    over_walk may other now after c x notice last used seen m files w (walked_there may s now es c h.before h.behind none run h.out) h
+    served there first calls (in_order w c (laid_there may s now es c h.before h.behind w none run h.out there) at) has
+
+-- ---- beside handles that aren't of the run
+
+beside_walked : {F : Type 0} (may : May F) (s after : LiveState F) (es : List LiveEvent) → RunBeside may s es after → AllWalked s →
+    AllWalked after
+beside_walked {F} may s after [] run all = subst (λ (k : LiveState F). AllWalked k) (sym run) all
+beside_walked may s after (e ∷ es) run all =
+    beside_walked may run.1 after es run.3 (keeps may (record s { queues = run.0 }) run.1 e run.2 all)
+
+pub returned_beside_is_step : {F G : Type 0} (may : May F) (other : May G) → ReturnedBesideIsStep may other
+returned_beside_is_step {F} may other s now after es queues c x notice last used seen m files none run h served first calls =
+    let start : AllWalked s = subst (AllByRecursion (Walked s.limit)) (sym none) tt in
+    let then : LiveState F = record now { queues = queues } in
+    let walked = (one_walked now h.before h.behind c h.out (beside_walked may s now es run start)).1 in
+    let same : IsBefore then c m = record {
+      places = first.places;
+      limit = first.limit;
+      page_size = first.page_size;
+      options = first.options;
+      queue = first.queue;
+    } in
+    let step = step_by_walk may other then after c x notice last used seen m files walked h served same calls in (
+      step.0,
+      step.1,
+      step.2,
+      λ order has.
+          over_walk may other then after c x notice last used seen m files step.0 walked h served step.1 same calls order has,
+    )

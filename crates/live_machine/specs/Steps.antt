@@ -1,6 +1,6 @@
 -- Events of a run as steps of the plain machine: a pop without a chain, by its loads; and a returned chain,
 -- over a memory that has its loads.
-use Rattle.std.specs.Prelude.{◌≡◌, ℕ, Bool, false, All, List, [], ◌++◌, Some, slice_get}
+use Rattle.std.specs.Prelude.{◌≡◌, ℕ, Bool, false, All, List, [], ◌∷◌, ◌++◌, Some, slice_get}
 use Rattle.vm_memory.specs.Memory.{Memory, bytes, location}
 use Rattle.fs_queue.specs.Chain.{Descriptor}
 use Rattle.fs_queue.specs.Loads.{Load}
@@ -20,8 +20,8 @@ use Rattle.plain_machine.specs.StepBy.{Effects, MayStoreLast, StepLoads, StepBy,
 use Rattle.live_machine.specs.Live.{InFlightChain, LiveState, LiveEvent, EndsPop, PushesChain, Happens}
 use Rattle.live_machine.specs.Live.{LiveRun}
 use Rattle.live_machine.specs.Live.{LoadsAreMapped, calls_in, event_acts, room_of}
-use Rattle.live_machine.specs.Runs.{IsBefore, IsServedPhase, after_alone, request_of_phase}
-use Rattle.live_machine.specs.Several.{LiveQueue, seen_at}
+use Rattle.live_machine.specs.Runs.{IsAStep, IsBefore, IsServedPhase, after_alone, request_of_phase}
+use Rattle.live_machine.specs.Several.{LiveQueue, returning, seen_at}
 
 -- ---- a pop without a chain
 
@@ -111,3 +111,37 @@ ReturnedIsStep {F} {G} may other =
     FileRun other m.files (calls_in c.phase) files →
     HasLoadsOf m.memory c last →
     IsAStepOver other m files w c x (PushesChain c x notice last used seen) seen notice
+
+-- ---- beside handles that aren't of the run
+
+-- events one after another. Before each of them handles that aren't of this run, with another limit, memory
+-- or page size, may change the queues
+abbrev pub RunBeside : {F : Type 0} → May F → LiveState F → List LiveEvent → LiveState F → Type 0
+RunBeside may s [] after = after ≡ s
+RunBeside {F} may s (e ∷ es) after =
+    (queues : List LiveQueue) × (mid : LiveState F)
+    × Happens may (record s { queues = queues }) e mid
+    × RunBeside may mid es after
+
+-- a chain is returned at the position of its pop, to a queue with the same areas
+abbrev pub IsInOrder : LiveQueue → InFlightChain → Type 0
+IsInOrder w c = record (returning w) { stopped = c.taken.stopped } ≡ c.taken
+
+-- beside such handles, too, each returned chain is a step by its loads. Returned at the position of its pop,
+-- it is the step itself over each memory that has its loads
+abbrev pub ReturnedBesideIsStep : {F G : Type 0} → May F → May G → Type 0
+ReturnedBesideIsStep {F} {G} may other =
+    (s now after : LiveState F) (es : List LiveEvent) (queues : List LiveQueue) (c : InFlightChain)
+    (x : Exchange) (notice : Bool) (last : ℕ) (used : List Store) (seen : List ℕ) (m : State G) (files : G) →
+    s.chains ≡ [] →
+    RunBeside may s es now →
+    Happens may (record now { queues = queues }) (PushesChain c x notice last used seen) after →
+    IsServedPhase c.phase →
+    IsBefore now c m →
+    FileRun other m.files (calls_in c.phase) files →
+    (w : LiveQueue)
+    × (slice_get queues c.queue ≡ Some w)
+    × IsAStep other m files w c x last used seen notice
+    × (IsInOrder w c →
+    HasLoadsOf m.memory c last →
+    IsAStepOver other m files w c x (PushesChain c x notice last used seen) seen notice)

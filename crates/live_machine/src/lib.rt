@@ -14,7 +14,7 @@ ghost use Rattle.live_machine.specs.Runs.{ReturnsAreMapped};
 ghost use Rattle.live_machine.specs.Runs.{ReturnsReport, RunsOnQueue, PositionsAgree, StoresStayThere};
 ghost use Rattle.live_machine.specs.Serial.{SingleIsStep, SerialIsKick};
 ghost use Rattle.live_machine.specs.Several.{ByEvent, KeepsOrder, OncePerChain, OneAtATime, UsedInOrder};
-ghost use Rattle.live_machine.specs.Steps.{PopIsStepBy, ReturnedIsStep};
+ghost use Rattle.live_machine.specs.Steps.{PopIsStepBy, ReturnedBesideIsStep, ReturnedIsStep};
 ghost use Rattle.live_machine.specs.Options.{OptionsStay};
 
 use fuse_fs::FileSystem;
@@ -60,10 +60,12 @@ pub fn law_runs<F: FileSystem, G: FileSystem>()
 /// Events of a run as steps of the plain machine. A pop that finds no chain is its idle step, and one that is
 /// refused its refused step, by the loads of the pop. A chain that is returned at the position of its pop is
 /// its step over each memory that has the chain's loads, and that has its stores afterwards. The machine has
-/// no event index, and notifies by the flags.
+/// no event index, and notifies by the flags. Handles with another limit, memory or page size, which aren't
+/// of the run, may change its queues.
 pub fn law_steps<F: FileSystem, G: FileSystem>()
     ensures pop { PopIsStepBy F.may G.may }
     ensures memory { ReturnedIsStep F.may G.may }
+    ensures beside { ReturnedBesideIsStep F.may G.may }
 {}
 
 /// One chain after another on one queue, over a memory that has the loaded bytes: the plain machine's steps,
