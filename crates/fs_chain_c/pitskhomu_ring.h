@@ -4,11 +4,13 @@
 #define PITSKHOMU_RING_H
 
 /* Where a queue's rings lie in host memory. Zero it before its first use, keep it with the queue
- * under the same lock, and call pk_ring_find after each change of regions, addresses or size. With
- * zeros, and with a table lent, a pop takes a call for each load. */
+ * under the same lock, and call pk_ring_find after each change of regions, addresses or size.
+ * Behind an IOMMU's table pass its mappings in place of the regions: the `guest` of each is an I/O
+ * address then. Call pk_ring_find after each change of them, too. With zeros a pop takes a call for
+ * each load. */
 struct pk_ring {
     uintptr_t desc, avail;           /* host addresses, or 0 */
-    const struct pk_region *regions; /* yours: they have to live as long */
+    const struct pk_region *regions; /* yours, or the mappings: they have to live as long */
     size_t count;
     uint32_t reset_count; /* of the queue, as `index` was loaded */
     uint16_t size;        /* of the queue, as the rings were found */
@@ -35,7 +37,7 @@ static inline uintptr_t pk_ring_host(const struct pk_region *regions, size_t cou
     return 0;
 }
 
-/* Finds a queue's rings among these regions. */
+/* Finds a queue's rings among these regions, or mappings. */
 static inline void pk_ring_find(struct pk_ring *ring, const struct pk_queue *queue,
                                 const struct pk_region *regions, size_t count) {
     ring->desc = pk_ring_host(regions, count, queue->desc, 16u * (uint64_t)queue->size);

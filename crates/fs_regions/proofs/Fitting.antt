@@ -1,19 +1,24 @@
 -- A chain whose buffers are mapped and short enough, and whose push can be made.
 use Rattle.std.proofs.Common.{◌≡◌, ◌∙◌, ℕ, Bool, true, false, ◌+◌, ◌-◌, ◌*◌, ◌^◌, ◌<◌, ◌≤◌, List, [], ◌∷◌, None}
-use Rattle.std.proofs.Common.{refl, sym, subst, arith}
-use Rattle.std.specs.Prelude.{is_some}
+use Rattle.std.proofs.Common.{ap, refl, sym, subst, arith}
+use Rattle.std.specs.Prelude.{is_some, nat_lt}
 use Rattle.std.specs.List.{list_all}
-use Rattle.std.proofs.lemmas.Bool.{and_parts}
+use Rattle.std.proofs.lemmas.Bool.{and_parts, ltb-true}
 use Rattle.std.proofs.Math.Nat.{mod-lt}
 use Rattle.vm_iotlb.specs.declared.permissions.Permissions.{Permissions}
 use Rattle.vm_iotlb.specs.declared.permissions.Permissions.TheVariants.{Read, Write}
+use Rattle.vm_memory_core.specs.Window.{Window}
 use Rattle.vm_memory.specs.Memory.{Memory, addresses, location, reach}
+use Rattle.vm_memory.specs.Slices.{IsWindowAt}
+use Rattle.vm_memory.proofs.RangeLemmas.{all_located}
 use Rattle.fs_queue.specs.declared.layout.QueueLayout.{QueueLayout}
 use Rattle.fs_queue.specs.Chain.{Descriptor, is_writable}
 use Rattle.fs_queue.specs.Queue.{element_at, index_at}
 use Rattle.fs_queue.specs.Taking.{access_of, all_reach, readable, return_fault, total_len, writable}
 use Rattle.fs_queue.specs.WalkingView.{at_position}
 use Rattle.fs_queue.proofs.TakeLemmas.{reach-each}
+use Rattle.fs_regions.specs.Pieces.{HasDescriptor, IsPiece}
+use Rattle.fs_regions.specs.declared.fits.Piece.{Piece}
 use Rattle.fs_regions.proofs.Mapping.{cut}
 
 -- ---- the buffers
@@ -37,7 +42,7 @@ pub record Fits (m : Memory) (request reply : ℕ) (ds : List Descriptor) : Type
   pub reads : all_reach m Read (readable ds) ≡ true
   pub writes : all_reach m Write (writable ds) ≡ true
 
--- ---- the push
+-- ---- pieces
 
 -- a part of some addresses that are mapped
 pub part_reached : (m : Memory) (access : Permissions) (a n b k : ℕ) → a + n < 2 ^ 64 → reach m access a n ≡ true → a ≤ b
@@ -56,6 +61,47 @@ part_reached m access a n b k fits whole after within =
     let mine = (and_parts (list_all (λ x. is_some (has x)) (addresses b k))
     (list_all (λ x. is_some (has x)) (addresses (b + k) (n - (b - a) - k))) (sym (cut b (n - (b - a)) k has short) ∙ from)).0 in
     reach-each m access b k ends ∙ mine
+
+-- a window's addresses
+window_reached : (m : Memory) (access : Permissions) (a most : ℕ) (w : Window) → a + w.len < 2 ^ 64
+    → IsWindowAt (location m access) a most w → reach m access a w.len ≡ true
+window_reached m access a most w fits window =
+    reach-each m access a w.len fits ∙ all_located (addresses a w.len) (location m access) ∙ ap is_some window.3
+
+-- a window is a piece
+pub piece_found : (m : Memory) (b : Bool) (access : Permissions) (a most end : ℕ) (w : Window) → access ≡ access_of b → end ≡ a + w.len
+    → end < 2 ^ 64 → IsWindowAt (location m access) a most w → reach m (access_of b) a (end - a) ≡ true
+piece_found m b access a most end w is at fits window =
+    let len : w.len ≡ end - a = omega (arith, at) in
+    let below : a + w.len < 2 ^ 64 = omega (arith, at, fits) in
+    subst (λ n. reach m (access_of b) a n ≡ true) len
+    (subst (λ x. reach m x a w.len ≡ true) is (window_reached m access a most w below window))
+
+-- no addresses
+pub no_piece : (m : Memory) (access : Permissions) → reach m access 0 0 ≡ true
+unfolding addresses
+no_piece m access = refl
+
+-- a descriptor in a piece
+in_piece : (m : Memory) (p : Piece) (d : Descriptor) → IsPiece m p → HasDescriptor p d
+    → reach m (access_of (is_writable d)) d.addr d.len ≡ true
+in_piece m p d piece has =
+    let ends = ltb-true (p.from + (p.end - p.from)) (2 ^ 64) (and_parts (nat_lt (p.from + (p.end - p.from)) (2 ^ 64))
+    (list_all (λ x. is_some (location m (access_of p.write_only) x)) (addresses p.from (p.end - p.from))) piece).0 in
+    let after = has.1 in
+    let before = has.2 in
+    subst (λ b. reach m (access_of b) d.addr d.len ≡ true) has.0
+    (part_reached m (access_of p.write_only) p.from (p.end - p.from) d.addr d.len ends piece after (omega (arith, after, before)))
+
+pub piece_reads : (m : Memory) (p : Piece) (d : Descriptor) → IsPiece m p → HasDescriptor p d
+    → all_reach m Read (readable (d ∷ [])) ≡ true
+piece_reads m p d piece has = reads_by m d (is_writable d) refl (in_piece m p d piece has)
+
+pub piece_writes : (m : Memory) (p : Piece) (d : Descriptor) → IsPiece m p → HasDescriptor p d
+    → all_reach m Write (writable (d ∷ [])) ≡ true
+piece_writes m p d piece has = writes_by m d (is_writable d) refl (in_piece m p d piece has)
+
+-- ---- the push
 
 -- the used ring is mapped, and the available ring's flags are
 pub push_made : (m : Memory) (layout : QueueLayout) (position ring : ℕ) → ring ≡ 4 + 8 * layout.size

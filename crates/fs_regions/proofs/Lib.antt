@@ -14,3 +14,5 @@ pub mod ReadingOut
 pub mod Going
 pub mod GoingStraight
 pub mod Fitting
+pub mod Counting
+pub mod InOrder

@@ -148,14 +148,16 @@ pub record Reading (walk : ChainWalk) (bs : List ℕ) (old now : List Descriptor
   pub brings : (ls : List Load) (start : Ahead) → Brings walk.size ls start old (Reads (visit_of walk)) →
       Brings walk.size (ls ++ reads) start now (ahead_of after)
   pub size : IfWants after (λ w. w.size ≡ walk.size)
+  pub counts : walk.earlier ≡ length old → IfWants after (λ w. w.earlier ≡ length now)
 
 -- the first entry
 pub reading_begins : (walk : ChainWalk) (bs : List ℕ) (old now : List Descriptor) (entries left : ℕ) (after : code.Progress) →
     length bs ≡ 16 * entries → 1 + left ≡ entries →
     ((ls : List Load) (start : Ahead) → Brings walk.size ls start old (Reads (visit_of walk)) →
     Brings walk.size (ls ++ read_at walk bs 0 ∷ []) start now (ahead_of after)) →
-    IfWants after (λ w. w.size ≡ walk.size) → Reading walk bs old now left after
-reading_begins walk bs old now entries left after long one brings size = record {
+    IfWants after (λ w. w.size ≡ walk.size) → (walk.earlier ≡ length old → IfWants after (λ w. w.earlier ≡ length now)) →
+    Reading walk bs old now left after
+reading_begins walk bs old now entries left after long one brings size counts = record {
   reads = read_at walk bs 0 ∷ [];
   some = (read_at walk bs 0, [], refl, refl);
   each = All-cons (IsReadOut (entry_address (visit_of walk)) bs) (read_at walk bs 0) [] (0, omega arith, omega (arith, long, one), refl)
@@ -163,9 +165,10 @@ reading_begins walk bs old now entries left after long one brings size = record 
   count = ap (λ k. 16 * k) one ∙ sym long;
   brings = brings;
   size = size;
+  counts = counts;
 }
 
-some_more : (a : ℕ) (ls : List Load) (m : Load) → (l : Load) × (rest : List Load) × (ls ≡ l ∷ rest) × (l.address ≡ a) →
+pub some_more : (a : ℕ) (ls : List Load) (m : Load) → (l : Load) × (rest : List Load) × (ls ≡ l ∷ rest) × (l.address ≡ a) →
     (l : Load) × (rest : List Load) × (ls ++ m ∷ [] ≡ l ∷ rest) × (l.address ≡ a)
 some_more a ls m some = (some.0, some.1 ++ m ∷ [], ap (λ (x : List Load). x ++ m ∷ []) some.2, some.3)
 
@@ -175,8 +178,9 @@ pub reading_on : (walk next : ChainWalk) (bs : List ℕ) (old now new : List Des
     offset + 16 ≤ length bs → left ≡ fewer + 1 → Reading walk bs old now left (says.Wants next) →
     ((ls : List Load) (start : Ahead) → Brings next.size ls start now (Reads (visit_of next)) →
     Brings next.size (ls ++ read_at next bs offset ∷ []) start new (ahead_of after)) →
-    IfWants after (λ w. w.size ≡ next.size) → Reading walk bs old new fewer after
-reading_on walk next bs old now new left fewer offset after stands inside one so_far brings size =
+    IfWants after (λ w. w.size ≡ next.size) → (next.earlier ≡ length now → IfWants after (λ w. w.earlier ≡ length new)) →
+    Reading walk bs old new fewer after
+reading_on walk next bs old now new left fewer offset after stands inside one so_far brings size counts =
     let l = read_at next bs offset in record {
       reads = so_far.reads ++ l ∷ [];
       some = some_more (entry_address (visit_of walk)) so_far.reads l so_far.some;
@@ -191,6 +195,7 @@ reading_on walk next bs old now new left fewer offset after stands inside one so
           subst (λ (x : List Load). Brings walk.size x start new (ahead_of after)) (append_assoc ls so_far.reads (l ∷ []))
           (there (so_far.brings ls start from));
       size = same_size after size so_far.size;
+      counts = λ count. counts (so_far.counts count);
     }
   where
     same_size : (p : code.Progress) → IfWants p (λ w. w.size ≡ next.size) → next.size ≡ walk.size → IfWants p (λ w. w.size ≡ walk.size)
@@ -214,6 +219,7 @@ reading_ends walk bs old now left walked r = record {
   brings = r.brings;
   size = tt;
   uses_up = tt;
+  counts = λ count. tt;
 }
 
 used : (from n address len left count : ℕ) → 16 * (count + left) ≡ len → (is_in from n address ≡ false) ⊎ (left ≡ 0) →
@@ -232,6 +238,7 @@ reading_stops walk next bs old now left stops r = record {
   size = r.size;
   uses_up = used (entry_address (visit_of walk)) (length bs) (entry_address (visit_of next)) (length bs) left (length r.reads)
       r.count stops;
+  counts = r.counts;
 }
 
 -- ---- what the walk comes to by a stretch

@@ -8,3 +8,4 @@ pub mod Stretches
 pub mod Using
 pub mod Ahead
 pub mod Straight
+pub mod Pieces

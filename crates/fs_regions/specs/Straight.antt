@@ -22,6 +22,10 @@ use Rattle.fs_regions.specs.declared.step.CourseStep.TheVariants as step
 use Rattle.fs_regions.specs.declared.walk.QueueWalk.{QueueWalk}
 use Rattle.fs_regions.specs.declared.walk.QueueWalk.TheVariants as at
 
+-- a walk of a queue of this size has counted these descriptors, which joined the chain
+abbrev pub IsCounted : (size : ℕ) → List Descriptor → ChainWalk → Type 0
+IsCounted size ds w = (w.size ≡ size) × (w.earlier ≡ length ds)
+
 -- a walk asks for a stretch of so many entries, in the chain of a head
 abbrev pub stretch_of : (head : ℕ) (walk : ChainWalk) (n : ℕ) → 0 < n → n ≤ 256 →
     walk.index + n ≤ walk.table.entries → EntriesWalk

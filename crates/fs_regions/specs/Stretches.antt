@@ -11,7 +11,8 @@ use Rattle.fs_regions.specs.declared.step.CourseStep.TheVariants as step
 use Rattle.fs_regions.specs.Walks.{asked_by, is_in, Brings, ReadOutOf}
 
 -- a walk reads some entries from a stretch, and these descriptors join the chain. It needs another
--- entry afterwards only if that entry isn't in the stretch, or it read as many as the stretch has
+-- entry afterwards only if that entry isn't in the stretch, or it read as many as the stretch has. It
+-- counts the descriptors that join
 pub record ReadsStretch (walk : ChainWalk) (bs : List ℕ) (old new : List Descriptor) (after : code.Progress) :
     Type 0 where
   pub reads : List Load
@@ -23,6 +24,7 @@ pub record ReadsStretch (walk : ChainWalk) (bs : List ℕ) (old new : List Descr
   pub uses_up : IfWants after
       (λ w. (is_in (entry_address (visit_of walk)) (length bs) (entry_address (visit_of w)) ≡ false)
       ⊎ (16 * length reads ≡ length bs))
+  pub counts : walk.earlier ≡ length old → IfWants after (λ w. w.earlier ≡ length new)
 
 -- a walk asks for a load only if it needs an entry, and the load begins at that entry
 abbrev pub AsksFor : code.Progress → comes.CourseStep → Type 0

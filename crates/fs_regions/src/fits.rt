@@ -1,13 +1,14 @@
 //! Tests of a chain without a fault: whether its buffers are mapped and short enough, and its push can be
 //! made. Each takes few look-ups, and says no more than yes. And the lengths of a chain's buffers.
 
-ghost use Rattle.std.specs.Prelude.{◌≡◌, ◌-◌, ◌^◌, [], ◌∷◌, None, min, true};
+ghost use Rattle.std.specs.Prelude.{◌≡◌, ◌-◌, ◌^◌, [], ◌∷◌, IfSome, None, min, true};
 ghost use Rattle.vm_iotlb.specs.declared.permissions.Permissions.TheVariants.{Read, Write};
 ghost use Rattle.vm_memory.specs.Memory.{reach};
 ghost use Rattle.fs_queue.specs.Chain.{is_writable};
 ghost use Rattle.fs_queue.specs.Taking.{access_of, all_reach, chain_fault, readable, return_fault, total_len};
 ghost use Rattle.fs_queue.specs.Taking.{writable};
 ghost use Rattle.fs_queue.specs.WalkingView.{at_position};
+ghost use Rattle.fs_regions.specs.Pieces.{HasDescriptor, IsPiece};
 ghost use Rattle.fs_regions.specs.Places.{places_in};
 
 use crate::map::GuestMap;
@@ -56,9 +57,9 @@ fn is_mapped(regions: &GuestMap, descriptor: &Descriptor) -> bool
     )
 }
 
-/// Whether the buffers of a chain with these descriptors have no fault, in one pass over them.
+// Whether the buffers of a chain have no fault, without a table.
 #[inline(always)]
-pub(crate) fn has_buffers(regions: &GuestMap, limit: u32, descriptors: &[Descriptor]) -> bool
+fn has_buffers_untranslated(regions: &GuestMap, limit: u32, descriptors: &[Descriptor]) -> bool
     ensures { result ≡ true → chain_fault (places_in regions.now) limit descriptors.now ≡ None }
 {
     let mut request = u64::from(limit);
@@ -72,6 +73,114 @@ pub(crate) fn has_buffers(regions: &GuestMap, limit: u32, descriptors: &[Descrip
         reply -= writes;
     }
     true
+}
+
+// Addresses that are mapped in one piece: the first one, the one behind the last, and the access.
+#[derive(Clone, Copy)]
+struct Piece {
+    from: u64,
+    end: u64,
+    write_only: bool,
+}
+
+impl Piece {
+    // Whether it has all bytes of a descriptor, for the access that the device needs.
+    #[inline(always)]
+    fn has(&self, descriptor: &Descriptor) -> bool
+        ensures { result ≡ true → HasDescriptor self.now descriptor.now }
+    {
+        descriptor.is_write_only() == self.write_only
+            && self.from <= descriptor.addr
+            && descriptor.addr <= self.end
+            && u64::from(descriptor.len) <= self.end - descriptor.addr
+    }
+}
+
+// The piece in which all bytes of a descriptor are mapped.
+#[inline(never)]
+#[tactic(auto, using(crate::proofs::Fitting::piece_found))]
+fn piece_of(regions: &GuestMap, descriptor: &Descriptor) -> Option<Piece>
+    ensures piece { IfSome result (IsPiece (places_in regions.now)) }
+    ensures has { IfSome result (λ p. HasDescriptor p descriptor.now) }
+{
+    let from = descriptor.addr;
+    match regions.window_at(from, usize::MAX, access_to(descriptor)) {
+        Some(window) => {
+            let len = window.len() as u64;
+            if len < u64::from(descriptor.len) || len > u64::MAX - from {
+                return None;
+            }
+            Some(Piece {
+                from,
+                end: from + len,
+                write_only: descriptor.is_write_only(),
+            })
+        }
+        None => None,
+    }
+}
+
+// Whether all bytes of a descriptor are mapped. If they are in another piece than that found last, this
+// one takes its place.
+#[inline(always)]
+#[tactic(auto, using(crate::proofs::Fitting::piece_reads, crate::proofs::Fitting::piece_writes))]
+fn is_mapped_near(regions: &GuestMap, piece: &mut Piece, descriptor: &Descriptor) -> bool
+    requires { IsPiece (places_in regions.now) piece.old }
+    ensures piece { IsPiece (places_in regions.now) piece.new }
+    ensures reads { result ≡ true
+        → all_reach (places_in regions.now) Read (readable (descriptor.now ∷ [])) ≡ true }
+    ensures writes { result ≡ true
+        → all_reach (places_in regions.now) Write (writable (descriptor.now ∷ [])) ≡ true }
+{
+    if piece.has(descriptor) {
+        return true;
+    }
+    match piece_of(regions, descriptor) {
+        Some(found) => {
+            *piece = found;
+            true
+        }
+        None => is_mapped(regions, descriptor),
+    }
+}
+
+// Whether the buffers of a chain have no fault. Of descriptors in one piece only the first is looked up.
+#[cold]
+#[inline(never)]
+fn has_buffers_translated(regions: &GuestMap, limit: u32, descriptors: &[Descriptor]) -> bool
+    ensures { result ≡ true → chain_fault (places_in regions.now) limit descriptors.now ≡ None }
+{
+    let mut request = u64::from(limit);
+    let mut reply = u64::from(limit);
+    let mut piece = Piece {
+        from: 0,
+        end: 0,
+        write_only: false,
+    };
+    for descriptor in descriptors {
+        let (reads, writes) = lens_of(descriptor);
+        if reads > request || writes > reply {
+            return false;
+        }
+        if !is_mapped_near(regions, &mut piece, descriptor) {
+            return false;
+        }
+        request -= reads;
+        reply -= writes;
+    }
+    true
+}
+
+/// Whether the buffers of a chain with these descriptors have no fault, in one pass over them.
+#[inline(always)]
+pub(crate) fn has_buffers(regions: &GuestMap, limit: u32, descriptors: &[Descriptor]) -> bool
+    ensures { result ≡ true → chain_fault (places_in regions.now) limit descriptors.now ≡ None }
+{
+    if regions.translates() {
+        has_buffers_translated(regions, limit, descriptors)
+    } else {
+        has_buffers_untranslated(regions, limit, descriptors)
+    }
 }
 
 /// How many bytes of a chain's descriptors the device reads, and how many it writes, each at most 2^64 - 1:

@@ -16,6 +16,7 @@ mod straight;
 mod stretch;
 mod using;
 mod walk;
+mod whole_table;
 
 pub use ahead::LoadAhead;
 pub use chain::{range_from, window_from};

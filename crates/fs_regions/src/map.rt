@@ -110,6 +110,29 @@ fn window_by(
     }
 }
 
+// The place of `len` addresses from one on, through a table, for an access, if they are mapped as one and lie
+// in one region.
+#[inline(always)]
+fn place_by(
+    regions: &GuestRegions,
+    table: &Iotlb,
+    addr: u64,
+    len: usize,
+    access: Permissions,
+) -> Option<usize>
+    requires { 0 < len }
+    ensures { IfSome result (LiesAt (translated regions.now (table_kept table.now) 0 access) addr len
+        (translated_left regions.now (table_kept table.now) addr)) }
+{
+    let Some(piece) = table.piece_at(GuestAddress(addr), len, access) else {
+        return None;
+    };
+    if piece.length != len {
+        return None;
+    }
+    regions.place_at(piece.base.0, len)
+}
+
 impl GuestMap {
     /// No memory.
     pub fn none(alloc: Global) -> GuestMap
@@ -231,9 +254,20 @@ impl GuestMap {
         }
     }
 
-    // The place of `len` addresses from one on, by the longest window there. It is a function of its own so
-    // that a memory without a table doesn't make the window.
-    #[cold]
+    // The place of `len` addresses from one on, if a table maps them as one, and they lie in one region.
+    #[inline(always)]
+    fn place_behind(&self, addr: u64, len: usize, access: Permissions) -> Option<usize>
+        requires { 0 < len }
+        ensures { IfSome result
+            (LiesAt (location (places_in self.now) access) addr len (left_in (places_in self.now) addr)) }
+    {
+        match &self.table {
+            None => None,
+            Some(table) => place_by(&self.regions, table, addr, len, access),
+        }
+    }
+
+    // The place of `len` addresses from one on, by the longest window there.
     #[inline(never)]
     fn place_of_window(&self, addr: u64, len: usize, access: Permissions) -> Option<usize>
         requires { 0 < len }
@@ -254,6 +288,23 @@ impl GuestMap {
         }
     }
 
+    // The place of `len` addresses from one on, if it isn't found without a table. It is a function of its
+    // own so that a memory without a table doesn't make the window.
+    #[cold]
+    #[inline(never)]
+    fn place_elsewhere(&self, addr: u64, len: usize, access: Permissions) -> Option<usize>
+        requires { 0 < len }
+        ensures some { IfSome result
+            (LiesAt (location (places_in self.now) access) addr len (left_in (places_in self.now) addr)) }
+        ensures none { result ≡ None
+            → LiesApart (location (places_in self.now) access) addr len (left_in (places_in self.now) addr) }
+    {
+        match self.place_behind(addr, len, access) {
+            Some(at) => Some(at),
+            None => self.place_of_window(addr, len, access),
+        }
+    }
+
     /// The place of `len` addresses from one on: the number of the block, and the offset there, added. None
     /// if they aren't mapped for an access in one piece.
     #[inline(always)]
@@ -266,7 +317,7 @@ impl GuestMap {
     {
         match self.place_in_region(addr, len, access) {
             Some(at) => Some(at),
-            None => self.place_of_window(addr, len, access),
+            None => self.place_elsewhere(addr, len, access),
         }
     }
 

@@ -1,9 +1,11 @@
 //! A pop straight through loads that were made ahead: of a chain without a fault, which needs no other load.
 
 ghost use Rattle.std.specs.Prelude.{◌≡◌, [], None, IfSome};
+ghost use Rattle.fs_queue.specs.RingingView.{BeginsChain};
+ghost use Rattle.fs_queue.specs.SteppingView.{IfWants};
 ghost use Rattle.fs_queue.specs.WalkingView.{at_position};
 ghost use Rattle.fs_regions.specs.Ahead.{BeginsAhead, loads_ahead};
-ghost use Rattle.fs_regions.specs.Straight.{EndsChain, GoesAt, GoesByHead, GoesFrom, ReadsAhead};
+ghost use Rattle.fs_regions.specs.Straight.{EndsChain, GoesAt, GoesByHead, GoesFrom, IsCounted, ReadsAhead};
 ghost use Rattle.fs_regions.specs.Walks.{queue_of};
 ghost use Rattle.fs_regions.specs.declared.step.CourseStep.TheVariants as step;
 ghost use Rattle.fs_regions.specs.declared.walk.QueueWalk.TheVariants as at;
@@ -13,8 +15,9 @@ use crate::course::{Course, pair};
 use crate::entries::EntriesWalk;
 use crate::fits::{has_buffers, may_push};
 use crate::map::GuestMap;
-use crate::stretch::{most_entries, read_stretch};
+use crate::stretch::most_entries;
 use crate::walk::QueueWalk;
+use crate::whole_table::read_table;
 use fs_queue::{
     ChainWalk, Descriptor, Descriptors, IndexWalk, Progress, RingEntryWalk, Walk, WalkEnd,
 };
@@ -32,8 +35,11 @@ impl Course {
         bytes: &[u8],
         descriptors: &mut Descriptors,
     ) -> Option<Progress>
-        ensures { IfSome result (ReadsAhead regions.now (queue_of self.now) head walk descriptors.old.items
-            one.now bytes.now descriptors.new.items) }
+        requires { IsCounted self.now.layout.size descriptors.old.items walk }
+        ensures reads { IfSome result (ReadsAhead regions.now (queue_of self.now) head walk
+            descriptors.old.items one.now bytes.now descriptors.new.items) }
+        ensures counts { IfSome result
+            (λ after. IfWants after (IsCounted self.now.layout.size descriptors.new.items)) }
     {
         let entries = most_entries(&walk, self.may_join(descriptors));
         let asked = QueueWalk::Entries(EntriesWalk {
@@ -46,7 +52,7 @@ impl Course {
         }
         let (mine, _) = bytes.split_at(one.len);
         match asked {
-            QueueWalk::Entries(stretch) => Some(read_stretch(
+            QueueWalk::Entries(stretch) => Some(read_table(
                 stretch.walk,
                 entries,
                 mine,
@@ -92,6 +98,7 @@ impl Course {
         bytes: &[u8],
         descriptors: &mut Descriptors,
     ) -> Option<u16>
+        requires { IsCounted self.now.layout.size descriptors.old.items walk }
         ensures { IfSome result (GoesFrom regions.now self.now.limit (queue_of self.now) head walk
             descriptors.old (loads_ahead ahead.now bytes.now) descriptors.new) }
     {
@@ -124,6 +131,7 @@ impl Course {
         bytes: &[u8],
         descriptors: &mut Descriptors,
     ) -> Option<u16>
+        requires { IsCounted self.now.layout.size descriptors.old.items walk }
         ensures { IfSome result (GoesFrom regions.now self.now.limit (queue_of self.now) head walk
             descriptors.old (loads_ahead ahead.now bytes.now) descriptors.new) }
     {
@@ -154,6 +162,8 @@ impl Course {
         bytes: &[u8],
         descriptors: &mut Descriptors,
     ) -> Option<u16>
+        requires begins { BeginsChain self.now.layout walk }
+        requires none { descriptors.old.items ≡ [] }
         ensures { IfSome result (GoesByHead regions.now self.now.limit (queue_of self.now) walk
             descriptors.old (loads_ahead ahead.now bytes.now) descriptors.new) }
     {
@@ -179,6 +189,8 @@ impl Course {
         bytes: &[u8],
         descriptors: &mut Descriptors,
     ) -> Option<u16>
+        requires here { walk.layout ≡ self.now.layout }
+        requires none { descriptors.old.items ≡ [] }
         ensures { IfSome result (GoesAt regions.now self.now.limit (queue_of self.now) (at.RingEntry walk)
             descriptors.old (loads_ahead ahead.now bytes.now) descriptors.new) }
     {
@@ -211,6 +223,8 @@ impl Course {
         bytes: &[u8],
         descriptors: &mut Descriptors,
     ) -> Option<u16>
+        requires here { walk.layout ≡ self.now.layout }
+        requires none { descriptors.old.items ≡ [] }
         ensures { IfSome result (GoesAt regions.now self.now.limit (queue_of self.now) (at.Index walk)
             descriptors.old (loads_ahead ahead.now bytes.now) descriptors.new) }
     {

@@ -147,6 +147,8 @@ fn read_entry(
         → Brings walk.size (ls ++ load_of walk (Some (take 16 (drop offset bytes.now))) ∷ []) start
         descriptors.new.items (ahead_of result) }
     ensures size { IfWants result (λ w. w.size ≡ walk.size) }
+    ensures counts { walk.earlier ≡ length descriptors.old.items
+        → IfWants result (λ w. w.earlier ≡ length descriptors.new.items) }
     ensures room { (more : ℕ) → HasRoomFor descriptors.old (1 + more) → HasRoomFor descriptors.new more }
 {
     let given = walk.give(Some(entry_of(bytes, offset)));

@@ -28,6 +28,8 @@ static uint8_t *memory; /* a page that can't be read follows */
 static struct pk_device device = PK_DEVICE;
 static struct pk_region regions[2];
 static size_t region_count;
+static struct pk_region mapped[2]; /* what the IOMMU's table maps in this process */
+static bool has_table;
 static size_t table_len;         /* of each indirect table */
 static size_t desc = DESC, avail = AVAIL;
 static uint64_t base;            /* the guest address of memory[0] */
@@ -105,10 +107,23 @@ static void lay_chance(uint16_t next_avail) {
     put(avail + 2, next_avail + (below(30) ? 1 + below(SIZE) : SIZE + 1), 2);
 }
 
+/* Lends a handle a table of its own, for good: it maps `mapped` to the regions. */
+static void lend_table(struct pk_chain *chain) {
+    struct pk_iotlb table = {0};
+    expect("a table", pk_iotlb_new(&table), PK_DONE);
+    for (size_t k = 0; k < region_count; k++)
+        expect("a mapping",
+               pk_iotlb_map(&table, mapped[k].guest, mapped[k].len, regions[k].guest,
+                            PK_ACCESS_READ_WRITE),
+               PK_DONE);
+    expect("lent", pk_chain_exchange_iotlb(chain, &table), PK_DONE);
+}
+
 static void make_handle(struct pk_chain *chain) {
     *chain = (struct pk_chain){0};
     expect("the memory", pk_chain_set_memory(chain, &device, regions, region_count), PK_DONE);
     expect("the ticket", pk_chain_set_ticket(chain, 0x1234567), PK_DONE);
+    if (has_table) lend_table(chain);
 }
 
 /* Pops load by load, and notes the loads. */
@@ -242,7 +257,7 @@ static void try_one(void) {
         compare(&chain, &other, &queue, &second, &pop, &step);
         /* a long chain's descriptors may lack room: then it asks earlier */
         if (loads.len < 2 * 2 + 64) expect("the calls", calls, 1 + loads.count - from);
-        pk_ring_find(&ring, &third, regions, region_count);
+        pk_ring_find(&ring, &third, has_table ? mapped : regions, region_count);
         pop_calls = 0;
         expect("by the ring", pk_pop_ring(&ringing, &third, &ring, &step), status);
         if (pop.fault != PK_FAULT_TOO_LONG) /* that asks for a load more */
@@ -331,6 +346,14 @@ int main(int argc, char **argv) {
     may_end = true;
     regions[0] = (struct pk_region){0, base + MEMORY, (uintptr_t)memory - (uintptr_t)base};
     for (long k = 0; k < tries; k++) try_one();
-    printf("ahead: %ld chains\n", 4 * tries);
+    /* the same addresses by a table: its two mappings lead to regions apart */
+    regions[0] = (struct pk_region){0x100000, 0x5000, (uintptr_t)memory};
+    regions[1] = (struct pk_region){0x900000, MEMORY - 0x5000, (uintptr_t)memory + 0x5000};
+    mapped[0] = (struct pk_region){base, 0x5000, (uintptr_t)memory};
+    mapped[1] = (struct pk_region){base + 0x5000, MEMORY - 0x5000, (uintptr_t)memory + 0x5000};
+    region_count = 2;
+    has_table = true;
+    for (long k = 0; k < tries; k++) try_one();
+    printf("ahead: %ld chains\n", 5 * tries);
     return 0;
 }

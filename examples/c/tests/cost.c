@@ -39,6 +39,7 @@ static uint8_t file[DATA];
 static struct pk_ring ring; /* of the queue */
 static struct pk_iotlb iotlb;
 static unsigned long mappings; /* 0: no table */
+static struct pk_region mapped[END / PAGE]; /* what the table maps, in this process */
 
 /* A kind of request: its pieces and those of its reply buffer (0: none), the pages that follow
  * these in a table (0: no table), and its answer. */
@@ -61,9 +62,11 @@ static void put(size_t at, uint64_t value, size_t len) {
 static void make_table(void) {
     if (mappings == 0) return;
     size_t len = mappings == 1 ? END : PAGE;
-    if (pk_iotlb_new(&iotlb)) abort();
-    for (size_t k = 0; k < mappings; k++)
+    if (mappings > END / PAGE || pk_iotlb_new(&iotlb)) abort();
+    for (size_t k = 0; k < mappings; k++) {
         if (pk_iotlb_map(&iotlb, len * k, len, place(len * k), PK_ACCESS_READ_WRITE)) abort();
+        mapped[k] = (struct pk_region){len * k, len, (uintptr_t)memory + place(len * k)};
+    }
 }
 
 /* Lends the table to a chain, or takes it back: one chain is out at a time then. */
@@ -217,7 +220,7 @@ int main(int argc, char **argv) {
     mappings = argc > 2 ? strtoul(argv[2], NULL, 10) : 0;
     make_table();
     if (pk_queue_begin(&queue, 0)) return 1;
-    if (mappings == 0) pk_ring_find(&ring, &queue, &region, 1);
+    pk_ring_find(&ring, &queue, mappings ? mapped : &region, mappings ? mappings : 1);
     for (size_t k = 0; k < MOST_OUT; k++)
         if (count < 1 || pk_chain_set_memory(&chains[k], &device, &region, 1)) return 1;
     for (long at = 0; at < (long)(sizeof rows / sizeof *rows); at++)

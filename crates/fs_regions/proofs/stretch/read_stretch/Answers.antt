@@ -6,7 +6,7 @@ pub entries-init : goal.entries-init
 entries-init c = record {
   reading = reading_begins c.args.walk c.args.bytes.now c.args.descriptors.now.items _ c.args.entries _ _ c.requires.bytes
       (omega (arith, c.requires.some))
-      c.read_entry-progress.ensures.brings c.read_entry-progress.ensures.size;
+      c.read_entry-progress.ensures.brings c.read_entry-progress.ensures.size c.read_entry-progress.ensures.counts;
   room = c.read_entry-progress.ensures.room _ (omega (arith, c.requires.room, c.requires.some));
 }
 
@@ -27,6 +27,6 @@ entries-preserved c =
       reading = reading_on c.args.walk c.in-Wants.next c.args.bytes.now c.args.descriptors.now.items _ _ c.entries.left _ c.in-Some.offset _
           stands.0 stands.1 (omega (arith, some))
           (rw c.in-Wants.is at c.entries.invariant.reading) c.read_entry-progress-in-Some.ensures.brings
-          c.read_entry-progress-in-Some.ensures.size;
+          c.read_entry-progress-in-Some.ensures.size c.read_entry-progress-in-Some.ensures.counts;
       room = let room = c.entries.invariant.room in c.read_entry-progress-in-Some.ensures.room _ (omega (arith, room, some));
     }

@@ -1,12 +1,20 @@
-use Rattle.std.proofs.Common.{rules, ◌∙◌, refl, sym, subst}
+use Rattle.std.proofs.Common.{rules, ◌∙◌, ap, refl, sym, subst}
 use Rattle.std.proofs.lemmas.Option.{IfSome_then}
+use Rattle.fs_queue.specs.declared.layout.QueueLayout.{QueueLayout}
+use Rattle.fs_queue.specs.RingingView.{BeginsChain}
 use Rattle.fs_regions.specs.Ahead.{IsLoadOf, loads_ahead}
 use Rattle.fs_regions.specs.Places.{places_in}
 use Rattle.fs_regions.specs.Straight.{GoesAt}
 use Rattle.fs_regions.specs.Walks.{IsThere, queue_of}
 use Rattle.fs_regions.specs.declared.walk.QueueWalk.{QueueWalk}
+use Rattle.fs_regions.proofs.Counting.{layout_or}
 use Rattle.fs_regions.proofs.GoingStraight.{goes_by_entry}
 use Rattle.fs_regions.proofs.course.Course.straight_at_entry.Goals as goal
+
+pub straight_at_head-requires-clause-begins : goal.straight_at_head-requires-clause-begins
+straight_at_head-requires-clause-begins c =
+    subst (λ (l : QueueLayout). BeginsChain l c.give-given.result)
+    (sym (ap (layout_or c.args.self.now.layout) c.in-RingEntry.is) ∙ c.requires.here) c.give-given.ensures.chain
 
 pub returns-in-RingEntry : goal.returns-in-RingEntry
 returns-in-RingEntry c = IfSome_then c.straight_at_head.result c.straight_at_head.ensures (λ found by.

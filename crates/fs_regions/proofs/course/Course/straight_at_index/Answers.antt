@@ -1,12 +1,21 @@
-use Rattle.std.proofs.Common.{rules, ◌∙◌, refl, sym, subst}
+use Rattle.std.proofs.Common.{rules, ◌≡◌, ◌∙◌, ap, refl, sym, subst}
 use Rattle.std.proofs.lemmas.Option.{IfSome_then}
+use Rattle.fs_queue.specs.declared.walk.Walk as ring
+use Rattle.fs_queue.specs.RingingView.{IfRingEntry}
 use Rattle.fs_regions.specs.Ahead.{IsLoadOf, loads_ahead}
 use Rattle.fs_regions.specs.Places.{places_in}
 use Rattle.fs_regions.specs.Straight.{GoesAt}
 use Rattle.fs_regions.specs.Walks.{IsThere, queue_of}
 use Rattle.fs_regions.specs.declared.walk.QueueWalk.{QueueWalk}
+use Rattle.fs_regions.proofs.Counting.{layout_or}
 use Rattle.fs_regions.proofs.GoingStraight.{goes_by_index}
 use Rattle.fs_regions.proofs.course.Course.straight_at_index.Goals as goal
+
+pub straight_at_entry-requires-clause-here : goal.straight_at_entry-requires-clause-here
+straight_at_entry-requires-clause-here c =
+    let same = subst (λ (x : ring.Walk). IfRingEntry x (λ w. (w.layout ≡ c.in-Index.walk.layout) × (w.position ≡ c.in-Index.walk.position)))
+    c.in-RingEntry.is c.give.ensures.same in
+    same.0 ∙ sym (ap (layout_or c.args.self.now.layout) c.in-Index.is) ∙ c.requires.here
 
 pub returns-in-RingEntry : goal.returns-in-RingEntry
 returns-in-RingEntry c = IfSome_then c.straight_at_entry.result c.straight_at_entry.ensures (λ found then.

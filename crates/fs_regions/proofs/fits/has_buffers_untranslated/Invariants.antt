@@ -1,7 +1,7 @@
 use Rattle.std.proofs.Common.{drop}
 use Rattle.fs_regions.specs.Places.{places_in}
 use Rattle.fs_regions.proofs.Fitting.{Fits}
-use Rattle.fs_regions.proofs.fits.has_buffers.Given as goal
+use Rattle.fs_regions.proofs.fits.has_buffers_untranslated.Given as goal
 
 -- if the descriptors that are left fit, all do
 abbrev pub invariant-loop-descriptor : goal.invariant-loop-descriptor
