@@ -117,6 +117,7 @@ static void lend_table(struct pk_chain *chain) {
                             PK_ACCESS_READ_WRITE),
                PK_DONE);
     expect("lent", pk_chain_exchange_iotlb(chain, &table), PK_DONE);
+    pk_iotlb_free(&table); /* the empty place */
 }
 
 static void make_handle(struct pk_chain *chain) {
