@@ -16,6 +16,7 @@ from collections import Counter
 from pathlib import Path
 
 from calls import Calls
+from ends import wrong_ends
 from guests import long_script, wide_write, wraps
 from hostile import heavy
 from lacking import Lacking
@@ -35,6 +36,8 @@ RANDOM_TO_COUNT, MOST_LEFT = 1000, 0.03
 SERVED = "whole scripts with a served chain"
 SEED = "seed"
 UP_TO = "up to "
+# The status of a script with a line that is no command: both devices say why.
+BAD_LINE = 1
 # Each so many random scripts one is played with too little memory.
 SELDOM = 8
 
@@ -75,6 +78,7 @@ class Fuzzer:
         if self.end - time.monotonic() > SECONDS_TO_WRAP:
             fixed.append(("a script that wraps an index", wraps()))
             fixed.append(("a script of kicks that cost much", heavy()))
+        self.end_otherwise()
         size = Built.batch
         while self.differences < MOST_DIFFERENCES and (fixed or time.monotonic() < self.end):
             played, fixed = fixed[:size - 1], fixed[size - 1:]
@@ -85,6 +89,14 @@ class Fuzzer:
                 if seed % SELDOM == 0:
                     self.lack(name, script, seed)
             self.seed = seeds.stop
+
+    def end_otherwise(self):
+        """Plays scripts on streams of other kinds, and tells what is wrong."""
+        for device in self.devices:
+            wanted = lambda script, name=device.name: self.plain(script)[0][name]
+            for wrong in wrong_ends(device.program.path, device.name, wanted):
+                self.differences += 1
+                say(f"\nDIFFERENCE: {wrong}")
 
     def lack(self, name, script, seed):
         """Plays a script with one request for memory refused, and tells what is wrong."""
@@ -105,6 +117,7 @@ class Fuzzer:
         wanted = [self.plain(script) for script in scripts]
         pairs = zip(self.devices, started)
         found = [device.program.results(processes) for device, processes in pairs]
+        said = [device.program.why(processes) for device, processes in zip(self.devices, started)]
         for index, ((name, script), want) in enumerate(zip(named, wanted)):
             if want is None:
                 self.skipped += 1
@@ -118,6 +131,11 @@ class Fuzzer:
                 self.left[device.name] += name.startswith(SEED) and how.startswith(UP_TO)
                 if results[index] != want[0][device.name]:
                     self.tell(name, script, device)
+            ends = {results[index] for results in found}
+            reasons = {texts[index] for texts in said}
+            if len(ends) == 1 and len(reasons) > 1 and is_bad_for_all(script, *ends.pop()):
+                self.differences += 1
+                say(f"\nDIFFERENCE of the devices: {name}, on standard error: {sorted(reasons)}")
 
     def plain(self, script):
         """What the plain machine prints and its status, by device, and its coverage; None where it
@@ -181,14 +199,24 @@ class Fuzzer:
             say(f"{device.name} can't play {count} of {self.random} random scripts to their end")
 
 
+def last_word(script, printed):
+    """The first word of the line at which a script ends."""
+    number = printed.rpartition(b"line ")[2].partition(b":")[0]
+    lines = dict(enumerate(script.split(b"\n"), 1))
+    word = lines.get(int(number) if number.isdigit() else 0, b"no line").split(b" ")[0]
+    return word.decode("latin-1")
+
+
+def is_bad_for_all(script, printed, status):
+    """Whether a script ends at a line that is no command for the same reason on each device."""
+    return status == BAD_LINE and last_word(script, printed) not in Player.HANDLES
+
+
 def played(script, printed, status):
     """How much of a script was played, for the coverage."""
     if status != LACKING:
         return SERVED if b"\ndone " in printed else "whole scripts without one"
-    number = printed.rpartition(b"line ")[2].partition(b":")[0]
-    lines = dict(enumerate(script.split(b"\n"), 1))
-    word = lines.get(int(number) if number.isdigit() else 0, b"no line").split(b" ")[0]
-    return UP_TO + word.decode("latin-1")
+    return UP_TO + last_word(script, printed)
 
 
 def zip_lines(first, second):

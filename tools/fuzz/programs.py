@@ -29,16 +29,24 @@ class Built:
 
     def process(self, script):
         """A process with a script for its input."""
-        source, printed = tempfile.TemporaryFile(), tempfile.TemporaryFile()
+        source, printed, said = (tempfile.TemporaryFile() for _ in range(3))
         source.write(script)
         source.seek(0)
         process = subprocess.Popen(
-            [self.path], stdin=source, stdout=printed, stderr=subprocess.DEVNULL, preexec_fn=limit)
-        return process, printed
+            [self.path], stdin=source, stdout=printed, stderr=said, preexec_fn=limit)
+        return process, printed, said
 
     def results(self, started):
         """What each script printed, and its status."""
-        return [self.result(*one) for one in started]
+        return [self.result(process, printed) for process, printed, _ in started]
+
+    def why(self, started):
+        """What was said on standard error of each script, which has ended."""
+        texts = []
+        for _, _, said in started:
+            said.seek(0)
+            texts.append(said.read())
+        return texts
 
     def result(self, process, printed):
         """What one script printed, and its status."""
