@@ -314,7 +314,7 @@ decode_at old new q session front told (at.Pushing out) is fits means wanted sam
 
 -- ---- by what the call ensures
 
-items_same : (old new : ChainHandle) → new.descriptors ≡ old.descriptors →
+pub items_same : (old new : ChainHandle) → new.descriptors ≡ old.descriptors →
     new.descriptors.items ≡ old.descriptors.items
 items_same old new e = cc
 

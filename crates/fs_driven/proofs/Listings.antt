@@ -40,14 +40,14 @@ abbrev IsOkay : Result ℕ ChainError → Type 0
 IsOkay (Ok n) = Unit {0}
 IsOkay (Err e) = ⊥
 
-not_err : (n : ℕ) (e : ChainError) → Ok n ≡ Err e → ⊥
+pub not_err : (n : ℕ) (e : ChainError) → Ok n ≡ Err e → ⊥
 not_err n e is = subst (λ (r : Result ℕ ChainError). IsOkay r) is tt
 
 -- only a listing has one
-abbrev WasListing : state.ChainState → Type 0
+abbrev pub WasListing : state.ChainState → Type 0
 WasListing st = (out : InFlight) × (l : Listing) × (st ≡ at.Lists out l)
 
-was_listing : (P : Listing → ListingReply → Type 0) (st new : state.ChainState) (len : ℕ) → RepliesBy P st new (Ok len) →
+pub was_listing : (P : Listing → ListingReply → Type 0) (st new : state.ChainState) (len : ℕ) → RepliesBy P st new (Ok len) →
     WasListing st
 was_listing P (at.Lists out l) new len is = (out, l, refl)
 was_listing P (at.Waits out w) new len is = absurd (not_err len _ is.0)
@@ -88,7 +88,7 @@ has_read page_size c w answer h = record {
   phase = refl;
 }
 
-no_push : (st : state.ChainState) (out : InFlight) (kept : ChainReply) → st ≡ at.HasReply out kept → HasNoPush st
+pub no_push : (st : state.ChainState) (out : InFlight) (kept : ChainReply) → st ≡ at.HasReply out kept → HasNoPush st
 no_push st out kept is = subst (λ (x : state.ChainState). HasNoPush x) (sym is) tt
 
 -- the listing of a run whose handle was told that its directory has this answer
@@ -160,7 +160,7 @@ ended old new q serial (Err e) told ends same stays step page_size ws k there u 
     ended_not old new q serial e told same page_size ws k there u s i os pops push all
 
 -- an error's number
-errno_suits : (errno : ℕ) → 1 ≤ errno → errno ≤ 4095 → IsTrue (nat_lt 0 errno && nat_lt errno 4096)
+pub errno_suits : (errno : ℕ) → 1 ≤ errno → errno ≤ 4095 → IsTrue (nat_lt 0 errno && nat_lt errno 4096)
 errno_suits errno low high =
     let a : nat_lt 0 errno ≡ true = lt-ltb 0 errno (omega arith) in
     let b : nat_lt errno 4096 ≡ true = lt-ltb errno 4096 (omega arith) in

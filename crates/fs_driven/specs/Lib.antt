@@ -1,4 +1,7 @@
+pub mod Adding
 pub mod Ahead
+pub mod Begins
 pub mod Desks
+pub mod Entries
 pub mod Kept
 pub mod Told

@@ -15,7 +15,8 @@ use Rattle.fuse_values.specs.Answers.{answer_of}
 use Rattle.fuse_values.specs.declared.answer.FileAnswer as made_answer
 use Rattle.fuse_values.specs.declared.answer.FileAnswer.TheVariants as value
 use Rattle.plain_machine.specs.Step.{Exchange}
-use Rattle.virtiofsd_fuse.specs.Grammar.{meaning}
+use Rattle.virtiofsd_fuse.specs.Grammar.{Asks, Lists, meaning}
+use Rattle.virtiofsd_fuse.specs.Listings.{ListRequest, readdir_call}
 use Rattle.virtiofsd_fuse.specs.Serving.{setting}
 use Rattle.server_phases.specs.declared.session.Session.{Session}
 use Rattle.live_machine.specs.Live.{Abandons, Asked, DecodesRequest, EndsPop, GivesUpChain, InFlightChain}
@@ -27,7 +28,7 @@ use Rattle.fs_driven.specs.Ahead.{AddsAhead}
 use Rattle.fs_chain.specs.Answers.{IfWaits, IsGiven, IsNotTaken}
 use Rattle.fs_chain.specs.Decoding.{IfUndecoded, TellsMeaning, wanted_after, wanted_by}
 use Rattle.fs_driven.specs.Desks.{Begun, Desk, Driven, In, Leads, desk, lost, own}
-use Rattle.fs_chain.specs.Holds.{Machine, Pop, calls_decoded, live_of}
+use Rattle.fs_chain.specs.Holds.{Machine, Pop, calls_decoded, live_of, served_so}
 use Rattle.fs_chain.specs.Listings.{EndsByEntries, EndsByError}
 use Rattle.fs_chain.specs.Loads.{GoesSo, RefusesWalk, whole}
 use Rattle.fs_chain.specs.Orders.{ask_error, end_error, front_of, give_up_error, has_ring, is_out}
@@ -40,7 +41,9 @@ use Rattle.fs_chain.specs.Serials.{UnlessRefused, serial_error}
 use Rattle.fs_chain.specs.Together.{Owned, with_handle}
 use Rattle.fs_chain.specs.Walks.{count}
 use Rattle.fs_chain.specs.Whole.{AddsSo}
+use Rattle.fs_chain.specs.WholeListings.{listing_calls}
 use Rattle.fs_chain.specs.declared.answering.Replied.{Replied}
+use Rattle.fs_chain.specs.declared.listing.Added.{Added}
 use Rattle.fs_chain.specs.declared.chain_handle.ChainHandle.{ChainHandle}
 use Rattle.fs_driven.specs.declared.commands.Command.{Command}
 use Rattle.fs_driven.specs.declared.commands.Command.TheVariants as does
@@ -56,8 +59,14 @@ use Rattle.fs_chain.specs.declared.popping.PopOutcome as walked
 use Rattle.fs_chain.specs.declared.popping.PopOutcome.TheVariants as says
 use Rattle.fs_chain.specs.declared.pushing.PushStores.{PushStores}
 use Rattle.fs_chain.specs.declared.queue.QueueState.{QueueState}
+use Rattle.fs_chain.specs.declared.state.ChainReply.{ChainReply}
 use Rattle.fs_chain.specs.declared.state.ChainState as state
 use Rattle.fs_chain.specs.declared.state.ChainState.TheVariants as at
+use Rattle.fs_chain.specs.declared.state.InFlight.{InFlight}
+use Rattle.fs_driven.specs.Adding.{BringsSo, EndsSo}
+use Rattle.fs_driven.specs.Entries.{IsOfLast, all_brought, answers_of, ending_of}
+use Rattle.fs_driven.specs.Kept.{IsSameHeld}
+use Rattle.fs_driven.specs.declared.entries.ListedEntry.{ListedEntry}
 
 -- ---- calls
 
@@ -236,6 +245,44 @@ TellsListing t serial answer Replies (Ok len) es =
     × (es ≡ ReceivesAnswer c call answer ∷ [])
     × Replies (Ok len)
 
+-- an entry, or the end of a listing, is refused
+abbrev pub RefusesEntries : (was now : ChainHandle) → (serial : ℕ) → (list : List ℕ) → List ListedEntry →
+    (names : List ℕ) → (failure : Option ℕ) → (last : Result Added ChainError) → ChainError → Type 0
+RefusesEntries was now serial list [] names failure last e = EndsSo failure was now serial (Err e)
+RefusesEntries was now serial list (entry ∷ entries) names failure last e =
+    (last ≡ Err e) × BringsSo was now serial list list entry (take entry.name_len names) (Err e)
+
+-- entries were brought to a listing, and it ended: its calls are answered now. The first bytes of the list
+-- are behind the reply's front
+abbrev pub GatherTells : Turn → (serial : ℕ) → List ListedEntry → (names : List ℕ) → (failure : Option ℕ) →
+    (added : ℕ) →
+    (last : Result Added ChainError) → Result ℕ ChainError → (list : List ℕ) → List LiveEvent → Type 0
+GatherTells t serial entries names failure added last (Err e) list es =
+    (es ≡ [])
+    × (added ≡ 0)
+    × IsSameHeld t.was t.now
+    × RefusesEntries t.was t.now serial list entries names failure last e
+GatherTells t serial entries names failure added last (Ok len) list es =
+    let left = drop added (all_brought entries names) in
+    (added ≤ length entries)
+    × IsOfLast last left
+    × (c : InFlightChain)
+    × (request : List ℕ)
+    × (options : ℕ)
+    × (out : InFlight)
+    × (unique : ℕ)
+    × (asked : ListRequest)
+    × (kept : ChainReply)
+    × In (own t.handle c) t.old.owned
+    × (c.phase ≡ Asked request options [])
+    × (meaning options request out.room_len ≡ Asks (Lists unique asked))
+    × (t.now.state ≡ at.HasReply out kept)
+    × let calls = listing_calls (readdir_call asked) asked.with_nodes (take added (all_brought entries names))
+    (ending_of last left failure) in
+    (es ≡ answers_of c request options [] calls)
+    × ((served_so t.old.run.page_size options request out.room_len calls).reply
+    ≡ front_of kept ++ take len list)
+
 -- ---- pushes, and chains that are given up
 
 -- a push begins: no event yet, but its stores are kept
@@ -302,6 +349,8 @@ Tells t (does.EndListing serial) u (gives.Listed r) es =
     TellsListing t serial (Entries []) (λ told. EndsByEntries t.was.state t.now.state told) r es
 Tells t (does.FailListing serial errno) u (gives.Listed r) es =
     TellsListing t serial (Failed errno) (λ told. EndsByError errno t.was.state t.now.state told) r es
+Tells t (does.Gather serial entries names failure) u (gives.Gathered added last ended list) es =
+    GatherTells t serial entries.now names.now failure added last ended list es
 Tells t does.Push u (gives.Began r front) es = TellsPush t r front es
 Tells t (does.Pushed seen) u (gives.Ended r) es = TellsPushed t seen u r es
 Tells t does.GiveUp u (gives.GaveUp r) es = TellsGiveUp t r es

@@ -6,9 +6,10 @@ ghost use Rattle.fs_driven.specs.Told.{Drives, DrivesOne, HasNoChain, MayReset, 
 ghost use Rattle.fs_driven.specs.declared.commands.Command.TheVariants as does;
 ghost use Rattle.fs_driven.specs.declared.commands.Returned.TheVariants as gives;
 
+use crate::entries::{ListedEntry, drive_gather};
 use fs_chain::{
-    ChainError, ChainHandle, Decoded, LoadOutcome, NotificationStore, PopOutcome, PushStores,
-    QueueState, Replied,
+    Added, ChainError, ChainHandle, Decoded, LoadOutcome, NotificationStore, PopOutcome,
+    PushStores, QueueState, Replied,
 };
 use fs_queue::QueueLayout;
 use fs_regions::LoadAhead;
@@ -32,6 +33,9 @@ pub enum Command<'a> {
     EndListing(u32),
     /// Ends it with an error, by which its directory can't be read.
     FailListing(u32, Errno),
+    /// Brings entries to the listing of the chain with this number, whose names lie one behind another, and
+    /// ends it. Its directory has no more, or can't be read on by this error.
+    Gather(u32, &'a [ListedEntry], &'a [u8], Option<Errno>),
     /// Replies to the chain with this number by so many bytes of the caller's own.
     Reply(u32, usize),
     /// Begins the chain's push.
@@ -65,6 +69,10 @@ pub enum Returned<'a> {
     Answered(Result<Replied, ChainError>),
     /// Of a listing's end: the length of its data.
     Listed(Result<usize, ChainError>),
+    /// Of a listing's entries and its end: how many were added; the result of the entry behind them, by
+    /// which the listing ends, or `In` if there is none; the length of its data, or an error if nothing
+    /// changed; and a list that begins with the data.
+    Gathered(usize, Result<Added, ChainError>, Result<usize, ChainError>, [u8; 4096]),
     /// Of a reply.
     Replied(Result<(), ChainError>),
     /// Of a push: its stores, and a buffer that begins with the reply's front.
@@ -265,6 +273,22 @@ fn begin_push<'a>(handle: &mut ChainHandle, queue: &mut QueueState) -> Returned<
     Returned::Began(stores, front)
 }
 
+// Lists entries, and keeps what its calls returned.
+fn gather<'a>(
+    handle: &mut ChainHandle,
+    queue: &QueueState,
+    serial: u32,
+    entries: &[ListedEntry],
+    names: &[u8],
+    failure: Option<Errno>,
+) -> Returned<'a>
+    ensures step { (page_size : ℕ) → DrivesOne page_size handle.old handle.new queue.now queue.now
+        (does.Gather serial entries.entry names.entry failure) result }
+{
+    let (added, last, ended, list) = drive_gather(handle, queue, serial, entries, names, failure);
+    Returned::Gathered(added, last, ended, list)
+}
+
 // A reset isn't done for one handle alone.
 #[tactic(auto, using(crate::proofs::Resets::no_reset_of_one))]
 fn no_reset_of_one<'a>(
@@ -312,6 +336,9 @@ pub fn drive_one<'a>(
         Command::EndListing(serial) => Returned::Listed(drive_end_listing(handle, queue, serial)),
         Command::FailListing(serial, error) => {
             Returned::Listed(drive_fail_listing(handle, queue, serial, error))
+        }
+        Command::Gather(serial, entries, names, failure) => {
+            gather(handle, queue, serial, entries, names, failure)
         }
         Command::Reply(serial, len) => Returned::Replied(drive_reply(handle, queue, serial, len)),
         Command::Push => begin_push(handle, queue),

@@ -3,7 +3,9 @@
 #![tactic(auto)]
 
 mod commands;
+mod entries;
 pub mod laws;
+pub mod new_handles;
 pub mod two_chains;
 
 pub use commands::{
@@ -11,3 +13,4 @@ pub use commands::{
     drive_give_up, drive_notify, drive_one, drive_pop, drive_push, drive_pushed, drive_reply,
     drive_reset,
 };
+pub use entries::{ListedEntry, drive_gather};

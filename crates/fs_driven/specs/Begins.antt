@@ -1,0 +1,35 @@
+-- A driver's commands from new handles on, for a program that performs them.
+use Rattle.std.specs.Prelude.{◌≡◌, ◌≤◌, ◌^◌, ℕ, List, [], ◌∷◌, None}
+use Rattle.fs_regions.specs.Places.{Mapped, places_in}
+use Rattle.fs_chain.specs.Holds.{IsQueue, Machine}
+use Rattle.fs_chain.specs.declared.chain_handle.ChainHandle.{ChainHandle}
+use Rattle.fs_chain.specs.declared.queue.QueueState.{QueueState}
+use Rattle.fs_chain.specs.declared.state.ChainState.TheVariants as at
+use Rattle.fs_driven.specs.Desks.{Leads, desk, no_pop}
+use Rattle.fs_driven.specs.Told.{Called, TellsAll, Unseen, seen_of}
+
+-- a free handle over this memory, with this limit
+abbrev pub IsNew : Mapped → (limit : ℕ) → ChainHandle → Type 0
+IsNew regions limit w =
+    (w.state ≡ at.Free) × (w.regions ≡ regions) × (w.limit ≡ limit) × (limit ≤ 2 ^ 31)
+
+-- calls of two new handles are a run from any state over their memory in which no chain is in flight, and the
+-- run's events are theirs
+unfoldable pub RunsFromNew : (page_size limit : ℕ) → (first second : Mapped) → (q q' : QueueState) →
+    (ws : List ChainHandle) → List Called → Type 0
+RunsFromNew page_size limit first second q q' ws calls =
+    (zs : List (Called × Unseen)) →
+    seen_of zs ≡ calls →
+    (s : Machine) (i : ℕ) →
+    s.chains ≡ [] →
+    IsQueue s i q →
+    s.page_size ≡ page_size →
+    s.limit ≡ limit →
+    s.places ≡ places_in first →
+    s.places ≡ places_in second →
+    (one : ChainHandle)
+    × (other : ChainHandle)
+    × IsNew first limit one
+    × IsNew second limit other
+    × Leads s i page_size q' ws
+    (λ es d. TellsAll i page_size (desk s (one ∷ other ∷ []) q [] (λ _. no_pop) None) zs es d)

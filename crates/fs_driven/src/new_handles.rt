@@ -1,0 +1,46 @@
+//! Commands of a driver from two new handles on. That they are a run is by `law_driven` and by the
+//! contract of `drive_all`.
+
+ghost use Rattle.std.specs.Prelude.{IfOk};
+ghost use Rattle.fs_driven.specs.Begins.{IsNew, RunsFromNew};
+ghost use Rattle.fs_driven.specs.Told.{calls_of};
+
+use crate::commands::{Command, Returned, drive_all};
+use crate::laws::law_driven;
+use fs_chain::{ChainError, ChainHandle, QueueState};
+use fs_regions::GuestMap;
+use std::alloc::Global;
+
+// A new handle over a memory, with this limit.
+#[tactic(auto, using(crate::proofs::Begins::is_new))]
+fn new_handle(alloc: Global, regions: GuestMap, limit: u32) -> Result<ChainHandle, ChainError>
+    ensures new { IfOk result (λ w. IsNew regions limit w) }
+{
+    let mut handle = ChainHandle::new(alloc);
+    handle.set_memory(regions, limit)?;
+    Ok(handle)
+}
+
+/// Performs commands for two new handles over these memories, which have the same mappings, and returns the
+/// handles. `BadArgument` for a wrong limit.
+#[tactic(auto, using(crate::proofs::Begins::runs_from_new))]
+pub fn drive_new<'a>(
+    alloc: Global,
+    memories: (GuestMap, GuestMap),
+    limit: u32,
+    queue: &mut QueueState,
+    page_size: u32,
+    places: &[usize],
+    commands: &mut [Command<'a>],
+    returned: &mut [Returned<'a>],
+) -> Result<[ChainHandle; 2], ChainError>
+    ensures run { IfOk result (λ handles. RunsFromNew page_size limit memories.0 memories.1
+        queue.old queue.new handles (calls_of places.now commands.old returned.new)) }
+{
+    let one = new_handle(alloc, memories.0, limit)?;
+    let other = new_handle(alloc, memories.1, limit)?;
+    let mut handles = [one, other];
+    law_driven();
+    drive_all(&mut handles, queue, page_size, places, commands, returned);
+    Ok(handles)
+}
