@@ -12,7 +12,7 @@ use Rattle.live_machine.specs.Live.{Abandoned, Asked, Fetched, InFlightChain, Ow
 use Rattle.server_phases.specs.declared.session.Session.{Session}
 use Rattle.fs_chain.specs.Held.{AskedIsMapped, HeldIsUnreplied, IsWithoutReply, LoadsAreFew, LoadsCount}
 use Rattle.fs_chain.specs.Holds.{HasUnreplied, IsHeldIn}
-use Rattle.fs_chain.specs.Whole.{AddsSo}
+use Rattle.fs_chain.specs.Pops.{AddsSo}
 use Rattle.fs_chain.specs.declared.loads.LoadOutcome.TheVariants as wents
 use Rattle.fs_chain.specs.declared.state.ChainState as state
 use Rattle.fs_chain.specs.declared.state.ChainState.TheVariants as at

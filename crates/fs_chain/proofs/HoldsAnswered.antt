@@ -30,7 +30,7 @@ use Rattle.fs_chain.specs.declared.state.ChainState as state
 use Rattle.fs_chain.specs.declared.state.ChainState.TheVariants as at
 use Rattle.fs_chain.specs.declared.state.InFlight.{InFlight}
 use Rattle.fs_chain.proofs.HoldsDecoded.{call_waits}
-use Rattle.fs_chain.proofs.WholeSteps.{by_calls, by_options, by_reply, data_is, isnt_cut, whole_len}
+use Rattle.fs_chain.proofs.Replies.{by_calls, by_options, by_reply, data_is, isnt_cut, whole_len}
 
 -- the bytes of a reply, behind its front
 sent_bytes : (cs : List FileCall) (o n : ℕ) (x : Sent) (bytes : List ℕ) →

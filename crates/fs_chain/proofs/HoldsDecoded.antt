@@ -30,7 +30,7 @@ use Rattle.fs_chain.specs.declared.state.ChainReply.{ChainReply}
 use Rattle.fs_chain.specs.declared.state.ChainState as state
 use Rattle.fs_chain.specs.declared.state.ChainState.TheVariants as at
 use Rattle.fs_chain.specs.declared.state.InFlight.{InFlight}
-use Rattle.fs_chain.proofs.WholeSteps.{isnt_cut}
+use Rattle.fs_chain.proofs.Replies.{isnt_cut}
 
 -- ---- the pending call
 

@@ -22,7 +22,7 @@ use Rattle.fs_chain.specs.HoldsListings.{ListingCallIs, LooksUp, MayEnd, MayFail
 use Rattle.fs_chain.specs.Listings.{AddsTo, EndsByEntries, EndsByError, IsFailedReply, IsListReply, RepliesBy, answered_by}
 use Rattle.fs_chain.specs.Orders.{front_len}
 use Rattle.fs_chain.specs.Walks.{IsAllButPlace}
-use Rattle.fs_chain.specs.WholeListings.{BringsEntry, Ending, EndsThere, FailsAt, FullAt, NotFound, Unreadable, calls_so_far, listing_calls}
+use Rattle.fs_chain.specs.ListingCalls.{Ending, EndsThere, FailsAt, FullAt, NotFound, Unreadable, calls_so_far, listing_calls}
 use Rattle.fs_chain.specs.declared.chain_handle.ChainHandle.{ChainHandle}
 use Rattle.fs_chain.specs.declared.error.ChainError.{ChainError}
 use Rattle.fs_chain.specs.declared.listing.Added.{Added}
@@ -33,9 +33,9 @@ use Rattle.fs_chain.specs.declared.state.ChainState.TheVariants as at
 use Rattle.fs_chain.specs.declared.state.InFlight.{InFlight}
 use Rattle.fs_chain.proofs.LeftOut.{left_out_served, left_so}
 use Rattle.fs_chain.proofs.SoFar.{AreServedFirst, so_far_served}
-use Rattle.fs_chain.proofs.WholeEntries.{ServedBy, brought, ends_there, fails_at, full_at, not_found, stays_so, unreadable}
-use Rattle.fs_chain.proofs.WholeListings.{in_list}
-use Rattle.fs_chain.proofs.WholeSteps.{isnt_cut}
+use Rattle.fs_chain.proofs.ListingEntries.{BringsEntry, ServedBy, brought, ends_there, fails_at, full_at, in_list, not_found, stays_so}
+use Rattle.fs_chain.proofs.ListingEntries.{unreadable}
+use Rattle.fs_chain.proofs.Replies.{isnt_cut}
 use Rattle.server_phases.specs.declared.listing.NotAdded.TheVariants as not_added
 
 -- ---- the handle's calls

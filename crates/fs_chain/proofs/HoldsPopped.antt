@@ -42,7 +42,7 @@ use Rattle.fs_chain.specs.Queues.{may_take, pop_id_of}
 use Rattle.fs_chain.specs.Rings.{ring_of}
 use Rattle.fs_chain.specs.Walks.{BeginsOn, BeginsPop, BeginsUnless, BeginsWhere, GoesOnUnless, KeepsStep, LacksEvents, WalksFrom}
 use Rattle.fs_chain.specs.Walks.{course_of, faulty_out, no_reply, out_of, told_of}
-use Rattle.fs_chain.specs.Whole.{AddsSo}
+use Rattle.fs_chain.specs.Pops.{AddsSo}
 use Rattle.fs_chain.specs.declared.chain_handle.ChainHandle.{ChainHandle}
 use Rattle.fs_chain.specs.declared.loads.LoadOutcome as went
 use Rattle.fs_chain.specs.declared.loads.LoadOutcome.TheVariants as wents

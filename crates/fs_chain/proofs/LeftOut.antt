@@ -14,10 +14,10 @@ use Rattle.server_phases.specs.declared.listing.Listing.{Listing}
 use Rattle.server_phases.specs.declared.listing.NotAdded.TheVariants as not_added
 use Rattle.server_phases.proofs.Gathered.{listed_all}
 use Rattle.fs_chain.specs.Listings.{Adds}
-use Rattle.fs_chain.specs.WholeListings.{all_looked_up, looked_up, node_back}
+use Rattle.fs_chain.specs.ListingCalls.{all_looked_up, looked_up, node_back}
 use Rattle.fs_chain.specs.declared.listing.Added.{Added}
 use Rattle.fs_chain.specs.declared.listing.Added.TheVariants as added
-use Rattle.fs_chain.proofs.WholeEntries.{outcome_of}
+use Rattle.fs_chain.proofs.ListingEntries.{outcome_of}
 use Rattle.plain_machine.specs.Step.{Calls, answers_alone, calls_alone}
 use Rattle.fs_chain.specs.HoldsListings.{IsLeftOut, calls_left_out}
 use Rattle.fs_chain.proofs.SoFar.{AreServedFirst, answers_both, calls_both, ended_calls, found_answers, found_calls, one_answer, one_call}

@@ -36,7 +36,7 @@ use Rattle.fs_chain.specs.Orders.{IfWalking, give_error, load_len, walk_error}
 use Rattle.fs_chain.specs.Queues.{fits_pop, may_take, pop_id_of}
 use Rattle.fs_chain.specs.Walks.{BeginsPop, BeginsUnless, GoesOn, IsAllButPart, LacksEvents, KeepsStep, StaysForLoad, WalksFrom}
 use Rattle.fs_chain.specs.Walks.{WalksOn, course_of, left_of, state_after}
-use Rattle.fs_chain.specs.Whole.{BeginsPopBy}
+use Rattle.fs_chain.specs.Pops.{BeginsPopBy}
 use Rattle.fs_chain.proofs.Steps.{begins_where, by_left, comes_left, walks_on}
 
 -- a pop begins in a free handle

@@ -1,34 +1,22 @@
 -- The calls of a listing that gathers entries are the first ones that are served.
-use Rattle.std.proofs.Common.{◌≡◌, ℕ, Bool, true, false, not, ◌&&◌, List, [], ◌∷◌, ◌++◌, length, Option, Some, None, Ok, append_assoc}
-use Rattle.std.proofs.Common.{append-nil, refl, subst, sym, ap, ◌∙◌, arith}
+use Rattle.std.proofs.Common.{◌≡◌, ℕ, Bool, true, false, not, ◌&&◌, List, [], ◌∷◌, ◌++◌, length, Option, Some, None, append_assoc}
+use Rattle.std.proofs.Common.{refl, sym, ap, ◌∙◌, arith}
 use Rattle.std.specs.Prelude.{◌-◌, nat_lt, if◌then◌else◌}
 use Rattle.std.proofs.lemmas.List.{map-append}
-use Rattle.fuse_fs.specs.Calls.{Done, Entries, FileAnswer, FileCall, Forget, HasEntry, Listed, Lookup}
-use Rattle.fuse_values.specs.Values.{call_of}
-use Rattle.fuse_values.specs.declared.call.FileCall as made_call
-use Rattle.server_replies.specs.Entries.{EIO, EOVERFLOW, is_dot, no_node}
+use Rattle.fuse_fs.specs.Calls.{Entries, FileAnswer, FileCall, HasEntry, Listed, Lookup}
+use Rattle.server_replies.specs.Entries.{is_dot, no_node}
 use Rattle.virtiofsd_fuse.specs.Grammar.{Asks, Lists, Meaning}
 use Rattle.virtiofsd_fuse.specs.Listings as asked
 use Rattle.virtiofsd_fuse.specs.Listings.{ListingResult, after_call, forget_lookup, list_entries, readdir_call, with_entry}
-use Rattle.virtiofsd_fuse.specs.Serving.{ServedMessage, Setting, list_ended, replied, served}
-use Rattle.server_phases.specs.Gathering.{Brought, Holds, IsListingFor, all_bytes, all_found, entries_of, forget_listed, found_of}
-use Rattle.server_phases.specs.Gathering.{is_looked_up, look_up, look_ups, node_of}
-use Rattle.server_phases.specs.Waiting.{first_call}
+use Rattle.virtiofsd_fuse.specs.Serving.{Setting, list_ended, replied, served}
+use Rattle.server_phases.specs.Gathering.{Brought, Holds, IsListingFor, all_bytes, all_found, entries_of}
+use Rattle.server_phases.specs.Gathering.{is_looked_up, look_up, look_ups}
 use Rattle.server_phases.specs.declared.listing.Listing.{Listing}
-use Rattle.server_phases.specs.declared.listing.NotAdded.TheVariants as not_added
 use Rattle.server_phases.proofs.Gathered.{listed_all}
-use Rattle.fs_chain.specs.Decoding.{AsksListing, KeepsCall}
-use Rattle.fs_chain.specs.Listings.{Adds}
-use Rattle.fs_chain.specs.WholeListings.{BringsEntry, FromLists, Gathers, all_looked_up, looked_up, node_back}
-use Rattle.fs_chain.specs.declared.listing.Added.{Added}
+use Rattle.fs_chain.specs.ListingCalls.{all_looked_up, looked_up}
 use Rattle.fs_chain.specs.declared.listing.Added.TheVariants as added
-use Rattle.fs_chain.specs.declared.state.InFlight.{InFlight}
-use Rattle.fs_chain.specs.declared.state.ChainState as state
-use Rattle.fs_chain.specs.declared.state.ChainState.TheVariants as at
-use Rattle.fs_chain.specs.declared.chain_handle.ChainHandle.{ChainHandle}
-use Rattle.fs_chain.proofs.WholeEntries.{brought, gathered, outcome_of}
 use Rattle.plain_machine.specs.Step.{Calls, answers_alone, calls_alone}
-use Rattle.fs_chain.specs.WholeListings.{calls_so_far, next_looked_up}
+use Rattle.fs_chain.specs.ListingCalls.{calls_so_far, next_looked_up}
 
 -- these calls, with their answers, are the first ones that are served of a meaning
 abbrev pub AreServedFirst : Setting → Meaning → Calls → Type 0

@@ -12,7 +12,7 @@ use Rattle.fs_chain.specs.declared.state.ChainState as state
 use Rattle.fs_chain.specs.declared.state.ChainState.TheVariants as at
 use Rattle.fs_chain.specs.Loads.{GoesSo, IsLoadWindow, came}
 use Rattle.fs_chain.specs.Orders.{IfWalking, begin_error}
-use Rattle.fs_chain.specs.Whole.{BeginsPopBy, WantsBytes}
+use Rattle.fs_chain.specs.Pops.{BeginsPopBy, WantsBytes}
 
 -- why a pop can't begin, with loads ahead
 abbrev pub ahead_error : state.ChainState → QueueState → Option ChainError

@@ -7,7 +7,7 @@ use Rattle.fs_regions.specs.Places.{places_in}
 use Rattle.fs_regions.specs.Walks.{Loaded, asked_by, asked_len}
 use Rattle.live_machine.specs.Live.{InFlightChain}
 use Rattle.fs_chain.specs.Holds.{HasUnreplied, HoldsChain, HoldsPop, Pop}
-use Rattle.fs_chain.specs.Whole.{AddsSo}
+use Rattle.fs_chain.specs.Pops.{AddsSo}
 use Rattle.fs_chain.specs.declared.chain_handle.ChainHandle.{ChainHandle}
 use Rattle.fs_chain.specs.declared.popping.PopOutcome as walked
 use Rattle.fs_chain.specs.declared.loads.LoadOutcome.TheVariants as wents

@@ -43,7 +43,7 @@ use Rattle.fs_chain.specs.Loads.{whole}
 use Rattle.fs_chain.specs.Orders.{front_of, reply_len}
 use Rattle.fs_chain.specs.Rings.{ring_of}
 use Rattle.fs_chain.specs.Walks.{told_of}
-use Rattle.fs_chain.specs.Whole.{AddsSo}
+use Rattle.fs_chain.specs.Pops.{AddsSo}
 use Rattle.fs_chain.specs.declared.answering.Replied.{Replied}
 use Rattle.fs_chain.specs.declared.chain_handle.ChainHandle.{ChainHandle}
 use Rattle.fs_chain.specs.declared.decoding.Decoded.{Decoded}

@@ -15,9 +15,9 @@ use Rattle.plain_machine.specs.Step.{Calls, calls_alone}
 use Rattle.live_machine.specs.Live.{Asked, Happens, InFlightChain, ReceivesAnswer, after_answer, asked_chain}
 use Rattle.fs_chain.specs.Holds.{HoldsChain, IsDecodedIn, IsOutAs, Machine, any_files, served_so}
 use Rattle.fs_chain.specs.Orders.{front_of}
-use Rattle.fs_chain.specs.WholeListings.{Ending, EndsThere, FailsAt, FullAt, NotFound, Unreadable}
-use Rattle.fs_chain.specs.WholeListings.{calls_so_far}
-use Rattle.fs_chain.specs.WholeListings.{listing_calls, node_back}
+use Rattle.fs_chain.specs.ListingCalls.{Ending, EndsThere, FailsAt, FullAt, NotFound, Unreadable}
+use Rattle.fs_chain.specs.ListingCalls.{calls_so_far}
+use Rattle.fs_chain.specs.ListingCalls.{listing_calls, node_back}
 use Rattle.fs_chain.specs.declared.chain_handle.ChainHandle.{ChainHandle}
 use Rattle.fs_chain.specs.declared.listing.Added.{Added}
 use Rattle.fs_chain.specs.declared.listing.Added.TheVariants as added

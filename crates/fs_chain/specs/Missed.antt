@@ -1,4 +1,5 @@
--- Theorems: a pop that misses addresses changes nothing, and returns the missing addresses.
+-- Theorems: a pop that misses addresses changes nothing, and returns the missing addresses. With the event
+-- index a pop misses used_event or avail_event, or is refused, if one of them isn't mapped.
 use Rattle.std.specs.Prelude.{◌≡◌, ℕ, List, [], Some, None}
 use Rattle.vm_iotlb.specs.declared.iova.IovaRange.{IovaRange}
 use Rattle.vm_iotlb.specs.declared.permissions.Permissions.{Permissions}
@@ -12,7 +13,7 @@ use Rattle.fs_chain.specs.declared.loads.LoadOutcome.TheVariants as wents
 use Rattle.fs_chain.specs.declared.chain_handle.ChainHandle.{ChainHandle}
 use Rattle.fs_chain.specs.Events.{event_fault, event_miss}
 use Rattle.fs_chain.specs.Walks.{DropsDescriptors, HasEvents, IsAllBut, course_of}
-use Rattle.fs_chain.specs.Whole.{LoadsOf, WalksBy}
+use Rattle.fs_chain.specs.Pops.{LoadsOf, WalksBy}
 use Rattle.fs_queue.specs.declared.fault.QueueError.{QueueError}
 
 -- a pop that misses addresses leaves the queue as it was, and the handle free and in its session. By the
@@ -50,3 +51,20 @@ EventMissIsNoStep =
     × DropsDescriptors old new
     × (new.part.items ≡ [])
     × (after ≡ before)
+
+-- if they aren't mapped, and that isn't a miss, the first call of the pop is refused, even if a chain is
+-- available. Nothing is loaded or stored, the handle drops its descriptors, and the queue is stopped
+abbrev pub EventFaultRefuses : Type 0
+EventFaultRefuses =
+    (given : List (List ℕ)) (e : QueueError) (old new : ChainHandle) (before after : QueueState)
+    (told : went.LoadOutcome) →
+    before.stopped ≡ None →
+    event_fault (places_in old.regions) before ≡ Some e →
+    event_miss (places_in old.regions) before ≡ None →
+    (walks : WalksBy given old new before after told) →
+    (told ≡ wents.On (says.Refused e))
+    × (given ≡ [])
+    × LoadsOf given old new before after told walks nothing
+    × DropsDescriptors old new
+    × (new.part.items ≡ [])
+    × (after ≡ record before { stopped = Some e })

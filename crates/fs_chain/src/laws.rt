@@ -4,14 +4,10 @@ ghost use Rattle.fs_regions.specs.Laws.{MissesCanBeMapped};
 ghost use Rattle.fs_chain.specs.Held.{AskedIsMapped, HeldIsUnreplied, LoadsAreFew, LoadsCount};
 ghost use Rattle.fs_chain.specs.HoldsListings.{BeginsListing, LeavesOut, LooksUp, ReadsDirectory};
 ghost use Rattle.fs_chain.specs.Laws.{WalksAreOffers};
-ghost use Rattle.fs_chain.specs.Missed.{EventMissIsNoStep, MissIsNoStep};
-ghost use Rattle.fs_chain.specs.Whole.{ChainIsAnsweredBy, ChainIsStep, ChainIsStepBy, EventFaultRefuses};
-ghost use Rattle.fs_chain.specs.Whole.{FaultyIsAnsweredBy, FaultyIsStepBy, IdleIsStepBy, RefusalIsStepBy};
-ghost use Rattle.fs_chain.specs.Whole.{ReturnsAreToldBySeen, WantedIsMapped};
+ghost use Rattle.fs_chain.specs.Missed.{EventFaultRefuses, EventMissIsNoStep, MissIsNoStep};
 ghost use Rattle.fs_chain.specs.Together.{FindsOwn, JoinsOthers, KeepsOthers, LeavesOthers};
 
 use fs_regions::laws::{law_misses_can_be_mapped, law_offers};
-use fuse_fs::FileSystem;
 
 /// For a queue that wasn't stopped, the result of `pop` is the offer of each memory that has all its
 /// loads in the handle's regions: no chain, a refusal, or the chain, with its fault or with its request
@@ -25,40 +21,17 @@ pub fn law_walks()
 
 /// A pop that misses addresses changes neither the queue nor the settings of the handle, which is free for
 /// another pop. It returns the addresses that it needs first and the table doesn't map, with the access. A
-/// table of whole pages can map them: none of them is in the last page.
+/// table of whole pages can map them: none of them is in the last page. With the event index a pop misses
+/// used_event or avail_event before any load; if one of them isn't mapped and that is no miss, the pop is
+/// refused, even if a chain is available, and the queue is stopped.
 pub fn law_misses()
     ensures missed { MissIsNoStep }
     ensures events { EventMissIsNoStep }
+    ensures refused { EventFaultRefuses }
     ensures mapped { MissesCanBeMapped }
 {
     law_misses_can_be_mapped();
 }
-
-/// The calls of a handle, from the begin of a pop to the push of its chain, are a step of the plain
-/// machine by the loaded bytes: the same file calls, stores and notification of the driver. The guest
-/// may write meanwhile. Over a memory that has the loaded bytes, they are a step of the machine over
-/// that memory.
-///
-/// This holds for a chain that is pushed at the position where it was popped. Any other chain is
-/// answered as by a machine whose queue is at the position of the push. A listing is answered entry by
-/// entry. The bytes for which a pop asks are mapped.
-///
-/// The machine has no event index, and takes the two bytes loaded after the stores as its flags.
-/// Without the event index they are the flags, and decide whether to notify the driver. With it they
-/// are used_event: the driver is notified if they equal the position of the push. If used_event or
-/// avail_event isn't mapped, a pop ends as it begins: it misses it, or is refused, and the queue is stopped.
-pub fn law_chains<F: FileSystem>()
-    ensures places { WantedIsMapped }
-    ensures idle { IdleIsStepBy F.may }
-    ensures refused { RefusalIsStepBy F.may }
-    ensures unplaced { EventFaultRefuses }
-    ensures faulty { FaultyIsStepBy F.may }
-    ensures answered { ChainIsAnsweredBy F.may }
-    ensures faulty_answered { FaultyIsAnsweredBy F.may }
-    ensures served { ChainIsStepBy F.may }
-    ensures told { ReturnsAreToldBySeen }
-    ensures memory { ChainIsStep F.may }
-{}
 
 /// Several handles of one run. A call of one of them, by which it keeps, gets or loses its chain, leaves the
 /// others what they hold.

@@ -14,7 +14,7 @@ use Rattle.fs_chain.specs.Events.{event_fault, event_miss}
 use Rattle.fs_chain.specs.Holds.{BeginsAPop, ContinuesAPop, HoldsPop, IsQueue, Machine, Pop, PopGoesOn, PopIs, PopsBy}
 use Rattle.fs_chain.specs.Loads.{GoesSo, whole}
 use Rattle.fs_chain.specs.Walks.{BeginsUnless, BeginsWhere, GoesOnUnless, LacksEvents, WalksFrom}
-use Rattle.fs_chain.specs.Whole.{AddsSo, WantsBytes}
+use Rattle.fs_chain.specs.Pops.{AddsSo, WantsBytes}
 use Rattle.fs_chain.specs.declared.chain_handle.ChainHandle.{ChainHandle}
 use Rattle.fs_chain.specs.declared.loads.LoadOutcome as went
 use Rattle.fs_chain.specs.declared.loads.LoadOutcome.TheVariants as wents

@@ -13,7 +13,7 @@ use Rattle.fs_chain.specs.Listings.{RepliesBy}
 use Rattle.fs_chain.specs.Orders.{is_listing, is_out}
 use Rattle.fs_chain.specs.Serials.{UnlessRefused, serial_error}
 use Rattle.fs_chain.specs.Together.{Owned, with_handle}
-use Rattle.fs_chain.specs.WholeListings.{listing_calls}
+use Rattle.fs_chain.specs.ListingCalls.{listing_calls}
 use Rattle.fs_chain.specs.declared.chain_handle.ChainHandle.{ChainHandle}
 use Rattle.fs_chain.specs.declared.error.ChainError.{ChainError}
 use Rattle.fs_chain.specs.declared.listing.Added.{Added}

@@ -14,8 +14,8 @@ use Rattle.live_machine.specs.Live.{Happens, InFlightChain, LiveRun, Phase, Rece
 use Rattle.fs_chain.specs.Holds.{Machine, any_files}
 use Rattle.fs_chain.specs.HoldsListings.{EndsListing, FailsListing, HasListed, HoldsListing, IsLeftOut, MayFail}
 use Rattle.fs_chain.specs.HoldsListings.{calls_left_out}
-use Rattle.fs_chain.specs.WholeListings.{Ending, EndsThere, FailsAt, FullAt, Unreadable, all_looked_up}
-use Rattle.fs_chain.specs.WholeListings.{calls_so_far, listing_calls, looked_up, node_back, unreadable_calls}
+use Rattle.fs_chain.specs.ListingCalls.{Ending, EndsThere, FailsAt, FullAt, Unreadable, all_looked_up}
+use Rattle.fs_chain.specs.ListingCalls.{calls_so_far, listing_calls, looked_up, node_back, unreadable_calls}
 use Rattle.fs_chain.specs.declared.chain_handle.ChainHandle.{ChainHandle}
 use Rattle.fs_chain.specs.declared.error.ChainError.{ChainError}
 use Rattle.fs_chain.specs.declared.listing.Added.{Added}

@@ -15,7 +15,7 @@ use Rattle.fs_chain.specs.Orders.{is_out}
 use Rattle.fs_chain.specs.Serials.{UnlessRefused, serial_error}
 use Rattle.fs_chain.specs.Together.{Owned, with_handle}
 use Rattle.fs_chain.specs.Walks.{IsAllButPlace}
-use Rattle.fs_chain.specs.WholeListings.{EndsThere, Unreadable, unreadable_calls}
+use Rattle.fs_chain.specs.ListingCalls.{EndsThere, Unreadable, unreadable_calls}
 use Rattle.fs_chain.specs.declared.chain_handle.ChainHandle.{ChainHandle}
 use Rattle.fs_chain.specs.declared.error.ChainError.{ChainError}
 use Rattle.fs_chain.specs.declared.queue.QueueState.{QueueState}

@@ -19,7 +19,7 @@ use Rattle.fs_chain.specs.Walks.{BeginsUnless, BeginsWhere, GoesOnUnless, KeepsS
 use Rattle.fs_chain.specs.Walks.{queue_after, state_after, told_of}
 use Rattle.fs_chain.specs.Queues.{pop_id_of}
 use Rattle.fs_queue.specs.Chain.{Descriptor}
-use Rattle.fs_chain.specs.Whole.{AddsSo}
+use Rattle.fs_chain.specs.Pops.{AddsSo}
 use Rattle.vm_memory_core.specs.Host.{changed_at}
 use Rattle.fs_queue.specs.declared.fault.ChainFault.{ChainFault}
 use Rattle.fs_queue.specs.Queue.{with_stop}

@@ -6,7 +6,7 @@ use Rattle.fs_regions.specs.Walks.{Loaded, nothing}
 use Rattle.fs_chain.specs.Ahead.{PopsAhead, WalksAhead}
 use Rattle.fs_chain.specs.Holds.{IsQueue, Machine, PopIs}
 use Rattle.fs_chain.specs.Loads.{whole}
-use Rattle.fs_chain.specs.Whole.{AddsSo}
+use Rattle.fs_chain.specs.Pops.{AddsSo}
 use Rattle.fs_chain.specs.declared.chain_handle.ChainHandle.{ChainHandle}
 use Rattle.fs_chain.specs.declared.loads.LoadOutcome as went
 use Rattle.fs_chain.specs.declared.loads.LoadOutcome.TheVariants as wents

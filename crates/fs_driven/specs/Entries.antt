@@ -9,7 +9,7 @@ use Rattle.server_phases.specs.declared.listing.Listing.{Listing}
 use Rattle.server_phases.specs.declared.listing.NotAdded.{NotAdded}
 use Rattle.plain_machine.specs.Step.{Calls}
 use Rattle.live_machine.specs.Live.{InFlightChain, LiveEvent, ReceivesAnswer, asked_chain}
-use Rattle.fs_chain.specs.WholeListings.{Ending, EndsThere, FailsAt, FullAt, Unreadable}
+use Rattle.fs_chain.specs.ListingCalls.{Ending, EndsThere, FailsAt, FullAt, Unreadable}
 use Rattle.fs_chain.specs.declared.error.ChainError.{ChainError}
 use Rattle.fs_chain.specs.declared.listing.Added.{Added}
 use Rattle.fs_chain.specs.declared.listing.Added.TheVariants as added

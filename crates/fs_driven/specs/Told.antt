@@ -40,8 +40,8 @@ use Rattle.fs_chain.specs.Queues.{reset_to}
 use Rattle.fs_chain.specs.Serials.{UnlessRefused, serial_error}
 use Rattle.fs_chain.specs.Together.{Owned, with_handle}
 use Rattle.fs_chain.specs.Walks.{count}
-use Rattle.fs_chain.specs.Whole.{AddsSo}
-use Rattle.fs_chain.specs.WholeListings.{listing_calls}
+use Rattle.fs_chain.specs.ListingCalls.{listing_calls}
+use Rattle.fs_chain.specs.Pops.{AddsSo}
 use Rattle.fs_chain.specs.declared.answering.Replied.{Replied}
 use Rattle.fs_chain.specs.declared.listing.Added.{Added}
 use Rattle.fs_chain.specs.declared.chain_handle.ChainHandle.{ChainHandle}

@@ -23,7 +23,7 @@ use Rattle.fs_chain.specs.Events.{event_fault, event_miss}
 use Rattle.fs_chain.specs.Loads.{AreWanted, AreWhole, GoesSo, IsSame, whole}
 use Rattle.fs_chain.specs.Orders.{IfWalking, IsWalking, load_len, walk_error}
 use Rattle.fs_chain.specs.Walks.{BeginsUnless, BeginsWhere, GoesOnUnless, LacksEvents, WalksFrom}
-use Rattle.fs_chain.specs.Whole.{AddsSo, LoadsOf, WalksBy, WantsBytes}
+use Rattle.fs_chain.specs.Pops.{AddsSo, LoadsOf, WalksBy, WantsBytes}
 use Rattle.fs_notify.specs.Amid.{FindsNoneAmidRefusals, LoadsPastRefusals, TakesAmidRefusals, WalksPastRefusals}
 use Rattle.fs_notify.specs.Takers.{HasPopped}
 use Rattle.fs_notify.proofs.Walks.{finds_none, takes}

@@ -39,9 +39,8 @@ use Rattle.fs_chain.specs.Loads.{whole}
 use Rattle.fs_chain.specs.Orders.{begin_error, load_len, walk_error}
 use Rattle.fs_chain.specs.Queues.{may_take, took}
 use Rattle.fs_chain.specs.Walks.{course_of, queue_after, told_of}
-use Rattle.fs_chain.specs.Whole.{BeginsPopBy, LoadsOf, WalksBy}
-use Rattle.fs_chain.proofs.WholeChains.{came_is, faulty_is}
-use Rattle.fs_chain.proofs.WholeWalks.{walk_comes}
+use Rattle.fs_chain.specs.Pops.{BeginsPopBy, LoadsOf, WalksBy}
+use Rattle.fs_chain.proofs.PopWalks.{came_is, faulty_is, walk_comes}
 use Rattle.notify.specs.Kicks.{ahead}
 use Rattle.notify.specs.Threads.{ThreadedQueue, Walker, Rearmer, walks, is_rearmer, may_act, after_act, TakesOne, SleepsNow}
 use Rattle.notify.proofs.Rings.{ahead_zero}

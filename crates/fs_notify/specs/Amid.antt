@@ -9,7 +9,7 @@ use Rattle.fs_chain.specs.declared.popping.PopOutcome.TheVariants as says
 use Rattle.fs_chain.specs.declared.queue.QueueState.{QueueState}
 use Rattle.fs_chain.specs.declared.chain_handle.ChainHandle.{ChainHandle}
 use Rattle.fs_chain.specs.Loads.{GoesSo, IsSame, whole}
-use Rattle.fs_chain.specs.Whole.{AddsSo, BeginsPopBy, WantsBytes}
+use Rattle.fs_chain.specs.Pops.{AddsSo, BeginsPopBy, WantsBytes}
 use Rattle.notify.specs.Threads.{Rearmer, SleepsNow, TakesOne, ThreadedQueue, Walker, after_act, may_act}
 use Rattle.fs_notify.specs.Takers.{HasPopped, HasU16Numbers, IsIndex, IsModelOf, ways_of}
 

@@ -21,7 +21,7 @@ use Rattle.fs_chain.specs.declared.chain_handle.ChainHandle.{ChainHandle}
 use Rattle.fs_chain.specs.Events.{avail_event_at, notification_store}
 use Rattle.fs_chain.specs.Orders.{begin_error, end_error, give_up_error}
 use Rattle.fs_chain.specs.Queues.{gave, in_flight, gave_up}
-use Rattle.fs_chain.specs.Whole.{LoadsOf, WalksBy}
+use Rattle.fs_chain.specs.Pops.{LoadsOf, WalksBy}
 use Rattle.notify.specs.Threads.{Ways, right_ways, ThreadedQueue, Walker, Rearmer, Nobody, may_act, after_act}
 use Rattle.notify.specs.Threads.{ActsOver}
 use Rattle.notify.specs.Threads.{Wishes, WishIsThere, Silences, TakesOne, DropsOne, SleepsNow, ReturnsChains}

@@ -4,7 +4,7 @@ use Rattle.std.proofs.Common.{refl, sym, ap, subst, ◌∙◌, inl, inr, Result,
 use Rattle.std.proofs.lemmas.List.{reverse-append}
 use Rattle.std.specs.Borrow.{Bor}
 use Rattle.fs_chain.specs.Loads.{GoesSo, IsSame, RefusesWalk}
-use Rattle.fs_chain.specs.Whole.{WalksBy, WantsBytes}
+use Rattle.fs_chain.specs.Pops.{WalksBy, WantsBytes}
 use Rattle.fs_chain.specs.declared.chain_handle.ChainHandle.{ChainHandle}
 use Rattle.fs_chain.specs.declared.error.ChainError.{ChainError}
 use Rattle.fs_chain.specs.declared.loads.LoadOutcome as went

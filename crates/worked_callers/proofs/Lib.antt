@@ -1,14 +1,9 @@
-pub mod CalledBy
-pub mod CallsSuit
-pub mod Ended
-pub mod FaultyTaken
 pub mod GivenBytes
+pub mod HeldPop
 pub mod InARowRun
-pub mod KeptMemory
-pub mod Looks
 pub mod MissedEvent
 pub mod ModelActs
-pub mod Served
+pub mod Results
 pub mod StaysAlike
 pub mod TookQueue
 pub mod WorkedReturns

@@ -14,7 +14,7 @@ use Rattle.fs_chain.specs.Orders.{begin_error, give_up_error, is_out, load_len, 
 use Rattle.fs_chain.specs.Pushes.{IfHasReply, PushesBy}
 use Rattle.fs_chain.specs.Queues.{gave, took, gave_up}
 use Rattle.fs_chain.specs.Walks.{queue_after, told_of}
-use Rattle.fs_chain.specs.Whole.{FromTaken, IsWalked, WalksBy}
+use Rattle.fs_chain.specs.Pops.{IsWalked, WalksBy}
 use Rattle.fs_chain.specs.declared.error.ChainError.TheVariants as error
 use Rattle.fs_chain.specs.declared.event_index.NotificationStore.{NotificationStore}
 use Rattle.fs_chain.specs.declared.loads.LoadOutcome.TheVariants as wents
@@ -26,7 +26,8 @@ use Rattle.fs_chain.specs.declared.state.InFlight.{InFlight}
 use Rattle.fs_chain.specs.declared.state.ChainState as state
 use Rattle.fs_chain.specs.declared.state.ChainState.TheVariants as at
 use Rattle.fs_chain.specs.declared.chain_handle.ChainHandle.{ChainHandle}
-use Rattle.fs_chain.proofs.WholeWalks.{walk_comes}
+use Rattle.fs_chain.proofs.PopWalks.{walk_comes}
+use Rattle.worked_callers.proofs.TookQueue.{FromTaken}
 use Rattle.live_machine.proofs.Queues.{same_some}
 use Rattle.notify.specs.Kicks as kicks
 use Rattle.notify.specs.Kicks.{NotifyState}

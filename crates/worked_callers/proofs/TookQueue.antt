@@ -1,7 +1,6 @@
 -- The queue after a pop that led to a chain.
 use Rattle.std.proofs.Common.{◌≡◌, ℕ, List, [], ◌∷◌, Option, Some, None, Result, Ok, Err, OnOk, refl, subst, ap, ◌∙◌, arith}
 use Rattle.std.specs.Prelude.{true, if◌then◌else◌, Bool}
-use Rattle.fs_queue.specs.declared.fault.ChainFault.{ChainFault}
 use Rattle.fs_queue.specs.declared.fault.QueueError.{QueueError}
 use Rattle.fs_queue.specs.declared.fault.QueueError.TheVariants as stop
 use Rattle.fs_regions.specs.declared.step.CourseStep as comes
@@ -9,9 +8,9 @@ use Rattle.fs_queue.specs.Chain.{Descriptor}
 use Rattle.fs_regions.specs.declared.step.CourseStep.TheVariants as step
 use Rattle.fs_chain.specs.Loads.{GoesSo, whole}
 use Rattle.fs_chain.specs.Orders.{is_out, load_len}
-use Rattle.fs_chain.specs.Queues.{gave, took, gave_up}
+use Rattle.fs_chain.specs.Queues.{took, gave_up}
 use Rattle.fs_chain.specs.Walks.{BeginsPop, BeginsUnless, WalksFrom, WalksOn, queue_after, told_of}
-use Rattle.fs_chain.specs.Whole.{BeginsPopBy, FromTaken, IsWalked, WalksBy, WantsBytes}
+use Rattle.fs_chain.specs.Pops.{BeginsPopBy, IsWalked, WalksBy, WantsBytes}
 use Rattle.fs_chain.specs.declared.chain_handle.ChainHandle.{ChainHandle}
 use Rattle.fs_chain.specs.declared.loads.LoadOutcome as went
 use Rattle.fs_chain.specs.declared.loads.LoadOutcome.TheVariants as wents
@@ -21,8 +20,12 @@ use Rattle.fs_chain.specs.declared.queue.QueueState.{QueueState}
 use Rattle.fs_chain.specs.declared.state.InFlight.{InFlight}
 use Rattle.fs_chain.specs.declared.state.ChainState as state
 use Rattle.fs_chain.specs.declared.state.ChainState.TheVariants as at
-use Rattle.fs_chain.proofs.WholeChains.{came_is, faulty_is}
-use Rattle.fs_chain.proofs.WholeWalks.{walk_comes}
+use Rattle.fs_chain.proofs.PopWalks.{came_is, walk_comes}
+
+-- P, and a chain is out whose request wasn't decoded
+abbrev pub FromTaken : state.ChainState → (InFlight → Type 0) → Type 0
+FromTaken (at.Taken out) P = P out
+FromTaken _ P = ⊥
 
 -- ---- a stopped queue
 
@@ -81,21 +84,6 @@ took_chain old new before after head n r walked =
     let came = walk_comes walked.0 old new before after (says.Chain head n r) goes tt walked.1 in
     let is = chain_is new.descriptors.items came.2.0 head n r came.2.1.0 in
     came.2.1.2 ∙ ap (λ (k : comes.CourseStep). queue_after before k) is
-
--- after a faulty chain
-pub took_faulty : (old new : ChainHandle) (before after : QueueState) (head : ℕ) (fault : ChainFault)
-    → IsWalked old new before after (wents.On (says.Faulty head fault)) → after ≡ took before
-took_faulty old new before after head fault walked =
-    let goes = never_stopped old new before after (wents.On (says.Faulty head fault)) before.stopped refl walked tt in
-    let came = walk_comes walked.0 old new before after (says.Faulty head fault) goes tt walked.1 in
-    let is = faulty_is new.descriptors.items came.2.0 head fault came.2.1.0 in
-    came.2.1.2 ∙ ap (λ (k : comes.CourseStep). queue_after before k) is
-
--- after the chain's push
-pub gave_took : {A E : Type 0} (r : Result A E) (before mid after : QueueState) → mid ≡ took before → OnOk r (after ≡ gave mid)
-    → OnOk r (after ≡ gave (took before))
-gave_took (Ok a) before mid after took_is gave_is = gave_is ∙ ap gave took_is
-gave_took (Err e) before mid after took_is gave_is = tt
 
 taken_is_out : (st : state.ChainState) (P : InFlight → Type 0) → FromTaken st P → is_out st ≡ true
 taken_is_out (at.Taken out) P taken = refl

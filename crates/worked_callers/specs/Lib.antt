@@ -1,6 +1,4 @@
-pub mod ChainCalls
 pub mod InARow
 pub mod Notified
-pub mod OverMemory
 pub mod Refusals
 pub mod WorkedRuns

@@ -5,7 +5,7 @@ use Rattle.std.specs.Borrow.{Bor}
 use Rattle.std.specs.Int.{w16, to_le_bytes}
 use Rattle.fs_regions.specs.Walks.{Loaded}
 use Rattle.fs_chain.specs.Loads.{RefusesWalk}
-use Rattle.fs_chain.specs.Whole.{LoadsOf, WalksBy}
+use Rattle.fs_chain.specs.Pops.{LoadsOf, WalksBy}
 use Rattle.fs_chain.specs.declared.error.ChainError.{ChainError}
 use Rattle.fs_chain.specs.declared.event_index.NotificationStore.{NotificationStore}
 use Rattle.fs_chain.specs.declared.loads.LoadOutcome as went
@@ -37,6 +37,14 @@ abbrev pub IsWalkedBy : List (Bor (List ℕ)) → (old new : ChainHandle) → (b
     went.LoadOutcome → Type 0
 IsWalkedBy bytes old new before after told =
     (n : ℕ) × WalksBy (given_so_far n bytes) old new before after told
+
+-- `loaded` has the loads of a pop by a prefix of the given ones, which has this result
+abbrev pub ArePopLoads :
+    List (Bor (List ℕ)) → (old : ChainHandle) → (before : QueueState) → went.LoadOutcome → Loaded → Type 0
+ArePopLoads given old before told loaded =
+    (n : ℕ) × (new : ChainHandle) × (after : QueueState)
+    × (walks : WalksBy (given_so_far n given) old new before after told)
+    × LoadsOf (given_so_far n given) old new before after told walks loaded
 
 -- calls with these bytes are a pop with this result, and P holds for the index among the bytes
 abbrev pub PopsWithIndex : (given : List (List ℕ)) → (old new : ChainHandle) → (before after : QueueState) →

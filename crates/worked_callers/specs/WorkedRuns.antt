@@ -1,18 +1,17 @@
 -- The events of the worked runs: up to a chain's return, and of the whole run.
-use Rattle.std.specs.Prelude.{◌≡◌, true, List, [], ◌∷◌, None, Some, slice_get}
+use Rattle.std.specs.Prelude.{◌≡◌, false, true, List, [], ◌∷◌, ◌++◌, None, Some, map, slice_get}
 use Rattle.fs_queue.specs.Returning.{Store}
-use Rattle.fs_queue.specs.declared.fault.QueueError.TheVariants.{HeadOutOfTable}
 use Rattle.fs_regions.specs.declared.step.CourseStep.TheVariants as step
-use Rattle.fuse_fs.specs.Calls.{Destroy, Done, Failed, FileRun, Wants}
+use Rattle.fuse_fs.specs.Calls.{Destroy, Done, FileRun}
 use Rattle.plain_machine.specs.Step.{Exchange, State}
 use Rattle.virtiofsd_fuse.specs.Examples.{le16}
 use Rattle.virtiofsd_fuse.specs.Serving.{May}
-use Rattle.live_machine.specs.InitBeside as init
 use Rattle.live_machine.specs.Live.{DecodesRequest, EndsPop, Happens, LiveEvent, LiveRun, LiveState}
 use Rattle.live_machine.specs.Live.{InFlightChain}
 use Rattle.live_machine.specs.Live.{PushesChain, ReceivesAnswer, calls_in}
 use Rattle.live_machine.specs.Overlap as overlap
-use Rattle.live_machine.specs.Rewritten as rewritten
+use Rattle.live_machine.specs.Rounds.{BeginsEvent, CopiesByte, GuestWrites, MarksPages, Migration}
+use Rattle.live_machine.specs.Rounds.{RoundMoment, StoresByte, TakesMarks}
 use Rattle.live_machine.specs.Runs.{IsAStep, IsBefore}
 use Rattle.live_machine.specs.Several.{LiveQueue}
 
@@ -30,24 +29,27 @@ overlap_events =
 abbrev pub overlap_return : LiveEvent
 overlap_return = PushesChain overlap.first_answered overlap.first_exchange true 0 overlap.first_used (le16 0)
 
--- the chain is popped, a pop by the rewritten entry is refused, and the chain is decoded and answered
-abbrev pub rewritten_events : List LiveEvent
-rewritten_events =
-    EndsPop 0 rewritten.first_loads rewritten.table (step.Chain 0 None)
-    ∷ EndsPop 0 rewritten.second_loads [] (step.Refused HeadOutOfTable)
-    ∷ DecodesRequest rewritten.first rewritten.forget (rewritten.told ∷ [])
-    ∷ ReceivesAnswer rewritten.first_asked rewritten.told Done ∷ []
+-- these events of the device begin, one after another; its addresses are those of the memory
+abbrev pub begun : List LiveEvent → List RoundMoment
+begun es = map (λ e. BeginsEvent e (λ a. a)) es
 
--- INIT is answered, and its chain returned, while LOOKUP's call is pending, which is answered then
-abbrev pub init_events : List LiveEvent
-init_events =
-    EndsPop 0 init.first_loads init.first_table (step.Chain 0 None)
-    ∷ DecodesRequest init.first init.lookup (init.looks ∷ [])
-    ∷ EndsPop 0 init.second_loads init.second_table (step.Chain 2 None)
-    ∷ DecodesRequest init.second init.init (init.starts ∷ [])
-    ∷ ReceivesAnswer init.second_asked init.starts (Wants 0)
-    ∷ PushesChain init.second_answered init.second_exchange true 0 init.second_used (le16 0)
-    ∷ ReceivesAnswer init.first_asked init.looks (Failed 2) ∷ []
+-- a round takes the marks, and copies a byte. The run's events begin, the guest writes a byte, one of the
+-- events' bytes is stored, and the caller marks a page
+abbrev pub moments : List RoundMoment
+moments =
+    TakesMarks ∷ CopiesByte 0x4000 ∷ begun overlap_events
+    ++ GuestWrites 0x3000 7 ∷ BeginsEvent overlap_return (λ a. a) ∷ StoresByte 0 ∷ MarksPages (4 ∷ []) ∷ []
+
+-- before the first round each page is marked, and nothing is copied
+abbrev pub all_marked : Migration
+all_marked = record {
+  bytes = λ a. 7;
+  copy = λ a. 0;
+  marked = λ page. true;
+  to_copy = λ a. false;
+  to_store = [];
+  to_mark = [];
+}
 
 -- these events lead from one state to another, where the chain is returned. For each plain machine before the
 -- chain, of which its calls are a run, the chain is a step by its own loads

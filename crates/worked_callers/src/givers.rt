@@ -1,13 +1,16 @@
 //! A push: its stores and its load are steps of the model in which no notification is lost (crate `notify`).
 
 ghost use Rattle.std.specs.Prelude.{◌≡◌, ◌≤◌, ◌+◌, ◌||◌, IfOk, IsTrue, [], ◌∷◌, ◌++◌, List, OnOk};
+ghost use Rattle.std.specs.Prelude.{true};
 ghost use Rattle.std.specs.Int.{w16, to_le_bytes};
-ghost use Rattle.fs_queue.specs.Returning.{Store};
+ghost use Rattle.fs_queue.specs.Returning.{Store, next_position};
 ghost use Rattle.fs_queue.specs.ReturningView.{stores_of};
+ghost use Rattle.fs_chain.specs.Holds.{live_of};
 ghost use Rattle.fs_chain.specs.Pushes.{IfHasReply, PushesBy};
 ghost use Rattle.fs_chain.specs.Queues.{gave};
 ghost use Rattle.fs_chain.specs.Serials.{freed};
 ghost use Rattle.fs_chain.specs.declared.state.ChainState.TheVariants as at;
+ghost use Rattle.live_machine.specs.Several.{passes, returning};
 ghost use Rattle.notify.specs.Kicks as kicks;
 ghost use Rattle.notify.specs.Kicks.{NotifyState, Runs, ahead};
 ghost use Rattle.notify.specs.Threads.{ReturnsChains, ThreadedQueue, Walker, after_act, may_act};
@@ -17,10 +20,11 @@ ghost use Rattle.fs_notify.specs.Takers.{IsModelOf, SaysWish, ways_of};
 use crate::takers::have_u16_numbers;
 use fs_chain::{ChainError, ChainHandle, PushStores, QueueState};
 use fs_notify::{law_givers, law_takers};
+use live_machine::law_queues;
 
 /// Pushes a chain whose reply is known, with a number for what a caller loads behind its barrier: used_event,
 /// or the available flags. The reply's front is dropped. Returns whether to notify the driver, and the
-/// stores.
+/// stores. With the event index the driver is notified exactly if the used index passes used_event.
 pub fn push_one(
     handle: &mut ChainHandle,
     queue: &mut QueueState,
@@ -29,6 +33,8 @@ pub fn push_one(
     ensures again { OnOk result (handle.new.state ≡ at.Free) }
     ensures freed { OnOk result (handle.new ≡ freed handle.old) }
     ensures queue { OnOk result (queue.new ≡ gave queue.old) }
+    ensures event { IfOk result (λ told. queue.old.event_index ≡ true
+        → told.0 ≡ passes seen queue.old.next_used (next_position (returning (live_of queue.old)))) }
     ensures stores { IfOk result (λ told. IfHasReply handle.old.state
         (λ out reply. PushesBy queue.old out reply told.1)) }
     ensures returns { OnOk result ((s : ThreadedQueue)
@@ -59,6 +65,7 @@ pub fn push_one(
         Runs rules u (kicks.Publishes 1 ∷ kicks.IndexArrives 1 ∷ kicks.ChecksWish ∷ []) end
         × (end.published ≡ queue.new.next_used))) }
 {
+    law_queues();
     law_takers();
     law_givers();
     have_u16_numbers(queue);

@@ -3,20 +3,14 @@
 //! them.
 #![tactic(auto)]
 
-pub mod faults;
 pub mod givers;
-pub mod lent;
-pub mod listings;
+pub mod held;
 pub mod live_queues;
-pub mod maximum;
 pub mod missed_event;
 pub mod misses;
-pub mod notices;
 pub mod offers;
 pub mod pops;
 pub mod refusals;
-pub mod seen;
 pub mod takers;
 pub mod untouched;
-pub mod wholes;
 pub mod worked_runs;

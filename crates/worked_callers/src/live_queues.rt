@@ -1,7 +1,7 @@
 //! Runs of pops and returns on one queue, and of chains one after another: laws of the live machine on
 //! worked values.
 
-ghost use Rattle.std.specs.Prelude.{◌≡◌, ◌<◌, ◌^◌, ℕ, [], ◌∷◌, List, Some, None};
+ghost use Rattle.std.specs.Prelude.{◌≡◌, ◌<◌, ◌^◌, ℕ, [], ◌∷◌, List, Some, None, true};
 ghost use Rattle.std.specs.Prelude.{slice_get};
 ghost use Rattle.vm_memory.specs.Memory.{Memory};
 ghost use Rattle.fs_queue.specs.Returning.{Store, next_position};
@@ -9,14 +9,16 @@ ghost use Rattle.plain_machine.specs.Run.{KickRun};
 ghost use Rattle.fs_chain.specs.declared.state.ChainState.TheVariants as at;
 ghost use Rattle.live_machine.specs.Live.{LiveState};
 ghost use Rattle.live_machine.specs.Overlap.{at_positions, state};
-ghost use Rattle.live_machine.specs.Serial.{IsAtRest, SerialRun, Single, plain};
+ghost use Rattle.live_machine.specs.Serial.{IsAtRest, SerialRun, Single, plain, return_in};
 ghost use Rattle.live_machine.specs.Serial.{turn_of};
 ghost use Rattle.live_machine.specs.Several.{AtTheirPositions, LiveQueue};
+ghost use Rattle.live_machine.specs.Steps.{IsAStepOver};
+ghost use Rattle.virtiofsd_fuse.specs.Examples.{le16};
 ghost use Rattle.fuse_fs.specs.Calls.{Destroy, Done};
-ghost use Rattle.worked_callers.specs.InARow.{after_both, one, two, with_both};
+ghost use Rattle.worked_callers.specs.InARow.{after_both, first_asked, first_exchange, one, two, with_both};
 
 use fuse_fs::FileSystem;
-use live_machine::{law_queues, law_serial};
+use live_machine::{law_queues, law_serial, law_steps};
 
 /// Of two popped chains, if the first one is returned first, each is returned at the position of its pop.
 pub fn law_oldest_first()
@@ -51,4 +53,12 @@ pub fn law_served_turns<F: FileSystem>()
         (turn_of one ∷ turn_of two ∷ []) None (plain (state after (at_positions 2 2) 0 []) after_both) }
 {
     law_serial::<F>();
+}
+
+/// The first of these chains is a step over that memory by itself, whatever else is in flight.
+pub fn law_served_is_step<F: FileSystem>()
+    ensures { (f : F) → IsAStepOver F.may (plain (state f (at_positions 0 0) 1 []) with_both) f
+        (at_positions 1 0) first_asked first_exchange (return_in one) (le16 0) true }
+{
+    law_steps::<F, F>();
 }

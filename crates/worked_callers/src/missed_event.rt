@@ -9,12 +9,11 @@ ghost use Rattle.fs_regions.specs.Places.{behind, untranslated};
 ghost use Rattle.fs_chain.specs.Events.{used_event_at};
 ghost use Rattle.fs_chain.specs.declared.state.ChainState.TheVariants as at;
 
-use crate::wholes::walk_by;
-use fs_chain::laws::{law_chains, law_misses};
+use crate::pops::walk_by;
+use fs_chain::laws::law_misses;
 use fs_chain::{ChainError, ChainHandle, LoadOutcome, PopOutcome, QueueState};
 use fs_queue::QueueError;
 use fs_regions::{GuestMap, GuestRegions};
-use fuse_fs::FileSystem;
 use std::alloc::Global;
 use vm_memory_core::Iotlb;
 
@@ -51,7 +50,7 @@ pub fn miss_used_event(
 
 /// Pops a queue with the event index, with a handle that gets neither regions nor a table. The pop is refused
 /// before any load, since used_event isn't mapped, and the queue is stopped.
-pub fn pop_without_regions<F: FileSystem>(
+pub fn pop_without_regions(
     alloc: Global,
     handle: &mut ChainHandle,
     queue: &mut QueueState,
@@ -71,7 +70,7 @@ pub fn pop_without_regions<F: FileSystem>(
         × (handle.new.serial ≡ handle.old.serial)
         × (handle.new.list_len ≡ handle.old.list_len)) }
 {
-    law_chains::<F>();
+    law_misses();
     handle.set_memory(GuestMap::none(alloc), 0x101000)?;
     walk_by(handle, queue, &[])
 }

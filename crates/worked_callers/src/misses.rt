@@ -1,26 +1,22 @@
-//! A pop that misses addresses of an IOMMU's table is no step. The bytes for which a pop asks are mapped.
+//! A pop that misses addresses of an IOMMU's table is no step.
 
-ghost use Rattle.std.specs.Prelude.{◌≡◌, ◌<◌, ◌≤◌, ◌+◌, [], false, true, IfOk, None, Some};
+ghost use Rattle.std.specs.Prelude.{◌≡◌, ◌<◌, ◌≤◌, ◌+◌, [], IfOk, None, Some};
 ghost use Rattle.std.specs.Prelude.{length};
 ghost use Rattle.vm_iotlb.specs.declared.iova.IovaRange.{IovaRange};
 ghost use Rattle.vm_iotlb.specs.declared.permissions.Permissions.{Permissions};
-ghost use Rattle.vm_memory_core.specs.Window.{Window};
 ghost use Rattle.fs_queue.specs.declared.fault.QueueError.{QueueError};
 ghost use Rattle.fs_regions.specs.Misses.{last_page};
 ghost use Rattle.fs_regions.specs.Places.{places_in};
 ghost use Rattle.fs_regions.specs.Walks.{Loaded, Misses, queue_of};
 ghost use Rattle.fs_chain.specs.Events.{event_fault, event_miss};
-ghost use Rattle.fs_chain.specs.Loads.{IsLoadWindow, came};
 ghost use Rattle.fs_chain.specs.Walks.{DropsDescriptors, HasEvents, IsAllBut, course_of};
-ghost use Rattle.fs_chain.specs.Whole.{WalksBy, WantsBytes};
+ghost use Rattle.fs_chain.specs.Pops.{WalksBy, WantsBytes};
 ghost use Rattle.fs_chain.specs.declared.state.ChainState.TheVariants as at;
-ghost use Rattle.worked_callers.specs.ChainCalls.{ArePopLoads};
-ghost use Rattle.worked_callers.specs.Notified.{IsWalkedBy, given_so_far};
+ghost use Rattle.worked_callers.specs.Notified.{ArePopLoads, IsWalkedBy, given_so_far};
 
-use crate::wholes::walk_by;
-use fs_chain::laws::{law_chains, law_misses};
+use crate::pops::walk_by;
+use fs_chain::laws::law_misses;
 use fs_chain::{ChainError, ChainHandle, LoadOutcome, PopOutcome, QueueState};
-use fuse_fs::FileSystem;
 
 /// Pops by these bytes. A miss leaves the queue as it was and the handle free. It is of the addresses that
 /// the pop needs first by its loads, and a table of whole pages can map them. If the table doesn't map
@@ -63,29 +59,4 @@ pub fn pop_or_miss(
 {
     law_misses();
     walk_by(handle, queue, given)
-}
-
-/// Pops by these bytes. Returns the outcome, and whether the bytes that the pop asks for have a window. If it
-/// asks for bytes, they have one.
-pub fn pop_and_find_window<F: FileSystem>(
-    handle: &mut ChainHandle,
-    queue: &mut QueueState,
-    given: &[&[u8]],
-) -> Result<(LoadOutcome, bool), ChainError>
-    requires free { handle.old.state ≡ at.Free }
-    requires goes { queue.old.stopped ≡ None }
-    ensures given { IfOk result (λ r.
-        IsWalkedBy given.now handle.old handle.new queue.old queue.new r.0) }
-    ensures all { IfOk result (λ r. WantsBytes r.0
-        → WalksBy (given_so_far (length given.now) given.now) handle.old handle.new queue.old queue.new r.0) }
-    ensures found { IfOk result (λ r. r.1 ≡ true
-        → (w : Window) × IsLoadWindow handle.new (came handle.new) w) }
-    ensures none { IfOk result (λ r. r.1 ≡ false → WantsBytes r.0 → ⊥) }
-{
-    law_chains::<F>();
-    let told = walk_by(handle, queue, given)?;
-    match handle.still_wanted() {
-        Some(_) => Ok((told, true)),
-        None => Ok((told, false)),
-    }
 }

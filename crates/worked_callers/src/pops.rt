@@ -1,16 +1,52 @@
-//! Pops to their ends, and those of faulty chains.
+//! Pops: a call for each of the given loads, to the end.
 
 ghost use Rattle.std.specs.Prelude.{◌≡◌, IfErr, IfOk};
-ghost use Rattle.std.specs.Prelude.{length, Ok, OnOk};
-ghost use Rattle.fs_chain.specs.Queues.{took};
-ghost use Rattle.fs_chain.specs.Whole.{IsWalked, WalksBy, WantsBytes};
+ghost use Rattle.std.specs.Prelude.{false, length, true};
+ghost use Rattle.fs_chain.specs.Pops.{IsWalked, WalksBy, WantsBytes};
 ghost use Rattle.fs_chain.specs.declared.state.ChainState.TheVariants as at;
 ghost use Rattle.worked_callers.specs.Notified.{IsWalkedBy, given_so_far};
-ghost use Rattle.worked_callers.specs.Refusals.{FailsToEnd};
+ghost use Rattle.worked_callers.specs.Refusals.{FailsToEnd, IsFailedBy};
 
-use crate::wholes::walk_by;
 use fs_chain::{ChainError, ChainHandle, LoadOutcome, PopOutcome, QueueState};
-use fs_queue::ChainFault;
+
+/// Whether a call of `pop` with this result asks for bytes.
+pub fn wants_bytes(told: &LoadOutcome) -> bool
+    ensures yes { result ≡ true → WantsBytes told.now }
+    ensures no { result ≡ false → WantsBytes told.now → ⊥ }
+{
+    matches!(
+        told,
+        LoadOutcome::Part | LoadOutcome::On(PopOutcome::Load(_))
+    )
+}
+
+/// A pop with these bytes, one call for each, as long as it asks for bytes. If it asks for more in the end,
+/// it was given all of them. Fails with the error of the first call that is refused.
+#[tactic(auto, using(fs_chain::proofs::PopWalks::begins_by, fs_chain::proofs::PopWalks::goes_on_by))]
+pub fn walk_by(
+    handle: &mut ChainHandle,
+    queue: &mut QueueState,
+    given: &[&[u8]],
+) -> Result<LoadOutcome, ChainError>
+    requires free { handle.old.state ≡ at.Free }
+    ensures walks { IfOk result (λ told. IsWalked handle.old handle.new queue.old queue.new told) }
+    ensures given { IfOk result (λ told.
+        IsWalkedBy given.now handle.old handle.new queue.old queue.new told) }
+    ensures all { IfOk result (λ told. WantsBytes told
+        → WalksBy (given_so_far (length given.now) given.now) handle.old handle.new queue.old
+        queue.new told) }
+    ensures error { IfErr result
+        (IsFailedBy given.now handle.old handle.new queue.old queue.new) }
+{
+    let mut told = handle.pop(queue, &[])?;
+    for bytes in given {
+        if !wants_bytes(&told) {
+            return Ok(told);
+        }
+        told = handle.pop(queue, bytes)?;
+    }
+    Ok(told)
+}
 
 /// Pops a queue by these bytes, a call for each. Fails with `BadArgument` if the last call got only a part of
 /// its load, else with the error of a refused call.
@@ -33,24 +69,5 @@ pub fn walk_to_end(
     match walk_by(handle, queue, given)? {
         LoadOutcome::On(told) => Ok(told),
         LoadOutcome::Part => Err(ChainError::BadArgument),
-    }
-}
-
-/// Pops a faulty chain: its head and its fault. Fails with `WrongOrder` if the pop ends otherwise.
-pub fn take_faulty(
-    handle: &mut ChainHandle,
-    queue: &mut QueueState,
-    given: &[&[u8]],
-) -> Result<(u16, ChainFault), ChainError>
-    requires free { handle.old.state ≡ at.Free }
-    ensures queue { OnOk result (queue.new ≡ took queue.old) }
-    ensures walked { IfOk result (λ c. IsWalked handle.old handle.new queue.old queue.new
-        (LoadOutcome.On (PopOutcome.Faulty c.0 c.1))) }
-    ensures given { IfOk result (λ c. IsWalkedBy given.now handle.old handle.new queue.old queue.new
-        (LoadOutcome.On (PopOutcome.Faulty c.0 c.1))) }
-{
-    match walk_to_end(handle, queue, given)? {
-        PopOutcome::Faulty { head, fault } => Ok((head, fault)),
-        _ => Err(ChainError::WrongOrder),
     }
 }

@@ -4,7 +4,7 @@
 ghost use Rattle.std.specs.Prelude.{◌≡◌, ◌<◌, ◌^◌, ℕ, false, IfErr, IfOk, IsTrue, None, OnOk};
 ghost use Rattle.std.specs.Prelude.{length};
 ghost use Rattle.fs_chain.specs.Loads.{GoesSo, IsSame};
-ghost use Rattle.fs_chain.specs.Whole.{WantsBytes};
+ghost use Rattle.fs_chain.specs.Pops.{WantsBytes};
 ghost use Rattle.fs_chain.specs.declared.loads.LoadOutcome as went;
 ghost use Rattle.fs_chain.specs.declared.popping.PopOutcome.{PopOutcome};
 ghost use Rattle.fs_chain.specs.declared.state.ChainState.TheVariants as at;
@@ -15,8 +15,8 @@ ghost use Rattle.worked_callers.specs.Notified.{IsRefusedCall, IsWalkedPastRefus
 ghost use Rattle.worked_callers.specs.Notified.{given_so_far};
 ghost use Rattle.worked_callers.specs.Refusals.{IsFailedPastRefusals};
 
+use crate::pops::wants_bytes;
 use crate::takers::have_u16_numbers;
-use crate::wholes::wants_bytes;
 use fs_chain::{ChainError, ChainHandle, LoadOutcome, PopOutcome, QueueState};
 use fs_notify::law_takers;
 

@@ -5,6 +5,7 @@ ghost use Rattle.std.specs.Prelude.{◌≡◌, ◌<◌, ◌^◌, ℕ, false, IfO
 ghost use Rattle.std.specs.Prelude.{Err, IfErr, OnErr};
 ghost use Rattle.fs_chain.specs.Events.{store_of};
 ghost use Rattle.fs_chain.specs.Loads.{GoesSo, IsSame, RefusesWalk};
+ghost use Rattle.fs_chain.specs.Pops.{IsWalked};
 ghost use Rattle.fs_chain.specs.Queues.{gave_up, took};
 ghost use Rattle.fs_chain.specs.Serials.{freed};
 ghost use Rattle.fs_chain.specs.declared.error.ChainError.{ChainError};
@@ -19,8 +20,7 @@ ghost use Rattle.fs_notify.specs.Takers.{HasU16Numbers, IsModelOf, MutesBy, ways
 ghost use Rattle.worked_callers.specs.Notified.{ActsTo, IsStoredWish, IsWalkedBy, PopsWithIndex};
 ghost use Rattle.worked_callers.specs.Notified.{given_so_far};
 
-use crate::pops::walk_to_end;
-use crate::wholes::walk_chain;
+use crate::pops::{walk_by, walk_to_end};
 use fs_chain::{ChainError, ChainHandle, LoadOutcome, NotificationStore, PopOutcome, QueueState};
 use fs_notify::law_takers;
 
@@ -107,6 +107,32 @@ pub fn sleep_if_idle(
     let store = enable_store(queue);
     walk_idle(handle, queue, given)?;
     Ok(store)
+}
+
+/// Pops a chain: its head, the length of its request in bytes, and that of its reply buffer. Fails with
+/// `WrongOrder` if the pop ends otherwise.
+pub fn walk_chain(
+    handle: &mut ChainHandle,
+    queue: &mut QueueState,
+    given: &[&[u8]],
+) -> Result<(u16, usize, usize), ChainError>
+    requires free { handle.old.state ≡ at.Free }
+    ensures queue { OnOk result (queue.new ≡ took queue.old) }
+    ensures walked { IfOk result (λ c. IsWalked handle.old handle.new queue.old queue.new
+        (LoadOutcome.On (PopOutcome.Chain c.0 c.1 c.2))) }
+    ensures given { IfOk result (λ c. IsWalkedBy given.now handle.old handle.new queue.old queue.new
+        (LoadOutcome.On (PopOutcome.Chain c.0 c.1 c.2))) }
+{
+    match walk_by(handle, queue, given)? {
+        LoadOutcome::On(
+            PopOutcome::Chain {
+                head,
+                request_len,
+                room_len,
+            },
+        ) => Ok((head, request_len, room_len)),
+        _ => Err(ChainError::WrongOrder),
+    }
 }
 
 /// Pops a chain: its head, and the lengths of request and reply buffer. The model's thread loads the index,

@@ -1,15 +1,18 @@
 use Rattle.std.proofs.Common.{◌≡◌, ◌<◌, ◌^◌, ◌||◌, ℕ, Bool, None, true, List, refl, subst, sym, ap, ◌∙◌}
 use Rattle.std.specs.Int.{w16, from_le_bytes, to_le_bytes}
 use Rattle.std.proofs.lemmas.Nat.{from_le_bytes-to_le_bytes_2}
+use Rattle.fs_queue.specs.Returning.{next_position}
 use Rattle.fs_chain.specs.Events.{tells_of}
+use Rattle.fs_chain.specs.Holds.{live_of}
 use Rattle.fs_chain.specs.Orders.{end_error}
 use Rattle.fs_chain.specs.Queues.{gave}
 use Rattle.fs_chain.specs.declared.chain_handle.ChainHandle.{ChainHandle}
 use Rattle.fs_chain.specs.declared.queue.QueueState.{QueueState}
+use Rattle.live_machine.specs.Several.{LiveQueue, passes, returning, wants}
 use Rattle.notify.specs.Threads.{ReturnsChains, after_act}
 use Rattle.fs_notify.specs.Takers.{IsModelOf, ways_of}
 use Rattle.worked_callers.proofs.ModelActs.{published_so}
-use Rattle.worked_callers.proofs.Served.{freed_back}
+use Rattle.worked_callers.proofs.Results.{freed_back}
 use Rattle.worked_callers.proofs.givers.push_one.Goals as goal
 
 pub returns-in-Ok : goal.returns-in-Ok
@@ -18,6 +21,7 @@ returns-in-Ok c =
     let seen = c.args.seen in
     let st = c.push.new.self.state in
     let bytes : List ℕ = to_le_bytes w16 seen in
+    let w : LiveQueue = live_of q in
     let pushing : QueueState = record q { pushing = true } in
     let counted = c.have_u16_numbers.ensures in
     let small : seen < 2 ^ 16 = Prim.search in
@@ -33,6 +37,9 @@ returns-in-Ok c =
       freed = freed_back c.args.handle.now.state q _ c.args.handle.now c.push.new.self c.pushed.new.self refl
           c.in_ok-stores.ensures.ok c.in_ok-stores.ensures.pushing c.in-Ok.ensures.free;
       queue = last_is;
+      event = λ by_event.
+          told ∙ subst (λ (n : ℕ). wants w bytes ≡ passes n w.next_used (next_position (returning w))) same
+          (c.law_queues.ensures.event w bytes by_event counted.1 (subst (λ (n : ℕ). n < 2 ^ 16) (sym same) small));
       stores = c.in_ok-stores.ensures.stores;
       returns = λ s of walker.
           let law = c.law_takers.ensures.returns pushing st s counted ok of walker in

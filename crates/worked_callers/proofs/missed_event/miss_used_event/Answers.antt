@@ -5,7 +5,7 @@ use Rattle.fs_queue.specs.declared.fault.QueueError.TheVariants.{AvailFlagsUnrea
 use Rattle.fs_regions.specs.Places.{Mapped, behind, places_in}
 use Rattle.fs_chain.specs.Events.{event_fault, event_miss, used_event_at}
 use Rattle.worked_callers.proofs.MissedEvent.{missed_event}
-use Rattle.worked_callers.proofs.Served.{if_ok}
+use Rattle.worked_callers.proofs.Results.{if_ok}
 use Rattle.worked_callers.proofs.missed_event.miss_used_event.Goals as goal
 
 pub returns : goal.returns

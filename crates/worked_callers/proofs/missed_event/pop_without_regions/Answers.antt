@@ -3,11 +3,11 @@ use Rattle.fs_queue.specs.declared.fault.QueueError.TheVariants.{AvailFlagsUnrea
 use Rattle.fs_regions.specs.Places.{Mapped, places_in}
 use Rattle.fs_chain.specs.Events.{event_fault, event_miss}
 use Rattle.worked_callers.proofs.MissedEvent.{unmapped_event}
-use Rattle.worked_callers.proofs.Served.{if_ok}
+use Rattle.worked_callers.proofs.Results.{if_ok}
 use Rattle.worked_callers.proofs.missed_event.pop_without_regions.Goals as goal
 
 pub returns : goal.returns
-returns g c =
+returns c =
     let set = c.in_ok-set_memory.ensures.set in
     let old = c.set_memory.new.self in
     let new = c.walk_by.new.handle in
@@ -18,7 +18,7 @@ returns g c =
     let events = unmapped_event q c.requires.event_index in
     let fault = subst (λ (g : Mapped). event_fault (places_in g) q ≡ Some AvailFlagsUnreachable) (sym is) events.0 in
     let miss = subst (λ (g : Mapped). event_miss (places_in g) q ≡ None) (sym is) events.1 in
-    let unplaced = c.law_chains.ensures.unplaced in
+    let unplaced = c.law_misses.ensures.refused in
     record {
       refused = if_ok c.walk_by.result _ _
           (λ told walks.

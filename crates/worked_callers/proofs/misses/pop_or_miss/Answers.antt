@@ -1,17 +1,12 @@
 use Rattle.std.proofs.Common.{subst, sym}
-use Rattle.vm_iotlb.specs.declared.iova.IovaRange.{IovaRange}
-use Rattle.vm_iotlb.specs.declared.permissions.Permissions.{Permissions}
 use Rattle.fs_regions.specs.Misses.{needed_at}
 use Rattle.fs_regions.specs.Places.{places_in}
 use Rattle.fs_regions.specs.Walks.{Misses, queue_of}
 use Rattle.fs_chain.specs.Walks.{course_of}
-use Rattle.fs_chain.specs.Whole.{WalksBy}
+use Rattle.fs_chain.specs.Pops.{WalksBy}
 use Rattle.fs_chain.specs.declared.loads.LoadOutcome as went
-use Rattle.fs_chain.specs.declared.loads.LoadOutcome.TheVariants as wents
-use Rattle.fs_chain.specs.declared.popping.PopOutcome.TheVariants as says
-use Rattle.worked_callers.specs.ChainCalls.{ArePopLoads}
-use Rattle.worked_callers.specs.Notified.{given_so_far}
-use Rattle.worked_callers.proofs.Served.{if_ok}
+use Rattle.worked_callers.specs.Notified.{ArePopLoads, given_so_far}
+use Rattle.worked_callers.proofs.Results.{if_ok}
 use Rattle.worked_callers.proofs.misses.pop_or_miss.Goals as goal
 
 pub returns-clause-missed : goal.returns-clause-missed

@@ -1,5 +1,5 @@
 use Rattle.std.proofs.Common.{◌≡◌, Err, inl, inr, length, refl, rules, subst}
-use Rattle.fs_chain.specs.Whole.{WalksBy, WantsBytes}
+use Rattle.fs_chain.specs.Pops.{WalksBy, WantsBytes}
 use Rattle.fs_chain.specs.declared.loads.LoadOutcome as went
 use Rattle.worked_callers.specs.Notified.{given_so_far}
 use Rattle.worked_callers.specs.Refusals.{FailsToEnd}

@@ -1,6 +1,6 @@
 use Rattle.std.proofs.Common.{◌≡◌}
 use Rattle.worked_callers.proofs.ModelActs.{drops_so}
-use Rattle.worked_callers.proofs.Served.{on_ok_more, on_ok_two, taken_so}
+use Rattle.worked_callers.proofs.Results.{on_ok_more, on_ok_two, taken_so}
 use Rattle.worked_callers.proofs.TookQueue.{gave_up_taken}
 use Rattle.worked_callers.proofs.takers.drop_one.Goals as goal
 

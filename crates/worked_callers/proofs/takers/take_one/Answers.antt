@@ -1,5 +1,5 @@
 use Rattle.worked_callers.proofs.ModelActs.{takes_so}
-use Rattle.worked_callers.proofs.Served.{if_ok}
+use Rattle.worked_callers.proofs.Results.{if_ok}
 use Rattle.worked_callers.proofs.takers.take_one.Goals as goal
 
 pub returns : goal.returns
