@@ -29,6 +29,7 @@ static struct pk_device device = PK_DEVICE;
 static struct pk_region regions[2];
 static size_t region_count;
 static struct pk_region mapped[2]; /* what the IOMMU's table maps in this process */
+static uint32_t access[2];         /* of each mapping */
 static bool has_table;
 static size_t table_len;         /* of each indirect table */
 static size_t desc = DESC, avail = AVAIL;
@@ -113,8 +114,7 @@ static void lend_table(struct pk_chain *chain) {
     expect("a table", pk_iotlb_new(&table), PK_DONE);
     for (size_t k = 0; k < region_count; k++)
         expect("a mapping",
-               pk_iotlb_map(&table, mapped[k].guest, mapped[k].len, regions[k].guest,
-                            PK_ACCESS_READ_WRITE),
+               pk_iotlb_map(&table, mapped[k].guest, mapped[k].len, regions[k].guest, access[k]),
                PK_DONE);
     expect("lent", pk_chain_exchange_iotlb(chain, &table), PK_DONE);
     pk_iotlb_free(&table); /* the empty place */
@@ -241,6 +241,8 @@ static void try_one(void) {
     uint32_t status, found;
     uint16_t next_avail = (uint16_t)below(0x10000);
     lay_chance(next_avail);
+    access[0] = PK_ACCESS_READ_WRITE;
+    access[1] = (uint32_t)(below(2) ? PK_ACCESS_READ_WRITE : below(4)); /* of the buffers */
     queue = second = third = after_pops(next_avail);
     make_handle(&chain);
     make_handle(&other);
