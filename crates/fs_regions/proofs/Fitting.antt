@@ -7,10 +7,7 @@ use Rattle.std.proofs.lemmas.Bool.{and_parts, ltb-true}
 use Rattle.std.proofs.Math.Nat.{mod-lt}
 use Rattle.vm_iotlb.specs.declared.permissions.Permissions.{Permissions}
 use Rattle.vm_iotlb.specs.declared.permissions.Permissions.TheVariants.{Read, Write}
-use Rattle.vm_memory_core.specs.Window.{Window}
 use Rattle.vm_memory.specs.Memory.{Memory, addresses, location, reach}
-use Rattle.vm_memory.specs.Slices.{IsWindowAt}
-use Rattle.vm_memory.proofs.RangeLemmas.{all_located}
 use Rattle.fs_queue.specs.declared.layout.QueueLayout.{QueueLayout}
 use Rattle.fs_queue.specs.Chain.{Descriptor, is_writable}
 use Rattle.fs_queue.specs.Queue.{element_at, index_at}
@@ -18,6 +15,7 @@ use Rattle.fs_queue.specs.Taking.{access_of, all_reach, readable, return_fault, 
 use Rattle.fs_queue.specs.WalkingView.{at_position}
 use Rattle.fs_queue.proofs.TakeLemmas.{reach-each}
 use Rattle.fs_regions.specs.Pieces.{HasDescriptor, IsPiece}
+use Rattle.fs_regions.specs.Windows.{HavePlaces}
 use Rattle.fs_regions.specs.declared.fits.Piece.{Piece}
 use Rattle.fs_regions.proofs.Mapping.{cut}
 
@@ -62,20 +60,13 @@ part_reached m access a n b k fits whole after within =
     (list_all (λ x. is_some (has x)) (addresses (b + k) (n - (b - a) - k))) (sym (cut b (n - (b - a)) k has short) ∙ from)).0 in
     reach-each m access b k ends ∙ mine
 
--- a window's addresses
-window_reached : (m : Memory) (access : Permissions) (a most : ℕ) (w : Window) → a + w.len < 2 ^ 64
-    → IsWindowAt (location m access) a most w → reach m access a w.len ≡ true
-window_reached m access a most w fits window =
-    reach-each m access a w.len fits ∙ all_located (addresses a w.len) (location m access) ∙ ap is_some window.3
-
--- a window is a piece
-pub piece_found : (m : Memory) (b : Bool) (access : Permissions) (a most end : ℕ) (w : Window) → access ≡ access_of b → end ≡ a + w.len
-    → end < 2 ^ 64 → IsWindowAt (location m access) a most w → reach m (access_of b) a (end - a) ≡ true
-piece_found m b access a most end w is at fits window =
-    let len : w.len ≡ end - a = omega (arith, at) in
-    let below : a + w.len < 2 ^ 64 = omega (arith, at, fits) in
-    subst (λ n. reach m (access_of b) a n ≡ true) len
-    (subst (λ x. reach m x a w.len ≡ true) is (window_reached m access a most w below window))
+-- so many addresses are a piece
+pub piece_found : (m : Memory) (b w : Bool) (access : Permissions) (a n end : ℕ) → access ≡ access_of w → b ≡ w → end ≡ a + n
+    → HavePlaces (location m access) a n → reach m (access_of b) a (end - a) ≡ true
+piece_found m b w access a n end is same at have =
+    let len : n ≡ end - a = omega (arith, at) in
+    subst (λ k. reach m (access_of b) a k ≡ true) len
+    (subst (λ x. reach m x a n ≡ true) (is ∙ ap access_of (sym same)) (reach-each m access a n have.0 ∙ have.1))
 
 -- no addresses
 pub no_piece : (m : Memory) (access : Permissions) → reach m access 0 0 ≡ true

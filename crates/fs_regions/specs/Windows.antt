@@ -1,6 +1,7 @@
 -- The addresses of the bytes of a chain's request and reply buffer.
 use Rattle.std.specs.Prelude.{◌≡◌, ℕ, ◌<◌, ◌≤◌, ◌+◌, ◌-◌, ◌%◌, ◌^◌, min, Bool, List, ◌∷◌, ◌++◌, take, drop}
-use Rattle.std.specs.Prelude.{◌⊎◌, Option, Some, None}
+use Rattle.std.specs.Prelude.{◌⊎◌, Option, Some, None, is_some, true}
+use Rattle.std.specs.List.{list_all}
 use Rattle.vm_memory_core.specs.Host.{Place}
 use Rattle.vm_memory_core.specs.Window.{Window, places_of}
 use Rattle.vm_memory.specs.Memory.{addresses, located, location}
@@ -24,6 +25,11 @@ abbrev pub LiesApart : (ℕ → Option Place) → (addr len left : ℕ) → Type
 LiesApart where_is addr len left =
     (where_is addr ≡ None)
     ⊎ ((v : Window) × IsWindowAt where_is addr len v × (v.len ≡ min len left) × (v.len ≡ len → ⊥))
+
+-- each of n addresses from one on has a place, and their end is an address
+abbrev pub HavePlaces : (ℕ → Option Place) → (addr n : ℕ) → Type 0
+HavePlaces where_is addr n =
+    (addr + n < 2 ^ 64) × (list_all (λ a. is_some (where_is a)) (addresses addr n) ≡ true)
 
 -- byte `from` of some descriptors is byte `skip` of this descriptor
 abbrev pub StandsIn : List Descriptor → (from : ℕ) → (d : Descriptor) → (skip : ℕ) → Type 0

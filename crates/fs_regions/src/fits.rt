@@ -104,15 +104,15 @@ fn piece_of(regions: &GuestMap, descriptor: &Descriptor) -> Option<Piece>
     ensures has { IfSome result (λ p. HasDescriptor p descriptor.now) }
 {
     let from = descriptor.addr;
-    match regions.window_at(from, usize::MAX, access_to(descriptor)) {
-        Some(window) => {
-            let len = window.len() as u64;
-            if len < u64::from(descriptor.len) || len > u64::MAX - from {
+    match regions.piece_len(from, access_to(descriptor)) {
+        Some(len) => {
+            let end = from + len as u64;
+            if u64::from(descriptor.len) > end - from {
                 return None;
             }
             Some(Piece {
                 from,
-                end: from + len,
+                end,
                 write_only: descriptor.is_write_only(),
             })
         }

@@ -12,7 +12,7 @@ ghost use Rattle.vm_memory.specs.Layout.{left_at};
 ghost use Rattle.vm_memory.specs.Memory.{addresses, location, reach};
 ghost use Rattle.vm_memory.specs.Slices.{IsWindowAt};
 ghost use Rattle.vm_memory.specs.Translated.{translated, translated_left};
-ghost use Rattle.fs_regions.specs.Windows.{LiesApart, LiesAt};
+ghost use Rattle.fs_regions.specs.Windows.{HavePlaces, LiesApart, LiesAt};
 ghost use Rattle.fs_regions.specs.Places.{behind, left_in, own_table, places_in, untranslated, with_table};
 
 use crate::regions::GuestRegions;
@@ -133,6 +133,21 @@ fn place_by(
     regions.place_at(piece.base.0, len)
 }
 
+// How many addresses from one on a table maps as one, for an access. None if it doesn't map the first, or one
+// of them leads to no region.
+#[inline(always)]
+fn piece_by(regions: &GuestRegions, table: &Iotlb, addr: u64, access: Permissions) -> Option<usize>
+    ensures { IfSome result (HavePlaces (translated regions.now (table_kept table.now) 0 access) addr) }
+{
+    let Some(piece) = table.piece_at(GuestAddress(addr), usize::MAX, access) else {
+        return None;
+    };
+    if !regions.reaches(piece.base.0, piece.length) {
+        return None;
+    }
+    Some(piece.length)
+}
+
 impl GuestMap {
     /// No memory.
     pub fn none(alloc: Global) -> GuestMap
@@ -223,6 +238,18 @@ impl GuestMap {
         match &self.table {
             None => self.regions.reaches(addr, len),
             Some(table) => reaches_behind(&self.regions, table, addr, len, access),
+        }
+    }
+
+    /// How many addresses from one on a table maps as one, for an access. None without a table, if it doesn't
+    /// map the first, or if one of them leads to no region.
+    #[inline(always)]
+    pub(crate) fn piece_len(&self, addr: u64, access: Permissions) -> Option<usize>
+        ensures { IfSome result (HavePlaces (location (places_in self.now) access) addr) }
+    {
+        match &self.table {
+            None => None,
+            Some(table) => piece_by(&self.regions, table, addr, access),
         }
     }
 
