@@ -248,6 +248,8 @@ impl Server<State> for Hand<'_> {
                 self.cancelled = seat.worker.abandon();
             }
         }
+        // A memory that was replaced isn't kept. If this fails it is tried at the next pop.
+        let _ = seat.use_memory(&self.shared.device, &state.mapped);
         state.idle.push(seat);
         self.cancelled.is_some()
     }

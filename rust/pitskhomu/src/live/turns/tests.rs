@@ -64,6 +64,7 @@ struct Fake {
     pops: u32,
     asks: u32,
     later: u32,
+    lost_kicks: u32,
     /// After so many pops refusals were forgotten.
     forgotten: Vec<u32>,
     /// What happens while it asks.
@@ -139,6 +140,10 @@ impl Server<Ring> for Fake {
 
     fn tells_later(&mut self, _: Status) {
         self.later += 1;
+    }
+
+    fn loses_kick(&mut self) {
+        self.lost_kicks += 1;
     }
 
     fn rests(&mut self, _: &mut Ring) -> bool {
@@ -466,6 +471,59 @@ fn an_event_that_replaces_another_is_heard() {
     looping.lock().available = 1;
     signal(&event).unwrap();
     until(&looping, |state| state.queue.next_used() == 1);
+}
+
+/// An event that was replaced or removed wakes nobody. (A wait ends early only by an event.)
+#[test]
+fn an_event_that_was_removed_is_not_heard() {
+    for next in [None, Some(new_event().unwrap())] {
+        let (looping, event) = (ring(0, 0), new_event().unwrap());
+        let mut state = looping.lock();
+        looping.set_kick(&mut state, Some(event.try_clone().unwrap())).unwrap();
+        looping.set_kick(&mut state, next).unwrap();
+        signal(&event).unwrap();
+        let begun = Instant::now();
+        assert!(looping.events.wait(100).unwrap().is_none());
+        assert!(begun.elapsed() >= Duration::from_millis(99));
+    }
+}
+
+/// The driver's event ends: that is told once, and the loop has none any more.
+#[test]
+fn an_event_that_ends_is_removed() {
+    let (looping, (event, driver)) = (ring(0, 0), UnixStream::pair().unwrap());
+    let event = File::from(OwnedFd::from(event));
+    looping.set_kick(&mut looping.lock(), Some(event)).unwrap();
+    let mut server = Fake::default();
+    for lost_kicks in [0, 1, 1] {
+        looping.look();
+        looping.wait(&mut server, 20_000).unwrap();
+        assert_eq!(server.lost_kicks, lost_kicks);
+        assert_eq!(looping.lock().kick.is_none(), lost_kicks > 0);
+        if lost_kicks == 0 {
+            driver.shutdown(std::net::Shutdown::Both).unwrap();
+        }
+    }
+}
+
+/// One event wakes one look: nobody reads its counter, and it isn't heard again.
+#[test]
+fn an_event_is_heard_once() {
+    let (looping, event) = (ring(0, 0), new_event().unwrap());
+    looping.set_kick(&mut looping.lock(), Some(event.try_clone().unwrap())).unwrap();
+    for wakes in [
+        |_: &File, looping: &Loop<Ring>| looping.look(),
+        |event: &File, _: &_| {
+            signal(event).unwrap();
+        },
+    ] {
+        wakes(&event, &looping);
+        let begun = Instant::now();
+        assert!(looping.events.wait(20_000).unwrap().is_none() && begun.elapsed() < SOON);
+        let begun = Instant::now();
+        assert!(looping.events.wait(100).unwrap().is_none());
+        assert!(begun.elapsed() >= Duration::from_millis(99));
+    }
 }
 
 /// One wait ends before another.
