@@ -241,7 +241,9 @@ impl FileSystem for Files {
         data: &mut WriteData<'_>,
     ) -> Answer<()> {
         self.with(node, |file| {
-            let end = write.offset.checked_add(data.left()).ok_or(Errno::EFBIG)?;
+            // Bytes behind those of the record's size aren't data.
+            let len = data.left().min(write.size);
+            let end = write.offset.checked_add(len).ok_or(Errno::EFBIG)?;
             file.set_size(end.max(file.attributes.size))?;
             data.take(&mut file.contents[write.offset as usize..end as usize]);
             Ok(())

@@ -97,7 +97,7 @@ impl<'a> Exchange<'a> {
     /// the bytes that you store by them with `written_up_to`.
     pub fn reply_windows<'w>(&mut self, from: u64, windows: &'w mut [Window]) -> &'w [Window] {
         let windows = self.chain.reply_windows(from, u64::MAX - from, windows);
-        self.counts.lend(from, windows);
+        self.counts.lend(from, windows.iter().map(|window| window.len as u64));
         windows
     }
 

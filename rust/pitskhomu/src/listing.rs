@@ -183,7 +183,8 @@ impl<'a> Listing<'a> {
     /// before it. The entry's kind and inode are those of the attributes.
     ///
     /// # Errors
-    /// Those of `add`. `EINVAL` also for READDIR, `ENOMEM` if an allocation failed.
+    /// Those of `add`. `EINVAL` also for READDIR, `ENOMEM` if an allocation failed, `EIO` if the
+    /// kind of the attributes is none of dirent.h.
     pub fn add_plus(&mut self, entry: DirectoryEntry<'_>, found: &Entry) -> Answer<bool> {
         if !self.with_nodes {
             return Err(Errno::EINVAL);
@@ -238,6 +239,9 @@ impl<'a> Listing<'a> {
             return Ok(false);
         }
         let found = found.filter(|_| !is_dots(entry));
+        if found.map_or(false, |found| !FileKind::from_mode(found.attributes.mode).is_known()) {
+            return Err(Errno::EIO);
+        }
         match self.put(entry, found)? {
             Added::In => {
                 self.used += entry_len(entry.name.to_bytes().len(), self.with_nodes);

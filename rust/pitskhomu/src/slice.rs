@@ -135,6 +135,17 @@ impl<'m> GuestSlice<'m> {
         Some(unsafe { &*self.at.cast::<AtomicU16>() })
     }
 
+    /// The first four bytes as a number, if the slice is long enough and aligned.
+    #[allow(clippy::cast_ptr_alignment)] // the test comes before the cast
+    fn quarter(&self) -> Option<&'m AtomicU32> {
+        if !self.is_wide || self.at as usize % size_of::<u32>() != 0 || self.len < size_of::<u32>()
+        {
+            return None;
+        }
+        // SAFETY: as of `word`.
+        Some(unsafe { &*self.at.cast::<AtomicU32>() })
+    }
+
     /// Copies bytes out of the slice, from the first on, as many as both have. Returns their
     /// number.
     pub fn load(&self, bytes: &mut [u8]) -> usize {
@@ -193,14 +204,12 @@ impl<'m> GuestSlice<'m> {
     }
 
     /// Stores a ring's le32, in one store if the slice is wide and aligned.
-    #[allow(clippy::cast_ptr_alignment)] // the test comes before the cast
     pub(crate) fn store_u32(&self, number: u32) {
-        let size = size_of::<AtomicU32>();
-        if self.is_wide && self.len >= size && self.at as usize % size == 0 {
-            // SAFETY: as of `word`.
-            unsafe { &*self.at.cast::<AtomicU32>() }.store(number.to_le(), Ordering::Relaxed);
-        } else {
-            self.store(&number.to_le_bytes());
+        match self.quarter() {
+            Some(quarter) => quarter.store(number.to_le(), Ordering::Relaxed),
+            None => {
+                self.store(&number.to_le_bytes());
+            }
         }
     }
 
@@ -218,58 +227,89 @@ impl<'m> GuestSlice<'m> {
 #[cfg(test)]
 mod tests {
     use super::*;
-    use alloc::vec::Vec;
     use core::cell::UnsafeCell;
 
-    /// Each start and length around two words, for all orders of bytes and words.
+    /// Slices of 40 bytes, aligned to words, which are accessed by words and byte by byte.
+    fn each_slice(mut test: impl FnMut(&dyn Fn(usize, usize) -> GuestSlice<'static>, bool)) {
+        let words = [0u64; 5].map(UnsafeCell::new);
+        let at = words.as_ptr() as *mut u8;
+        // SAFETY: the bytes are part of `words`, which nothing else uses, and `test` keeps none.
+        test(&|from, len| unsafe { GuestSlice::new(at.add(from), len) }, true);
+        let bytes = at.cast::<AtomicU8>();
+        // SAFETY: the same.
+        test(&|from, len| unsafe { slice::from_raw_parts(bytes.add(from), len) }.into(), false);
+    }
+
+    /// Each start, each length of the slice and each number of bytes around two words, for all
+    /// orders of bytes and words: as many bytes as both have are copied, and no other changes.
     #[test]
     fn bytes_are_copied_at_any_place() {
-        let memory = [0usize; 4].map(UnsafeCell::new);
-        for (from, len) in (0..20).flat_map(|from| (0..12).map(move |len| (from, len))) {
-            // SAFETY: the bytes are a part of `memory`, which nothing else uses.
-            let (all, slice) = unsafe {
-                let at = memory.as_ptr() as *mut u8;
-                (GuestSlice::new(at, 32), GuestSlice::new(at.add(from), len))
-            };
-            let bytes: Vec<u8> = (1..=len as u8).collect();
-            assert_eq!(all.store(&[0; 32]), 32);
-            assert_eq!(slice.store(&bytes), len);
-            let mut found = [9; 32];
-            assert_eq!(all.load(&mut found), 32);
-            let mut wanted = [0; 32];
-            wanted[from..from + len].copy_from_slice(&bytes);
-            assert_eq!(found, wanted, "{from} {len}");
-            let mut found = [9; 12];
-            assert_eq!(slice.load(&mut found), len);
-            assert_eq!(found[..len], bytes[..]);
-            assert_eq!(found[len..], [9; 12][len..]);
-        }
+        let new: [u8; 24] = core::array::from_fn(|k| 0x80 + 5 * k as u8);
+        let old: [u8; 40] = core::array::from_fn(|k| 1 + 3 * k as u8);
+        each_slice(|slice, _| {
+            for (from, len) in (0..9).flat_map(|from| (0..24).map(move |len| (from, len))) {
+                for count in 0..24 {
+                    let (all, part, both) = (slice(0, 40), slice(from, len), len.min(count));
+                    assert_eq!((part.len(), part.is_empty()), (len, len == 0));
+                    assert_eq!(part.as_ptr() as usize, all.as_ptr() as usize + from);
+                    assert_eq!((all.store(&old), part.store(&new[..count])), (40, both));
+                    let (mut found, mut wanted) = ([0; 40], old);
+                    wanted[from..from + both].copy_from_slice(&new[..both]);
+                    assert_eq!((all.load(&mut found), found), (40, wanted), "{from} {len} {count}");
+                    let (mut loaded, mut wanted) = ([7; 24], [7; 24]);
+                    wanted[..both].copy_from_slice(&new[..both]);
+                    assert_eq!((part.load(&mut loaded[..count]), loaded), (both, wanted));
+                }
+            }
+        });
+    }
+
+    /// A number is accessed in one step if memory may be and the number is aligned. A longer slice
+    /// is copied by whole words where it is aligned.
+    #[test]
+    fn what_is_aligned_is_one_access() {
+        let size = size_of::<usize>();
+        each_slice(|slice, is_wide| {
+            for (from, len) in (0..17).flat_map(|from| (0..23).map(move |len| (from, len))) {
+                let part = slice(from, len);
+                let is_one = |size| is_wide && from % size == 0 && len >= size;
+                assert_eq!(
+                    (part.half().is_some(), part.quarter().is_some()),
+                    (is_one(2), is_one(4))
+                );
+                for count in 0..len {
+                    let words = if is_one(size) { count / size } else { 0 };
+                    assert_eq!(part.words(count).len(), words, "{from} {len} {count}");
+                    let is_word = is_wide && (from + count) % size == 0 && len - count >= size;
+                    assert_eq!(part.word(count, len).is_some(), is_word, "{from} {len} {count}");
+                }
+                assert_eq!(part.words(len + 1).len(), 0, "not more than there is");
+            }
+        });
     }
 
     #[test]
     fn numbers_are_little_endian() {
-        let memory = [0usize; 2].map(UnsafeCell::new);
-        let bytes = [0; 8].map(AtomicU8::new);
-        for from in 0..4 {
-            // SAFETY: the bytes are a part of `memory`, which nothing else uses.
-            let wide = unsafe { GuestSlice::new((memory.as_ptr() as *mut u8).add(from), 2) };
-            for slice in [wide, GuestSlice::from(&bytes[from..from + 2])] {
-                slice.store_u16(0x1234);
-                let mut found = [0; 2];
-                slice.load(&mut found);
-                assert_eq!((found, slice.load_u16()), ([0x34, 0x12], 0x1234));
+        each_slice(|slice, _| {
+            for from in 0..9 {
+                let all = slice(0, 40);
+                all.store(&[0xee; 40]);
+                slice(from, 2).store_u16(0x1234);
+                slice(from + 8, 4).store_u32(0x89ab_cdef);
+                let (mut found, mut wanted) = ([0; 40], [0xee; 40]);
+                wanted[from..from + 2].copy_from_slice(&[0x34, 0x12]);
+                wanted[from + 8..from + 12].copy_from_slice(&[0xef, 0xcd, 0xab, 0x89]);
+                all.load(&mut found);
+                assert_eq!((found, slice(from, 2).load_u16()), (wanted, 0x1234));
+                // What a shorter slice lacks is 0, and isn't stored.
+                assert_eq!((slice(from, 1).load_u16(), slice(from, 0).load_u16()), (0x34, 0));
+                slice(from, 1).store_u16(0x0908);
+                slice(from + 8, 3).store_u32(0x0706_0504);
+                wanted[from] = 8;
+                wanted[from + 8..from + 11].copy_from_slice(&[4, 5, 6]);
+                all.load(&mut found);
+                assert_eq!(found, wanted);
             }
-        }
-    }
-
-    #[test]
-    fn no_byte_is_accessed_behind_the_end() {
-        let bytes = [1; 4].map(AtomicU8::new);
-        let slice = GuestSlice::from(&bytes[..1]);
-        slice.store(&[7; 4]);
-        assert_eq!((slice.load(&mut [0; 4]), slice.load_u16()), (1, 7));
-        slice.store_u16(0x0908);
-        assert_eq!(bytes.map(AtomicU8::into_inner), [8, 1, 1, 1]);
-        assert!(GuestSlice::from(&[][..]).is_empty());
+        });
     }
 }

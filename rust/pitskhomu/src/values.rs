@@ -455,3 +455,83 @@ impl<'n> DirectoryEntry<'n> {
         DirectoryEntry { name, inode, next_offset, kind }
     }
 }
+
+#[cfg(test)]
+mod tests {
+    use super::*;
+    use alloc::string::ToString;
+
+    /// The first number, too, is none that the default has.
+    #[test]
+    fn no_two_requests_have_one_number() {
+        let ids: [RequestId; 9] = core::array::from_fn(|_| RequestId::next());
+        assert_eq!(
+            (RequestId::default().number(), RequestId::default().to_string()),
+            (0, "0".into())
+        );
+        assert!(ids[0] > RequestId::default() && ids.windows(2).all(|two| two[0] < two[1]));
+        assert!(ids.iter().all(|id| id.to_string() == id.number().to_string()));
+    }
+
+    /// Each field of a reply's record is that of the value, with all of its bits.
+    #[test]
+    fn records_have_all_bits_of_the_values() {
+        let time = |seconds, nanos| Time::new(seconds, nanos).unwrap();
+        let (wide, short) = (|k: u64| 0x8182_8384_8586_8700 | k, |k: u32| 0x9192_9300 | k);
+        let attributes = Attributes {
+            inode: wide(1),
+            size: wide(2),
+            blocks: wide(3),
+            atime: time(i64::MIN + 4, 0x1a2b_3c04),
+            mtime: time(i64::MIN + 5, 0x1a2b_3c05),
+            ctime: time(i64::MAX - 6, 0x1a2b_3c06),
+            mode: short(7),
+            links: short(8),
+            uid: short(9),
+            gid: short(10),
+            rdev: short(11),
+            block_size: short(12),
+            flags: short(13),
+        };
+        let raw = attributes.raw();
+        assert_eq!((raw.ino, raw.size, raw.blocks), (wide(1), wide(2), wide(3)));
+        let (first, last) = (0x8000_0000_0000_0000, 0x7fff_ffff_ffff_ffff);
+        assert_eq!((raw.atime, raw.mtime, raw.ctime), (first + 4, first + 5, last - 6));
+        let nanos = (raw.atime_nanos, raw.mtime_nanos, raw.ctime_nanos);
+        assert_eq!(nanos, (0x1a2b_3c04, 0x1a2b_3c05, 0x1a2b_3c06));
+        assert_eq!((raw.mode, raw.nlink, raw.uid), (short(7), short(8), short(9)));
+        assert_eq!((raw.gid, raw.rdev, raw.block_size), (short(10), short(11), short(12)));
+        assert_eq!(raw.flags, short(13));
+        #[cfg(feature = "std")]
+        assert_eq!(Attributes::from_raw(&raw), Some(attributes));
+        let (name, numbers) = (Duration::new(wide(14), 1), Duration::new(wide(15), 999_999_999));
+        let entry = Entry::new(Node(wide(16)), attributes).with_generation(wide(17));
+        assert_eq!((entry.entry_timeout, entry.attributes_timeout), Default::default());
+        let raw = entry.with_entry_timeout(name).with_attributes_timeout(numbers).raw();
+        assert_eq!((raw.node, raw.generation, raw.attr.ino), (wide(16), wide(17), wide(1)));
+        assert_eq!((raw.entry_secs, raw.entry_nanos), (wide(14), 1));
+        assert_eq!((raw.attr_secs, raw.attr_nanos), (wide(15), 999_999_999));
+    }
+
+    /// struct fuse_kstatfs; what isn't known is 0, but names have 255 bytes and blocks 512.
+    #[test]
+    fn statistics_have_all_bits() {
+        let (wide, short) = (|k: u64| 0x8182_8384_8586_8700 | k, |k: u32| 0x9192_9300 | k);
+        let all = Statistics::default()
+            .with_blocks(wide(1))
+            .with_blocks_free(wide(2))
+            .with_blocks_available(wide(3))
+            .with_files(wide(4))
+            .with_files_free(wide(5))
+            .with_block_size(short(6))
+            .with_name_len(short(7))
+            .with_fragment_size(short(8));
+        let raw = all.raw();
+        assert_eq!((raw.blocks, raw.bfree, raw.bavail), (wide(1), wide(2), wide(3)));
+        assert_eq!((raw.files, raw.ffree), (wide(4), wide(5)));
+        assert_eq!((raw.bsize, raw.namelen, raw.frsize), (short(6), short(7), short(8)));
+        let raw = Statistics::default().raw();
+        assert_eq!((raw.blocks, raw.bfree, raw.bavail, raw.files, raw.ffree), Default::default());
+        assert_eq!((raw.bsize, raw.namelen, raw.frsize), (512, 255, 0));
+    }
+}

@@ -216,6 +216,67 @@ fn files_are_opened_and_closed() {
     assert_eq!(called(30, args().q(3).d(0).d(0), 16).0, "fsyncdir (Node(5), Handle(3), false)");
 }
 
+/// Each flag of a record is another field of the call, whatever the other flags are.
+#[test]
+fn each_flag_is_a_field_of_its_own() {
+    let lock_owner = |is_there| if is_there { "Some(77)" } else { "None" };
+    for flags in 0..8u32 {
+        let [a, b, c] = [0, 1, 2].map(|bit| flags >> bit & 1 == 1);
+        // FUSE_RELEASE_FLUSH, FLOCK_UNLOCK.
+        let (call, _) = called(18, args().q(3).d(2).d(flags & 3).q(77), 16);
+        let owner = lock_owner(a || b);
+        let release = format!("flags: 2, flush: {a}, unlock: {b}, lock_owner: {owner}");
+        assert_eq!(call, format!("release (Node(5), Release {{ handle: Handle(3), {release} }})"));
+        // FUSE_WRITE_CACHE, LOCKOWNER, KILL_SUIDGID.
+        let (call, _) = called(16, args().q(3).q(4).d(1).d(flags).q(77).d(9).d(0).bytes(b"x"), 24);
+        let owner = lock_owner(b);
+        let write = format!("flags: 9, lock_owner: {owner}, delayed: {a}, kill_priv: {c}");
+        let front = "WriteFile { handle: Handle(3), offset: 4, size: 1";
+        assert_eq!(call, format!("write (Node(5), {front}, {write} }}, \"x\")"));
+        // FUSE_READ_LOCKOWNER.
+        let (call, _) = called(15, args().q(3).q(4).d(9).d(flags).q(77).d(8).d(0), 25);
+        assert!(call.contains(&format!("size: 9, flags: 8, lock_owner: {owner} }}")), "{call}");
+        // FUSE_OPEN_KILL_SUIDGID, FUSE_FSYNC_FDATASYNC, FUSE_GETATTR_FH.
+        let (call, _) = called(14, args().d(6).d(flags), 32);
+        assert_eq!(call, format!("open (Node(5), Open {{ flags: 6, kill_priv: {a} }})"));
+        for (opcode, name) in [(20, "fsync"), (30, "fsyncdir")] {
+            let (call, _) = called(opcode, args().q(3).d(flags).d(0), 16);
+            assert_eq!(call, format!("{name} (Node(5), Handle(3), {a})"));
+        }
+        let (call, _) = called(3, args().d(flags).d(0).q(3), 120);
+        assert_eq!(
+            call,
+            format!("getattr (Node(5), {})", if a { "Some(Handle(3))" } else { "None" })
+        );
+    }
+}
+
+/// Each bit of FATTR_ has its own attribute set, and no other.
+#[test]
+fn each_attribute_is_set_by_its_own_flag() {
+    let times = args().q(10).q(11).q(12).d(20).d(21).d(22);
+    let rest = args().bytes(&times.0).d(0o640).d(0).d(1).d(2).d(0);
+    for bit in 0..12 {
+        let set = args().d(1 << bit).d(0).q(3).q(99).q(77).bytes(&rest.0);
+        let (call, _) = called(4, set, 120);
+        let time = |seconds| format!("Time {{ seconds: {seconds}, nanos: {} }}", seconds + 10);
+        let wanted = [
+            (bit == 0, "Some(416)".to_owned()),
+            (bit == 1, "Some(1)".to_owned()),
+            (bit == 2, "Some(2)".to_owned()),
+            (bit == 3, "Some(99)".to_owned()),
+            (bit == 4, format!("Some(To({}))", time(10))),
+            (bit == 5, format!("Some(To({}))", time(11))),
+            (bit == 10, format!("Some({})", time(12))),
+        ];
+        let wanted = wanted.map(|(is_set, text)| if is_set { text } else { "None".to_owned() });
+        let handle = if bit == 6 { "Some(Handle(3))" } else { "None" };
+        let values = wanted.join(", ");
+        let behind = format!("{handle}, 77, ({values}), {})", bit == 11);
+        assert!(call.ends_with(&behind), "{bit}: {call}");
+    }
+}
+
 #[test]
 fn attributes_are_told_and_set() {
     let (call, reply) = called(3, args().d(0).d(0).q(3), 120);

@@ -19,9 +19,11 @@ impl GuestMemory for Lacking<'_> {
     }
 }
 
-/// A LOOKUP of "hello" is served while a page lacks: the result, the calls, and the bytes of the
-/// reply and of the used ring.
-fn serve(page: u64) -> (Result<Option<Served>, Status>, Vec<String>, Vec<u8>, Vec<u8>) {
+/// The result of a chain, the calls, and the bytes of the reply and of the used ring.
+type Came = (Result<Option<Served>, Status>, Vec<String>, Vec<u8>, Vec<u8>);
+
+/// A LOOKUP of "hello" is served while a page lacks.
+fn serve(page: u64) -> Came {
     let (mut guest, recorder) = (Guest::new(), Recorder::default());
     // The worker had another request before. Its bytes don't come in the place of those that lack.
     assert_eq!(guest.ask(&recorder, 1, 5, args().bytes(b"other\0"), 144).data().len(), 128);

@@ -75,6 +75,64 @@ fn long_requests_and_replies_are_answered_enomem() {
     assert_eq!(recorder.taken().len(), 3);
 }
 
+/// A request that can't be copied is answered ENOMEM.
+#[test]
+fn owned_requests_want_memory() {
+    let setxattr = args().d(0x1_0000).d(0).bytes(b"name\0").bytes(&[7; 0x1_0000]);
+    let write = args().q(3).q(0).d(0x1_0000).bytes(&[0; 20]).bytes(&[7; 0x1_0000]);
+    for (opcode, args) in [(21, setxattr), (16, write)] {
+        let mut guest = Guest::new();
+        guest.offer_request(&request(opcode, 5, &args.0), 24);
+        let Guest { worker, queue, device, memory, .. } = &mut guest;
+        let taken = worker.take(queue, device, memory).unwrap().expect("a chain");
+        let owned = with_most(0x4000, || taken.into_owned().map(|_| ()));
+        assert_eq!(owned, Err(Status::OutOfMemory));
+        assert_eq!(worker.finish(device, memory), Ok(true));
+        let served = worker.push(queue, memory).unwrap();
+        assert_eq!(guest.reply(served.reply_len as usize), Replied::Error(12));
+    }
+}
+
+/// An entry whose place can't be allocated is refused, and the next one is added.
+#[test]
+fn entries_want_memory() {
+    let name = CStr::from_bytes_with_nul(b"name\0").unwrap();
+    let entry = DirectoryEntry::new(name, 9, 1, FileKind::REGULAR);
+    let found = Entry::new(Node(7), Attributes::default());
+    let add = |list: &mut Listing<'_>| {
+        let left = list.left();
+        assert_eq!(with_most(31, || list.add_plus(entry, &found)), Err(Errno::ENOMEM));
+        assert_eq!(with_most(31, || list.add_with(entry, || panic!())), Err(Errno::ENOMEM));
+        assert_eq!((list.left(), list.add_plus(entry, &found)), (left, Ok(true)));
+    };
+    for is_owned in [false, true] {
+        let mut guest = Guest::new();
+        let readdir = args().q(3).q(0).d(400).bytes(&[0; 20]);
+        guest.offer_request(&request(44, 5, &readdir.0), 416);
+        let Guest { worker, queue, device, memory, .. } = &mut guest;
+        let mut taken = worker.take(queue, device, memory).unwrap().expect("a chain");
+        match &mut taken.operation {
+            Operation::ReadDirectory { list, .. } if !is_owned => add(list),
+            Operation::ReadDirectory { .. } => {}
+            other => panic!("{other:?}"),
+        }
+        let owned = taken.into_owned().unwrap();
+        match owned.call.operation() {
+            Operation::ReadDirectory { mut list, .. } => {
+                if is_owned {
+                    add(&mut list);
+                }
+                owned.reply.send(list).unwrap();
+            }
+            other => panic!("{other:?}"),
+        }
+        assert_eq!(worker.finish(device, memory), Ok(true));
+        let served = worker.push(queue, memory).unwrap();
+        let data = guest.reply(served.reply_len as usize).data();
+        assert_eq!((data.len(), number(&data, 0, 8)), (160, 7));
+    }
+}
+
 #[test]
 fn a_chain_waits_for_the_first_bytes() {
     let (mut guest, recorder) = (Guest::new(), Recorder::default());

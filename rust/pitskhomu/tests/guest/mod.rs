@@ -2,6 +2,7 @@
 //! the replies. Numbers are those of VIRTIO 1.2 (2.7) and linux/fuse.h.
 #![allow(dead_code)]
 pub mod by_values;
+pub mod random;
 pub mod recorder;
 pub mod running;
 

@@ -349,6 +349,7 @@ impl World {
     }
 
     /// A view that no worker had before, by regions of another shape.
+    #[allow(clippy::arc_with_non_send_sync)] // its workers are on one thread
     pub fn view(&mut self) -> Arc<View> {
         self.views += 1;
         let shape = self.chance.below(3);

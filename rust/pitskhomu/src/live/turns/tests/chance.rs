@@ -335,7 +335,9 @@ fn turn(looping: &Loop<World>) -> bool {
 
 /// Runs the threads until all chains are served. Between, the queue may begin again.
 fn serve(looping: &Loop<World>, threads: usize) {
-    (0..threads).for_each(|_| drop(turn(looping)));
+    (0..threads).for_each(|_| {
+        turn(looping);
+    });
     loop {
         let mut world = looping.lock();
         if world.is_pending {
