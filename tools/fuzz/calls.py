@@ -9,7 +9,7 @@ from pathlib import Path
 # For each second of a run so many worlds, rounds or seconds, by the run's seed.
 AMOUNTS = {
     "plain": 800, "answered": 4000, "strict": 4000, "extended": 4000, "listed": 80, "clumsy": 0.05,
-    "ringed": 40000}
+    "ringed": 40000, "tables": 20000}
 # The others that `make check` runs without a number always do the same.
 MAKEFILE = Path(__file__).resolve().parents[2] / "examples/c/Makefile"
 FIXED = re.findall(r"^\t\$\(OUT\)/(\w+)$", MAKEFILE.read_text(), re.MULTILINE)

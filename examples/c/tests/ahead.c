@@ -1,7 +1,8 @@
 /* pk_pop_ahead and pk_pop_ring beside pk_pop. Two handles pop the same chain of two queues with the
  * same numbers: one load by load, the other by loads ahead, which are right, cut short, wrong,
  * repeated, exchanged or overlapping. Result, queue and windows have to be the same, and a list
- * that is wrong from its n-th load on costs the calls of just the loads from there on. */
+ * that is wrong from its n-th load on costs the calls of just the loads from there on. So it is
+ * with loads of a pop that lacked nothing, if a page of ring, table or buffers lacks access. */
 #define _DEFAULT_SOURCE
 #include "pitskhomu.h"
 #include "chance.h"
@@ -19,6 +20,7 @@ enum {
     TABLE = 0x4000,
     BUFFERS = 0x6000,
     MEMORY = 0x10000,
+    PAGE = 0x1000,
     ENTRIES = 300, /* more than a load of an indirect table has */
     MOST_LOADS = 64
 };
@@ -87,6 +89,7 @@ static void lay_chance(uint16_t next_avail) {
     if (desc == DESC && below(8) == 0) avail = MEMORY - 6 - 2 * SIZE;
     if (may_end && below(16) == 0) desc = MEMORY - 16 * (1 + below(SIZE - 1));
     if (may_end && below(16) == 0) avail = MEMORY - 2 * (3 + below(SIZE));
+    if (below(16) == 0) avail = MEMORY - PAGE - 2; /* its flags lie on the page before */
     memset(memory, 0, MEMORY);
     table_len = 16 * count;
     for (size_t k = 0; k < SIZE; k++) {
@@ -272,6 +275,46 @@ static void try_one(void) {
     pk_chain_free(&ringing);
 }
 
+/* Lends a handle a table of all pages; it maps one of them for another access, or not at all. */
+static void lend_pages(struct pk_chain *chain, size_t odd, uint32_t its_access) {
+    struct pk_iotlb table = {0};
+    expect("a table", pk_iotlb_new(&table), PK_DONE);
+    for (size_t page = 0; page < MEMORY; page += PAGE) {
+        uint32_t granted = page == odd * PAGE ? its_access : PK_ACCESS_READ_WRITE;
+        if (granted > PK_ACCESS_READ_WRITE) continue;
+        expect("a mapping", pk_iotlb_map(&table, base + page, PAGE, page, granted), PK_DONE);
+    }
+    expect("lent", pk_chain_exchange_iotlb(chain, &table), PK_DONE);
+    pk_iotlb_free(&table); /* the empty place */
+}
+
+/* A list of the loads of a pop that lacks nothing, for a handle that lacks a page of the ring, the
+ * tables or the buffers: the pop ends as if it had made its loads itself. */
+static void lack_one(void) {
+    static struct loads loads, own;
+    struct pk_queue whole, queue, second;
+    struct pk_chain chains[3];
+    struct pk_pop pop, step;
+    uint32_t status, found, its_access = (uint32_t)below(5);
+    size_t odd = below(MEMORY / PAGE);
+    uint16_t next_avail = (uint16_t)below(0x10000);
+    lay_chance(next_avail);
+    whole = queue = second = after_pops(next_avail);
+    for (size_t k = 0; k < 3; k++) {
+        make_handle(&chains[k]);
+        lend_pages(&chains[k], k == 0 ? SIZE_MAX : odd, its_access);
+    }
+    status = pop_noting(&chains[0], &whole, &loads, &pop);
+    if (status != PK_LOAD) status = pop_noting(&chains[1], &queue, &own, &pop);
+    if (status != PK_LOAD) {
+        pop_by_list(&chains[2], &second, &loads, &step, &found);
+        expect("the status with a page less", found, status);
+        if (status == PK_MISS) expect("the miss", step.miss_at, pop.miss_at);
+        compare(&chains[1], &chains[2], &queue, &second, &pop, &step);
+    }
+    for (size_t k = 0; k < 3; k++) pk_chain_free(&chains[k]);
+}
+
 /* A list for one chain is no list for the next, and a handle that isn't free takes none. */
 static void refuses(void) {
     static struct loads loads;
@@ -357,6 +400,11 @@ int main(int argc, char **argv) {
     region_count = 2;
     has_table = true;
     for (long k = 0; k < tries; k++) try_one();
-    printf("ahead: %ld chains\n", 5 * tries);
+    /* a page after the other lacks in the table */
+    has_table = false;
+    regions[0] = (struct pk_region){0, MEMORY, (uintptr_t)memory};
+    region_count = 1;
+    for (long k = 0; k < tries; k++) lack_one();
+    printf("ahead: %ld chains\n", 6 * tries);
     return 0;
 }
