@@ -295,3 +295,46 @@ impl<'f> Guest<'f> {
         worker.push(queue, memory)
     }
 }
+
+#[cfg(test)]
+mod tests {
+    use super::*;
+    use crate::values::{Attributes, Context, Entry, Handle};
+    use core::time::Duration;
+    use std::ffi::CStr;
+
+    struct Empty;
+
+    impl FileSystem for Empty {
+        fn lookup(&self, _: &Context, _: Node, _: &CStr) -> Answer<Entry> {
+            Err(Errno::ENOENT)
+        }
+        fn getattr(
+            &self,
+            _: &Context,
+            _: Node,
+            _: Option<Handle>,
+        ) -> Answer<(Attributes, Duration)> {
+            Err(Errno::EACCES)
+        }
+    }
+
+    /// A guest asks more often than 16 bits count: positions wrap, and go on.
+    #[test]
+    fn a_guest_may_ask_for_ever() {
+        let first = u16::MAX - 10;
+        let begun = |guest: Guest<'static>| {
+            memory::store_u16(&*guest.memory, AVAILABLE + 2, first);
+            memory::store_u16(&*guest.memory, USED + 2, first);
+            Guest { queue: Queue::new(LAYOUT, first).unwrap(), offered: first, ..guest }
+        };
+        let by_values = Guest::by_values(|request| request.reply.error(Errno::EACCES).unwrap());
+        for mut guest in [begun(Guest::new(&Empty)), begun(by_values)] {
+            for k in 0..30u16 {
+                assert_eq!(guest.getattr(Node::ROOT, None).unwrap_err(), Errno::EACCES);
+                let next = first.wrapping_add(k + 1);
+                assert_eq!((guest.queue.next_used(), guest.offered), (next, next));
+            }
+        }
+    }
+}

@@ -5,8 +5,11 @@ use guest::recorder::{entry, Recorder};
 use guest::*;
 use pitskhomu::*;
 use std::panic::{catch_unwind, AssertUnwindSafe};
-use std::sync::Arc;
+use std::sync::mpsc::channel;
+use std::sync::{Arc, Mutex};
 use std::task::Wake;
+use std::thread;
+use std::time::Duration;
 
 fn take(guest: &mut Guest) -> Request<'_> {
     let Guest { worker, queue, device, memory, .. } = guest;
@@ -93,6 +96,75 @@ fn a_waker_that_panics_at_another_kind() {
     assert_eq!(guest.worker.finish(&guest.device, &guest.memory), Ok(true));
     let served = guest.worker.push(&mut guest.queue, &guest.memory).unwrap();
     assert_eq!(guest.reply(served.reply_len as usize), Replied::Error(5));
+}
+
+/// A waker that does at once what it is for, on the thread that answers: it finishes the chain and
+/// returns it. It has objects of earlier chains of the same worker too: asks, answers, drops them.
+struct Finishes {
+    guest: Mutex<Guest>,
+    late: Mutex<Vec<Reply>>,
+    reply: Mutex<Option<Replied>>,
+}
+
+impl Wake for Finishes {
+    fn wake(self: Arc<Self>) {
+        for (k, late) in std::mem::take(&mut *self.late.lock().unwrap()).into_iter().enumerate() {
+            assert!(late.is_cancelled());
+            let sent = match k {
+                0 => late.send(entry()),
+                1 => late.error(Errno::ENOENT),
+                2 => late.send(vec![7; 100]),
+                _ => continue, // it is dropped
+            };
+            assert_eq!(sent.unwrap_err().status(), Status::OtherCall);
+        }
+        let mut guest = self.guest.lock().unwrap();
+        let Guest { worker, queue, device, memory, .. } = &mut *guest;
+        assert_eq!(worker.finish(device, memory), Ok(true));
+        let len = worker.push(queue, memory).unwrap().reply_len;
+        *self.reply.lock().unwrap() = Some(guest.reply(len as usize));
+    }
+}
+
+#[test]
+fn a_waker_may_finish_the_chain_and_use_other_objects() {
+    type End = (fn(Reply), Option<i32>);
+    let ends: [End; 4] = [
+        (|reply| reply.send(entry()).unwrap(), None),
+        (|reply| reply.error(Errno::EACCES).unwrap(), Some(13)),
+        (|reply| assert_eq!(reply.send(()).unwrap_err().status(), Status::OtherKind), Some(5)),
+        (drop, Some(5)),
+    ];
+    for (end, error) in ends {
+        let (guest, late, reply) = (Mutex::new(Guest::new()), Mutex::default(), Mutex::default());
+        let waker = Arc::new(Finishes { guest, late, reply });
+        let object = {
+            let guest = &mut *waker.guest.lock().unwrap();
+            guest.worker.set_waker(Some(waker.clone().into())).unwrap();
+            for _ in 0..4 {
+                guest.offer_request(&request(1, 5, b"name\0"), 144);
+                waker.late.lock().unwrap().push(take(guest).reply);
+                guest.worker.abandon().expect("a call");
+                guest.queue.begin(Queue::new(layout(), guest.offered).unwrap()).unwrap();
+            }
+            guest.offer_request(&request(1, 5, b"name\0"), 144);
+            take(guest).reply
+        };
+        // On a thread of its own: one that waits for ever is seen.
+        let (send, receive) = channel();
+        thread::spawn(move || {
+            end(object);
+            send.send(()).unwrap();
+        });
+        receive.recv_timeout(Duration::from_secs(60)).expect("the waker waits, or panicked");
+        let replied = waker.reply.lock().unwrap().take().expect("the waker was woken");
+        match error {
+            None => assert_eq!(replied.data().len(), 128),
+            Some(error) => assert_eq!(replied, Replied::Error(error)),
+        }
+        // The worker, which lies in its waker, no longer has it.
+        waker.guest.lock().unwrap().worker.set_waker(None).unwrap();
+    }
 }
 
 /// The entries of a READDIRPLUS by values, whose names a directory has, and the request's reply.

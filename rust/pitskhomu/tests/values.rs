@@ -272,6 +272,34 @@ fn times_have_less_than_a_second_of_nanoseconds() {
     assert_eq!(GuestTime::from(Time::try_from(guests).unwrap()), guests);
 }
 
+/// A time of the system is the same number of nanoseconds since 1970, rounded down to seconds: also
+/// the earliest one and the latest, where the system has them.
+#[test]
+fn times_of_the_system_are_whole_numbers_of_nanoseconds() {
+    let most = i64::MAX as u64;
+    let mut seconds = vec![0, 1, 1 << 31, 1 << 32, 1 << 62, most - 1, most, most + 1];
+    seconds.extend((0..63).map(|bit| 0x7123_4567_89ab_cdef >> bit));
+    let nanos = [0, 1, 0x1a2b_3c4d, 500_000_000, 999_999_999];
+    let mut extremes = 0;
+    for (seconds, nanos) in seconds.iter().flat_map(|s| nanos.map(|nanos| (*s, nanos))) {
+        let (length, epoch) = (Duration::new(seconds, nanos), SystemTime::UNIX_EPOCH);
+        let since = i128::from(seconds) * 1_000_000_000 + i128::from(nanos);
+        for (time, since) in
+            [(epoch.checked_add(length), since), (epoch.checked_sub(length), -since)]
+        {
+            if let Some(time) = time {
+                let found = Time::from(time);
+                let found = i128::from(found.seconds()) * 1_000_000_000 + i128::from(found.nanos());
+                assert_eq!(found, since);
+                let floor = since.div_euclid(1_000_000_000);
+                extremes += u32::from(floor == i64::MIN.into() || floor == i64::MAX.into());
+            }
+        }
+    }
+    // Both ends, with each number of nanoseconds.
+    assert!(extremes == 10 || cfg!(not(target_os = "linux")), "{extremes}");
+}
+
 /// SETATTR of a time that is none fails; a number of an attribute that isn't set may be any.
 #[test]
 fn what_is_set_has_times() {
