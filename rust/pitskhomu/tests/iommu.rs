@@ -399,3 +399,67 @@ fn the_table_is_in_its_place_after_a_panic() {
     map(&mut iotlb, SHIFT + 0x10_0000, 0x10_0000);
     take_by_misses(&mut guest, &mut iotlb);
 }
+
+/// The IOMMU is turned off behind a push: the next chain has its own windows.
+#[test]
+fn a_push_leaves_no_window() {
+    let (mut guest, mut iotlb) = guest();
+    offer(&mut guest);
+    take_by_misses(&mut guest, &mut iotlb);
+    answer(&mut guest);
+    push(&mut guest, &mut iotlb).unwrap();
+    guest.memory.write(ROOM, &[0; 16]);
+    let region = Region { guest: 0, len: LEN as u64, host: guest.memory.host };
+    guest.worker.set_memory(&guest.device, &[region]).unwrap();
+    guest.queue = Queue::new(layout(), guest.offered).unwrap();
+    let parts = [Buffer(REQUEST, 46, false), Buffer(ROOM + 0x2000, 144, true)];
+    guest.draw(DESCRIPTORS, 0, &parts);
+    guest.offer(0);
+    assert_eq!(guest.worker.pop(&mut guest.queue, &guest.memory), Ok(true));
+    answer(&mut guest);
+    let served = guest.worker.push(&mut guest.queue, &guest.memory).unwrap();
+    assert_eq!((served.reply_len, guest.memory.read(ROOM, 16)), (144, vec![0; 16]));
+    assert_eq!(number(&guest.memory.read(ROOM + 0x2000, 4), 0, 4), 144);
+}
+
+/// A chain that was popped without a table isn't pushed with one. The worker keeps it.
+#[test]
+fn a_chain_without_a_table_is_not_pushed_with_one() {
+    let (mut guest, mut iotlb) = (Guest::new(), Iotlb::new().unwrap());
+    guest.offer_request(&request(1, 1, b"hello\0"), 144);
+    assert_eq!(guest.worker.pop(&mut guest.queue, &guest.memory), Ok(true));
+    answer(&mut guest);
+    assert_eq!(push(&mut guest, &mut iotlb), Err(Status::WrongOrder));
+    assert!(guest.worker.is_answered() && guest.queue.in_flight() == 1);
+}
+
+/// A window of 128 KiB, and behind it another.
+#[test]
+fn a_window_may_have_more_than_16_bits() {
+    const LONG: u64 = 0x2_0000;
+    let (mut guest, mut iotlb) = guest();
+    map_rings(&mut iotlb);
+    map(&mut iotlb, SHIFT + REQUEST, REQUEST);
+    iotlb.map(MANY, LONG, 0x10_0000, RW).unwrap();
+    map(&mut iotlb, MANY + LONG, 0x18_0000);
+    let size = (LONG + PAGE - 16) as u32;
+    let read = args().q(3).q(0).d(size).d(0).q(0).d(0).d(0).0;
+    guest.memory.write(REQUEST, &request(15, 1, &read));
+    let parts = [Buffer(SHIFT + REQUEST, 80, false), Buffer(MANY, size + 16, true)];
+    guest.draw(DESCRIPTORS, 0, &parts);
+    guest.offer(0);
+    assert_eq!(pop(&mut guest, &mut iotlb), Ok(Popped::Chain));
+    let Guest { worker, device, memory, .. } = &mut guest;
+    let Request { operation, reply, .. } = worker.decode(device, memory).unwrap();
+    if let Operation::Read { mut data, .. } = operation {
+        let bytes: Vec<u8> = (0..u64::from(size)).map(byte_at).collect();
+        assert_eq!(data.put(&bytes), bytes.len());
+        reply.send(data).unwrap();
+    }
+    assert_eq!(worker.finish(device, memory), Ok(true));
+    assert_eq!(push(&mut guest, &mut iotlb).unwrap().reply_len, size + 16);
+    for at in [0, 0xfff0, 0x1_0000, LONG - 17, LONG - 16, LONG, u64::from(size) - 1] {
+        let place = if at + 16 < LONG { 0x10_0010 + at } else { 0x18_0010 + at - LONG };
+        assert_eq!(guest.memory.read(place, 1), [byte_at(at)], "{at:#x}");
+    }
+}

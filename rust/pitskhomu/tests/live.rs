@@ -488,3 +488,29 @@ fn data_of_an_abandoned_chain_is_marked() {
     serving.reset();
     assert!(logged.marks.lock().unwrap().contains(&of_data));
 }
+
+/// An answer comes while the thread has another worker, with which it looks for chains. Both are
+/// there again when the queue stops.
+#[test]
+fn an_answer_takes_no_other_worker_along() {
+    let (memory, keeps, at) =
+        (Memory::new(), Arc::new(Keeps::default()), USED + 4 + 8 * u64::from(SIZE));
+    memory.half(at).store(0xffff, Ordering::Relaxed);
+    let (mut driver, kick, call) = Driver::new(&memory, true);
+    let hooked = Hooked { memory: memory.clone(), at: at as usize, hook: Mutex::default() };
+    let (hooked, queue) = (Arc::new(hooked), Queue::new(layout(), 0).unwrap());
+    let serving = Builder::new(Arc::default(), hooked.clone(), &[region()])
+        .in_flight(2)
+        .start_by_values(queue.with_event_index(true), kick, call, keeps.clone())
+        .unwrap();
+    until(|| memory.half(at).load(Ordering::Relaxed) == 0);
+    let kept = keeps.clone();
+    let answers = move || {
+        kept.replies.lock().unwrap().pop().unwrap().send(entry()).unwrap();
+    };
+    *hooked.hook.lock().unwrap() = Some(Box::new(answers));
+    driver.offer(0, &request(1, 1, b"hello\0"), 144);
+    assert_eq!(driver.wait(), (0, 144));
+    let stopping = thread::spawn(move || serving.stop());
+    until(|| stopping.is_finished());
+}

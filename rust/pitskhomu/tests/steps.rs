@@ -136,7 +136,7 @@ impl Play {
     fn guest_writes(&mut self, q: usize) {
         let world = &mut self.world;
         let next = world.queues[q].next_used();
-        let value = if world.queues[q].has_event_index() {
+        let value = if world.has_event_index[q] {
             next.wrapping_add(world.chance.below(4) as u16).wrapping_sub(1)
         } else {
             world.chance.below(2) as u16
@@ -369,7 +369,7 @@ impl Play {
         let (element, index) = self.world.used_at(q, next);
         let event = self.world.read(self.world.driver_event_at(q), 2);
         let event = u16::from_le_bytes([event[0], event[1]]);
-        let has_index = self.world.queues[q].has_event_index();
+        let has_index = self.world.has_event_index[q];
         let served = self.push_once(w, q).unwrap();
         let Outcome { front, len, written, had_no_room, .. } = self.seats[w].outcome.clone();
         let is_faulty = job.kind == Kind::Faulty;
@@ -494,6 +494,8 @@ impl Play {
         let is_enabled = self.world.chance.one_in(2);
         let at = self.world.device_event_at(q);
         let access = self.world.pages.get(&(at / PAGE)).copied();
+        let has_index = self.world.has_event_index[q];
+        let next = self.world.queues[q].next_avail();
         let (seat, World { table, queues, .. }) = (&mut self.seats[w], &mut self.world);
         let stored = match table {
             None => seat.worker.set_notification(&queues[q], is_enabled, &*seat.view),
@@ -503,7 +505,6 @@ impl Play {
                 lent.set_notification(&queues[q], is_enabled, &*seat.view)
             }
         };
-        let (has_index, next) = (queues[q].has_event_index(), queues[q].next_avail());
         let stores = is_enabled || !has_index;
         let is_mapped =
             table.is_none() || matches!(access, Some(Access::Write | Access::ReadWrite));
@@ -532,12 +533,11 @@ impl Play {
         }
         world.device = Device::default();
         let queues = world.device.restore(&saved.unwrap()).unwrap();
-        let again = |(queue, old): (Queue, &Queue)| {
-            let queue = queue.with_max_in_flight(2).unwrap();
-            queue.with_event_index(old.has_event_index())
+        let again = |(queue, has_index): (Queue, bool)| {
+            queue.with_max_in_flight(2).unwrap().with_event_index(has_index)
         };
-        world.queues = queues.into_iter().zip(&world.queues).map(again).collect();
-        world.begun = world.begun.map(|begun| begun + 1);
+        world.queues = queues.into_iter().zip(world.has_event_index).map(again).collect();
+        world.begun = world.begun.map(|begun| begun + 2); // the rings stay
     }
 }
 

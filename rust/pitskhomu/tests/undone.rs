@@ -123,6 +123,33 @@ fn a_push_that_is_refused_is_undone_once() {
     }
 }
 
+/// An object has the answer, and the queue is reset before `finish`: nothing is stored, and all of
+/// it is to be undone after the push that is refused.
+#[test]
+fn an_answer_that_a_reset_overtakes_is_undone_once() {
+    for is_owned in [false, true] {
+        for (opcode, args, room, undo) in givers() {
+            let (mut guest, recorder) = (Guest::new(), recorder());
+            pop(&mut guest, opcode, &args, room);
+            let asked = guest.worker.decode(&guest.device, &guest.memory).unwrap();
+            let sent = match is_owned {
+                true => asked.into_owned().unwrap().answer_by(&recorder),
+                false => asked.answer_by(&recorder),
+            };
+            assert!(sent.is_ok());
+            reset(&mut guest);
+            let Guest { worker, queue, device, memory, .. } = &mut guest;
+            let before = memory.read(ROOM, 0x2000);
+            assert_eq!(worker.finish(device, memory), Ok(true));
+            assert!(memory.read(ROOM, 0x2000) == before && worker.cancelled().is_none());
+            assert_eq!(worker.push(queue, memory), Err(Status::OtherQueue));
+            let cancelled = worker.cancelled().expect("a call");
+            assert_eq!(cancelled.undo, undo, "{opcode} {is_owned}");
+            assert!(worker.abandon().is_none());
+        }
+    }
+}
+
 /// An answer without room: `answer` tells at once, and nothing is left for an abandon or a push.
 #[test]
 fn an_answer_without_room_is_undone_once() {

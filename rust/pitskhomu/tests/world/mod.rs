@@ -10,8 +10,9 @@ use views::{Frames, View, FRAMES, PAGE};
 
 /// I/O addresses of an IOMMU begin here.
 pub const SHIFT: u64 = 0x7000_0000_0000;
-/// The pages of a queue, and what lies in them.
+/// The pages of a queue, and what lies in them. Its table goes over the end of its page.
 const QUEUE: u64 = 20;
+const TABLE: u64 = 0xfe0;
 const AVAILABLE: u64 = 1;
 const USED: u64 = 2;
 const TABLES: u64 = 3;
@@ -121,6 +122,7 @@ pub struct World {
     pub device: Device,
     pub queues: Vec<Queue>,
     pub begun: [u64; 2],
+    pub has_event_index: [bool; 2],
     pub offered: [VecDeque<Job>; 2],
     is_used: [[bool; CHAINS as usize]; 2],
     next: [u16; 2],
@@ -142,6 +144,7 @@ impl World {
             device: Device::default(),
             queues: vec![],
             begun: [0; 2],
+            has_event_index: [false; 2],
             offered: Default::default(),
             is_used: Default::default(),
             next: [u16::MAX - 2, 0],
@@ -177,10 +180,15 @@ impl World {
     pub fn layout(&self, q: usize) -> QueueLayout {
         QueueLayout {
             size: SIZES[q],
-            descriptors: self.at(q, 0, 0),
-            available: self.at(q, AVAILABLE, 0),
+            descriptors: self.at(q, 0, TABLE),
+            available: self.available(q),
             used: self.at(q, USED, 0),
         }
+    }
+
+    /// The available ring, which lies elsewhere after a reset.
+    fn available(&self, q: usize) -> u64 {
+        self.at(q, AVAILABLE, 0x200 + 0x80 * (self.begun[q] % 2))
     }
 
     /// Writes at an address of the driver's.
@@ -206,6 +214,7 @@ impl World {
 
     fn queue(&mut self, q: usize) -> Queue {
         let has_event_index = self.chance.one_in(2);
+        self.has_event_index[q] = has_event_index;
         let queue = Queue::new(self.layout(q), self.next[q]).unwrap();
         queue.with_max_in_flight(2).unwrap().with_event_index(has_event_index)
     }
@@ -213,8 +222,9 @@ impl World {
     /// Fresh rings, whose available index is that of the next chain.
     fn clear(&mut self, q: usize) {
         let next = self.next[q];
-        [AVAILABLE, USED].iter().for_each(|page| self.write(self.at(q, *page, 0), &[0; 0x100]));
-        self.write(self.at(q, AVAILABLE, 2), &next.to_le_bytes());
+        self.write(self.available(q), &[0; 0x80]);
+        self.write(self.at(q, USED, 0), &[0; 0x100]);
+        self.write(self.available(q) + 2, &next.to_le_bytes());
         self.write(self.at(q, USED, 2), &next.to_le_bytes());
     }
 
@@ -260,16 +270,16 @@ impl World {
             Job { unique, kind, queue: q, k, at, begun, head, request_len, request: parts, room };
         self.draw(&job);
         self.is_used[q][usize::from(k)] = true;
-        let entry = self.at(q, AVAILABLE, 4 + 2 * u64::from(at % SIZES[q]));
+        let entry = self.available(q) + 4 + 2 * u64::from(at % SIZES[q]);
         self.write(entry, &head.to_le_bytes());
         self.next[q] = at.wrapping_add(1);
-        self.write(self.at(q, AVAILABLE, 2), &self.next[q].to_le_bytes());
+        self.write(self.available(q) + 2, &self.next[q].to_le_bytes());
         self.offered[q].push_back(job);
     }
 
     /// Writes the chain's descriptors: into the queue's table, or into one of its own.
     fn draw(&mut self, job: &Job) {
-        let (q, own) = (job.queue, self.at(job.queue, 0, 16 * u64::from(job.head)));
+        let (q, own) = (job.queue, self.at(job.queue, 0, TABLE + 16 * u64::from(job.head)));
         let count = (job.request.len() + job.room.len()) as u16;
         let is_indirect = SIZES[q] < CHAINS * PARTS || self.chance.one_in(3);
         let offset = 0x80 * u64::from(job.k) + self.chance.below(3);
@@ -310,12 +320,12 @@ impl World {
     }
 
     pub fn driver_event_at(&self, q: usize) -> u64 {
-        let has_index = self.queues[q].has_event_index();
-        self.at(q, AVAILABLE, if has_index { 4 + 2 * u64::from(SIZES[q]) } else { 0 })
+        let has_index = self.has_event_index[q];
+        self.available(q) + if has_index { 4 + 2 * u64::from(SIZES[q]) } else { 0 }
     }
 
     pub fn device_event_at(&self, q: usize) -> u64 {
-        let has_index = self.queues[q].has_event_index();
+        let has_index = self.has_event_index[q];
         self.at(q, USED, if has_index { 4 + 8 * u64::from(SIZES[q]) } else { 0 })
     }
 

@@ -58,7 +58,11 @@ impl View {
         let last = FRAMES as u64;
         let (regions, first) = match shape {
             0 => (vec![region(0..last, 0, 0)], vec![0]),
-            1 => (vec![region(21..last, 0, 0), region(0..21, 0, 0x100_0000)], vec![21, 0]),
+            1 => {
+                // The first two are neighbours by their numbers too.
+                let (front, rest) = (region(21..30, 0, 0), region(30..last, 0, 0x9000));
+                (vec![front, rest, region(0..21, 0, 0x100_0000)], vec![21, 30, 0])
+            }
             _ => {
                 // The two lie over the same numbers.
                 let second = 0x8000 + 0x200_0000;
