@@ -2,7 +2,8 @@
  * same numbers: one load by load, the other by loads ahead, which are right, cut short, wrong,
  * repeated, exchanged or overlapping. Result, queue and windows have to be the same, and a list
  * that is wrong from its n-th load on costs the calls of just the loads from there on. So it is
- * with loads of a pop that lacked nothing, if a page of ring, table or buffers lacks access. */
+ * with loads of a pop that lacked nothing, if a page of ring, table or buffers lacks access, or if
+ * a table goes on elsewhere. */
 #define _DEFAULT_SOURCE
 #include "pitskhomu.h"
 #include "chance.h"
@@ -27,6 +28,7 @@ enum {
 enum { NEXT = 1, WRITE = 2, INDIRECT = 4 };
 
 static uint8_t *memory; /* a page that can't be read follows */
+static _Alignas(4096) uint8_t elsewhere[MEMORY]; /* zeros */
 static struct pk_device device = PK_DEVICE;
 static struct pk_region regions[2];
 static size_t region_count;
@@ -34,7 +36,7 @@ static struct pk_region mapped[2]; /* what the IOMMU's table maps in this proces
 static uint32_t access[2];         /* of each mapping */
 static bool has_table;
 static size_t table_len;         /* of each indirect table */
-static size_t desc = DESC, avail = AVAIL;
+static size_t desc = DESC, avail = AVAIL, indirect = TABLE;
 static uint64_t base;            /* the guest address of memory[0] */
 static bool may_end;             /* rings may go over the end of the memory */
 
@@ -97,13 +99,13 @@ static void lay_chance(uint16_t next_avail) {
         uint16_t flags = (uint16_t)((ends ? 0 : NEXT) | (below(2) ? WRITE : 0));
         uint16_t next = (uint16_t)(below(3) ? (k + 1) % SIZE : below(SIZE + 1));
         if (table)
-            lay_entry(desc + 16 * k, TABLE + 16 * below(4), (uint32_t)table_len,
+            lay_entry(desc + 16 * k, indirect + 16 * below(4), (uint32_t)table_len,
                       (uint16_t)(INDIRECT | (below(8) ? 0 : NEXT)), next);
         else
             lay_entry(desc + 16 * k, BUFFERS + 64 * k, some_len(), flags, next);
     }
     for (size_t k = 0; k < ENTRIES; k++)
-        lay_entry(TABLE + 16 * k, BUFFERS + k, 1,
+        lay_entry(indirect + 16 * k, BUFFERS + k, 1,
                   (uint16_t)(below(200) ? NEXT | (k > 20 ? WRITE : 0) : WRITE),
                   (uint16_t)(below(50) ? k + 1 : below(ENTRIES)));
     for (size_t k = 0; k < SIZE; k++)
@@ -315,6 +317,40 @@ static void lack_one(void) {
     for (size_t k = 0; k < 3; k++) pk_chain_free(&chains[k]);
 }
 
+/* A list of the loads of a pop in whole memory, for a handle whose memory goes on elsewhere behind
+ * a page in which tables end: no load is taken that goes over its end. */
+static void cut_memory(void) {
+    static struct loads loads, own;
+    const size_t cut = TABLE + PAGE;
+    struct pk_queue whole, queue, second;
+    struct pk_chain all, chain, other;
+    struct pk_pop pop, step;
+    uint32_t status, found;
+    uint16_t next_avail = (uint16_t)below(0x10000);
+    indirect = cut - 16 * (1 + below(16));
+    lay_chance(next_avail);
+    indirect = TABLE;
+    whole = queue = second = after_pops(next_avail);
+    regions[0] = (struct pk_region){base, MEMORY, (uintptr_t)memory};
+    region_count = 1;
+    make_handle(&all);
+    regions[0].len = cut;
+    regions[1] = (struct pk_region){base + cut, MEMORY - cut, (uintptr_t)elsewhere + cut};
+    region_count = 2;
+    make_handle(&chain);
+    make_handle(&other);
+    status = pop_noting(&all, &whole, &loads, &pop);
+    if (status != PK_LOAD) status = pop_noting(&chain, &queue, &own, &pop);
+    if (status != PK_LOAD) {
+        pop_by_list(&other, &second, &loads, &step, &found);
+        expect("the status in two regions", found, status);
+        compare(&chain, &other, &queue, &second, &pop, &step);
+    }
+    pk_chain_free(&all);
+    pk_chain_free(&chain);
+    pk_chain_free(&other);
+}
+
 /* A list for one chain is no list for the next, and a handle that isn't free takes none. */
 static void refuses(void) {
     static struct loads loads;
@@ -405,6 +441,7 @@ int main(int argc, char **argv) {
     regions[0] = (struct pk_region){0, MEMORY, (uintptr_t)memory};
     region_count = 1;
     for (long k = 0; k < tries; k++) lack_one();
-    printf("ahead: %ld chains\n", 6 * tries);
+    for (long k = 0; k < tries; k++) cut_memory();
+    printf("ahead: %ld chains\n", 7 * tries);
     return 0;
 }
