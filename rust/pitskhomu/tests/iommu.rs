@@ -270,6 +270,51 @@ fn misses_that_overlap_are_one() {
     assert_eq!(push(&mut guest, &mut iotlb).unwrap().reply_len, 144);
 }
 
+/// A chain of more pages than a pop names at once: each is named once, by few pops.
+#[test]
+fn a_pop_names_at_most_1024_misses() {
+    const MOST: u64 = 1024;
+    const RINGS: u64 = 0x10_0000;
+    const BUFFERS: u64 = SHIFT + 0x1_0000_0000;
+    const PLACE: u64 = 0x3f_0000;
+    for count in [MOST - 1, MOST, MOST + 1, 1999] {
+        let (mut guest, mut iotlb) = guest();
+        let layout = QueueLayout {
+            size: 2048,
+            descriptors: SHIFT + RINGS,
+            available: SHIFT + RINGS + 0x8_0000,
+            used: SHIFT + RINGS + 0xc_0000,
+        };
+        guest.queue = Queue::new(layout, 0).unwrap();
+        iotlb.map(SHIFT + RINGS, 0x10_0000, RINGS, RW).unwrap();
+        map(&mut iotlb, SHIFT + REQUEST, REQUEST);
+        guest.memory.write(REQUEST, &request(1, 1, b"hello\0"));
+        // A byte of the reply buffer in every other page.
+        let room = (0..count).map(|k| Buffer(BUFFERS + 2 * k * PAGE, 1, true));
+        let parts: Vec<_> =
+            Some(Buffer(SHIFT + REQUEST, 46, false)).into_iter().chain(room).collect();
+        guest.draw(RINGS, 0, &parts);
+        guest.memory.write(RINGS + 0x8_0002, &[1, 0, 0, 0]);
+        let (mut named, mut rounds) = (Vec::new(), Vec::new());
+        while pop(&mut guest, &mut iotlb).unwrap() == Popped::Missing {
+            let misses = guest.worker.misses().to_vec();
+            for miss in &misses {
+                iotlb.map(miss.iova, miss.len, PLACE, miss.access).unwrap();
+            }
+            rounds.push(misses.len() as u64);
+            named.extend(misses);
+        }
+        assert!(rounds.iter().all(|&len| len <= MOST), "{rounds:?} of {count}");
+        assert!(rounds.len() as u64 <= 1 + count / MOST, "{rounds:?} of {count}");
+        named.sort_unstable_by_key(|miss| miss.iova);
+        let page = |k| Miss { iova: BUFFERS + 2 * k * PAGE, len: PAGE, access: Access::Write };
+        assert!(named.into_iter().eq((0..count).map(page)), "{count}");
+        answer(&mut guest);
+        let served = push(&mut guest, &mut iotlb).unwrap();
+        assert_eq!((served.room_len, served.reply_len), (count, 144));
+    }
+}
+
 #[test]
 fn what_is_refused_is_no_miss() {
     let (mut guest, mut iotlb) = guest();

@@ -546,6 +546,7 @@ fn all_is_as_the_model_says() {
     let printed = std::panic::take_hook();
     std::panic::set_hook(Box::new(move |info| {
         if info.payload().downcast_ref::<&str>() != Some(&"wanted") {
+            MOST.with(|cell| cell.set(usize::MAX)); // a backtrace takes memory
             printed(info);
         }
     }));
