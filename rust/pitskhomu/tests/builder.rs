@@ -172,6 +172,8 @@ fn memory_is_set_for_the_next_chains() {
     let mut slots: Vec<u16> = (0..4).map(|_| driver.wait().0).collect();
     slots.sort_unstable();
     assert_eq!((slots, serving.refused()), (vec![0, 1, 2, 3], None));
+    // No worker keeps a memory that was replaced: ours, the driver's and the last one.
+    until(|| Arc::strong_count(&memory) == 3);
 }
 
 /// Opens a file once the test says so, and counts what is undone.
