@@ -237,6 +237,26 @@ fn entries_of_another_request_give_no_node() {
     assert!(guest.worker.cancelled().is_none());
 }
 
+/// The entries of a READDIRPLUS, given to one in which the first has no room: each node is undone.
+#[test]
+fn entries_of_which_none_fits_are_undone() {
+    let mut guest = Guest::new();
+    let (entries, reply) = entries_of(&mut guest, &[b"one\0", b"two\0", b"six\0"]);
+    reply.error(Errno::EAGAIN).unwrap();
+    assert_eq!(guest.worker.finish(&guest.device, &guest.memory), Ok(true));
+    guest.worker.push(&mut guest.queue, &guest.memory).unwrap();
+
+    let read = args().q(3).q(0).d(40).bytes(&[0; 20]);
+    guest.offer_request(&request(44, 5, &read.0), 496);
+    take(&mut guest).reply.send(entries).unwrap();
+    assert_eq!(guest.worker.finish(&guest.device, &guest.memory), Ok(true));
+    let undo = guest.worker.cancelled().expect("nodes that aren't given").undo;
+    assert_eq!(undo, [Undo::Forget(entry().node); 3]);
+    let served = guest.worker.push(&mut guest.queue, &guest.memory).unwrap();
+    assert_eq!(guest.reply(served.reply_len as usize), Replied::Error(22));
+    assert!(guest.worker.cancelled().is_none());
+}
+
 /// No reset, and no queue that is restored, is that of a chain in flight: their numbers are the
 /// process's (`tools/pk_numbers.c`).
 #[test]
