@@ -60,7 +60,7 @@ fn an_event_that_is_refused_is_not_kept() {
     let looping = ring(0, 0);
     let mut state = looping.lock();
     looping.set_kick(&mut state, Some(new_event().unwrap())).unwrap();
-    let file = File::open("Cargo.toml").unwrap();
+    let file = File::open(std::env::current_exe().unwrap()).unwrap();
     assert!(looping.set_kick(&mut state, Some(file)).is_err());
     assert!(state.kick.is_none());
 }
