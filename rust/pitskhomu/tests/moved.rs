@@ -450,7 +450,7 @@ impl FileSystem for Methods<'_, '_> {
     }
 }
 
-/// One call for the data of an operation, whichever it has.
+/// One call for the data of a READ or WRITE.
 fn step(random: &mut Random, moving: &mut Moving<'_>, operation: &mut Operation<'_>) {
     match operation {
         Operation::Read { data, .. } => moving.read_step(random, data),

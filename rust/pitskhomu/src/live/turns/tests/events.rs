@@ -16,7 +16,7 @@ fn an_event_that_was_removed_is_not_heard() {
     }
 }
 
-/// The driver's event ends: that is told once, and the loop has none any more.
+/// The driver ends its event: the server learns it once, and the loop has no event.
 #[test]
 fn an_event_that_ends_is_removed() {
     let (looping, (event, driver)) = (ring(0, 0), UnixStream::pair().unwrap());
