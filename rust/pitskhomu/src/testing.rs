@@ -336,5 +336,12 @@ mod tests {
                 assert_eq!((guest.queue.next_used(), guest.offered), (next, next));
             }
         }
+        let start = |builder: crate::live::Builder, queue, kick, call| {
+            builder.start(queue, kick, call, Arc::new(Empty))
+        };
+        let mut guest = Guest::live_from(first, start).unwrap();
+        for _ in 0..30 {
+            assert_eq!(guest.getattr(Node::ROOT, None).unwrap_err(), Errno::EACCES);
+        }
     }
 }

@@ -1,5 +1,5 @@
 //! A guest whose queue is served by threads: it notifies the device, and waits to be interrupted.
-use super::{region, Guest, Memory, Service, LAYOUT, SIZE, USED};
+use super::{region, Guest, Memory, Service, AVAILABLE, LAYOUT, SIZE, USED};
 use crate::live::{new_event, Builder, Error, Serving};
 use crate::memory::{self, GuestMemory};
 use crate::operation::Request;
@@ -52,11 +52,22 @@ impl Guest<'_> {
     pub fn live(
         start: impl FnOnce(Builder, Queue, File, File) -> Result<Serving, Error>,
     ) -> Result<Guest<'static>, Error> {
+        Guest::live_from(0, start)
+    }
+
+    /// A live guest whose next available index is this one.
+    pub(super) fn live_from(
+        first: u16,
+        start: impl FnOnce(Builder, Queue, File, File) -> Result<Serving, Error>,
+    ) -> Result<Guest<'static>, Error> {
         let (kick, call) = (new_event()?, new_event()?);
         let ends = (kick.try_clone()?, call.try_clone()?);
         let guest = Guest::with(Service::Values(Box::new(|_: Request<'_>| ())), true);
+        let guest = Guest { offered: first, ..guest };
+        memory::store_u16(&*guest.memory, AVAILABLE + 2, first);
+        memory::store_u16(&*guest.memory, USED + 2, first);
         let builder = Builder::new(guest.device.clone(), guest.memory.clone(), &[region()]);
-        let serving = start(builder, Queue::new(LAYOUT, 0)?, kick, call)?;
+        let serving = start(builder, Queue::new(LAYOUT, first)?, kick, call)?;
         let live = Live { serving, kick: ends.0, call: ends.1 };
         Ok(Guest { service: Service::Live(live), ..guest })
     }
