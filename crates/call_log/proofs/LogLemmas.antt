@@ -22,18 +22,18 @@ use Rattle.plain_machine.specs.Step.{State, Exchange, Calls, Exchanged, Exchange
 use Rattle.plain_machine.specs.Run as run
 use Rattle.plain_machine.specs.Run.{Command, Answer, Effect, Turn, Turns, shown, KickRun, Kicks, KickAnswer, Affects, ChangesTable}
 use Rattle.plain_machine.specs.Run.{HasEffect, Does}
-use Rattle.plain_machine.specs.Run.{IsDecided, Performs, RunTold, Run, effect, insert, insert_block, is_known, some_overlap, reset}
+use Rattle.plain_machine.specs.Run.{IsDecided, Performs, RunReported, Run, effect, insert, insert_block, is_known, some_overlap, reset}
 use Rattle.fs_device.proofs.BookLemmas.{all_suit}
 use Rattle.fs_device.proofs.TellingLemmas.{end_stays}
 use Rattle.call_log.specs.declared.log.LoggedCall.{LoggedCall}
-use Rattle.call_log.specs.Log.{entries_for, kept, with_calls, MayAnswerLogged}
+use Rattle.call_log.specs.Log.{entries_for, preserved, with_calls, MayAnswerLogged}
 use Rattle.call_log.specs.Runs.{entries_of, EachMayAnswer, IsLogged, WritesDown, IsLoggedBy, AreLoggedBy, exchanges_in, Grows}
 
 -- ---- logs
 
 with_calls-append : (log front back : List LoggedCall) → with_calls log (front ++ back) ≡ with_calls (with_calls log front) back
 with_calls-append log [] back = refl
-with_calls-append log (call ∷ front) back = with_calls-append (kept log call) front back
+with_calls-append log (call ∷ front) back = with_calls-append (preserved log call) front back
 
 logged-append : (xs ys : List Exchange) (front back : List LoggedCall) → AreLoggedBy xs front → AreLoggedBy ys back →
     AreLoggedBy (xs ++ ys) (front ++ back)
@@ -102,12 +102,12 @@ taken_logged may log keeps s i q (Offers head (IsRequest request room)) calls x 
     ≡ map (λ (step : FileCall × FileAnswer). step.0) calls =
     ap (λ (bytes : List ℕ). (served set (meaning s.options bytes (length room)) answers).calls) same
     ∙ ap (λ (g : ServedMessage). g.calls) (sym r.serves.gives) ∙ r.serves.asks in
-    let told : x ≡ served_exchange head request (served set (meaning s.options request (length room)) answers) =
+    let reported : x ≡ served_exchange head request (served set (meaning s.options request (length room)) answers) =
     r.returns.exchange ∙ ap (λ (g : ServedMessage). served_exchange head request g) r.serves.gives in
     let is : x ≡ served_exchange x.head x.request (served set (meaning s.options x.request (length room)) answers) =
     subst (λ (n : ℕ). x ≡ served_exchange n x.request (served set (meaning s.options x.request (length room)) answers)) (sym same_head)
     (subst (λ (bytes : List ℕ). x ≡ served_exchange head bytes (served set (meaning s.options bytes (length room)) answers))
-    (sym same) told) in
+    (sym same) reported) in
     let fault : x.fault ≡ served_fault r.given.fault = ap (λ (e : Exchange). e.fault) r.returns.exchange in (
       entries,
       (
@@ -148,31 +148,31 @@ joined_growth log a b c xs ys (front, are, is) (back, more, on) = (
 )
 
 kick_logged : {F : Type 0} (may : May F) (log : F → List LoggedCall) → Keeps may log →
-    (s : State F) (i most : ℕ) (told : Turns) (refused : Option DeviceError) (after : State F) →
-    KickRun may s i most told refused after → Grew log s.files (map (λ t. t.exchange) told) after.files
+    (s : State F) (i most : ℕ) (reported : Turns) (refused : Option DeviceError) (after : State F) →
+    KickRun may s i most reported refused after → Grew log s.files (map (λ t. t.exchange) reported) after.files
 unfolding KickRun
 kick_logged may log keeps s i most [] refused after t = stayed log s.files after.files (end_stays may s i most refused after t)
-kick_logged may log keeps s i zero (x ∷ told) refused after t = absurd t
-kick_logged may log keeps s i (suc most) (x ∷ told) refused after (mid, step, rest) =
-    joined_growth log s.files mid.files after.files (x.exchange ∷ []) (map (λ t. t.exchange) told)
+kick_logged may log keeps s i zero (x ∷ reported) refused after t = absurd t
+kick_logged may log keeps s i (suc most) (x ∷ reported) refused after (mid, step, rest) =
+    joined_growth log s.files mid.files after.files (x.exchange ∷ []) (map (λ t. t.exchange) reported)
     (exchange_logged may log keeps s i (slice_get s.queues i) x.calls x.exchange x.notice mid step)
-    (kick_logged may log keeps mid i most told refused after rest)
+    (kick_logged may log keeps mid i most reported refused after rest)
 
 -- the exchanges that a kick lists are those that it made
-listed_exchanges : (told : Turns) → map (λ x. x.0) (map shown told) ≡ map (λ t. t.exchange) told
+listed_exchanges : (reported : Turns) → map (λ x. x.0) (map shown reported) ≡ map (λ t. t.exchange) reported
 listed_exchanges [] = refl
-listed_exchanges (x ∷ told) = ap (λ (l : List Exchange). x.exchange ∷ l) (listed_exchanges told)
+listed_exchanges (x ∷ reported) = ap (λ (l : List Exchange). x.exchange ∷ l) (listed_exchanges reported)
 
 kicks_logged : {F : Type 0} (may : May F) (log : F → List LoggedCall) → Keeps may log →
-    (s : State F) (i most : ℕ) (o : Option Queue) (told : Turns) (k : KickAnswer) (after : State F) →
-    Kicks may s i most o told k after → Grew log s.files (map (λ x. x.0) k.exchanges) after.files
-kicks_logged may log keeps s i most None told k after t =
+    (s : State F) (i most : ℕ) (o : Option Queue) (reported : Turns) (k : KickAnswer) (after : State F) →
+    Kicks may s i most o reported k after → Grew log s.files (map (λ x. x.0) k.exchanges) after.files
+kicks_logged may log keeps s i most None reported k after t =
     let none : map (λ (x : Exchange × Bool). x.0) k.exchanges ≡ [] = ap (λ (k : KickAnswer). map (λ x. x.0) k.exchanges) t.2 in
     rw none (stayed log s.files after.files (ap (λ s. s.files) t.0))
-kicks_logged may log keeps s i most (Some q) told k after t =
-    let same : map (λ (x : Exchange × Bool). x.0) k.exchanges ≡ map (λ (x : Turn). x.exchange) told =
-    ap (map (λ (x : Exchange × Bool). x.0)) t.1 ∙ listed_exchanges told in
-    rw same (kick_logged may log keeps s i most told k.refused after t.0)
+kicks_logged may log keeps s i most (Some q) reported k after t =
+    let same : map (λ (x : Exchange × Bool). x.0) k.exchanges ≡ map (λ (x : Turn). x.exchange) reported =
+    ap (map (λ (x : Exchange × Bool). x.0)) t.1 ∙ listed_exchanges reported in
+    rw same (kick_logged may log keeps s i most reported k.refused after t.0)
 
 -- ---- the other commands ask nothing
 
@@ -259,71 +259,81 @@ affect_logged log s run.Harvest answer after t = by_effect log s run.Harvest ans
 
 -- ---- runs
 
-effect_logged : {F : Type 0} (log : F → List LoggedCall) (s : State F) (command : Command) (told : Turns) (answer : Answer)
-    (after : State F) → HasEffect s command told answer after →
+effect_logged : {F : Type 0} (log : F → List LoggedCall) (s : State F) (command : Command) (reported : Turns) (answer : Answer)
+    (after : State F) → HasEffect s command reported answer after →
     Grew log s.files (exchanges_in answer) after.files
 effect_logged log s command [] answer after t = affect_logged log s command answer after t
-effect_logged log s command (x ∷ told) answer after t = absurd t
+effect_logged log s command (x ∷ reported) answer after t = absurd t
 
 does_logged : {F : Type 0} (may : May F) (log : F → List LoggedCall) → Keeps may log →
-    (s : State F) (command : Command) (told : Turns) (answer : Answer) (after : State F) →
-    Does may s command told answer after → Grew log s.files (exchanges_in answer) after.files
-does_logged may log keeps s (run.Kick i most) told (run.Served k) after t =
-    kicks_logged may log keeps s i most (slice_get s.queues i) told k after t
-does_logged may log keeps s (run.Kick i most) told run.Done after t = absurd t
-does_logged may log keeps s (run.Kick i most) told (run.Bytes bytes) after t = absurd t
-does_logged may log keeps s (run.Kick i most) told (run.NewBlockIs number) after t = absurd t
-does_logged may log keeps s (run.Kick i most) told (run.Copied host) after t = absurd t
-does_logged may log keeps s (run.Kick i most) told (run.Pages pages) after t = absurd t
-does_logged may log keeps s (run.Kick i most) told (run.IsRefused refusal) after t = absurd t
-does_logged may log keeps s (run.GuestRead a n) told answer after t = effect_logged log s (run.GuestRead a n) told answer after t
-does_logged may log keeps s (run.GuestWrite a bs) told answer after t = effect_logged log s (run.GuestWrite a bs) told answer after t
-does_logged may log keeps s (run.NewBlock n) told answer after t = effect_logged log s (run.NewBlock n) told answer after t
-does_logged may log keeps s (run.InsertRegion base block) told answer after t =
-    effect_logged log s (run.InsertRegion base block) told answer after t
-does_logged may log keeps s (run.RemoveRegion base size) told answer after t =
-    effect_logged log s (run.RemoveRegion base size) told answer after t
-does_logged may log keeps s (run.SetLayout layout) told answer after t = effect_logged log s (run.SetLayout layout) told answer after t
-does_logged may log keeps s (run.Map iova target n perm) told answer after t =
-    effect_logged log s (run.Map iova target n perm) told answer after t
-does_logged may log keeps s (run.Unmap iova n) told answer after t = effect_logged log s (run.Unmap iova n) told answer after t
-does_logged may log keeps s run.UnmapAll told answer after t = effect_logged log s run.UnmapAll told answer after t
-does_logged may log keeps s (run.SetIommu on) told answer after t = effect_logged log s (run.SetIommu on) told answer after t
-does_logged may log keeps s (run.ResetQueue queue size desc avail used) told answer after t =
-    effect_logged log s (run.ResetQueue queue size desc avail used) told answer after t
-does_logged may log keeps s run.Image told answer after t = effect_logged log s run.Image told answer after t
-does_logged may log keeps s run.Harvest told answer after t = effect_logged log s run.Harvest told answer after t
+    (s : State F) (command : Command) (reported : Turns) (answer : Answer) (after : State F) →
+    Does may s command reported answer after → Grew log s.files (exchanges_in answer) after.files
+does_logged may log keeps s (run.Kick i most) reported (run.Served k) after t =
+    kicks_logged may log keeps s i most (slice_get s.queues i) reported k after t
+does_logged may log keeps s (run.Kick i most) reported run.Done after t = absurd t
+does_logged may log keeps s (run.Kick i most) reported (run.Bytes bytes) after t = absurd t
+does_logged may log keeps s (run.Kick i most) reported (run.NewBlockIs number) after t = absurd t
+does_logged may log keeps s (run.Kick i most) reported (run.Copied host) after t = absurd t
+does_logged may log keeps s (run.Kick i most) reported (run.Pages pages) after t = absurd t
+does_logged may log keeps s (run.Kick i most) reported (run.IsRefused refusal) after t = absurd t
+does_logged may log keeps s (run.GuestRead a n) reported answer after t = effect_logged log s (run.GuestRead a n) reported answer after t
+does_logged may log keeps s (run.GuestWrite a bs) reported answer after t =
+    effect_logged log s (run.GuestWrite a bs) reported answer after t
+does_logged may log keeps s (run.NewBlock n) reported answer after t = effect_logged log s (run.NewBlock n) reported answer after t
+does_logged may log keeps s (run.InsertRegion base block) reported answer after t =
+    effect_logged log s (run.InsertRegion base block) reported answer after t
+does_logged may log keeps s (run.RemoveRegion base size) reported answer after t =
+    effect_logged log s (run.RemoveRegion base size) reported answer after t
+does_logged may log keeps s (run.SetLayout layout) reported answer after t =
+    effect_logged log s (run.SetLayout layout) reported answer after t
+does_logged may log keeps s (run.Map iova target n perm) reported answer after t =
+    effect_logged log s (run.Map iova target n perm) reported answer after t
+does_logged may log keeps s (run.Unmap iova n) reported answer after t = effect_logged log s (run.Unmap iova n) reported answer after t
+does_logged may log keeps s run.UnmapAll reported answer after t = effect_logged log s run.UnmapAll reported answer after t
+does_logged may log keeps s (run.SetIommu on) reported answer after t = effect_logged log s (run.SetIommu on) reported answer after t
+does_logged may log keeps s (run.ResetQueue queue size desc avail used) reported answer after t =
+    effect_logged log s (run.ResetQueue queue size desc avail used) reported answer after t
+does_logged may log keeps s run.Image reported answer after t = effect_logged log s run.Image reported answer after t
+does_logged may log keeps s run.Harvest reported answer after t = effect_logged log s run.Harvest reported answer after t
 
 performs_logged : {F : Type 0} (may : May F) (log : F → List LoggedCall) → Keeps may log →
-    (s : State F) (command : Command) (told : Turns) (answer : Answer) (after : State F) →
-    Performs may s command told answer after → Grew log s.files (exchanges_in answer) after.files
+    (s : State F) (command : Command) (reported : Turns) (answer : Answer) (after : State F) →
+    Performs may s command reported answer after → Grew log s.files (exchanges_in answer) after.files
 performs_logged may log keeps s command [] (run.IsRefused why.OutOfMemory) after t = stayed log s.files after.files (ap (λ s. s.files) t.1)
-performs_logged may log keeps s command (x ∷ told) (run.IsRefused why.OutOfMemory) after t = absurd t
-performs_logged may log keeps s command told (run.IsRefused why.NoPlace) after t = does_logged may log keeps s command told _ after t
-performs_logged may log keeps s command told (run.IsRefused why.EmptyBlock) after t = does_logged may log keeps s command told _ after t
-performs_logged may log keeps s command told (run.IsRefused why.UnknownBlock) after t = does_logged may log keeps s command told _ after t
-performs_logged may log keeps s command told (run.IsRefused why.BadRegion) after t = does_logged may log keeps s command told _ after t
-performs_logged may log keeps s command told (run.IsRefused why.Overlap) after t = does_logged may log keeps s command told _ after t
-performs_logged may log keeps s command told (run.IsRefused why.NoRegion) after t = does_logged may log keeps s command told _ after t
-performs_logged may log keeps s command told (run.IsRefused why.BadMapping) after t = does_logged may log keeps s command told _ after t
-performs_logged may log keeps s command told (run.IsRefused why.NoSuchQueue) after t = does_logged may log keeps s command told _ after t
-performs_logged may log keeps s command told run.Done after t = does_logged may log keeps s command told _ after t
-performs_logged may log keeps s command told (run.Bytes bytes) after t = does_logged may log keeps s command told _ after t
-performs_logged may log keeps s command told (run.NewBlockIs number) after t = does_logged may log keeps s command told _ after t
-performs_logged may log keeps s command told (run.Served k) after t = does_logged may log keeps s command told _ after t
-performs_logged may log keeps s command told (run.Copied host) after t = does_logged may log keeps s command told _ after t
-performs_logged may log keeps s command told (run.Pages pages) after t = does_logged may log keeps s command told _ after t
+performs_logged may log keeps s command (x ∷ reported) (run.IsRefused why.OutOfMemory) after t = absurd t
+performs_logged may log keeps s command reported (run.IsRefused why.NoPlace) after t =
+    does_logged may log keeps s command reported _ after t
+performs_logged may log keeps s command reported (run.IsRefused why.EmptyBlock) after t =
+    does_logged may log keeps s command reported _ after t
+performs_logged may log keeps s command reported (run.IsRefused why.UnknownBlock) after t =
+    does_logged may log keeps s command reported _ after t
+performs_logged may log keeps s command reported (run.IsRefused why.BadRegion) after t =
+    does_logged may log keeps s command reported _ after t
+performs_logged may log keeps s command reported (run.IsRefused why.Overlap) after t =
+    does_logged may log keeps s command reported _ after t
+performs_logged may log keeps s command reported (run.IsRefused why.NoRegion) after t =
+    does_logged may log keeps s command reported _ after t
+performs_logged may log keeps s command reported (run.IsRefused why.BadMapping) after t =
+    does_logged may log keeps s command reported _ after t
+performs_logged may log keeps s command reported (run.IsRefused why.NoSuchQueue) after t =
+    does_logged may log keeps s command reported _ after t
+performs_logged may log keeps s command reported run.Done after t = does_logged may log keeps s command reported _ after t
+performs_logged may log keeps s command reported (run.Bytes bytes) after t = does_logged may log keeps s command reported _ after t
+performs_logged may log keeps s command reported (run.NewBlockIs number) after t = does_logged may log keeps s command reported _ after t
+performs_logged may log keeps s command reported (run.Served k) after t = does_logged may log keeps s command reported _ after t
+performs_logged may log keeps s command reported (run.Copied host) after t = does_logged may log keeps s command reported _ after t
+performs_logged may log keeps s command reported (run.Pages pages) after t = does_logged may log keeps s command reported _ after t
 
 events_logged : {F : Type 0} (may : May F) (log : F → List LoggedCall) → Keeps may log →
-    (s : State F) (events : List (Command × Answer)) (tolds : List Turns) (after : State F) →
-    RunTold may s events tolds after → Grew log s.files (flat_map exchanges_in (map (λ e. e.1) events)) after.files
-unfolding RunTold
+    (s : State F) (events : List (Command × Answer)) (all_reported : List Turns) (after : State F) →
+    RunReported may s events all_reported after → Grew log s.files (flat_map exchanges_in (map (λ e. e.1) events)) after.files
+unfolding RunReported
 events_logged may log keeps s [] [] after same = stayed log s.files after.files (ap (λ s. s.files) same)
-events_logged may log keeps s [] (told ∷ tolds) after t = absurd t
+events_logged may log keeps s [] (reported ∷ all_reported) after t = absurd t
 events_logged may log keeps s (e ∷ es) [] after t = absurd t
-events_logged may log keeps s (e ∷ es) (told ∷ tolds) after (mid, performs, rest) =
+events_logged may log keeps s (e ∷ es) (reported ∷ all_reported) after (mid, performs, rest) =
     joined_growth log s.files mid.files after.files (exchanges_in e.1) (flat_map exchanges_in (map (λ e. e.1) es))
-    (performs_logged may log keeps s e.0 told e.1 mid performs) (events_logged may log keeps mid es tolds after rest)
+    (performs_logged may log keeps s e.0 reported e.1 mid performs) (events_logged may log keeps mid es all_reported after rest)
 
 answers_of : {X Y : Type 0} (xs : List X) (ys : List Y) → length ys ≡ length xs → map (λ e. e.1) (zip xs ys) ≡ ys
 answers_of [] [] same = refl
@@ -335,9 +345,9 @@ answers_of {X} {Y} (x ∷ xs) (y ∷ ys) same = ap (λ (l : List Y). y ∷ l) (a
 pub run_grows : {F : Type 0} (may : May F) (log : F → List LoggedCall) → Keeps may log →
     (s : State F) (commands : List Command) (answers : List Answer) (after : State F) →
     length answers ≡ length commands → Run may s (zip commands answers) after → Grows (log s.files) answers (log after.files)
-run_grows may log keeps s commands answers after same (tolds, t) =
+run_grows may log keeps s commands answers after same (all_reported, t) =
     subst (λ (l : List Answer). Grew log s.files (flat_map exchanges_in l) after.files) (answers_of commands answers same)
-    (events_logged may log keeps s (zip commands answers) tolds after t)
+    (events_logged may log keeps s (zip commands answers) all_reported after t)
 
 -- of a result of which two things are known
 pub of_both : {X E : Type 0} (r : Result X E) (P Q R : X → Type 0) → IfOk r P → IfOk r Q → ((x : X) → P x → Q x → R x) → IfOk r R

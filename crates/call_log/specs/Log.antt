@@ -19,13 +19,13 @@ entries_for (Write who node handle bytes size offset owner delayed kill flags) =
 entries_for _ = []
 
 -- a log after one more call; it holds at most 64
-abbrev pub kept : List LoggedCall → LoggedCall → List LoggedCall
-kept calls call = if nat_lt (length calls) 64 then calls ++ call ∷ [] else calls
+abbrev pub preserved : List LoggedCall → LoggedCall → List LoggedCall
+preserved calls call = if nat_lt (length calls) 64 then calls ++ call ∷ [] else calls
 
 -- a log after several calls, one after another
 abbrev pub with_calls : List LoggedCall → List LoggedCall → List LoggedCall
 with_calls calls [] = calls
-with_calls calls (call ∷ more) = with_calls (kept calls call) more
+with_calls calls (call ∷ more) = with_calls (preserved calls call) more
 
 -- the answers that a call may have: a look-up finds node 2 or ENOENT, INIT wants no option, READ and WRITE
 -- may have any answer, and any other call has its default, mostly ENOSYS

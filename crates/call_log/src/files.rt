@@ -3,7 +3,7 @@
 ghost use Rattle.std.specs.Prelude.{◌≡◌, ⊤, [], option_map};
 ghost use Rattle.fuse_fs.specs.Answers.{attr_answer};
 ghost use Rattle.fuse_fs.specs.Calls as call;
-ghost use Rattle.call_log.specs.Log.{MayLog, kept};
+ghost use Rattle.call_log.specs.Log.{MayLog, preserved};
 
 use crate::log::{LoggedCall, MOST_CALLS};
 use arrayvec::ArrayVec;
@@ -149,7 +149,7 @@ impl CallLog {
 
     // Adds a call to the log, unless the log is full.
     fn note(&mut self, call: LoggedCall)
-        ensures { self.new.calls.items ≡ kept self.old.calls.items call }
+        ensures { self.new.calls.items ≡ preserved self.old.calls.items call }
     {
         if !self.calls.is_full() {
             self.calls.push(call);

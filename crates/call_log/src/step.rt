@@ -3,7 +3,7 @@
 ghost use Rattle.std.specs.Prelude.{◌≡◌, IfOk, IfSome};
 ghost use Rattle.vm_memory_core.specs.Host.{shape};
 ghost use Rattle.fs_device.specs.DeviceView.{state_of};
-ghost use Rattle.call_log.specs.Steps.{LeavesUsedLength, StepTellsLength};
+ghost use Rattle.call_log.specs.Steps.{LeavesUsedLength, StepReportsLength};
 
 use crate::files::CallLog;
 use fs_device::laws::law_used_length;
@@ -25,9 +25,9 @@ pub fn used_length<M: GuestMemory, H: HostBlocks>(
     queue: usize,
 ) -> Result<Option<usize>, DeviceError>
     requires { M.IsHeld mem.now (H.host host.old) }
-    ensures step { StepTellsLength (state_of (M.memory mem.now (H.host host.old)) device.old) queue result
+    ensures step { StepReportsLength (state_of (M.memory mem.now (H.host host.old)) device.old) queue result
         (state_of (M.memory mem.now (H.host host.new)) device.new) }
-    ensures told { IfOk result (λ o.
+    ensures reported { IfOk result (λ o.
         IfSome o (λ n. LeavesUsedLength (state_of (M.memory mem.now (H.host host.old)) device.old) queue n
         (M.memory mem.now (H.host host.new)))) }
     ensures shape { shape (H.host host.new) ≡ shape (H.host host.old) }

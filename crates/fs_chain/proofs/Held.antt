@@ -13,7 +13,7 @@ use Rattle.server_phases.specs.declared.session.Session.{Session}
 use Rattle.fs_chain.specs.Held.{AskedIsMapped, HeldIsUnreplied, IsWithoutReply, LoadsAreFew, LoadsCount}
 use Rattle.fs_chain.specs.Holds.{HasUnreplied, IsHeldIn}
 use Rattle.fs_chain.specs.Pops.{AddsSo}
-use Rattle.fs_chain.specs.declared.loads.LoadOutcome.TheVariants as wents
+use Rattle.fs_chain.specs.declared.loads.LoadOutcome.TheVariants as outcomes
 use Rattle.fs_chain.specs.declared.state.ChainState as state
 use Rattle.fs_chain.specs.declared.state.ChainState.TheVariants as at
 
@@ -39,9 +39,9 @@ asked_is_mapped limit p w i held less =
     (list_all (λ x. is_some (location (places_in w.regions) Read x)) (addresses (asked_by walk) (asked_len walk))) held.there).1 less
 
 pub loads_count : LoadsCount
-loads_count limit p w ds told bytes loaded held adds =
-    let so : AddsSo (at.Walking held.course held.pop_id held.walk) (wents.On told) ds p.loaded bytes loaded =
-    subst (λ (st : state.ChainState). AddsSo st (wents.On told) ds p.loaded bytes loaded) held.state adds in
+loads_count limit p w ds reported bytes loaded held adds =
+    let so : AddsSo (at.Walking held.course held.pop_id held.walk) (outcomes.On reported) ds p.loaded bytes loaded =
+    subst (λ (st : state.ChainState). AddsSo st (outcomes.On reported) ds p.loaded bytes loaded) held.state adds in
     let more = made_more (places_in w.regions) (queue_of held.course) p.loaded loaded w.descriptors.items held.walk bytes so.0 held.comes
     so.2 in
     omega (arith, more)

@@ -12,7 +12,7 @@ use Rattle.fuse_values.specs.declared.answer.FileAnswer as made_answer
 use Rattle.virtiofsd_fuse.specs.Grammar.{FileCommand, Lists, Meaning, One, Starts, meaning}
 use Rattle.virtiofsd_fuse.specs.Serving.{ServedMessage, Setting, commanded, served, setting}
 use Rattle.virtiofsd_fuse.proofs.Serve.{served_fits}
-use Rattle.server_phases.specs.Answering.{Gives, TellsBytes, forget_calls, served_by}
+use Rattle.server_phases.specs.Answering.{Gives, ReportsBytes, forget_calls, served_by}
 use Rattle.server_phases.specs.Gathering.{is_list_command}
 use Rattle.server_phases.specs.Waiting.{first_call}
 use Rattle.server_phases.specs.declared.answering.Sent.{Sent}
@@ -54,17 +54,17 @@ no_more s (Lists unique l) x more is = absurd (cc)
 
 -- a FORGET that is owed
 forgets : (s : Machine) (before behind : List InFlightChain) (c : InFlightChain) (request : List ℕ) (options : ℕ) (call : FileCall)
-    (x : FileAnswer) (new : ChainHandle) (owed : Option (Context × ℕ)) (out : InFlight) (kept : ChainReply)
+    (x : FileAnswer) (new : ChainHandle) (owed : Option (Context × ℕ)) (out : InFlight) (preserved : ChainReply)
     → s.chains ≡ before ++ c ∷ behind → c.phase ≡ Asked request options ((call, x) ∷ []) → IsOutAs c out
-    → new.state ≡ at.HasReply out kept
-    → KeepsReplyOf (served_so s.page_size options request out.room_len ((call, x) ∷ [])).reply out kept
+    → new.state ≡ at.HasReply out preserved
+    → KeepsReplyOf (served_so s.page_size options request out.room_len ((call, x) ∷ [])).reply out preserved
     → served (setting s.page_size options out.room_len) (meaning options request out.room_len) (x ∷ Done ∷ [])
     ≡ served (setting s.page_size options out.room_len) (meaning options request out.room_len) (x ∷ [])
     → (served_so s.page_size options request (length (addresses_of (writable c.descriptors))) ((call, x) ∷ [])).calls ≡ call ∷ forget_calls
     owed
     → ForgettingIs s before behind c request options ((call, x) ∷ []) new owed
-forgets s before behind c request options call x new None out kept is phase is_out state_is keeps same all = tt
-forgets s before behind c request options call x new (Some node) out kept is phase is_out state_is keeps same all =
+forgets s before behind c request options call x new None out preserved is phase is_out state_is keeps same all = tt
+forgets s before behind c request options call x new (Some node) out preserved is phase is_out state_is keeps same all =
     let forget : FileCall = Forget node.0 node.1 1 in
     let calls : Calls = (call, x) ∷ (forget, Done) ∷ [] in
     let room : length (room_of c) ≡ length (addresses_of (writable c.descriptors)) =
@@ -93,21 +93,21 @@ forgets s before behind c request options call x new (Some node) out kept is pha
               room_len = is_out.room_len;
               small = is_out.small;
             },
-            subst (λ (m : ServedMessage). KeepsReplyOf m.reply out kept) (sym same) keeps,
+            subst (λ (m : ServedMessage). KeepsReplyOf m.reply out preserved) (sym same) keeps,
           ),
       ap (λ (k : ℕ). (served (setting s.page_size options k) (meaning options request k) (x ∷ Done ∷ [])).calls) is_out.room_len
           ∙ ap (λ (m : ServedMessage). m.calls) same
           ∙ sym (ap (λ (k : ℕ). (served (setting s.page_size options k) (meaning options request k) (x ∷ [])).calls) is_out.room_len) ∙ all,
     )
 
-by_state : (st : state.ChainState) (was : Session) (new : ChainHandle) (a : made_answer.FileAnswer) (told : Replied)
-    → IfWaits st (λ out w. IsGiven (setting was.page_size was.options.0 w.room) w a out new.session.options.0 told new.state)
+by_state : (st : state.ChainState) (was : Session) (new : ChainHandle) (a : made_answer.FileAnswer) (reported : Replied)
+    → IfWaits st (λ out w. IsGiven (setting was.page_size was.options.0 w.room) w a out new.session.options.0 reported new.state)
     → IsWaiting st → IfWaits st (λ out w. CanBeGiven w a)
     → (s : Machine) (before behind : List InFlightChain) (c : InFlightChain) (request bytes : List ℕ) (options : ℕ)
     → s.chains ≡ before ++ c ∷ behind → c.phase ≡ Asked request options []
-    → IsHeldIn s.page_size c (Asked request options []) st was → TellsBytes bytes a
-    → (call : FileCall) × AnsweringIs s before behind c request bytes options call (answer_of bytes a) told new
-by_state (at.Waits out w) was new a told given waits can s before behind c request bytes options is asked held data_told =
+    → IsHeldIn s.page_size c (Asked request options []) st was → ReportsBytes bytes a
+    → (call : FileCall) × AnsweringIs s before behind c request bytes options call (answer_of bytes a) reported new
+by_state (at.Waits out w) was new a reported given waits can s before behind c request bytes options is asked held data_reported =
     let is_out : IsOutAs c out = held.0 in
     let call = call_of (drop 80 request) held.3 in
     let asks = held.4 in
@@ -118,7 +118,7 @@ by_state (at.Waits out w) was new a told given waits can s before behind c reque
     let m = meaning options request r in
     let in_room : Gives (setting was.page_size was.options.0 r) command bytes a given.0 left =
     subst (λ (n : ℕ). Gives (setting was.page_size was.options.0 n) command bytes a given.0 left) asks.5
-    (given.3 command bytes asks.4 data_told) in
+    (given.3 command bytes asks.4 data_reported) in
     let gives : Gives set command bytes a given.0 left =
     subst (λ (o : ℕ). Gives (setting s.page_size o r) command bytes a given.0 left) held.2.1
     (subst (λ (p : ℕ). Gives (setting p was.options.0 r) command bytes a given.0 left) held.2.0 in_room) in
@@ -127,14 +127,14 @@ by_state (at.Waits out w) was new a told given waits can s before behind c reque
     let serving : served set m (answer_of bytes a ∷ []) ≡ g =
     ap (λ (k : Meaning). served set k (answer_of bytes a ∷ [])) asks.1 ∙ gives in
     let n = data_len a in
-    let kept : ChainReply = reply_of given.0.sent n in
-    let len_is : front_len kept + kept.behind ≡ length g.reply =
-    whole_len given.0.sent n bytes (data_is bytes a data_told) ∙ sym (ap length (by_reply cs left n given.0.sent bytes)) in
+    let preserved : ChainReply = reply_of given.0.sent n in
+    let len_is : front_len preserved + preserved.behind ≡ length g.reply =
+    whole_len given.0.sent n bytes (data_is bytes a data_reported) ∙ sym (ap length (by_reply cs left n given.0.sent bytes)) in
     let fits : length g.reply ≤ r =
     subst (λ (x : ServedMessage). length x.reply ≤ r) serving (served_fits set m (answer_of bytes a ∷ [])) in
     let b = sent_bytes cs left n given.0.sent bytes in
-    let keeps : KeepsReplyOf g.reply out kept =
-    record { behind = b.0; bytes = b.1; len = isnt_cut out kept (length g.reply) len_is fits is_out.small } in
+    let keeps : KeepsReplyOf g.reply out preserved =
+    record { behind = b.0; bytes = b.1; len = isnt_cut out preserved (length g.reply) len_is fits is_out.small } in
     let room : length (room_of c) ≡ r = ap (λ (p : Phase). length (room_of_phase p c.descriptors)) asked ∙ is_out.room_len in
     let waiting : (served set m []).calls ≡ call ∷ [] = sym (call_waits set m command call asks.1 asks.2) in
     let calls : Calls = (call, answer_of bytes a) ∷ [] in
@@ -152,10 +152,10 @@ by_state (at.Waits out w) was new a told given waits can s before behind c reque
       room_len = is_out.room_len;
       small = is_out.small;
     } in
-    let keeps_served : KeepsReplyOf (served_so s.page_size options request r calls).reply out kept =
-    subst (λ (x : ServedMessage). KeepsReplyOf x.reply out kept) (sym serving) keeps in
+    let keeps_served : KeepsReplyOf (served_so s.page_size options request r calls).reply out preserved =
+    subst (λ (x : ServedMessage). KeepsReplyOf x.reply out preserved) (sym serving) keeps in
     let all : (served_so s.page_size options request (length (addresses_of (writable c.descriptors))) calls).calls
-    ≡ call ∷ forget_calls told.forget =
+    ≡ call ∷ forget_calls reported.forget =
     ap (λ (x : ServedMessage). x.calls) in_buffer ∙ by_calls cs left given.0.sent bytes
     ∙ ap (λ (k : FileCall). k ∷ forget_calls given.0.forget) (sym asks.2)
     ∙ sym (ap (λ (t : Replied). call ∷ forget_calls t.forget) given.1) in
@@ -172,7 +172,7 @@ by_state (at.Waits out w) was new a told given waits can s before behind c reque
           calls = [];
           asked = asked;
           pending = ap (λ (k : ℕ). (served (setting s.page_size options k) (meaning options request k) []).calls) room ∙ waiting;
-          is_one = subst (λ (k : FileCall). IsTrue (suits k (answer_of bytes a))) (sym asks.2) (can command bytes asks.4 data_told).0;
+          is_one = subst (λ (k : FileCall). IsTrue (suits k (answer_of bytes a))) (sym asks.2) (can command bytes asks.4 data_reported).0;
           files = tt;
           may_so = tt;
           state = refl;
@@ -183,29 +183,30 @@ by_state (at.Waits out w) was new a told given waits can s before behind c reque
         subst (λ (st : state.ChainState). IsRepliedWith
             (served_so s.page_size options request (length (addresses_of (writable c.descriptors))) calls).reply bytes st)
             (sym given.2)
-            (ap (λ (x : ServedMessage). x.reply) in_buffer ∙ data_bytes cs left n given.0.sent bytes (sym (data_is bytes a data_told))),
+            (ap (λ (x : ServedMessage). x.reply) in_buffer ∙ data_bytes cs left n given.0.sent bytes (sym (data_is bytes a data_reported))),
         forgets (after_answer s before behind c request options calls tt) before behind (asked_chain c request options calls) request
-            options call (answer_of bytes a) new told.forget out kept refl refl now_out given.2 keeps_served same_more all,
+            options call (answer_of bytes a) new reported.forget out preserved refl refl now_out given.2 keeps_served same_more all,
       ),
     )
-by_state st was new a told given waits can s before behind c request bytes options is asked held data_told = absurd waits
+by_state st was new a reported given waits can s before behind c request bytes options is asked held data_reported = absurd waits
 
-pub answers : (old new : ChainHandle) (a : made_answer.FileAnswer) (told : Replied)
-    → IfWaits old.state (λ out w. IsGiven (setting old.session.page_size old.session.options.0 w.room) w a out new.session.options.0 told
+pub answers : (old new : ChainHandle) (a : made_answer.FileAnswer) (reported : Replied)
+    → IfWaits old.state (λ out w. IsGiven (setting old.session.page_size old.session.options.0 w.room) w a out new.session.options.0
+    reported
     new.state)
     → IsWaiting old.state × IfWaits old.state (λ out w. CanBeGiven w a)
-    → Answers old new a told
+    → Answers old new a reported
 unfolding Answers
-answers old new a told given taken s before behind c request bytes options is asked held data_told =
+answers old new a reported given taken s before behind c request bytes options is asked held data_reported =
     let here : IsHeldIn s.page_size c (Asked request options []) old.state old.session =
     subst (λ (p : Phase). IsHeldIn s.page_size c p old.state old.session) asked held in
-    by_state old.state old.session new a told given taken.0 taken.1 s before behind c request bytes options is asked here data_told
+    by_state old.state old.session new a reported given taken.0 taken.1 s before behind c request bytes options is asked here data_reported
 
 -- by its result
 pub answers_from : (old new : ChainHandle) (a : made_answer.FileAnswer) (r : Result Replied ChainError)
-    → IfOk r (λ told. IfWaits old.state (λ out w. IsGiven (setting old.session.page_size old.session.options.0 w.room) w a out
-    new.session.options.0 told new.state))
+    → IfOk r (λ reported. IfWaits old.state (λ out w. IsGiven (setting old.session.page_size old.session.options.0 w.room) w a out
+    new.session.options.0 reported new.state))
     → OnOk r (IsWaiting old.state × IfWaits old.state (λ out w. CanBeGiven w a))
-    → IfOk r (λ told. Answers old new a told)
-answers_from old new a (Ok told) given taken = answers old new a told given taken
+    → IfOk r (λ reported. Answers old new a reported)
+answers_from old new a (Ok reported) given taken = answers old new a reported given taken
 answers_from old new a (Err e) given taken = tt

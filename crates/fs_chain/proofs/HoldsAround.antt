@@ -55,10 +55,10 @@ stores_notice q wanted store is s i there = by_store store is
         NotificationIs s i q wanted store
     by_store (Some store) is = (
       λ place. record { w = live_of q; there = there; wanted = wanted; stores = sym is; place = place; state = refl },
-      λ has goes.
+      λ has proceeds.
           let same = stored_event q.event_index wanted event flags (store_of store) is has in
           subst (λ (a : ℕ). StoreIsMapped s.places a) (sym (ap (λ (k : Store). k.address) same))
-          (has_events s.places (live_of q) goes has).1,
+          (has_events s.places (live_of q) proceeds has).1,
     )
     by_store None is = not_stored q.event_index wanted event flags (sym is)
 
@@ -88,5 +88,5 @@ sets_memory new s keeps =
     let all : AllByRecursion (KeepsQueue s (places_in new.regions)) s.chains =
     elim keeps [
       | inl none ↦ subst (λ (cs : List InFlightChain). AllByRecursion (KeepsQueue s (places_in new.regions)) cs) (sym none) tt
-      | inr kept ↦ kept
+      | inr preserved ↦ preserved
     ] in record { keeps = all; state = refl }

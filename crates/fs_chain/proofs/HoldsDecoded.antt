@@ -16,7 +16,7 @@ use Rattle.server_phases.specs.declared.session.Session.{Session}
 use Rattle.live_machine.specs.Live.{DecodesRequest, Fetched, Happens, InFlightChain, Phase, after_decoding, asked_chain, room_of}
 use Rattle.live_machine.specs.Live.{room_of_phase}
 use Rattle.live_machine.proofs.Queues.{none_some}
-use Rattle.fs_chain.specs.Decoding.{IfUndecoded, KeepsCall, KeepsReply, TellsMeaning, asked_of}
+use Rattle.fs_chain.specs.Decoding.{IfUndecoded, KeepsCall, KeepsReply, ReportsMeaning, asked_of}
 use Rattle.fs_chain.specs.Holds.{any_files, Decodes, DecodingIs, HoldsChain, IsDecodedIn, IsHeldIn, IsOutAs, KeepsReplyOf, Machine}
 use Rattle.fs_chain.specs.Holds.{calls_decoded}
 use Rattle.fs_chain.specs.Orders.{ask_error, front_in, front_len, front_of, reply_len}
@@ -47,17 +47,19 @@ call_waits s m command c is made =
 -- ---- a reply without a call
 
 -- a reply that is a front alone, and fits
-pub keeps_front : (s : Setting) (m : Meaning) (calls : List FileCall) (given : ServedMessage) (out kept_out : InFlight) (kept : ChainReply)
-    → kept_out ≡ out → kept.behind ≡ 0 → given.reply ≡ front_of kept → length given.reply ≤ out.room_len → out.room_len ≤ 2 ^ 31
-    → KeepsReplyOf given.reply out kept
-keeps_front s m calls given out kept_out kept same none is fits small =
-    let zero : front_len kept + 0 ≡ front_len kept = omega arith in
-    let len_is : front_len kept + kept.behind ≡ length given.reply =
-    ap (λ (n : ℕ). front_len kept + n) none ∙ zero ∙ sym (ap length is) in
+pub keeps_front : (s : Setting) (m : Meaning) (calls : List FileCall) (given : ServedMessage) (out preserved_out : InFlight)
+    (preserved : ChainReply)
+    → preserved_out ≡ out → preserved.behind ≡ 0 → given.reply ≡ front_of preserved → length given.reply ≤ out.room_len
+    → out.room_len ≤ 2 ^ 31
+    → KeepsReplyOf given.reply out preserved
+keeps_front s m calls given out preserved_out preserved same none is fits small =
+    let zero : front_len preserved + 0 ≡ front_len preserved = omega arith in
+    let len_is : front_len preserved + preserved.behind ≡ length given.reply =
+    ap (λ (n : ℕ). front_len preserved + n) none ∙ zero ∙ sym (ap length is) in
     record {
       behind = [];
-      bytes = is ∙ sym (append-nil (front_of kept));
-      len = isnt_cut out kept (length given.reply) len_is fits small;
+      bytes = is ∙ sym (append-nil (front_of preserved));
+      len = isnt_cut out preserved (length given.reply) len_is fits small;
     }
 
 -- ---- what is kept
@@ -73,7 +75,7 @@ by_call : (page_size options : ℕ) (request : List ℕ) (c : InFlightChain) (ou
     (st : state.ChainState) (session : Session) → IsOutAs c out → IsDecodedIn page_size options session
     → KeepsCall (setting page_size options out.room_len) (meaning options request out.room_len) (drop 80 request) made out st
     → DecodedSo page_size options request c out (asks.Call made) st session
-by_call page_size options request c out made (at.Waits kept w) session is_out decoded keeps =
+by_call page_size options request c out made (at.Waits preserved w) session is_out decoded keeps =
     let a = keeps.1 in
     let P : InFlight → Type 0 = λ o. IsHeldIn page_size (asked_chain c request options []) (asked_chain c request options []).phase
     (at.Waits o w) session in (
@@ -95,7 +97,7 @@ by_call page_size options request c out made (at.Waits kept w) session is_out de
         keeps.2,
       ),
     )
-by_call page_size options request c out made (at.Lists kept l) session is_out decoded keeps =
+by_call page_size options request c out made (at.Lists preserved l) session is_out decoded keeps =
     let a = keeps.1 in
     let P : InFlight → Type 0 = λ o. IsHeldIn page_size (asked_chain c request options []) (asked_chain c request options []).phase
     (at.Lists o l) session in (
@@ -119,18 +121,18 @@ by_call page_size options request c out made (at.Lists kept l) session is_out de
 by_call page_size options request c out made st session is_out decoded keeps = absurd keeps
 
 -- by a reply that is known
-known : (page_size options : ℕ) (request : List ℕ) (c : InFlightChain) (out kept : InFlight) (reply : ChainReply) (session : Session)
-    (given : ServedMessage) → IsOutAs c out → kept ≡ out → reply.behind ≡ 0
+known : (page_size options : ℕ) (request : List ℕ) (c : InFlightChain) (out preserved : InFlight) (reply : ChainReply) (session : Session)
+    (given : ServedMessage) → IsOutAs c out → preserved ≡ out → reply.behind ≡ 0
     → served (setting page_size options out.room_len) (meaning options request out.room_len) [] ≡ given → given.calls ≡ []
     → given.reply ≡ front_of reply
     → ([] ≡ (served (setting page_size options out.room_len) (meaning options request out.room_len) []).calls)
-    × IsHeldIn page_size (asked_chain c request options []) (asked_chain c request options []).phase (at.HasReply kept reply) session
-known page_size options request c out kept reply session given is_out same none serving no_calls is =
+    × IsHeldIn page_size (asked_chain c request options []) (asked_chain c request options []).phase (at.HasReply preserved reply) session
+known page_size options request c out preserved reply session given is_out same none serving no_calls is =
     let s = setting page_size options out.room_len in
     let m = meaning options request out.room_len in
     let fits : length given.reply ≤ out.room_len =
     subst (λ (x : ServedMessage). length x.reply ≤ out.room_len) serving (served_fits s m []) in
-    let keeps : KeepsReplyOf given.reply out reply = keeps_front s m [] given out kept reply same none is fits is_out.small in
+    let keeps : KeepsReplyOf given.reply out reply = keeps_front s m [] given out preserved reply same none is fits is_out.small in
     let P : InFlight → Type 0 = λ o. IsHeldIn page_size (asked_chain c request options []) (asked_chain c request options []).phase
     (at.HasReply o reply) session in (
       sym (ap (λ (k : ServedMessage). k.calls) serving ∙ no_calls),
@@ -147,35 +149,37 @@ known page_size options request c out kept reply session given is_out same none 
       ),
     )
 
-by_front : (page_size options : ℕ) (request : List ℕ) (c : InFlightChain) (out kept : InFlight) (reply : ChainReply) (session : Session)
-    (f : Option (List ℕ)) → IsOutAs c out → kept ≡ out → reply.behind ≡ 0 → reply.front ≡ f
+by_front : (page_size options : ℕ) (request : List ℕ) (c : InFlightChain) (out preserved : InFlight) (reply : ChainReply)
+    (session : Session)
+    (f : Option (List ℕ)) → IsOutAs c out → preserved ≡ out → reply.behind ≡ 0 → reply.front ≡ f
     → IsDecoded (setting page_size options out.room_len) (meaning options request out.room_len) (drop 80 request) (asked_of f)
     → ([] ≡ (served (setting page_size options out.room_len) (meaning options request out.room_len) []).calls)
-    × IsHeldIn page_size (asked_chain c request options []) (asked_chain c request options []).phase (at.HasReply kept reply) session
-by_front page_size options request c out kept reply session None is_out same none front told =
-    known page_size options request c out kept reply session
-    (record { calls = []; options = options; reply = []; fault = None }) is_out same none told refl (sym (ap front_in front))
-by_front page_size options request c out kept reply session (Some bytes) is_out same none front told =
-    known page_size options request c out kept reply session
-    (record { calls = []; options = options; reply = bytes; fault = None }) is_out same none told.0 refl (sym (ap front_in front))
+    × IsHeldIn page_size (asked_chain c request options []) (asked_chain c request options []).phase (at.HasReply preserved reply) session
+by_front page_size options request c out preserved reply session None is_out same none front reported =
+    known page_size options request c out preserved reply session
+    (record { calls = []; options = options; reply = []; fault = None }) is_out same none reported refl (sym (ap front_in front))
+by_front page_size options request c out preserved reply session (Some bytes) is_out same none front reported =
+    known page_size options request c out preserved reply session
+    (record { calls = []; options = options; reply = bytes; fault = None }) is_out same none reported.0 refl (sym (ap front_in front))
 
 by_reply : (page_size options : ℕ) (request : List ℕ) (c : InFlightChain) (out : InFlight) (st : state.ChainState) (session : Session)
     → IsOutAs c out
     → KeepsReply (setting page_size options out.room_len) (meaning options request out.room_len) (drop 80 request) out st
     → DecodedSo page_size options request c out asks.Nothing st session
-by_reply page_size options request c out (at.HasReply kept reply) session is_out keeps =
-    by_front page_size options request c out kept reply session reply.front is_out keeps.0 keeps.1 refl keeps.2
+by_reply page_size options request c out (at.HasReply preserved reply) session is_out keeps =
+    by_front page_size options request c out preserved reply session reply.front is_out keeps.0 keeps.1 refl keeps.2
 by_reply page_size options request c out st session is_out keeps = absurd keeps
 
 -- ---- the result
 
 -- a decoding with these calls is an event
-decoded_event : (s : Machine) (before behind : List InFlightChain) (c : InFlightChain) (request : List ℕ) (out : InFlight) (told : Decoded)
+decoded_event : (s : Machine) (before behind : List InFlightChain) (c : InFlightChain) (request : List ℕ) (out : InFlight)
+    (reported : Decoded)
     → s.chains ≡ before ++ c ∷ behind → c.phase ≡ Fetched → IsOutAs c out → length request ≡ total_len (readable c.descriptors)
-    → calls_decoded (drop 80 request) told
+    → calls_decoded (drop 80 request) reported
     ≡ (served (setting s.page_size s.options out.room_len) (meaning s.options request out.room_len) []).calls
-    → Happens any_files s (DecodesRequest c request (calls_decoded (drop 80 request) told)) (after_decoding s before behind c request)
-decoded_event s before behind c request out told is fresh is_out len calls =
+    → Happens any_files s (DecodesRequest c request (calls_decoded (drop 80 request) reported)) (after_decoding s before behind c request)
+decoded_event s before behind c request out reported is fresh is_out len calls =
     let room : length (room_of c) ≡ out.room_len =
     ap (λ (p : Phase). length (room_of_phase p c.descriptors)) fresh ∙ is_out.room_len in
     record {
@@ -184,33 +188,33 @@ decoded_event s before behind c request out told is fresh is_out len calls =
       out = is;
       fresh = fresh;
       whole = len;
-      tells = calls ∙ ap (λ (n : ℕ). (served (setting s.page_size s.options n) (meaning s.options request n) []).calls) (sym room);
+      reports = calls ∙ ap (λ (n : ℕ). (served (setting s.page_size s.options n) (meaning s.options request n) []).calls) (sym room);
       state = refl;
     }
 
-by_told : (s : Machine) (before behind : List InFlightChain) (c : InFlightChain) (request : List ℕ) (out : InFlight) (new : ChainHandle)
-    (told : Decoded)
+by_reported : (s : Machine) (before behind : List InFlightChain) (c : InFlightChain) (request : List ℕ) (out : InFlight) (new : ChainHandle)
+    (reported : Decoded)
     → s.chains ≡ before ++ c ∷ behind → c.phase ≡ Fetched → IsOutAs c out → IsDecodedIn s.page_size s.options new.session
     → length request ≡ total_len (readable c.descriptors)
-    → TellsMeaning (setting s.page_size s.options out.room_len) (meaning s.options request out.room_len) (drop 80 request) out told
+    → ReportsMeaning (setting s.page_size s.options out.room_len) (meaning s.options request out.room_len) (drop 80 request) out reported
     new.state
-    → DecodingIs s before behind c request new told
-by_told s before behind c request out new (asks.More n) is fresh is_out session len tells =
+    → DecodingIs s before behind c request new reported
+by_reported s before behind c request out new (asks.More n) is fresh is_out session len reports =
     let P : state.ChainState → Type 0 = λ st. IsHeldIn s.page_size c c.phase st new.session in
     let Q : Phase → Type 0 = λ p. IsHeldIn s.page_size c p (at.Taken out) new.session in
-    subst P (sym tells) (subst Q (sym fresh) is_out)
-by_told s before behind c request out new (asks.Call made) is fresh is_out session len tells =
-    let so = by_call s.page_size s.options request c out made new.state new.session is_out session tells in
+    subst P (sym reports) (subst Q (sym fresh) is_out)
+by_reported s before behind c request out new (asks.Call made) is fresh is_out session len reports =
+    let so = by_call s.page_size s.options request c out made new.state new.session is_out session reports in
     (decoded_event s before behind c request out (asks.Call made) is fresh is_out len so.0, so.1)
-by_told s before behind c request out new asks.Nothing is fresh is_out session len tells =
-    let so = by_reply s.page_size s.options request c out new.state new.session is_out tells in
+by_reported s before behind c request out new asks.Nothing is fresh is_out session len reports =
+    let so = by_reply s.page_size s.options request c out new.state new.session is_out reports in
     (decoded_event s before behind c request out asks.Nothing is fresh is_out len so.0, so.1)
-by_told s before behind c request out new (asks.Fault e) is fresh is_out session len tells =
+by_reported s before behind c request out new (asks.Fault e) is fresh is_out session len reports =
     let so = known s.page_size s.options request c out out no_reply new.session
-    (serving_words.no_reply [] s.options (Some e)) is_out refl refl tells.1 refl refl in (
+    (serving_words.no_reply [] s.options (Some e)) is_out refl refl reports.1 refl refl in (
       decoded_event s before behind c request out (asks.Fault e) is fresh is_out len so.0,
       subst (λ (st : state.ChainState). IsHeldIn s.page_size (asked_chain c request s.options [])
-          (asked_chain c request s.options []).phase st new.session) (sym tells.0) so.1,
+          (asked_chain c request s.options []).phase st new.session) (sym reports.0) so.1,
     )
 
 taken_phase : (page_size : ℕ) (c : InFlightChain) (p : Phase) (out : InFlight) (session : Session) →
@@ -219,46 +223,49 @@ taken_phase page_size c Fetched out session held = (refl, held)
 taken_phase page_size c p out session held = absurd held
 
 -- what a decoding from this state says
-abbrev Says : state.ChainState → Session → (front : List ℕ) → Decoded → (new : ChainHandle) → Type 0
-Says st session front told new = IfUndecoded st (λ out. (whole : List ℕ) → out.request_len ≡ length whole → IsRequestFront front whole →
-    TellsMeaning (setting session.page_size session.options.0 out.room_len) (meaning session.options.0 whole out.room_len) (drop 80 whole)
-    out told new.state)
+abbrev Shows : state.ChainState → Session → (front : List ℕ) → Decoded → (new : ChainHandle) → Type 0
+Shows st session front reported new =
+    IfUndecoded st (λ out. (whole : List ℕ) → out.request_len ≡ length whole → IsRequestFront front whole →
+    ReportsMeaning (setting session.page_size session.options.0 out.room_len) (meaning session.options.0 whole out.room_len) (drop 80 whole)
+    out reported new.state)
 
-by_state : (st : state.ChainState) (was : Session) (new : ChainHandle) (session : Session) (front : List ℕ) (told : Decoded)
-    → ask_error st (length front) ≡ None → Says st session front told new → new.session ≡ session
+by_state : (st : state.ChainState) (was : Session) (new : ChainHandle) (session : Session) (front : List ℕ) (reported : Decoded)
+    → ask_error st (length front) ≡ None → Shows st session front reported new → new.session ≡ session
     → (s : Machine) (before behind : List InFlightChain) (c : InFlightChain) (request : List ℕ)
     → s.chains ≡ before ++ c ∷ behind → IsHeldIn s.page_size c c.phase st was → IsDecodedIn s.page_size s.options session
     → length request ≡ total_len (readable c.descriptors) → IsRequestFront front request
-    → DecodingIs s before behind c request new told
-by_state (at.Taken out) was new session front told clear says kept s before behind c request is held decoded len begins =
+    → DecodingIs s before behind c request new reported
+by_state (at.Taken out) was new session front reported clear shows preserved s before behind c request is held decoded len begins =
     let so = taken_phase s.page_size c c.phase out was held in
     let is_out : IsOutAs c out = so.1 in
-    let by = says request (is_out.request_len ∙ sym len) begins in
-    let tells : TellsMeaning (setting s.page_size s.options out.room_len) (meaning s.options request out.room_len) (drop 80 request) out
-    told
+    let by = shows request (is_out.request_len ∙ sym len) begins in
+    let reports : ReportsMeaning (setting s.page_size s.options out.room_len) (meaning s.options request out.room_len) (drop 80 request) out
+    reported
     new.state =
-    subst (λ (p : ℕ). TellsMeaning (setting p s.options out.room_len) (meaning s.options request out.room_len) (drop 80 request) out told
+    subst (λ (p : ℕ). ReportsMeaning (setting p s.options out.room_len) (meaning s.options request out.room_len) (drop 80 request) out
+    reported
     new.state) decoded.0
-    (subst (λ (a : ℕ). TellsMeaning (setting session.page_size a out.room_len) (meaning a request out.room_len) (drop 80 request) out told
+    (subst (λ (a : ℕ). ReportsMeaning (setting session.page_size a out.room_len) (meaning a request out.room_len) (drop 80 request) out
+    reported
     new.state) decoded.1 by) in
-    let there : IsDecodedIn s.page_size s.options new.session = subst (IsDecodedIn s.page_size s.options) (sym kept) decoded in
-    by_told s before behind c request out new told is so.0 is_out there len tells
-by_state st was new session front told clear says kept s before behind c request is held decoded len begins =
+    let there : IsDecodedIn s.page_size s.options new.session = subst (IsDecodedIn s.page_size s.options) (sym preserved) decoded in
+    by_reported s before behind c request out new reported is so.0 is_out there len reports
+by_state st was new session front reported clear shows preserved s before behind c request is held decoded len begins =
     absurd (none_some error.WrongOrder (sym clear))
 
-pub decodes : (old new : ChainHandle) (session : Session) (front : List ℕ) (told : Decoded)
-    → ask_error old.state (length front) ≡ None → Says old.state session front told new → new.session ≡ session
-    → Decodes old new session front told
+pub decodes : (old new : ChainHandle) (session : Session) (front : List ℕ) (reported : Decoded)
+    → ask_error old.state (length front) ≡ None → Shows old.state session front reported new → new.session ≡ session
+    → Decodes old new session front reported
 unfolding Decodes
-decodes old new session front told clear says kept s before behind c request is held decoded len begins =
-    by_state old.state old.session new session front told clear says kept s before behind c request is held decoded len begins
+decodes old new session front reported clear shows preserved s before behind c request is held decoded len begins =
+    by_state old.state old.session new session front reported clear shows preserved s before behind c request is held decoded len begins
 
 -- by its state, and its result
 pub decodes_from : (old new : ChainHandle) (session : Session) (front : List ℕ) (r : Result Decoded ChainError) (out : InFlight)
     → old.state ≡ at.Taken out → OnOk r (ask_error (at.Taken out) (length front) ≡ None)
-    → IfOk r (λ told. Says (at.Taken out) session front told new) → OnOk r (new.session ≡ session)
-    → IfOk r (λ told. Decodes old new session front told)
-decodes_from old new session front (Ok told) out is clear says kept =
-    decodes old new session front told (subst (λ (st : state.ChainState). ask_error st (length front) ≡ None) (sym is) clear)
-    (subst (λ (st : state.ChainState). Says st session front told new) (sym is) says) kept
-decodes_from old new session front (Err e) out is clear says kept = tt
+    → IfOk r (λ reported. Shows (at.Taken out) session front reported new) → OnOk r (new.session ≡ session)
+    → IfOk r (λ reported. Decodes old new session front reported)
+decodes_from old new session front (Ok reported) out is clear shows preserved =
+    decodes old new session front reported (subst (λ (st : state.ChainState). ask_error st (length front) ≡ None) (sym is) clear)
+    (subst (λ (st : state.ChainState). Shows st session front reported new) (sym is) shows) preserved
+decodes_from old new session front (Err e) out is clear shows preserved = tt

@@ -10,7 +10,7 @@ pub whole_push : (old mid : ChainHandle) (q during q' : QueueState) (front seen 
     → Pushes old mid q front stores → during ≡ record q { pushing = true } → EndsPush mid during q' seen notice
     → EndsPush old q q' seen notice
 unfolding Pushes EndsPush
-whole_push old mid q during q' front seen stores notice first same then s before behind c x last out there held goes =
+whole_push old mid q during q' front seen stores notice first same then s before behind c x last out there held proceeds =
     let after : EndsPush mid (record q { pushing = true }) q' seen notice =
     subst (λ (k : QueueState). EndsPush mid k q' seen notice) same then in
-    after s before behind c x last out there (first s.page_size c x held goes).0 goes
+    after s before behind c x last out there (first s.page_size c x held proceeds).0 proceeds

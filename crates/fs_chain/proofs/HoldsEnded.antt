@@ -114,8 +114,8 @@ chain_tests true room len is = len_tests room len (nat_lt room len) (nat_lt (2 ^
 none_before : (n : ℕ) → 0 + n ≡ n
 none_before n = omega arith
 
-told_len : (o : InFlight) (n : ℕ) → Fits o.room_len n → reply_len o (own_reply n) ≡ n
-told_len o n few = ap (λ (k : ℕ). min (min k o.room_len) (2 ^ 32 - 1)) (none_before n)
+reported_len : (o : InFlight) (n : ℕ) → Fits o.room_len n → reply_len o (own_reply n) ≡ n
+reported_len o n few = ap (λ (k : ℕ). min (min k o.room_len) (2 ^ 32 - 1)) (none_before n)
     ∙ ap (λ (k : ℕ). min k (2 ^ 32 - 1)) (min-eq_left few.0) ∙ min-eq_left (low_again n few.1)
 
 -- the room of a chain whose caller may reply
@@ -131,7 +131,7 @@ replied_so : (s : Machine) (before behind : List InFlightChain) (c : InFlightCha
     → own_chain_error mine serial out.room_len (length reply) ≡ None → st ≡ at.HasReply out (own_reply (length reply))
     → Happens any_files s (RepliesOwnBytes c request reply options) (after_own s before behind c request reply options)
     × IsHeldIn s.page_size (record c { phase = Own request reply }) (Own request reply) st session
-replied_so s before behind c request reply options mine serial out st session is is_out un clear kept =
+replied_so s before behind c request reply options mine serial out st session is is_out un clear preserved =
     let few : Fits out.room_len (length reply) = chain_tests (mine == serial) out.room_len (length reply) clear in
     let room : length (room_of c) ≡ out.room_len = unreplied_room c c.phase request un ∙ is_out.room_len in (
       record {
@@ -144,7 +144,7 @@ replied_so s before behind c request reply options mine serial out st session is
         state = refl;
       },
       subst (λ (k : state.ChainState). IsHeldIn s.page_size (record c { phase = Own request reply }) (Own request reply) k session)
-          (sym kept) (
+          (sym preserved) (
             record {
               taken = is_out.taken;
               ring = is_out.ring;
@@ -153,7 +153,7 @@ replied_so s before behind c request reply options mine serial out st session is
               room_len = is_out.room_len;
               small = is_out.small;
             },
-            record { behind = reply; bytes = refl; len = told_len out (length reply) few },
+            record { behind = reply; bytes = refl; len = reported_len out (length reply) few },
           ),
     )
 
@@ -164,27 +164,27 @@ replied_by : (s : Machine) (before behind : List InFlightChain) (c : InFlightCha
     → IfUnanswered st (λ out. new ≡ record old { state = at.HasReply out (own_reply (length reply)) })
     → Happens any_files s (RepliesOwnBytes c request reply options) (after_own s before behind c request reply options)
     × HoldsChain s.page_size (record c { phase = Own request reply }) new
-replied_by s before behind c request reply options mine serial (at.Taken out) old new is held un clear kept =
+replied_by s before behind c request reply options mine serial (at.Taken out) old new is held un clear preserved =
     replied_so s before behind c request reply options mine serial out new.state new.session is held un clear
-    (ap (λ (w : ChainHandle). w.state) kept)
-replied_by s before behind c request reply options mine serial (at.Waits out w) old new is held un clear kept =
+    (ap (λ (w : ChainHandle). w.state) preserved)
+replied_by s before behind c request reply options mine serial (at.Waits out w) old new is held un clear preserved =
     replied_so s before behind c request reply options mine serial out new.state new.session is held un clear
-    (ap (λ (w : ChainHandle). w.state) kept)
-replied_by s before behind c request reply options mine serial (at.Lists out l) old new is held un clear kept =
+    (ap (λ (w : ChainHandle). w.state) preserved)
+replied_by s before behind c request reply options mine serial (at.Lists out l) old new is held un clear preserved =
     replied_so s before behind c request reply options mine serial out new.state new.session is held un clear
-    (ap (λ (w : ChainHandle). w.state) kept)
-replied_by s before behind c request reply options mine serial st old new is held un clear kept = absurd held
+    (ap (λ (w : ChainHandle). w.state) preserved)
+replied_by s before behind c request reply options mine serial st old new is held un clear preserved = absurd held
 
 pub replies_own : (old new : ChainHandle) (serial len : ℕ) → own_error old.state old.serial serial len ≡ None
     → IfUnanswered old.state (λ out. new ≡ record old { state = at.HasReply out (own_reply len) })
     → RepliesOwn old new len
 unfolding RepliesOwn
-replies_own old new serial len clear kept s before behind c request reply options is held un long =
+replies_own old new serial len clear preserved s before behind c request reply options is held un long =
     let clear_so : own_error old.state old.serial serial (length reply) ≡ None =
     subst (λ (n : ℕ). own_error old.state old.serial serial n ≡ None) (sym long) clear in
-    let kept_so : IfUnanswered old.state (λ out. new ≡ record old { state = at.HasReply out (own_reply (length reply)) }) =
-    subst (λ (n : ℕ). IfUnanswered old.state (λ out. new ≡ record old { state = at.HasReply out (own_reply n) })) (sym long) kept in
-    replied_by s before behind c request reply options old.serial serial old.state old new is held un clear_so kept_so
+    let preserved_so : IfUnanswered old.state (λ out. new ≡ record old { state = at.HasReply out (own_reply (length reply)) }) =
+    subst (λ (n : ℕ). IfUnanswered old.state (λ out. new ≡ record old { state = at.HasReply out (own_reply n) })) (sym long) preserved in
+    replied_by s before behind c request reply options old.serial serial old.state old new is held un clear_so preserved_so
 
 -- by the state, and the result
 pub gives_up_from : (old new : ChainHandle) (q q' : QueueState) (r : Result (Unit {0}) ChainError) (out : InFlight)
@@ -199,5 +199,5 @@ pub replies_own_from : (old new : ChainHandle) (serial len : ℕ) (r : Result (U
     → OnOk r (own_error old.state old.serial serial len ≡ None)
     → OnOk r (IfUnanswered old.state (λ out. new ≡ record old { state = at.HasReply out (own_reply len) }))
     → OnOk r (RepliesOwn old new len)
-replies_own_from old new serial len (Ok done) clear kept = replies_own old new serial len clear kept
-replies_own_from old new serial len (Err e) clear kept = tt
+replies_own_from old new serial len (Ok done) clear preserved = replies_own old new serial len clear preserved
+replies_own_from old new serial len (Err e) clear preserved = tt

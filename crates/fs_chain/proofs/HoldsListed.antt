@@ -77,9 +77,9 @@ left_by old new list list' e why page_size c es calls isnt brings h same still =
       same,
     )
 
-added_by : (old new : ChainHandle) (list list' : List ℕ) (e : Brought) (told : Added) (page_size : ℕ) (c : InFlightChain)
-    (es : List Brought) (calls : Calls) → BringsEntry old list e (Ok told) new list' → HoldsListing page_size c es calls list old
-    → AddingIs page_size c es calls list list' e new told
+added_by : (old new : ChainHandle) (list list' : List ℕ) (e : Brought) (reported : Added) (page_size : ℕ) (c : InFlightChain)
+    (es : List Brought) (calls : Calls) → BringsEntry old list e (Ok reported) new list' → HoldsListing page_size c es calls list old
+    → AddingIs page_size c es calls list list' e new reported
 added_by old new list list' e added.In page_size c es calls brings h =
     let one = brought old new list list' e added.In h.out h.listing h.state brings in
     held_as page_size c es (es ++ e ∷ []) calls list list' old new one.0 h one.1 one.2.stays (one.2.holds refl es h.holds) brings.1.2
@@ -96,10 +96,12 @@ added_by old new list list' e added.TooLong page_size c es calls brings h =
     left_by old new list list' e added.TooLong page_size c es calls (λ is. absurd (cc)) brings h (one.2.same not_added.TooLong refl).1
     (stays_so old new list list' e added.TooLong h.out h.listing not_added.TooLong refl one ∙ sym h.state)
 
-pub adds_entry : (old new : ChainHandle) (list list' : List ℕ) (e : Brought) (told : Added) → BringsEntry old list e (Ok told) new list'
-    → AddsEntry old new list list' e told
+pub adds_entry : (old new : ChainHandle) (list list' : List ℕ) (e : Brought) (reported : Added)
+    → BringsEntry old list e (Ok reported) new list'
+    → AddsEntry old new list list' e reported
 unfolding AddsEntry
-adds_entry old new list list' e told brings page_size c es calls h = added_by old new list list' e told page_size c es calls brings h
+adds_entry old new list list' e reported brings page_size c es calls h =
+    added_by old new list list' e reported page_size c es calls brings h
 
 -- ---- the end
 
@@ -111,12 +113,12 @@ ended : (page_size : ℕ) (c : InFlightChain) (es : List Brought) (ending : Endi
     → ServedBy (setting page_size h.options h.out.room_len) (Lists h.unique h.asked)
     (listing_calls (readdir_call h.asked) h.asked.with_nodes es ending) (reply.front ++ take reply.len list)
     → HasListed page_size c calls list h.request h.options h.out len new
-ended page_size c es ending calls list old new len reply h is told state_is long serving =
+ended page_size c es ending calls list old new len reply h is reported state_is long serving =
     let r = h.out.room_len in
     let s = setting page_size h.options r in
     let m = meaning h.options h.request r in
     let steps = listing_calls (readdir_call h.asked) h.asked.with_nodes es ending in
-    let kept : ChainReply = record { front = Some reply.front; behind = reply.len } in
+    let preserved : ChainReply = record { front = Some reply.front; behind = reply.len } in
     let whole = reply.front ++ take reply.len list in
     let by_steps : (served s m (answers_alone steps)).reply ≡ whole =
     ap (λ (x : Meaning). (served s x (answers_alone steps)).reply) h.means ∙ ap (λ (x : ServedMessage). x.reply) serving in
@@ -126,12 +128,12 @@ ended page_size c es ending calls list old new len reply h is told state_is long
     ap (λ (x : Meaning). (served s x (answers_alone steps)).calls) h.means ∙ ap (λ (x : ServedMessage). x.calls) serving in
     let all_calls : (served s m (answers_alone calls)).calls ≡ calls_alone calls =
     ap (λ (x : Calls). (served s m (answers_alone x)).calls) is ∙ all_steps ∙ sym (ap (λ (x : Calls). calls_alone x) is) in
-    let len_is : front_len kept + kept.behind ≡ length (served s m (answers_alone calls)).reply =
+    let len_is : front_len preserved + preserved.behind ≡ length (served s m (answers_alone calls)).reply =
     ap (λ (n : ℕ). length reply.front + n) (sym long) ∙ sym (length-append reply.front (take reply.len list)) ∙ sym (ap length by_calls) in
-    let keeps : KeepsReplyOf (served s m (answers_alone calls)).reply h.out kept = record {
+    let keeps : KeepsReplyOf (served s m (answers_alone calls)).reply h.out preserved = record {
       behind = take reply.len list;
       bytes = by_calls;
-      len = isnt_cut h.out kept (length (served s m (answers_alone calls)).reply) len_is (served_fits s m (answers_alone calls))
+      len = isnt_cut h.out preserved (length (served s m (answers_alone calls)).reply) len_is (served_fits s m (answers_alone calls))
           h.is_out.small;
     } in
     let in_phase : IsHeldIn page_size c (Asked h.request h.options calls) new.state new.session =
@@ -139,9 +141,9 @@ ended page_size c es ending calls list old new len reply h is told state_is long
     (h.is_out, keeps) in
     record {
       holds = subst (λ (p : Phase). IsHeldIn page_size c p new.state new.session) (sym h.phase) in_phase;
-      kept = kept;
+      preserved = preserved;
       state = state_is;
-      reply = by_calls ∙ ap (λ (n : ℕ). reply.front ++ take n list) (sym told);
+      reply = by_calls ∙ ap (λ (n : ℕ). reply.front ++ take n list) (sym reported);
       none_pending =
           ap (λ (n : ℕ). (served_so page_size h.options h.request n calls).calls) h.is_out.room_len ∙ all_calls;
     }
@@ -357,14 +359,14 @@ leaves_out s before behind c es e others why list w earlier later call answer ou
 
 pub added_plain_from : (old new : ChainHandle) (list list' : List ℕ) (e : Brought) (r : Result Added ChainError)
     → (AddsTo old.state new.state list list' e (λ l. added_plain l (length list) (length e.0.name)) r) → IsAllButPlace old new
-    → IfOk r (λ told. AddsEntry old new list list' e told)
-added_plain_from old new list list' e (Ok told) adds stays = adds_entry old new list list' e told (inl adds, stays)
+    → IfOk r (λ reported. AddsEntry old new list list' e reported)
+added_plain_from old new list list' e (Ok reported) adds stays = adds_entry old new list list' e reported (inl adds, stays)
 added_plain_from old new list list' e (Err x) adds stays = tt
 
 pub added_found_from : (old new : ChainHandle) (list list' : List ℕ) (e : Brought) (r : Result Added ChainError)
     → (AddsTo old.state new.state list list' e (λ l. added_found l (length list) (length e.0.name)) r) → IsAllButPlace old new
-    → IfOk r (λ told. AddsEntry old new list list' e told)
-added_found_from old new list list' e (Ok told) adds stays = adds_entry old new list list' e told (inr adds, stays)
+    → IfOk r (λ reported. AddsEntry old new list list' e reported)
+added_found_from old new list list' e (Ok reported) adds stays = adds_entry old new list list' e reported (inr adds, stays)
 added_found_from old new list list' e (Err x) adds stays = tt
 
 pub ended_from : (old new : ChainHandle) (r : Result ℕ ChainError) → EndsByEntries old.state new.state r →

@@ -35,25 +35,25 @@ use Rattle.fs_chain.specs.Events.{event_fault, event_miss}
 use Rattle.fs_chain.specs.Events as chain_events
 use Rattle.fs_chain.specs.Holds.{BeginsAPop, ContinuesAPop, EndsBy, HasPopped, HoldsPop, IsOutAs, IsQueue, KeepsReplyOf, Machine, Pop}
 use Rattle.fs_chain.specs.Holds.{PopIs}
-use Rattle.fs_chain.specs.Holds.{IsHeldIn, PopGoesOn, PopsBy, RefusedBy, any_files, live_of, queue_with}
-use Rattle.fs_chain.specs.Loads.{GoesSo, whole}
+use Rattle.fs_chain.specs.Holds.{IsHeldIn, PopContinues, PopsBy, RefusedBy, any_files, live_of, queue_with}
+use Rattle.fs_chain.specs.Loads.{ProceedsSo, whole}
 use Rattle.fs_chain.specs.Orders.{begin_error, give_error, load_len, walk_error}
 use Rattle.fs_chain.specs.Queues.{may_take, pop_id_of}
 use Rattle.fs_chain.specs.Rings.{ring_of}
-use Rattle.fs_chain.specs.Walks.{BeginsOn, BeginsPop, BeginsUnless, BeginsWhere, GoesOnUnless, KeepsStep, LacksEvents, WalksFrom}
-use Rattle.fs_chain.specs.Walks.{course_of, faulty_out, no_reply, out_of, told_of}
+use Rattle.fs_chain.specs.Walks.{BeginsOn, BeginsPop, BeginsUnless, BeginsWhere, ContinuesUnless, KeepsStep, LacksEvents, WalksFrom}
+use Rattle.fs_chain.specs.Walks.{course_of, faulty_out, no_reply, out_of, reported_of}
 use Rattle.fs_chain.specs.Pops.{AddsSo}
 use Rattle.fs_chain.specs.declared.chain_handle.ChainHandle.{ChainHandle}
-use Rattle.fs_chain.specs.declared.loads.LoadOutcome as went
-use Rattle.fs_chain.specs.declared.loads.LoadOutcome.TheVariants as wents
+use Rattle.fs_chain.specs.declared.loads.LoadOutcome as outcome
+use Rattle.fs_chain.specs.declared.loads.LoadOutcome.TheVariants as outcomes
 use Rattle.fs_chain.specs.declared.popping.PopOutcome as walked
-use Rattle.fs_chain.specs.declared.popping.PopOutcome.TheVariants as says
+use Rattle.fs_chain.specs.declared.popping.PopOutcome.TheVariants as shows
 use Rattle.fs_chain.specs.declared.queue.QueueState.{QueueState}
 use Rattle.fs_chain.specs.declared.state.ChainState as state
 use Rattle.fs_chain.specs.declared.state.ChainState.TheVariants as at
 use Rattle.fs_chain.specs.declared.state.InFlight.{InFlight}
 use Rattle.fs_chain.specs.declared.state.PopId.{PopId}
-use Rattle.fs_chain.proofs.HoldsQueues.{begun_room, goes_at}
+use Rattle.fs_chain.proofs.HoldsQueues.{begun_room, proceeds_at}
 use Rattle.fs_chain.proofs.Lengths.{fits_limit}
 
 -- ---- refusals
@@ -65,29 +65,29 @@ stopped_by q after e stops left =
     ∙ ap (λ (k : QueueState). Some (live_of k)) (sym left)
 
 -- the queue is stopped
-refused_stopped : (s : Machine) (i : ℕ) (q q' : QueueState) (p : Pop) (new : ChainHandle) (told : walked.PopOutcome) (why : QueueError)
-    → IsQueue s i q → may_take q ≡ true → q.stopped ≡ Some why → told ≡ says.Refused stop.Stopped → new.state ≡ at.Free → q' ≡ q
-    → PopIs s i q q' p new told
-refused_stopped s i q q' p new told why there may stopped told_is free left =
+refused_stopped : (s : Machine) (i : ℕ) (q q' : QueueState) (p : Pop) (new : ChainHandle) (reported : walked.PopOutcome) (why : QueueError)
+    → IsQueue s i q → may_take q ≡ true → q.stopped ≡ Some why → reported ≡ shows.Refused stop.Stopped → new.state ≡ at.Free → q' ≡ q
+    → PopIs s i q q' p new reported
+refused_stopped s i q q' p new reported why there may stopped reported_is free left =
     let v : LiveQueue = record (live_of q) { queue = after_refusal (live_of q).queue stop.Stopped } in
     let declined : pop_refusal s.places (live_of q) ≡ Some stop.Stopped =
     ap (λ (x : Option QueueError). if is_some x then Some stop.Stopped else event_fault s.places q) stopped in
-    let by : RefusedBy s i q q' new (says.Refused stop.Stopped) = record {
+    let by : RefusedBy s i q q' new (shows.Refused stop.Stopped) = record {
       error = stop.Stopped;
-      told_is = refl;
+      reported_is = refl;
       after = with_live s i v;
       happens = record {
         w = live_of q;
         there = there;
         room = may;
         why = declined;
-        no_miss = λ goes. absurd (true≢false (sym (ap (λ (x : Option QueueError). is_some x) stopped) ∙ goes));
+        no_miss = λ proceeds. absurd (true≢false (sym (ap (λ (x : Option QueueError). is_some x) stopped) ∙ proceeds));
         state = refl;
       };
       queue = there_same s.queues i i (λ _. v) (live_of q) refl there ∙ ap (λ (k : QueueState). Some (live_of k)) (sym left);
       free = free;
     } in
-    subst (λ (t : walked.PopOutcome). PopIs s i q q' p new t) (sym told_is) (inr by)
+    subst (λ (t : walked.PopOutcome). PopIs s i q q' p new t) (sym reported_is) (inr by)
 
 -- its event index isn't mapped
 lacks_stop : (index used avail : Bool) (e : QueueError)
@@ -98,35 +98,35 @@ lacks_stop true false avail e is = ap (λ (x : Option QueueError). stops_queue (
 lacks_stop true true false e is = ap (λ (x : Option QueueError). stops_queue (unwrap_or x stop.UsedUnreachable)) (sym is)
 lacks_stop true true true e is = absurd (none_some e is)
 
-refused_event : (s : Machine) (i : ℕ) (q q' : QueueState) (p : Pop) (old new : ChainHandle) (told : walked.PopOutcome) (e : QueueError)
+refused_event : (s : Machine) (i : ℕ) (q q' : QueueState) (p : Pop) (old new : ChainHandle) (reported : walked.PopOutcome) (e : QueueError)
     → IsQueue s i q → may_take q ≡ true → q.stopped ≡ None → s.places ≡ places_in old.regions
     → event_fault (places_in old.regions) q ≡ Some e → event_miss (places_in old.regions) q ≡ None
-    → told ≡ says.Refused e → new.state ≡ at.Free → q' ≡ record q { stopped = Some e }
-    → PopIs s i q q' p new told
-refused_event s i q q' p old new told e there may goes places fault none told_is free left =
+    → reported ≡ shows.Refused e → new.state ≡ at.Free → q' ≡ record q { stopped = Some e }
+    → PopIs s i q q' p new reported
+refused_event s i q q' p old new reported e there may proceeds places fault none reported_is free left =
     let m = places_in old.regions in
     let v : LiveQueue = record (live_of q) { queue = after_refusal (live_of q).queue e } in
     let stops = lacks_stop q.event_index (reach m Read (chain_events.used_event_at q.layout) 2)
     (reach m Write (chain_events.avail_event_at q.layout) 2) e fault in
     let declined : pop_refusal s.places (live_of q) ≡ Some e =
-    ap (λ (x : Option QueueError). if is_some x then Some stop.Stopped else event_fault s.places q) goes
+    ap (λ (x : Option QueueError). if is_some x then Some stop.Stopped else event_fault s.places q) proceeds
     ∙ ap (λ (k : Memory). event_fault k q) places ∙ fault in
-    let by : RefusedBy s i q q' new (says.Refused e) = record {
+    let by : RefusedBy s i q q' new (shows.Refused e) = record {
       error = e;
-      told_is = refl;
+      reported_is = refl;
       after = with_live s i v;
       happens = record {
         w = live_of q;
         there = there;
         room = may;
         why = declined;
-        no_miss = λ goes. ap (λ (k : Memory). event_miss_of k (live_of q)) places ∙ none;
+        no_miss = λ proceeds. ap (λ (k : Memory). event_miss_of k (live_of q)) places ∙ none;
         state = refl;
       };
       queue = there_same s.queues i i (λ _. v) (live_of q) refl there ∙ stopped_by q q' e stops left;
       free = free;
     } in
-    subst (λ (t : walked.PopOutcome). PopIs s i q q' p new t) (sym told_is) (inr by)
+    subst (λ (t : walked.PopOutcome). PopIs s i q q' p new t) (sym reported_is) (inr by)
 
 -- ---- where a call came to
 
@@ -135,7 +135,7 @@ low = omega arith
 
 -- a pop of a queue in a run, and the step that it came to
 record CameTo (s : Machine) (i : ℕ) (q q' : QueueState) (course : Course) (pop_id : PopId) (p : Pop) (came : comes.CourseStep)
-    (new : ChainHandle) (told : walked.PopOutcome) : Type 0 where
+    (new : ChainHandle) (reported : walked.PopOutcome) : Type 0 where
   there : IsQueue s i q
   places : s.places ≡ places_in new.regions
   limit : s.limit ≡ course.limit
@@ -145,7 +145,7 @@ record CameTo (s : Machine) (i : ℕ) (q q' : QueueState) (course : Course) (pop
   index : p.event_index ≡ q.event_index
   events : pop_refusal (places_in new.regions) (queue_with (queue_of course) p.event_index) ≡ None
   ring : pop_id.ring ≡ ring_of (places_in new.regions) course.layout.used
-  keeps : KeepsStep course pop_id came new new q q' told
+  keeps : KeepsStep course pop_id came new new q q' reported
   is : IsCourseStep (places_in new.regions) course.limit (queue_of course) p.loaded new.descriptors.items came
   mapped : LoadsAreMapped (places_in new.regions) (queue_of course) p.loaded
 
@@ -159,12 +159,12 @@ EndsHere s i q q' loaded new came =
 
 -- the event of a pop that ended
 ends_by : (s : Machine) (i : ℕ) (q q' : QueueState) (course : Course) (pop_id : PopId) (p : Pop) (came : comes.CourseStep)
-    (new : ChainHandle) (told : walked.PopOutcome) (c : CameTo s i q q' course pop_id p came new told)
-    → EndsHere s i q q' p.loaded new came → EndsBy s i q q' p.loaded new (told_of new.descriptors.items came)
-ends_by s i q q' course pop_id p came new told c ends =
+    (new : ChainHandle) (reported : walked.PopOutcome) (c : CameTo s i q q' course pop_id p came new reported)
+    → EndsHere s i q q' p.loaded new came → EndsBy s i q q' p.loaded new (reported_of new.descriptors.items came)
+ends_by s i q q' course pop_id p came new reported c ends =
     let m = places_in new.regions in
     let f : Memory → Queue → Bool → Option QueueError = λ m k b. pop_refusal m (queue_with k b) in
-    let goes : pop_refusal s.places (live_of q) ≡ None =
+    let proceeds : pop_refusal s.places (live_of q) ≡ None =
     ap (λ (k : Memory). f k (live_of q).queue q.event_index) c.places ∙ ap (λ (k : Queue). f m k q.event_index) c.laid
     ∙ ap (λ (b : Bool). f m (queue_of course) b) (sym c.index) ∙ c.events in
     let mapped : LoadsAreMapped s.places (live_of q).queue p.loaded =
@@ -172,17 +172,17 @@ ends_by s i q q' course pop_id p came new told c ends =
     (subst (λ (k : Queue). LoadsAreMapped m k p.loaded) (sym c.laid) c.mapped) in
     record {
       came = came;
-      told_is = refl;
-      happens = record { w = live_of q; there = c.there; room = c.room; goes = goes; mapped = mapped; ends = ends.0 };
+      reported_is = refl;
+      happens = record { w = live_of q; there = c.there; room = c.room; proceeds = proceeds; mapped = mapped; ends = ends.0 };
       queue = ends.1;
       has = ends.2;
     }
 
 -- its step, in the run
 run_step : (s : Machine) (i : ℕ) (q q' : QueueState) (course : Course) (pop_id : PopId) (p : Pop) (came : comes.CourseStep)
-    (new : ChainHandle) (told : walked.PopOutcome) → CameTo s i q q' course pop_id p came new told
+    (new : ChainHandle) (reported : walked.PopOutcome) → CameTo s i q q' course pop_id p came new reported
     → IsCourseStep s.places s.limit (live_of q).queue p.loaded new.descriptors.items came
-run_step s i q q' course pop_id p came new told c =
+run_step s i q q' course pop_id p came new reported c =
     let ds = new.descriptors.items in
     subst (λ (k : Memory). IsCourseStep k s.limit (live_of q).queue p.loaded ds came) (sym c.places)
     (subst (λ (n : ℕ). IsCourseStep (places_in new.regions) n (live_of q).queue p.loaded ds came) (sym c.limit)
@@ -190,16 +190,16 @@ run_step s i q q' course pop_id p came new told c =
 
 -- where the queue's rings are, in the run
 ring_there : (s : Machine) (i : ℕ) (q q' : QueueState) (course : Course) (pop_id : PopId) (p : Pop) (came : comes.CourseStep)
-    (new : ChainHandle) (told : walked.PopOutcome) → CameTo s i q q' course pop_id p came new told
+    (new : ChainHandle) (reported : walked.PopOutcome) → CameTo s i q q' course pop_id p came new reported
     → pop_id.ring ≡ ring_of s.places (live_of q).queue.used
-ring_there s i q q' course pop_id p came new told c =
+ring_there s i q q' course pop_id p came new reported c =
     c.ring ∙ ap (λ (n : ℕ). ring_of (places_in new.regions) n) (sym (ap (λ (k : Queue). k.used) c.laid))
     ∙ ap (λ (m : Memory). ring_of m (live_of q).queue.used) (sym c.places)
 
 comes_to : (s : Machine) (i : ℕ) (q q' : QueueState) (course : Course) (pop_id : PopId) (p : Pop) (came : comes.CourseStep)
-    (new : ChainHandle) (told : walked.PopOutcome) → CameTo s i q q' course pop_id p came new told
-    → PopIs s i q q' p new (told_of new.descriptors.items came)
-comes_to s i q q' course pop_id p (step.Load walk) new told c = (
+    (new : ChainHandle) (reported : walked.PopOutcome) → CameTo s i q q' course pop_id p came new reported
+    → PopIs s i q q' p new (reported_of new.descriptors.items came)
+comes_to s i q q' course pop_id p (step.Load walk) new reported c = (
   record {
     course = course;
     pop_id = pop_id;
@@ -215,15 +215,15 @@ comes_to s i q q' course pop_id p (step.Load walk) new told c = (
   },
   c.keeps.2,
 )
-comes_to s i q q' course pop_id p (step.Missing range access) new told c = (c.keeps.1, c.keeps.2)
-comes_to s i q q' course pop_id p step.Idle new told c =
+comes_to s i q q' course pop_id p (step.Missing range access) new reported c = (c.keeps.1, c.keeps.2)
+comes_to s i q q' course pop_id p step.Idle new reported c =
     let here : EndsHere s i q q' p.loaded new step.Idle = (
-      (run_step s i q q' course pop_id p step.Idle new told c, refl),
+      (run_step s i q q' course pop_id p step.Idle new reported c, refl),
       c.there ∙ ap (λ (k : QueueState). Some (live_of k)) (sym c.keeps.2),
       c.keeps.1,
-    ) in inl (ends_by s i q q' course pop_id p step.Idle new told c here)
-comes_to s i q q' course pop_id p (step.Refused e) new told c =
-    let by = run_step s i q q' course pop_id p (step.Refused e) new told c in
+    ) in inl (ends_by s i q q' course pop_id p step.Idle new reported c here)
+comes_to s i q q' course pop_id p (step.Refused e) new reported c =
+    let by = run_step s i q q' course pop_id p (step.Refused e) new reported c in
     let v : LiveQueue = record (live_of q) { queue = after_refusal (live_of q).queue e } in
     let stops = refusal_stops s.places s.limit course p.loaded e
     (subst (λ (k : Queue). OffersBy s.places s.limit k p.loaded [] (Refuses e)) c.laid by.0) in
@@ -231,16 +231,16 @@ comes_to s i q q' course pop_id p (step.Refused e) new told c =
       (by.0, refl, by.1),
       there_same s.queues i i (λ _. v) (live_of q) refl c.there ∙ stopped_by q q' e stops c.keeps.2,
       c.keeps.1,
-    ) in inl (ends_by s i q q' course pop_id p (step.Refused e) new told c here)
-comes_to s i q q' course pop_id p (step.Chain head None) new told c =
+    ) in inl (ends_by s i q q' course pop_id p (step.Refused e) new reported c here)
+comes_to s i q q' course pop_id p (step.Chain head None) new reported c =
     let ds = new.descriptors.items in
-    let by = run_step s i q q' course pop_id p (step.Chain head None) new told c in
+    let by = run_step s i q q' course pop_id p (step.Chain head None) new reported c in
     let chain = new_chain s i (live_of q) p.loaded ds head None in
     let fits = fits_limit s.places s.limit (live_of q).queue p.loaded ds head c.small by.0.1 in
     let is_out : IsOutAs chain (out_of course pop_id head ds) =
     record {
       taken = c.laid;
-      ring = ring_there s i q q' course pop_id p (step.Chain head None) new told c;
+      ring = ring_there s i q q' course pop_id p (step.Chain head None) new reported c;
       head = refl;
       request_len = fits.0;
       room_len = fits.1;
@@ -251,15 +251,15 @@ comes_to s i q q' course pop_id p (step.Chain head None) new told c =
       there_same s.queues i i (λ _. several.took (live_of q)) (live_of q) refl c.there
           ∙ ap (λ (k : QueueState). Some (live_of k)) (sym c.keeps.2),
       subst (λ (st : state.ChainState). IsHeldIn s.page_size chain chain.phase st new.session) (sym c.keeps.1) is_out,
-    ) in inl (ends_by s i q q' course pop_id p (step.Chain head None) new told c here)
-comes_to s i q q' course pop_id p (step.Chain head (Some fault)) new told c =
+    ) in inl (ends_by s i q q' course pop_id p (step.Chain head None) new reported c here)
+comes_to s i q q' course pop_id p (step.Chain head (Some fault)) new reported c =
     let ds = new.descriptors.items in
-    let by = run_step s i q q' course pop_id p (step.Chain head (Some fault)) new told c in
+    let by = run_step s i q q' course pop_id p (step.Chain head (Some fault)) new reported c in
     let chain = new_chain s i (live_of q) p.loaded ds head (Some fault) in
     let out : InFlight = faulty_out course pop_id head in
     let is_out : IsOutAs chain out = record {
       taken = c.laid;
-      ring = ring_there s i q q' course pop_id p (step.Chain head (Some fault)) new told c;
+      ring = ring_there s i q q' course pop_id p (step.Chain head (Some fault)) new reported c;
       head = refl;
       request_len = sym (ap (λ (l : List Descriptor). total_len (readable l)) c.keeps.3);
       room_len = ap (λ (l : List Descriptor). length (addresses_of (writable l))) c.keeps.3;
@@ -271,119 +271,124 @@ comes_to s i q q' course pop_id p (step.Chain head (Some fault)) new told c =
       there_same s.queues i i (λ _. several.took (live_of q)) (live_of q) refl c.there
           ∙ ap (λ (k : QueueState). Some (live_of k)) (sym c.keeps.2),
       subst (λ (st : state.ChainState). IsHeldIn s.page_size chain chain.phase st new.session) (sym c.keeps.1) (is_out, keeps),
-    ) in inl (ends_by s i q q' course pop_id p (step.Chain head (Some fault)) new told c here)
+    ) in inl (ends_by s i q q' course pop_id p (step.Chain head (Some fault)) new reported c here)
 
 -- as it is told
-is_told : (s : Machine) (i : ℕ) (q q' : QueueState) (course : Course) (pop_id : PopId) (p : Pop) (came : comes.CourseStep)
-    (new : ChainHandle) (told : walked.PopOutcome) → CameTo s i q q' course pop_id p came new told → PopIs s i q q' p new told
-is_told s i q q' course pop_id p came new told c =
-    subst (λ (t : walked.PopOutcome). PopIs s i q q' p new t) (sym c.keeps.0) (comes_to s i q q' course pop_id p came new told c)
+is_reported : (s : Machine) (i : ℕ) (q q' : QueueState) (course : Course) (pop_id : PopId) (p : Pop) (came : comes.CourseStep)
+    (new : ChainHandle) (reported : walked.PopOutcome) → CameTo s i q q' course pop_id p came new reported → PopIs s i q q' p new reported
+is_reported s i q q' course pop_id p came new reported c =
+    subst (λ (t : walked.PopOutcome). PopIs s i q q' p new t) (sym c.keeps.0) (comes_to s i q q' course pop_id p came new reported c)
 
 -- of the handle before the call, whose regions are the same
-in_new : (old new : ChainHandle) (course : Course) (pop_id : PopId) (came : comes.CourseStep) (q q' : QueueState) (told : walked.PopOutcome)
-    → KeepsStep course pop_id came old new q q' told → KeepsStep course pop_id came new new q q' told
-in_new old new course pop_id came q q' told k = (k.0, k.1, k.2, k.3, (refl, refl, refl, refl))
+in_new : (old new : ChainHandle) (course : Course) (pop_id : PopId) (came : comes.CourseStep) (q q' : QueueState)
+    (reported : walked.PopOutcome)
+    → KeepsStep course pop_id came old new q q' reported → KeepsStep course pop_id came new new q q' reported
+in_new old new course pop_id came q q' reported k = (k.0, k.1, k.2, k.3, (refl, refl, refl, refl))
 
 -- ---- a pop that begins
 
 begins_none : (old : ChainHandle) (q : QueueState) (bytes : List ℕ) (new : ChainHandle) (q' : QueueState) → old.state ≡ at.Free →
-    GoesSo old q bytes wents.Part new q' → ⊥
+    ProceedsSo old q bytes outcomes.Part new q' → ⊥
 begins_none old q bytes new q' free call =
     let none : load_len old.state ≡ 0 = ap load_len free in
     let few = call.1 in
     omega (arith, none, few)
 
-begun_on : (s : Machine) (i : ℕ) (old new : ChainHandle) (q q' : QueueState) (told : walked.PopOutcome)
+begun_on : (s : Machine) (i : ℕ) (old new : ChainHandle) (q q' : QueueState) (reported : walked.PopOutcome)
     → IsQueue s i q → s.places ≡ places_in old.regions → s.limit ≡ old.limit → s.limit ≤ 2 ^ 31 → may_take q ≡ true → q.stopped ≡ None
     → event_fault (places_in old.regions) q ≡ None
-    → BeginsOn (course_of q old.limit) (pop_id_of old.regions q) old new q q' told
-    → PopIs s i q q' (record { loaded = nothing; event_index = q.event_index }) new told
-begun_on s i old new q q' told there places limit small may goes events by =
+    → BeginsOn (course_of q old.limit) (pop_id_of old.regions q) old new q q' reported
+    → PopIs s i q q' (record { loaded = nothing; event_index = q.event_index }) new reported
+begun_on s i old new q q' reported there places limit small may proceeds events by =
     let course = course_of q old.limit in
     let same : new.regions ≡ old.regions = by.1.4.0 in
     let R : Mapped → Type 0 = λ r. IsCourseStep (places_in r) course.limit (queue_of course) nothing new.descriptors.items by.0 in
     let E : Mapped → Type 0 = λ r. pop_refusal (places_in r) (queue_with (queue_of course) q.event_index) ≡ None in
-    is_told s i q q' course (pop_id_of old.regions q) (record { loaded = nothing; event_index = q.event_index }) by.0 new told (record {
+    is_reported s i q q' course (pop_id_of old.regions q) (record { loaded = nothing; event_index = q.event_index }) by.0 new reported
+    (record {
       there = there;
       places = places ∙ sym (ap places_in same);
       limit = limit;
       small = small;
-      laid = ap (λ (x : Option QueueError). record (at_position q.layout q.next_avail) { stopped = is_some x }) goes;
+      laid = ap (λ (x : Option QueueError). record (at_position q.layout q.next_avail) { stopped = is_some x }) proceeds;
       room = may;
       index = refl;
       events = subst E (sym same) events;
       ring = ap (λ (r : Mapped). ring_of (places_in r) course.layout.used) (sym same);
-      keeps = in_new old new course (pop_id_of old.regions q) by.0 q q' told by.1;
+      keeps = in_new old new course (pop_id_of old.regions q) by.0 q q' reported by.1;
       is = subst R (sym same) by.2;
       mapped = none_mapped (places_in new.regions) (queue_of course);
     })
 
-begun_where : (s : Machine) (i : ℕ) (old new : ChainHandle) (q q' : QueueState) (told : walked.PopOutcome) (fault : Option QueueError)
+begun_where : (s : Machine) (i : ℕ) (old new : ChainHandle) (q q' : QueueState) (reported : walked.PopOutcome) (fault : Option QueueError)
     → IsQueue s i q → s.places ≡ places_in old.regions → s.limit ≡ old.limit → s.limit ≤ 2 ^ 31 → may_take q ≡ true → q.stopped ≡ None
-    → old.state ≡ at.Free → event_fault (places_in old.regions) q ≡ fault → BeginsWhere fault old new q q' told
-    → PopIs s i q q' (record { loaded = nothing; event_index = q.event_index }) new told
-begun_where s i old new q q' told None there places limit small may goes free is by =
-    begun_on s i old new q q' told there places limit small may goes is by
-begun_where s i old new q q' told (Some e) there places limit small may goes free is by =
+    → old.state ≡ at.Free → event_fault (places_in old.regions) q ≡ fault → BeginsWhere fault old new q q' reported
+    → PopIs s i q q' (record { loaded = nothing; event_index = q.event_index }) new reported
+begun_where s i old new q q' reported None there places limit small may proceeds free is by =
+    begun_on s i old new q q' reported there places limit small may proceeds is by
+begun_where s i old new q q' reported (Some e) there places limit small may proceeds free is by =
     by_miss (event_miss (places_in old.regions) q) refl by
   where
     by_miss : (miss : Option (IovaRange × Permissions)) → event_miss (places_in old.regions) q ≡ miss →
-        LacksEvents e miss old new q q' told → PopIs s i q q' (record { loaded = nothing; event_index = q.event_index }) new told
+        LacksEvents e miss old new q q' reported → PopIs s i q q' (record { loaded = nothing; event_index = q.event_index }) new reported
     by_miss None none lacks =
-        refused_event s i q q' (record { loaded = nothing; event_index = q.event_index }) old new told e there may goes places is none
+        refused_event s i q q' (record { loaded = nothing; event_index = q.event_index }) old new reported e there may proceeds places is
+        none
         lacks.0 (lacks.1.0.3 ∙ free) lacks.2
     by_miss (Some r) some lacks =
         subst (λ (t : walked.PopOutcome). PopIs s i q q' (record { loaded = nothing; event_index = q.event_index }) new t) (sym lacks.0)
         (lacks.1.0.3 ∙ free, lacks.2)
 
-begun_unless : (s : Machine) (i : ℕ) (old new : ChainHandle) (q q' : QueueState) (told : walked.PopOutcome) (stopped : Option QueueError)
+begun_unless : (s : Machine) (i : ℕ) (old new : ChainHandle) (q q' : QueueState) (reported : walked.PopOutcome)
+    (stopped : Option QueueError)
     → IsQueue s i q → s.places ≡ places_in old.regions → s.limit ≡ old.limit → s.limit ≤ 2 ^ 31 → may_take q ≡ true → q.stopped ≡ stopped
-    → old.state ≡ at.Free → BeginsUnless stopped old new q q' told
-    → PopIs s i q q' (record { loaded = nothing; event_index = q.event_index }) new told
-begun_unless s i old new q q' told (Some why) there places limit small may is free by =
-    refused_stopped s i q q' (record { loaded = nothing; event_index = q.event_index }) new told why there may is by.0 (by.1.3 ∙ free) by.2
-begun_unless s i old new q q' told None there places limit small may is free by =
-    begun_where s i old new q q' told (event_fault (places_in old.regions) q) there places limit small may is free refl by
+    → old.state ≡ at.Free → BeginsUnless stopped old new q q' reported
+    → PopIs s i q q' (record { loaded = nothing; event_index = q.event_index }) new reported
+begun_unless s i old new q q' reported (Some why) there places limit small may is free by =
+    refused_stopped s i q q' (record { loaded = nothing; event_index = q.event_index }) new reported why there may is by.0 (by.1.3 ∙ free)
+    by.2
+begun_unless s i old new q q' reported None there places limit small may is free by =
+    begun_where s i old new q q' reported (event_fault (places_in old.regions) q) there places limit small may is free refl by
 
-begins : (old new : ChainHandle) (q q' : QueueState) (bytes : List ℕ) (told : went.LoadOutcome) → old.state ≡ at.Free
-    → GoesSo old q bytes told new q' → BeginsAPop old new q q' told
+begins : (old new : ChainHandle) (q q' : QueueState) (bytes : List ℕ) (reported : outcome.LoadOutcome) → old.state ≡ at.Free
+    → ProceedsSo old q bytes reported new q' → BeginsAPop old new q q' reported
 unfolding BeginsAPop
-begins old new q q' bytes wents.Part free call = begins_none old q bytes new q' free call
-begins old new q q' bytes (wents.On told) free call = λ s i there places limit small.
+begins old new q q' bytes outcomes.Part free call = begins_none old q bytes new q' free call
+begins old new q q' bytes (outcomes.On reported) free call = λ s i there places limit small.
     let clear : begin_error q (length (whole old bytes)) ≡ None =
     subst (λ (st : state.ChainState). walk_error st q (length (whole old bytes)) ≡ None) free call.3 in
-    let by : BeginsPop old new q q' told =
-    subst (λ (st : state.ChainState). WalksFrom st (whole old bytes) old new q q' told) free call.4 in
-    begun_unless s i old new q q' told q.stopped there places limit small (begun_room q (length (whole old bytes)) clear) refl free by
+    let by : BeginsPop old new q q' reported =
+    subst (λ (st : state.ChainState). WalksFrom st (whole old bytes) old new q q' reported) free call.4 in
+    begun_unless s i old new q q' reported q.stopped there places limit small (begun_room q (length (whole old bytes)) clear) refl free by
 
 -- ---- a pop that continues
 
-kept_items : (w new : ChainHandle) → new.descriptors ≡ w.descriptors → w.descriptors.items ≡ new.descriptors.items
-kept_items w new same = cc
+preserved_items : (w new : ChainHandle) → new.descriptors ≡ w.descriptors → w.descriptors.items ≡ new.descriptors.items
+preserved_items w new same = cc
 
 some_none : (x : Option QueueError) (why : QueueError) → x ≡ Some why → x ≡ None → ⊥
 some_none x why is none = none_some why (sym none ∙ is)
 
-on_unless : (s : Machine) (i : ℕ) (p : Pop) (bytes : List ℕ) (old new : ChainHandle) (q q' : QueueState) (told : walked.PopOutcome)
+on_unless : (s : Machine) (i : ℕ) (p : Pop) (bytes : List ℕ) (old new : ChainHandle) (q q' : QueueState) (reported : walked.PopOutcome)
     (stopped : Option QueueError) (from : HoldsPop s.limit p old)
     → IsQueue s i q → s.places ≡ places_in old.regions → p.event_index ≡ q.event_index → s.limit ≤ 2 ^ 31 → q.stopped ≡ stopped
     → (at_position q.layout q.next_avail ≡ queue_of from.course) × (may_take q ≡ true) × (length (whole old bytes) ≡ asked_len from.walk)
-    → GoesOnUnless stopped from.course from.pop_id from.walk (whole old bytes) old new q q' told
-    → PopGoesOn s i q q' p old new bytes (wents.On told)
-on_unless s i p bytes old new q q' told (Some why) from there places index small is finds on = (
+    → ContinuesUnless stopped from.course from.pop_id from.walk (whole old bytes) old new q q' reported
+    → PopContinues s i q q' p old new bytes (outcomes.On reported)
+on_unless s i p bytes old new q q' reported (Some why) from there places index small is finds on = (
   p.loaded,
   λ none. absurd (some_none q.stopped why is none),
-  refused_stopped s i q q' p new told why there finds.1 is on.0 on.1.3 on.2,
+  refused_stopped s i q q' p new reported why there finds.1 is on.0 on.1.3 on.2,
 )
-on_unless s i p bytes old new q q' told None from there places index small is finds on =
+on_unless s i p bytes old new q q' reported None from there places index small is finds on =
     let course = from.course in
     let all = whole old bytes in
     let by : ComesBy (places_in old.regions) course.limit (queue_of course) p.loaded from.walk all new.descriptors.items on.0 =
     on.2 p.loaded from.comes in
     let same : new.regions ≡ old.regions = on.1.4.0 in
     let next : Pop = record p { loaded = by.after } in
-    let adds : AddsSo old.state (wents.On told) new.descriptors.items p.loaded all by.after =
-    subst (λ (st : state.ChainState). AddsSo st (wents.On told) new.descriptors.items p.loaded all by.after) (sym from.state)
+    let adds : AddsSo old.state (outcomes.On reported) new.descriptors.items p.loaded all by.after =
+    subst (λ (st : state.ChainState). AddsSo st (outcomes.On reported) new.descriptors.items p.loaded all by.after) (sym from.state)
     (on.0, on.1.0, by.adds) in
     let mapped : LoadsAreMapped (places_in old.regions) (queue_of course) by.after =
     more_mapped (places_in old.regions) (queue_of course) p.loaded by.after old.descriptors.items from.walk all on.0 from.comes from.there
@@ -393,7 +398,7 @@ on_unless s i p bytes old new q q' told None from there places index small is fi
     let E : Mapped → Type 0 = λ r. pop_refusal (places_in r) (queue_with (queue_of course) p.event_index) ≡ None in (
       by.after,
       λ none. adds,
-      is_told s i q q' course from.pop_id next on.0 new told (record {
+      is_reported s i q q' course from.pop_id next on.0 new reported (record {
         there = there;
         places = places ∙ sym (ap places_in same);
         limit = sym from.limit_is;
@@ -403,16 +408,16 @@ on_unless s i p bytes old new q q' told None from there places index small is fi
         index = index;
         events = subst E (sym same) from.events;
         ring = from.ring ∙ ap (λ (r : Mapped). ring_of (places_in r) course.layout.used) (sym same);
-        keeps = in_new old new course from.pop_id on.0 q q' told on.1;
+        keeps = in_new old new course from.pop_id on.0 q q' reported on.1;
         is = subst R (sym same) by.comes;
         mapped = subst M (sym same) mapped;
       }),
     )
 
-continues : (old new : ChainHandle) (q q' : QueueState) (bytes : List ℕ) (told : went.LoadOutcome)
-    → GoesSo old q bytes told new q' → ContinuesAPop old new q q' bytes told
+continues : (old new : ChainHandle) (q q' : QueueState) (bytes : List ℕ) (reported : outcome.LoadOutcome)
+    → ProceedsSo old q bytes reported new q' → ContinuesAPop old new q q' bytes reported
 unfolding ContinuesAPop
-continues old new q q' bytes wents.Part call s i p from there places index small =
+continues old new q q' bytes outcomes.Part call s i p from there places index small =
     let same : new.regions ≡ old.regions = call.3.0.0 in
     let C : Mapped → Type 0 = λ r. IsWalkAt (places_in r) (queue_of from.course) p.loaded new.descriptors.items from.walk in
     let T : Mapped → Type 0 = λ r. IsThere (places_in r) from.walk in
@@ -428,33 +433,34 @@ continues old new q q' bytes wents.Part call s i p from there places index small
         state = call.3.3 ∙ from.state;
         ring = from.ring ∙ ap (λ (r : Mapped). ring_of (places_in r) from.course.layout.used) (sym same);
         limit_is = from.limit_is;
-        comes = subst C (sym same) (subst D (kept_items old new call.3.2) from.comes);
+        comes = subst C (sym same) (subst D (preserved_items old new call.3.2) from.comes);
         there = subst T (sym same) from.there;
-        longest = subst L (sym same) (subst S (kept_items old new call.3.2) from.longest);
+        longest = subst L (sym same) (subst S (preserved_items old new call.3.2) from.longest);
         mapped = subst M (sym same) from.mapped;
         events = subst E (sym same) from.events;
       },
       call.5,
     )
-continues old new q q' bytes (wents.On told) call s i p from there places index small =
-    let unless : GoesOnUnless q.stopped from.course from.pop_id from.walk (whole old bytes) old new q q' told =
-    subst (λ (st : state.ChainState). WalksFrom st (whole old bytes) old new q q' told) from.state call.4 in
+continues old new q q' bytes (outcomes.On reported) call s i p from there places index small =
+    let unless : ContinuesUnless q.stopped from.course from.pop_id from.walk (whole old bytes) old new q q' reported =
+    subst (λ (st : state.ChainState). WalksFrom st (whole old bytes) old new q q' reported) from.state call.4 in
     let clear : give_error q from.course from.pop_id (asked_len from.walk) (length (whole old bytes)) ≡ None =
     subst (λ (st : state.ChainState). walk_error st q (length (whole old bytes)) ≡ None) from.state call.3 in
-    on_unless s i p bytes old new q q' told q.stopped from there places index small refl
-    (goes_at q from.course from.pop_id (asked_len from.walk) (length (whole old bytes)) clear) unless
+    on_unless s i p bytes old new q q' reported q.stopped from there places index small refl
+    (proceeds_at q from.course from.pop_id (asked_len from.walk) (length (whole old bytes)) clear) unless
 
-by_state : (st : state.ChainState) (old new : ChainHandle) (q q' : QueueState) (bytes : List ℕ) (told : went.LoadOutcome) → old.state ≡ st
-    → GoesSo old q bytes told new q' → PopsBy st old new q q' bytes told
-by_state at.Free old new q q' bytes told is call = begins old new q q' bytes told is call
-by_state st old new q q' bytes told is call = continues old new q q' bytes told call
+by_state : (st : state.ChainState) (old new : ChainHandle) (q q' : QueueState) (bytes : List ℕ) (reported : outcome.LoadOutcome)
+    → old.state ≡ st
+    → ProceedsSo old q bytes reported new q' → PopsBy st old new q q' bytes reported
+by_state at.Free old new q q' bytes reported is call = begins old new q q' bytes reported is call
+by_state st old new q q' bytes reported is call = continues old new q q' bytes reported call
 
-pub pops : (old new : ChainHandle) (q q' : QueueState) (bytes : List ℕ) (told : went.LoadOutcome)
-    → GoesSo old q bytes told new q' → PopsBy old.state old new q q' bytes told
-pops old new q q' bytes told call = by_state old.state old new q q' bytes told refl call
+pub pops : (old new : ChainHandle) (q q' : QueueState) (bytes : List ℕ) (reported : outcome.LoadOutcome)
+    → ProceedsSo old q bytes reported new q' → PopsBy old.state old new q q' bytes reported
+pops old new q q' bytes reported call = by_state old.state old new q q' bytes reported refl call
 
 -- by its result
-pub pops_from : (old new : ChainHandle) (q q' : QueueState) (bytes : List ℕ) (r : Result went.LoadOutcome ChainError)
-    → IfOk r (λ told. GoesSo old q bytes told new q') → IfOk r (λ told. PopsBy old.state old new q q' bytes told)
-pops_from old new q q' bytes (Ok told) call = pops old new q q' bytes told call
+pub pops_from : (old new : ChainHandle) (q q' : QueueState) (bytes : List ℕ) (r : Result outcome.LoadOutcome ChainError)
+    → IfOk r (λ reported. ProceedsSo old q bytes reported new q') → IfOk r (λ reported. PopsBy old.state old new q q' bytes reported)
+pops_from old new q q' bytes (Ok reported) call = pops old new q q' bytes reported call
 pops_from old new q q' bytes (Err e) call = tt

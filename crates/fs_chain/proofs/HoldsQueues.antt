@@ -37,10 +37,10 @@ push_tests false b c is = absurd (none_some error.OtherQueue (sym is))
 push_tests true b c is = refl
 
 -- a chain that is pushed has its queue's layout
-pub pushed_there : (q : QueueState) (out : InFlight) (kept : ChainReply) (len position : ℕ) →
-    return_error (at.HasReply out kept) q len ≡ None → at_position q.layout position ≡ at_position out.course.layout position
-pushed_there q out kept len position clear =
-    let mine : is_in_flight_of q out ≡ true = push_tests (is_in_flight_of q out) q.pushing (nat_lt len (front_len kept)) clear in
+pub pushed_there : (q : QueueState) (out : InFlight) (preserved : ChainReply) (len position : ℕ) →
+    return_error (at.HasReply out preserved) q len ≡ None → at_position q.layout position ≡ at_position out.course.layout position
+pushed_there q out preserved len position clear =
+    let mine : is_in_flight_of q out ≡ true = push_tests (is_in_flight_of q out) q.pushing (nat_lt len (front_len preserved)) clear in
     same_layout q.layout out.course.layout position
     (and_parts (not (in_flight q == 0) && q.reset_count == out.pop_id.reset_count) (is_laid_out q.layout out.course.layout) mine).1
 
@@ -62,9 +62,9 @@ give_tests true true false is = absurd (none_some error.ChainInFlight (sym is))
 give_tests true true true is = (refl, refl, refl)
 
 -- a pop that continues finds its queue where it began, with room for one more chain
-pub goes_at : (q : QueueState) (course : Course) (pop_id : PopId) (asked len : ℕ) → give_error q course pop_id asked len ≡ None
+pub proceeds_at : (q : QueueState) (course : Course) (pop_id : PopId) (asked len : ℕ) → give_error q course pop_id asked len ≡ None
     → (at_position q.layout q.next_avail ≡ queue_of course) × (may_take q ≡ true) × (len ≡ asked)
-goes_at q course pop_id asked len is =
+proceeds_at q course pop_id asked len is =
     let tests = give_tests (len == asked) (fits_pop q course pop_id) (may_take q) is in
     let one = and_parts (q.reset_count == pop_id.reset_count && q.pop_count == pop_id.pop_count && q.next_avail == course.position)
     (is_laid_out q.layout course.layout) tests.1 in

@@ -28,7 +28,7 @@ use Rattle.fs_chain.specs.declared.state.InFlight.{InFlight}
 use Rattle.fs_chain.specs.declared.state.ChainState as state
 use Rattle.fs_chain.specs.declared.state.ChainState.TheVariants as at
 use Rattle.fs_chain.specs.declared.chain_handle.ChainHandle.{ChainHandle}
-use Rattle.fs_chain.specs.Listings.{Adds, AddsTo, IsFailedReply, IsListReply, told_added}
+use Rattle.fs_chain.specs.Listings.{Adds, AddsTo, IsFailedReply, IsListReply, reported_added}
 use Rattle.plain_machine.specs.Step.{Calls, answers_alone, calls_alone}
 use Rattle.fs_chain.specs.ListingCalls.{EndsThere, FailsAt, FullAt, NotFound}
 use Rattle.fs_chain.specs.ListingCalls.{all_looked_up, listing_calls, looked_up, node_back, unreadable_calls}
@@ -37,12 +37,12 @@ use Rattle.fs_chain.specs.Walks.{IsAllButPlace}
 -- ---- what was told of an entry
 
 -- the caller adds an entry, with or without its node, to the listing that is being answered, in a list of
--- the caller's; the result is `told`
+-- the caller's; the result is `reported`
 abbrev pub BringsEntry : ChainHandle → (list : List ℕ) → Brought → Result Added ChainError → ChainHandle →
     (list' : List ℕ) → Type 0
-BringsEntry w list e told w' list' =
-    (AddsTo w.state w'.state list list' e (λ l. added_plain l (length list) (length e.0.name)) told
-    ⊎ AddsTo w.state w'.state list list' e (λ l. added_found l (length list) (length e.0.name)) told)
+BringsEntry w list e reported w' list' =
+    (AddsTo w.state w'.state list list' e (λ l. added_plain l (length list) (length e.0.name)) reported
+    ⊎ AddsTo w.state w'.state list list' e (λ l. added_found l (length list) (length e.0.name)) reported)
     × IsAllButPlace w w'
 
 abbrev pub Outcome : Type 0
@@ -59,10 +59,10 @@ abbrev outcome_in : Result Added ChainError → Outcome
 outcome_in (Ok a) = outcome_of a
 outcome_in (Err e) = Err not_added.OtherKind
 
-outcome_is : (r : Outcome) (a : Added) → Ok a ≡ told_added r → r ≡ outcome_of a
-outcome_is (Err not_added.OtherKind) a told = absurd (cc)
-outcome_is (Err not_added.ShortList) a told = absurd (cc)
-outcome_is r a told = sym (ap outcome_in told)
+outcome_is : (r : Outcome) (a : Added) → Ok a ≡ reported_added r → r ≡ outcome_of a
+outcome_is (Err not_added.OtherKind) a reported = absurd (cc)
+outcome_is (Err not_added.ShortList) a reported = absurd (cc)
+outcome_is r a reported = sym (ap outcome_in reported)
 
 -- an entry was brought to a listing, of which this was told
 abbrev pub IsBrought : InFlight → Listing → (new : state.ChainState) → (list list' : List ℕ) → Brought → Added → Type 0
@@ -187,17 +187,17 @@ served_so s command steps answers calls reply answers_are calls_are is =
     ap (λ (x : List FileAnswer). commanded s command x) answers_are ∙ is
     ∙ ap (λ (x : List FileCall). by_reply x s.options reply) (sym calls_are)
 
-abbrev went : List FileCall → List ℕ → Option ℕ → ListingResult
-went calls bytes error = record { calls = calls; bytes = bytes; error = error }
+abbrev yielded : List FileCall → List ℕ → Option ℕ → ListingResult
+yielded calls bytes error = record { calls = calls; bytes = bytes; error = error }
 
 -- an entry that isn't found ends a listing, whatever is behind it
 first_missing : (unique errno : ℕ) (a : asked.ListRequest) (d : Listed) (behind : List Listed) (left room : ℕ) → a.with_nodes ≡ true
     → is_dot d.name ≡ false
-    → list_entries a (d ∷ behind) left room (Failed errno ∷ []) ≡ went (look_up (Lists unique a) d) [] (Some errno)
+    → list_entries a (d ∷ behind) left room (Failed errno ∷ []) ≡ yielded (look_up (Lists unique a) d) [] (Some errno)
 unfolding list_entries
 first_missing unique errno a d behind left room nodes dot = rw (nodes, dot) refl
 
-none_left : (a : asked.ListRequest) (left room : ℕ) → list_entries a [] left room [] ≡ went [] [] None
+none_left : (a : asked.ListRequest) (left room : ℕ) → list_entries a [] left room [] ≡ yielded [] [] None
 unfolding list_entries
 none_left a left room = refl
 
@@ -231,9 +231,9 @@ module _ (s : Setting) (l : Listing) (unique : ℕ) (a : asked.ListRequest) (lis
 
   -- entries behind them, by what comes of these
   listed_behind : (ds : List Listed) (answers : List FileAnswer) (calls : List FileCall) (error : Option ℕ)
-      → ((left room : ℕ) → list_entries a ds left room answers ≡ went calls [] error)
+      → ((left room : ℕ) → list_entries a ds left room answers ≡ yielded calls [] error)
       → list_entries a (entries_of es ++ ds) a.size (s.room - 16) (all_found a.with_nodes es ++ answers)
-      ≡ went (look_ups command es ++ calls) (bytes ++ []) error
+      ≡ yielded (look_ups command es ++ calls) (bytes ++ []) error
   listed_behind ds answers calls error comes =
       let small = l.small in
       let asked = l.asked in
@@ -241,7 +241,7 @@ module _ (s : Setting) (l : Listing) (unique : ℕ) (a : asked.ListRequest) (lis
       let size : l.size ≡ a.size = is.2 in
       let room : l.room ≡ s.room - 16 = is.3 in
       let len = long in
-      listed_all unique a es ds a.size (s.room - 16) answers (went calls [] error) (omega (arith, len, size, asked))
+      listed_all unique a es ds a.size (s.room - 16) answers (yielded calls [] error) (omega (arith, len, size, asked))
       (omega (arith, len, room, fits)) (omega (arith, len, small, asked))
       (comes (a.size - length bytes) (s.room - 16 - length bytes))
 
@@ -335,8 +335,8 @@ module _ (s : Setting) (l : Listing) (unique : ℕ) (a : asked.ListRequest) (lis
       let calls = readdir_call a ∷ look_ups command es in
       let all = listed_behind [] [] [] None (λ left room. none_left a left room) in
       let entries : list_entries a (entries_of es) a.size (s.room - 16) (all_found a.with_nodes es)
-      ≡ went (look_ups command es) bytes None = simp append-nil at all in
-      let told : listing_bytes l.unique l.with_nodes (all_bytes l.with_nodes es) (Some errno) ≡ reply_bytes unique bytes =
+      ≡ yielded (look_ups command es) bytes None = simp append-nil at all in
+      let reported : listing_bytes l.unique l.with_nodes (all_bytes l.with_nodes es) (Some errno) ≡ reply_bytes unique bytes =
       ap (λ (u : ℕ). listing_bytes u l.with_nodes (all_bytes l.with_nodes es) (Some errno)) is.0
       ∙ ap (λ (b : Bool). listing_bytes unique b (all_bytes b es) (Some errno)) is.1 ∙ held_bytes a.with_nodes unique errno bytes some in
       served_so s command (listing_calls (readdir_call a) a.with_nodes es EndsThere)
@@ -346,7 +346,7 @@ module _ (s : Setting) (l : Listing) (unique : ℕ) (a : asked.ListRequest) (lis
       (ap (λ (x : List FileCall). readdir_call a ∷ x) (found_calls unique a es))
       (ap (λ (x : ListingResult). list_ended s unique a x) entries
       ∙ whole_reply s.room s.options calls (reply_bytes unique bytes) (omega (arith, head, len, room, fits, place))
-      ∙ ap (λ (x : List ℕ). by_reply calls s.options x) (sym (failed.bytes list es holds ∙ told)))
+      ∙ ap (λ (x : List ℕ). by_reply calls s.options x) (sym (failed.bytes list es holds ∙ reported)))
 
 pub unreadable : (s : Setting) (l : Listing) (unique : ℕ) (a : asked.ListRequest) (list : List ℕ) (es : List Brought) (b : Bool) (errno : ℕ)
     (reply : ListingReply)

@@ -21,7 +21,7 @@ use Rattle.fs_chain.specs.declared.error.ChainError.TheVariants.{OutOfMemory}
 use Rattle.fs_chain.specs.declared.queue.QueueState.{QueueState}
 use Rattle.fs_chain.specs.Orders.{entries_asked, IfWalking, IsWalking, load_len, walk_error}
 use Rattle.fs_chain.specs.Events.{event_fault, event_miss}
-use Rattle.fs_chain.specs.Walks.{BeginsUnless, BeginsWhere, GoesOnUnless, LacksEvents, LacksRoom, WalksFrom}
+use Rattle.fs_chain.specs.Walks.{BeginsUnless, BeginsWhere, ContinuesUnless, LacksEvents, LacksRoom, WalksFrom}
 use Rattle.fs_chain.specs.Walks.{WalksOn}
 use Rattle.fs_chain.specs.declared.popping.PopOutcome as walked
 use Rattle.fs_chain.specs.declared.chain_handle.ChainHandle.{ChainHandle}
@@ -77,55 +77,57 @@ due w loaded (inr some) = inr some.1
 
 -- ---- a walk is the same, whatever part of a load the handle keeps
 
-module _ (w w' : ChainHandle) (aside kept : Vec ℕ) (q q' : QueueState) (told : walked.PopOutcome) where
+module _ (w w' : ChainHandle) (aside preserved : Vec ℕ) (q q' : QueueState) (reported : walked.PopOutcome) where
   abbrev before : ChainHandle
   before = record w { part = aside }
 
   abbrev after : ChainHandle
-  after = record w' { part = kept }
+  after = record w' { part = preserved }
 
-  lacks : (e : QueueError) (miss : Option (IovaRange × Permissions)) → LacksEvents e miss before w' q q' told →
-      LacksEvents e miss w after q q' told
+  lacks : (e : QueueError) (miss : Option (IovaRange × Permissions)) → LacksEvents e miss before w' q q' reported →
+      LacksEvents e miss w after q q' reported
   lacks e None h = h
   lacks e (Some r) h = h
 
-  begins_where : (fault : Option QueueError) → BeginsWhere fault before w' q q' told → BeginsWhere fault w after q q' told
+  begins_where : (fault : Option QueueError) → BeginsWhere fault before w' q q' reported → BeginsWhere fault w after q q' reported
   begins_where None h = h
   begins_where (Some e) h = lacks e (event_miss (places_in w.regions) q) h
 
-  begins : (stopped : Option QueueError) → BeginsUnless stopped before w' q q' told → BeginsUnless stopped w after q q' told
+  begins : (stopped : Option QueueError) → BeginsUnless stopped before w' q q' reported → BeginsUnless stopped w after q q' reported
   begins None h = begins_where (event_fault (places_in w.regions) q) h
   begins (Some why) h = h
 
-  goes_on : (stopped : Option QueueError) (course : Course) (pop_id : PopId) (walk : QueueWalk) (bytes : List ℕ)
-      → GoesOnUnless stopped course pop_id walk bytes before w' q q' told
-      → GoesOnUnless stopped course pop_id walk bytes w after q q' told
-  goes_on None course pop_id walk bytes h = h
-  goes_on (Some why) course pop_id walk bytes h = h
+  carries_on : (stopped : Option QueueError) (course : Course) (pop_id : PopId) (walk : QueueWalk) (bytes : List ℕ)
+      → ContinuesUnless stopped course pop_id walk bytes before w' q q' reported
+      → ContinuesUnless stopped course pop_id walk bytes w after q q' reported
+  carries_on None course pop_id walk bytes h = h
+  carries_on (Some why) course pop_id walk bytes h = h
 
-  walks_from : (s : state.ChainState) (bytes : List ℕ) → WalksFrom s bytes before w' q q' told → WalksFrom s bytes w after q q' told
+  walks_from : (s : state.ChainState) (bytes : List ℕ) → WalksFrom s bytes before w' q q' reported → WalksFrom s bytes w after q q' reported
   walks_from at.Free bytes h = begins q.stopped h
-  walks_from (at.Walking course pop_id walk) bytes h = goes_on q.stopped course pop_id walk bytes h
+  walks_from (at.Walking course pop_id walk) bytes h = carries_on q.stopped course pop_id walk bytes h
   walks_from s bytes h = h
 
 -- by the same bytes, from a handle to one that are these but for that part
-pub walks_apart : (w before w' after : ChainHandle) (q q' : QueueState) (told : walked.PopOutcome) (bytes all : List ℕ)
+pub walks_apart : (w before w' after : ChainHandle) (q q' : QueueState) (reported : walked.PopOutcome) (bytes all : List ℕ)
     → before ≡ record w { part = before.part }
-    → after ≡ record w' { part = after.part } → bytes ≡ all → WalksOn bytes before w' q q' told → WalksOn all w after q q' told
-walks_apart w before w' after q q' told bytes all from to same h =
-    let there = subst (λ (x : ChainHandle). WalksOn bytes x w' q q' told) from h in
-    let here = walks_from w w' before.part after.part q q' told w.state bytes there in
-    subst (λ (l : List ℕ). WalksOn l w after q q' told) same (subst (λ (x : ChainHandle). WalksOn bytes w x q q' told) (sym to) here)
+    → after ≡ record w' { part = after.part } → bytes ≡ all → WalksOn bytes before w' q q' reported → WalksOn all w after q q' reported
+walks_apart w before w' after q q' reported bytes all from to same h =
+    let there = subst (λ (x : ChainHandle). WalksOn bytes x w' q q' reported) from h in
+    let here = walks_from w w' before.part after.part q q' reported w.state bytes there in
+    subst (λ (l : List ℕ). WalksOn l w after q q' reported) same
+    (subst (λ (x : ChainHandle). WalksOn bytes w x q q' reported) (sym to) here)
 
 -- it goes on by a load that came in parts
-pub joined_goes : (w joined new : ChainHandle) (q q' : QueueState) (told : walked.PopOutcome) (loaded : List ℕ) → 0 < load_len w.state
+pub joined_proceeds : (w joined new : ChainHandle) (q q' : QueueState) (reported : walked.PopOutcome) (loaded : List ℕ)
+    → 0 < load_len w.state
     → joined ≡ record w { part = joined.part } → joined.state ≡ w.state → joined.part.items ≡ w.part.items ++ loaded
-    → walk_error joined.state q (came joined) ≡ None → WalksOn joined.part.items joined new q q' told
-    → (walk_error w.state q (length (whole w loaded)) ≡ None) × WalksOn (whole w loaded) w new q q' told
-joined_goes w joined new q q' told loaded some from same items right walks =
+    → walk_error joined.state q (came joined) ≡ None → WalksOn joined.part.items joined new q q' reported
+    → (walk_error w.state q (length (whole w loaded)) ≡ None) × WalksOn (whole w loaded) w new q q' reported
+joined_proceeds w joined new q q' reported loaded some from same items right walks =
     let all : joined.part.items ≡ whole w loaded =
     items ∙ sym (ap (λ (t : Bool). if t then loaded else w.part.items ++ loaded) (some_asked (load_len w.state) some)) in (
       subst (λ (l : List ℕ). walk_error w.state q (length l) ≡ None) all
           (subst (λ (s : state.ChainState). walk_error s q (came joined) ≡ None) same right),
-      walks_apart w joined new new q q' told joined.part.items (whole w loaded) from refl all walks,
+      walks_apart w joined new new q q' reported joined.part.items (whole w loaded) from refl all walks,
     )

@@ -19,9 +19,9 @@ use Rattle.fs_chain.specs.declared.state.ChainState.TheVariants as at
 use Rattle.fs_chain.specs.declared.state.PopId.{PopId}
 use Rattle.fs_chain.specs.declared.popping.PopOutcome as walked
 use Rattle.fs_chain.specs.declared.chain_handle.ChainHandle.{ChainHandle}
-use Rattle.fs_chain.specs.Laws.{GoesOnByLoads, IsOfferOf, TellsOffer, WalksAreOffers}
-use Rattle.fs_chain.specs.Walks.{BeginsUnless, BeginsWhere, GoesOnUnless, HasEvents, RefusalHasEvents, WalksFrom, WalksOn, course_of}
-use Rattle.fs_chain.specs.Walks.{told_of}
+use Rattle.fs_chain.specs.Laws.{ContinuesByLoads, IsOfferOf, ReportsOffer, WalksAreOffers}
+use Rattle.fs_chain.specs.Walks.{BeginsUnless, BeginsWhere, ContinuesUnless, HasEvents, RefusalHasEvents, WalksFrom, WalksOn, course_of}
+use Rattle.fs_chain.specs.Walks.{reported_of}
 use Rattle.fs_chain.proofs.Steps.{begun_has_events}
 
 -- without a request nothing is owed of it
@@ -37,7 +37,7 @@ unasked m q loaded request has = record {
 comes_to : OffersAreTheMemorys → (h : Host) (regions : Mapped) (limit : ℕ) (q : Queue) (loaded : Loaded) (ds : List Descriptor)
     (came : comes.CourseStep) (request : List ℕ) → q.stopped ≡ false
     → IsCourseStep (places_in regions) limit q loaded ds came → HasLoaded (memory_over h regions) q loaded request
-    → IsOfferOf ds (told_of ds came) request (offer (memory_over h regions) limit q)
+    → IsOfferOf ds (reported_of ds came) request (offer (memory_over h regions) limit q)
 comes_to law h regions limit q loaded ds (step.Load walk) request runs came has = tt
 comes_to law h regions limit q loaded ds step.Idle request runs came has =
     sym (law h regions limit q loaded [] _ runs came (unasked (memory_over h regions) q loaded request has))
@@ -50,43 +50,43 @@ comes_to law h regions limit q loaded ds (step.Chain head None) request runs cam
     λ len. sym (law h regions limit q loaded request _ runs (came.0.1 request len) has)
 
 begins : OffersAreTheMemorys → (h : Host) (bytes request : List ℕ) (old new : ChainHandle) (before after : QueueState)
-    (told : walked.PopOutcome) → before.stopped ≡ None
-    → RefusalHasEvents told old before → old.state ≡ at.Free → WalksOn bytes old new before after told
+    (reported : walked.PopOutcome) → before.stopped ≡ None
+    → RefusalHasEvents reported old before → old.state ≡ at.Free → WalksOn bytes old new before after reported
     → HasLoaded (memory_over h old.regions) (queue_of (course_of before old.limit)) nothing request
-    → TellsOffer (memory_over h old.regions) (course_of before old.limit) new told request
-begins law h bytes request old new before after told running refusal free walks has =
+    → ReportsOffer (memory_over h old.regions) (course_of before old.limit) new reported request
+begins law h bytes request old new before after reported running refusal free walks has =
     let course : Course = course_of before old.limit in
-    let from : WalksFrom at.Free bytes old new before after told =
-    subst (λ (s : state.ChainState). WalksFrom s bytes old new before after told) free walks in
-    let unless : BeginsUnless None old new before after told =
-    subst (λ (o : Option QueueError). BeginsUnless o old new before after told) running from in
-    let events : HasEvents old before = begun_has_events old new before after told refusal unless in
-    let went : BeginsWhere None old new before after told =
-    subst (λ (f : Option QueueError). BeginsWhere f old new before after told) events unless in
-    subst (λ (t : walked.PopOutcome). TellsOffer (memory_over h old.regions) course new t request) (sym went.1.0)
-    (comes_to law h old.regions course.limit (queue_of course) nothing new.descriptors.items went.0 request refl went.2 has)
+    let from : WalksFrom at.Free bytes old new before after reported =
+    subst (λ (s : state.ChainState). WalksFrom s bytes old new before after reported) free walks in
+    let unless : BeginsUnless None old new before after reported =
+    subst (λ (o : Option QueueError). BeginsUnless o old new before after reported) running from in
+    let events : HasEvents old before = begun_has_events old new before after reported refusal unless in
+    let outcome : BeginsWhere None old new before after reported =
+    subst (λ (f : Option QueueError). BeginsWhere f old new before after reported) events unless in
+    subst (λ (t : walked.PopOutcome). ReportsOffer (memory_over h old.regions) course new t request) (sym outcome.1.0)
+    (comes_to law h old.regions course.limit (queue_of course) nothing new.descriptors.items outcome.0 request refl outcome.2 has)
 
-goes_on : OffersAreTheMemorys → (loaded : Loaded) (course : Course) (pop_id : PopId) (walk : QueueWalk) (bytes : List ℕ)
-    (old new : ChainHandle) (before after : QueueState) (told : walked.PopOutcome)
-    → before.stopped ≡ None → old.state ≡ at.Walking course pop_id walk → WalksOn bytes old new before after told
+carries_on : OffersAreTheMemorys → (loaded : Loaded) (course : Course) (pop_id : PopId) (walk : QueueWalk) (bytes : List ℕ)
+    (old new : ChainHandle) (before after : QueueState) (reported : walked.PopOutcome)
+    → before.stopped ≡ None → old.state ≡ at.Walking course pop_id walk → WalksOn bytes old new before after reported
     → IsWalkAt (places_in old.regions) (queue_of course) loaded old.descriptors.items walk
-    → GoesOnByLoads loaded course walk bytes old new told
-goes_on law loaded course pop_id walk bytes old new before after told running here walks stands =
-    let from : WalksFrom (at.Walking course pop_id walk) bytes old new before after told =
-    subst (λ (s : state.ChainState). WalksFrom s bytes old new before after told) here walks in
-    let went : GoesOnUnless None course pop_id walk bytes old new before after told =
-    subst (λ (o : Option QueueError). GoesOnUnless o course pop_id walk bytes old new before after told) running from in
-    let by : ComesBy (places_in old.regions) course.limit (queue_of course) loaded walk bytes new.descriptors.items went.0 =
-    went.2 loaded stands in
+    → ContinuesByLoads loaded course walk bytes old new reported
+carries_on law loaded course pop_id walk bytes old new before after reported running here walks stands =
+    let from : WalksFrom (at.Walking course pop_id walk) bytes old new before after reported =
+    subst (λ (s : state.ChainState). WalksFrom s bytes old new before after reported) here walks in
+    let outcome : ContinuesUnless None course pop_id walk bytes old new before after reported =
+    subst (λ (o : Option QueueError). ContinuesUnless o course pop_id walk bytes old new before after reported) running from in
+    let by : ComesBy (places_in old.regions) course.limit (queue_of course) loaded walk bytes new.descriptors.items outcome.0 =
+    outcome.2 loaded stands in
     record {
-      came = went.0;
-      told_so = went.1.0;
+      came = outcome.0;
+      reported_so = outcome.1.0;
       after = by.after;
       adds = by.adds;
       offers = λ h request has.
-          subst (λ (t : walked.PopOutcome). TellsOffer (memory_over h old.regions) course new t request) (sym went.1.0)
-          (comes_to law h old.regions course.limit (queue_of course) by.after new.descriptors.items went.0 request refl by.comes has);
+          subst (λ (t : walked.PopOutcome). ReportsOffer (memory_over h old.regions) course new t request) (sym outcome.1.0)
+          (comes_to law h old.regions course.limit (queue_of course) by.after new.descriptors.items outcome.0 request refl by.comes has);
     }
 
 pub walks_are_offers : OffersAreTheMemorys → WalksAreOffers
-walks_are_offers law = record { begins = begins law; goes_on = goes_on law }
+walks_are_offers law = record { begins = begins law; carries_on = carries_on law }

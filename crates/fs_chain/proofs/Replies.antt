@@ -6,7 +6,7 @@ use Rattle.fuse_values.specs.declared.answer.FileAnswer.{FileAnswer}
 use Rattle.fuse_values.specs.declared.answer.FileAnswer.TheVariants as value
 use Rattle.server_phases.specs.declared.answering.Sent.{Sent}
 use Rattle.server_phases.specs.declared.answering.Sent.TheVariants as sent
-use Rattle.server_phases.specs.Answering.{TellsBytes, served_by}
+use Rattle.server_phases.specs.Answering.{ReportsBytes, served_by}
 use Rattle.fs_chain.specs.declared.state.InFlight.{InFlight}
 use Rattle.fs_chain.specs.declared.state.ChainReply.{ChainReply}
 use Rattle.fs_chain.specs.Answers.{data_len, reply_of}
@@ -30,7 +30,7 @@ pub by_reply :
 by_reply cs o n (sent.Reply front) bytes = refl
 by_reply cs o n sent.NoRoom bytes = refl
 
-pub data_is : (bytes : List ℕ) (a : FileAnswer) → TellsBytes bytes a → data_len a ≡ length bytes
+pub data_is : (bytes : List ℕ) (a : FileAnswer) → ReportsBytes bytes a → data_len a ≡ length bytes
 data_is bytes (value.Bytes len) h = h
 data_is bytes a h = sym (ap length h)
 

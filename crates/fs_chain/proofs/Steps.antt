@@ -17,10 +17,10 @@ use Rattle.fs_chain.specs.declared.state.ChainState as state
 use Rattle.fs_chain.specs.declared.state.ChainState.TheVariants as at
 use Rattle.fs_chain.specs.declared.state.PopId.{PopId}
 use Rattle.fs_chain.specs.declared.popping.PopOutcome as walked
-use Rattle.fs_chain.specs.declared.popping.PopOutcome.TheVariants as tells
+use Rattle.fs_chain.specs.declared.popping.PopOutcome.TheVariants as reports
 use Rattle.fs_chain.specs.declared.chain_handle.ChainHandle.{ChainHandle}
 use Rattle.fs_chain.specs.Events.{event_fault, event_miss}
-use Rattle.fs_chain.specs.Walks.{BeginsPop, BeginsUnless, BeginsWhere, GoesOn, GoesOnUnless, HasEvents, LacksEvents, LeavesNone}
+use Rattle.fs_chain.specs.Walks.{BeginsPop, BeginsUnless, BeginsWhere, Continues, ContinuesUnless, HasEvents, LacksEvents, LeavesNone}
 use Rattle.fs_chain.specs.Walks.{RefusalHasEvents, WalksFrom, WalksOn, left_of}
 
 -- of a faulty chain none are kept, and none are spoken of
@@ -53,54 +53,56 @@ comes_taken course walk taken bytes came regions ds left same by_taken =
 
 -- a handle's walk begins, unless the queue's event index has no place
 pub begins_where :
-    (old new : ChainHandle) (before after : QueueState) (told : walked.PopOutcome) (fault : Option QueueError) → before.stopped ≡ None
-    → fault ≡ event_fault (places_in old.regions) before → BeginsWhere fault old new before after told → BeginsPop old new before after told
-begins_where old new before after told fault goes is begins =
-    let there = subst (λ (f : Option QueueError). BeginsWhere f old new before after told) is begins in
-    subst (λ (s : Option QueueError). BeginsUnless s old new before after told) (sym goes) there
+    (old new : ChainHandle) (before after : QueueState) (reported : walked.PopOutcome) (fault : Option QueueError) → before.stopped ≡ None
+    → fault ≡ event_fault (places_in old.regions) before → BeginsWhere fault old new before after reported
+    → BeginsPop old new before after reported
+begins_where old new before after reported fault proceeds is begins =
+    let there = subst (λ (f : Option QueueError). BeginsWhere f old new before after reported) is begins in
+    subst (λ (s : Option QueueError). BeginsUnless s old new before after reported) (sym proceeds) there
 
 -- a walk that begins tells a refusal or a miss alone where the event index isn't mapped
 abbrev IsRefused : walked.PopOutcome → Type 0
-IsRefused (tells.Refused e) = Unit {0}
-IsRefused (tells.Missing range access) = Unit {0}
+IsRefused (reports.Refused e) = Unit {0}
+IsRefused (reports.Missing range access) = Unit {0}
 IsRefused _ = ⊥
 
-refused_so : (old new : ChainHandle) (before after : QueueState) (told : walked.PopOutcome) (e : QueueError)
-    (miss : Option (IovaRange × Permissions)) → LacksEvents e miss old new before after told → IsRefused told
-refused_so old new before after told e None begins = subst IsRefused (sym begins.0) tt
-refused_so old new before after told e (Some miss) begins = subst IsRefused (sym begins.0) tt
+refused_so : (old new : ChainHandle) (before after : QueueState) (reported : walked.PopOutcome) (e : QueueError)
+    (miss : Option (IovaRange × Permissions)) → LacksEvents e miss old new before after reported → IsRefused reported
+refused_so old new before after reported e None begins = subst IsRefused (sym begins.0) tt
+refused_so old new before after reported e (Some miss) begins = subst IsRefused (sym begins.0) tt
 
-goes_by_none : (old new : ChainHandle) (before after : QueueState) (told : walked.PopOutcome) (fault : Option QueueError)
-    → (IsRefused told → ⊥) → BeginsWhere fault old new before after told → fault ≡ None
-goes_by_none old new before after told None goes begins = refl
-goes_by_none old new before after told (Some e) goes begins =
-    absurd (goes (refused_so old new before after told e (event_miss (places_in old.regions) before) begins))
+proceeds_by_none : (old new : ChainHandle) (before after : QueueState) (reported : walked.PopOutcome) (fault : Option QueueError)
+    → (IsRefused reported → ⊥) → BeginsWhere fault old new before after reported → fault ≡ None
+proceeds_by_none old new before after reported None proceeds begins = refl
+proceeds_by_none old new before after reported (Some e) proceeds begins =
+    absurd (proceeds (refused_so old new before after reported e (event_miss (places_in old.regions) before) begins))
 
-pub begun_has_events : (old new : ChainHandle) (before after : QueueState) (told : walked.PopOutcome) → RefusalHasEvents told old before
-    → BeginsUnless None old new before after told → HasEvents old before
-begun_has_events old new before after (tells.Refused e) has begins = has
-begun_has_events old new before after (tells.Missing range access) has begins = has
-begun_has_events old new before after (tells.Load n) has begins =
-    goes_by_none old new before after (tells.Load n) (event_fault (places_in old.regions) before) (λ no. no) begins
-begun_has_events old new before after tells.Idle has begins =
-    goes_by_none old new before after tells.Idle (event_fault (places_in old.regions) before) (λ no. no) begins
-begun_has_events old new before after (tells.Chain head n r) has begins =
-    goes_by_none old new before after (tells.Chain head n r) (event_fault (places_in old.regions) before) (λ no. no) begins
-begun_has_events old new before after (tells.Faulty head fault) has begins =
-    goes_by_none old new before after (tells.Faulty head fault) (event_fault (places_in old.regions) before) (λ no. no) begins
+pub begun_has_events : (old new : ChainHandle) (before after : QueueState) (reported : walked.PopOutcome)
+    → RefusalHasEvents reported old before
+    → BeginsUnless None old new before after reported → HasEvents old before
+begun_has_events old new before after (reports.Refused e) has begins = has
+begun_has_events old new before after (reports.Missing range access) has begins = has
+begun_has_events old new before after (reports.Load n) has begins =
+    proceeds_by_none old new before after (reports.Load n) (event_fault (places_in old.regions) before) (λ no. no) begins
+begun_has_events old new before after reports.Idle has begins =
+    proceeds_by_none old new before after reports.Idle (event_fault (places_in old.regions) before) (λ no. no) begins
+begun_has_events old new before after (reports.Chain head n r) has begins =
+    proceeds_by_none old new before after (reports.Chain head n r) (event_fault (places_in old.regions) before) (λ no. no) begins
+begun_has_events old new before after (reports.Faulty head fault) has begins =
+    proceeds_by_none old new before after (reports.Faulty head fault) (event_fault (places_in old.regions) before) (λ no. no) begins
 
 -- a handle's walk goes on, unless its queue was stopped
 pub walks_unless : (course : Course) (pop_id : PopId) (walk : QueueWalk) (bytes : List ℕ) (old new : ChainHandle)
-    (before after : QueueState) (told : walked.PopOutcome)
-    → old.state ≡ at.Walking course pop_id walk → GoesOnUnless before.stopped course pop_id walk bytes old new before after told
-    → WalksOn bytes old new before after told
-walks_unless course pop_id walk bytes old new before after told is goes =
-    let P : state.ChainState → Type 0 = λ s. WalksFrom s bytes old new before after told in subst P (sym is) goes
+    (before after : QueueState) (reported : walked.PopOutcome)
+    → old.state ≡ at.Walking course pop_id walk → ContinuesUnless before.stopped course pop_id walk bytes old new before after reported
+    → WalksOn bytes old new before after reported
+walks_unless course pop_id walk bytes old new before after reported is proceeds =
+    let P : state.ChainState → Type 0 = λ s. WalksFrom s bytes old new before after reported in subst P (sym is) proceeds
 
 pub walks_on : (course : Course) (pop_id : PopId) (walk : QueueWalk) (bytes : List ℕ) (old new : ChainHandle) (before after : QueueState)
-    (told : walked.PopOutcome)
-    → before.stopped ≡ None → old.state ≡ at.Walking course pop_id walk → GoesOn course pop_id walk bytes old new before after told
-    → WalksOn bytes old new before after told
-walks_on course pop_id walk bytes old new before after told free is goes =
-    walks_unless course pop_id walk bytes old new before after told is
-    (subst (λ (s : Option QueueError). GoesOnUnless s course pop_id walk bytes old new before after told) (sym free) goes)
+    (reported : walked.PopOutcome)
+    → before.stopped ≡ None → old.state ≡ at.Walking course pop_id walk → Continues course pop_id walk bytes old new before after reported
+    → WalksOn bytes old new before after reported
+walks_on course pop_id walk bytes old new before after reported free is proceeds =
+    walks_unless course pop_id walk bytes old new before after reported is
+    (subst (λ (s : Option QueueError). ContinuesUnless s course pop_id walk bytes old new before after reported) (sym free) proceeds)

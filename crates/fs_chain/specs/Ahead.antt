@@ -5,12 +5,12 @@ use Rattle.fs_regions.specs.Ahead.{AheadBytes, LeavesLoad, last_first, place_of}
 use Rattle.fs_regions.specs.declared.ahead.LoadAhead.{LoadAhead}
 use Rattle.fs_chain.specs.declared.error.ChainError.{ChainError}
 use Rattle.fs_chain.specs.declared.error.ChainError.TheVariants.{WrongOrder}
-use Rattle.fs_chain.specs.declared.loads.LoadOutcome as went
+use Rattle.fs_chain.specs.declared.loads.LoadOutcome as outcome
 use Rattle.fs_chain.specs.declared.queue.QueueState.{QueueState}
 use Rattle.fs_chain.specs.declared.chain_handle.ChainHandle.{ChainHandle}
 use Rattle.fs_chain.specs.declared.state.ChainState as state
 use Rattle.fs_chain.specs.declared.state.ChainState.TheVariants as at
-use Rattle.fs_chain.specs.Loads.{GoesSo, IsLoadWindow, came}
+use Rattle.fs_chain.specs.Loads.{ProceedsSo, IsLoadWindow, came}
 use Rattle.fs_chain.specs.Orders.{IfWalking, begin_error}
 use Rattle.fs_chain.specs.Pops.{BeginsPopBy, WantsBytes}
 
@@ -27,15 +27,15 @@ IsWantedLoad w one =
 -- a pop by calls of `pop` that weren't refused, the last one first. The first call has no bytes; each later
 -- one has those of a load which was made ahead, and is just the one that the call before it asked for
 abbrev pub WalksAhead : (taken : List AheadBytes) → (old new : ChainHandle) → (before after : QueueState) →
-    went.LoadOutcome → Type 0
-WalksAhead [] old new before after told = BeginsPopBy old new before after told
-WalksAhead (l ∷ taken) old new before after told =
-    (w : ChainHandle) × (q : QueueState) × (earlier : went.LoadOutcome)
+    outcome.LoadOutcome → Type 0
+WalksAhead [] old new before after reported = BeginsPopBy old new before after reported
+WalksAhead (l ∷ taken) old new before after reported =
+    (w : ChainHandle) × (q : QueueState) × (earlier : outcome.LoadOutcome)
     × WalksAhead taken old w before q earlier
     × WantsBytes earlier
     × IsWantedLoad w l.load
     × (length l.bytes ≡ l.load.len)
-    × GoesSo w q l.bytes told new after
+    × ProceedsSo w q l.bytes reported new after
 
 -- a pop that asks for a load doesn't take the next one of these
 abbrev pub StopsAt : List AheadBytes → ChainHandle → Type 0
@@ -44,9 +44,9 @@ StopsAt (l ∷ more) w = IfWalking w.state (λ walk. LeavesLoad w.regions walk l
 
 -- a pop takes the first of these loads, as many as it asks for one after another
 pub record PopsAhead (ahead : List AheadBytes) (old new : ChainHandle) (before after : QueueState)
-    (told : went.LoadOutcome) : Type 0 where
+    (reported : outcome.LoadOutcome) : Type 0 where
   pub first : List AheadBytes
   pub more : List AheadBytes
   pub parts : ahead ≡ first ++ more
-  pub walks : WalksAhead (last_first first []) old new before after told
+  pub walks : WalksAhead (last_first first []) old new before after reported
   pub stops : StopsAt more new

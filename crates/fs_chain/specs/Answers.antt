@@ -10,7 +10,7 @@ use Rattle.server_phases.specs.declared.answering.AnswerRefusal.TheVariants as r
 use Rattle.server_phases.specs.declared.answering.Sent.{Sent}
 use Rattle.server_phases.specs.declared.answering.Sent.TheVariants as sent
 use Rattle.server_phases.specs.declared.waiting.Waiting.{Waiting}
-use Rattle.server_phases.specs.Answering.{Gives, TellsBytes, IsRefusedFor, is_too_long}
+use Rattle.server_phases.specs.Answering.{Gives, ReportsBytes, IsRefusedFor, is_too_long}
 use Rattle.fuse_fs.specs.Calls.{suits}
 use Rattle.fuse_values.specs.Answers.{answer_of}
 use Rattle.server_phases.specs.Waiting.{WaitsFor, first_call}
@@ -50,23 +50,23 @@ refusal_error refused.OtherKind = error.OtherKind
 refusal_error refused.TooLong = error.LongReply
 
 -- the answer to a call in flight is accepted. For every command that the call may belong to, `given`
--- follows from the answer: it is returned as `told`, and the handle keeps it
+-- follows from the answer: it is returned as `reported`, and the handle keeps it
 abbrev pub IsGiven :
     (s : Setting) → Waiting → FileAnswer → InFlight → (options : ℕ) → Replied → state.ChainState → Type 0
-IsGiven s w answer out options told kept =
+IsGiven s w answer out options reported preserved =
     (given : Answered)
-    × (told ≡ replied_of given)
-    × (kept ≡ at.HasReply out (reply_of given.sent (data_len answer)))
+    × (reported ≡ replied_of given)
+    × (preserved ≡ at.HasReply out (reply_of given.sent (data_len answer)))
     × ((command : FileCommand) (bytes : List ℕ) →
     WaitsFor w command →
-    TellsBytes bytes answer →
+    ReportsBytes bytes answer →
     Gives s command bytes answer given options)
 
 -- the answer suits every command that the call in flight may belong to, and isn't too long for the reply
 -- buffer
 abbrev pub CanBeGiven : Waiting → FileAnswer → Type 0
 CanBeGiven w answer =
-    (command : FileCommand) (bytes : List ℕ) → WaitsFor w command → TellsBytes bytes answer
+    (command : FileCommand) (bytes : List ℕ) → WaitsFor w command → ReportsBytes bytes answer
     → (suits (first_call command) (answer_of bytes answer) ≡ true) × (is_too_long w.room answer ≡ false)
 
 -- the answer to a call in flight is refused, for a reason that holds for every command that it may belong
@@ -77,7 +77,7 @@ RefusesAnswer w answer e =
     × (e ≡ refusal_error reason)
     × ((command : FileCommand) (bytes : List ℕ) →
     WaitsFor w command →
-    TellsBytes bytes answer →
+    ReportsBytes bytes answer →
     IsRefusedFor reason (first_call command) w.room bytes answer)
 
 -- P, if a call is in flight

@@ -9,11 +9,11 @@ use Rattle.server_phases.specs.declared.asking.DecodedRequest.{DecodedRequest}
 use Rattle.server_phases.specs.declared.asking.DecodedRequest.TheVariants as asked
 use Rattle.server_phases.specs.declared.listing.Listing.{Listing}
 use Rattle.server_phases.specs.declared.waiting.Waiting.{Waiting}
-use Rattle.server_phases.specs.Asking.{AsksCall, TellsData, IsDecoded, front_suffices}
+use Rattle.server_phases.specs.Asking.{AsksCall, ReportsData, IsDecoded, front_suffices}
 use Rattle.server_phases.specs.Gathering.{IsListingFor, is_list_command}
 use Rattle.server_phases.specs.Waiting.{WaitsFor, first_call}
 use Rattle.fs_chain.specs.declared.decoding.Decoded.{Decoded}
-use Rattle.fs_chain.specs.declared.decoding.Decoded.TheVariants as tells
+use Rattle.fs_chain.specs.declared.decoding.Decoded.TheVariants as reports
 use Rattle.fs_chain.specs.declared.state.InFlight.{InFlight}
 use Rattle.fs_chain.specs.declared.state.ChainState as state
 use Rattle.fs_chain.specs.declared.state.ChainState.TheVariants as at
@@ -25,7 +25,7 @@ AsksListing s m bytes made l =
     (command : FileCommand)
     × (m ≡ Asks command)
     × (call_of bytes made ≡ first_call command)
-    × TellsData bytes made
+    × ReportsData bytes made
     × IsListingFor l s.room command
     × (l.len ≡ 0)
 
@@ -35,9 +35,9 @@ WaitsForNoListing w = (command : FileCommand) → WaitsFor w command → is_list
 
 -- the returned call is the command's first one; the handle keeps it, or its listing, until it is answered
 abbrev pub KeepsCall : Setting → Meaning → (bytes : List ℕ) → FileCall → InFlight → state.ChainState → Type 0
-KeepsCall s m bytes made out (at.Waits kept w) =
-    (kept ≡ out) × AsksCall s m bytes made w × WaitsForNoListing w
-KeepsCall s m bytes made out (at.Lists kept l) = (kept ≡ out) × AsksListing s m bytes made l
+KeepsCall s m bytes made out (at.Waits preserved w) =
+    (preserved ≡ out) × AsksCall s m bytes made w × WaitsForNoListing w
+KeepsCall s m bytes made out (at.Lists preserved l) = (preserved ≡ out) × AsksListing s m bytes made l
 KeepsCall s m bytes made out _ = ⊥
 
 -- the result for a reply that is kept, or for silence
@@ -47,23 +47,23 @@ asked_of (Some front) = asked.Reply front
 
 -- no file call is made, and the handle keeps the reply, if there is one
 abbrev pub KeepsReply : Setting → Meaning → (bytes : List ℕ) → InFlight → state.ChainState → Type 0
-KeepsReply s m bytes out (at.HasReply kept reply) =
-    (kept ≡ out) × (reply.behind ≡ 0) × IsDecoded s m bytes (asked_of reply.front)
+KeepsReply s m bytes out (at.HasReply preserved reply) =
+    (preserved ≡ out) × (reply.behind ≡ 0) × IsDecoded s m bytes (asked_of reply.front)
 KeepsReply s m bytes out _ = ⊥
 
 -- a request with this meaning has this result, and its chain this state afterwards
-abbrev pub TellsMeaning :
+abbrev pub ReportsMeaning :
     Setting → Meaning → (bytes : List ℕ) → InFlight → Decoded → state.ChainState → Type 0
-TellsMeaning s m bytes out (tells.Call made) kept = KeepsCall s m bytes made out kept
-TellsMeaning s m bytes out (tells.More wanted) kept = kept ≡ at.Taken out
-TellsMeaning s m bytes out tells.Nothing kept = KeepsReply s m bytes out kept
-TellsMeaning s m bytes out (tells.Fault e) kept =
-    (kept ≡ at.HasReply out no_reply) × IsDecoded s m bytes (asked.Fault e)
+ReportsMeaning s m bytes out (reports.Call made) preserved = KeepsCall s m bytes made out preserved
+ReportsMeaning s m bytes out (reports.More wanted) preserved = preserved ≡ at.Taken out
+ReportsMeaning s m bytes out reports.Nothing preserved = KeepsReply s m bytes out preserved
+ReportsMeaning s m bytes out (reports.Fault e) preserved =
+    (preserved ≡ at.HasReply out no_reply) × IsDecoded s m bytes (asked.Fault e)
 
 -- the call in flight keeps this context; a listing keeps none
-abbrev pub IsKeptFor : Context → state.ChainState → Type 0
-IsKeptFor who (at.Waits out w) = w.context ≡ who
-IsKeptFor who _ = Unit {0}
+abbrev pub IsPreservedFor : Context → state.ChainState → Type 0
+IsPreservedFor who (at.Waits out w) = w.context ≡ who
+IsPreservedFor who _ = Unit {0}
 
 -- how many bytes of a request the library needs if these don't suffice to decode it: first those before a
 -- WRITE's data, then all of them
@@ -72,7 +72,7 @@ wanted len whole = if nat_lt len 80 then min whole 80 else whole
 
 -- how many bytes are needed, if the result asks for more
 abbrev pub wanted_by : Decoded → Option ℕ
-wanted_by (tells.More n) = Some n
+wanted_by (reports.More n) = Some n
 wanted_by _ = None
 
 -- how many bytes are needed after these first ones; none if they suffice

@@ -9,7 +9,7 @@ use Rattle.vm_memory.specs.Memory.{Memory, reach}
 use Rattle.fs_queue.specs.declared.fault.QueueError.{QueueError}
 use Rattle.fs_queue.specs.declared.fault.QueueError.TheVariants.{AvailFlagsUnreachable, UsedUnreachable}
 use Rattle.fs_queue.specs.declared.layout.QueueLayout.{QueueLayout}
-use Rattle.fs_queue.specs.Returning.{Store, tells}
+use Rattle.fs_queue.specs.Returning.{Store, notifies}
 use Rattle.fs_regions.specs.Misses.{first_miss}
 use Rattle.fs_chain.specs.declared.event_index.NotificationStore.{NotificationStore}
 use Rattle.fs_chain.specs.declared.queue.QueueState.{QueueState}
@@ -28,8 +28,8 @@ seen_at event_index l = if event_index then used_event_at l else l.avail
 
 -- whether to notify the driver of the next chain that is pushed. With the event index, this is so if
 -- used_event is that chain's position in the used ring
-abbrev pub tells_of : QueueState → (seen : List ℕ) → Bool
-tells_of q seen = if q.event_index then from_le_bytes w16 seen == q.next_used else tells seen
+abbrev pub notifies_of : QueueState → (seen : List ℕ) → Bool
+notifies_of q seen = if q.event_index then from_le_bytes w16 seen == q.next_used else notifies seen
 
 -- why no chain can be popped from a queue with the event index: used_event or avail_event isn't mapped
 abbrev pub event_fault : Memory → QueueState → Option QueueError

@@ -10,7 +10,7 @@ use Rattle.fs_chain.specs.Holds.{HasUnreplied, HoldsChain, HoldsPop, Pop}
 use Rattle.fs_chain.specs.Pops.{AddsSo}
 use Rattle.fs_chain.specs.declared.chain_handle.ChainHandle.{ChainHandle}
 use Rattle.fs_chain.specs.declared.popping.PopOutcome as walked
-use Rattle.fs_chain.specs.declared.loads.LoadOutcome.TheVariants as wents
+use Rattle.fs_chain.specs.declared.loads.LoadOutcome.TheVariants as outcomes
 use Rattle.fs_chain.specs.declared.state.ChainState as state
 use Rattle.fs_chain.specs.declared.state.ChainState.TheVariants as at
 
@@ -34,10 +34,11 @@ LoadsAreFew =
 -- each whole load that it is given counts
 abbrev pub LoadsCount : Type 0
 LoadsCount =
-    (limit : ℕ) (p : Pop) (w : ChainHandle) (ds : List Descriptor) (told : walked.PopOutcome) (bytes : List ℕ)
+    (limit : ℕ) (p : Pop) (w : ChainHandle) (ds : List Descriptor) (reported : walked.PopOutcome)
+    (bytes : List ℕ)
     (loaded : Loaded) →
     HoldsPop limit p w →
-    AddsSo w.state (wents.On told) ds p.loaded bytes loaded →
+    AddsSo w.state (outcomes.On reported) ds p.loaded bytes loaded →
     load_count p.loaded + 1 ≤ load_count loaded
 
 -- each byte of the load that it asks for is mapped, so no call is refused because it isn't

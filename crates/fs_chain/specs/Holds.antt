@@ -24,7 +24,7 @@ use Rattle.fuse_values.specs.declared.answer.FileAnswer as made_answer
 use Rattle.fuse_values.specs.declared.call.FileCall as made_call
 use Rattle.virtiofsd_fuse.specs.Grammar.{meaning}
 use Rattle.virtiofsd_fuse.specs.Serving.{ServedMessage, served, setting}
-use Rattle.server_phases.specs.Answering.{TellsBytes, forget_calls}
+use Rattle.server_phases.specs.Answering.{ReportsBytes, forget_calls}
 use Rattle.server_phases.specs.Asking.{AsksCall, IsRequestFront}
 use Rattle.server_phases.specs.declared.session.Session.{Session}
 use Rattle.plain_machine.specs.Step.{Calls, Exchange, answers_alone, calls_alone}
@@ -42,16 +42,16 @@ use Rattle.fs_chain.specs.Decoding.{AsksListing, WaitsForNoListing}
 use Rattle.fs_chain.specs.Loads.{whole}
 use Rattle.fs_chain.specs.Orders.{front_of, reply_len}
 use Rattle.fs_chain.specs.Rings.{ring_of}
-use Rattle.fs_chain.specs.Walks.{told_of}
+use Rattle.fs_chain.specs.Walks.{reported_of}
 use Rattle.fs_chain.specs.Pops.{AddsSo}
 use Rattle.fs_chain.specs.declared.answering.Replied.{Replied}
 use Rattle.fs_chain.specs.declared.chain_handle.ChainHandle.{ChainHandle}
 use Rattle.fs_chain.specs.declared.decoding.Decoded.{Decoded}
 use Rattle.fs_chain.specs.declared.decoding.Decoded.TheVariants as asks
-use Rattle.fs_chain.specs.declared.loads.LoadOutcome as went
-use Rattle.fs_chain.specs.declared.loads.LoadOutcome.TheVariants as wents
+use Rattle.fs_chain.specs.declared.loads.LoadOutcome as outcome
+use Rattle.fs_chain.specs.declared.loads.LoadOutcome.TheVariants as outcomes
 use Rattle.fs_chain.specs.declared.popping.PopOutcome as walked
-use Rattle.fs_chain.specs.declared.popping.PopOutcome.TheVariants as says
+use Rattle.fs_chain.specs.declared.popping.PopOutcome.TheVariants as shows
 use Rattle.fs_chain.specs.declared.pushing.PushStores.{PushStores}
 use Rattle.fs_chain.specs.declared.queue.QueueState.{QueueState}
 use Rattle.fs_chain.specs.declared.state.ChainReply.{ChainReply}
@@ -97,10 +97,10 @@ served_so page_size options request room calls =
     served (setting page_size options room) (meaning options request room) (answers_alone calls)
 
 -- the handle keeps this reply: its front, and how many bytes are behind it
-pub record KeepsReplyOf (reply : List ℕ) (out : InFlight) (kept : ChainReply) : Type 0 where
+pub record KeepsReplyOf (reply : List ℕ) (out : InFlight) (preserved : ChainReply) : Type 0 where
   pub behind : List ℕ
-  pub bytes : reply ≡ front_of kept ++ behind
-  pub len : reply_len out kept ≡ length reply
+  pub bytes : reply ≡ front_of preserved ++ behind
+  pub len : reply_len out preserved ≡ length reply
 
 -- the session in which a request was decoded
 abbrev pub IsDecodedIn : (page_size options : ℕ) → Session → Type 0
@@ -110,11 +110,11 @@ IsDecodedIn page_size options session = (session.page_size ≡ page_size) × (se
 -- phase says: by its answered calls, or its caller's own bytes
 abbrev pub IsHeldIn : (page_size : ℕ) → InFlightChain → Phase → state.ChainState → Session → Type 0
 IsHeldIn page_size c Fetched (at.Taken out) session = IsOutAs c out
-IsHeldIn page_size c (PoppedFaulty why) (at.HasReply out kept) session =
-    IsOutAs c out × KeepsReplyOf [] out kept
+IsHeldIn page_size c (PoppedFaulty why) (at.HasReply out preserved) session =
+    IsOutAs c out × KeepsReplyOf [] out preserved
 IsHeldIn page_size c (PoppedFaulty why) (at.Pushing out) session = IsOutAs c out
-IsHeldIn page_size c (Own request reply) (at.HasReply out kept) session =
-    IsOutAs c out × KeepsReplyOf reply out kept
+IsHeldIn page_size c (Own request reply) (at.HasReply out preserved) session =
+    IsOutAs c out × KeepsReplyOf reply out preserved
 IsHeldIn page_size c (Own request reply) (at.Pushing out) session = IsOutAs c out
 IsHeldIn page_size c (Asked request options calls) (at.Waits out waiting) session =
     IsOutAs c out
@@ -133,8 +133,8 @@ IsHeldIn page_size c (Asked request options calls) (at.Lists out listing) sessio
     × AsksListing (setting page_size options out.room_len) (meaning options request out.room_len)
     (drop 80 request) made
     listing
-IsHeldIn page_size c (Asked request options calls) (at.HasReply out kept) session =
-    IsOutAs c out × KeepsReplyOf (served_so page_size options request out.room_len calls).reply out kept
+IsHeldIn page_size c (Asked request options calls) (at.HasReply out preserved) session =
+    IsOutAs c out × KeepsReplyOf (served_so page_size options request out.room_len calls).reply out preserved
 IsHeldIn page_size c (Asked request options calls) (at.Pushing out) session = IsOutAs c out
 IsHeldIn page_size c phase st session = ⊥
 
@@ -177,26 +177,27 @@ calls_decoded behind _ = []
 abbrev pub DecodingIs : (s : Machine) (before behind : List InFlightChain) (c : InFlightChain)
     (request : List ℕ) (new : ChainHandle) → Decoded → Type 0
 DecodingIs s before behind c request new (asks.More n) = HoldsChain s.page_size c new
-DecodingIs s before behind c request new told =
-    Happens any_files s (DecodesRequest c request (calls_decoded (drop 80 request) told))
+DecodingIs s before behind c request new reported =
+    Happens any_files s (DecodesRequest c request (calls_decoded (drop 80 request) reported))
     (after_decoding s before behind c request)
     × HoldsChain s.page_size (asked_chain c request s.options []) new
 
 -- so it is in each state of a run in which the handle has the chain, if the session is the run's
 unfoldable pub Decodes : (old new : ChainHandle) → Session → (front : List ℕ) → Decoded → Type 0
-Decodes old new session front told =
+Decodes old new session front reported =
     (s : Machine) (before behind : List InFlightChain) (c : InFlightChain) (request : List ℕ) →
     s.chains ≡ before ++ c ∷ behind →
     HoldsChain s.page_size c old →
     IsDecodedIn s.page_size s.options session →
     length request ≡ total_len (readable c.descriptors) →
     IsRequestFront front request →
-    DecodingIs s before behind c request new told
+    DecodingIs s before behind c request new reported
 
 -- the handle keeps the front of this reply. Behind it are the first of these bytes, as many as the handle
 -- told
 abbrev pub IsRepliedWith : (reply bytes : List ℕ) → state.ChainState → Type 0
-IsRepliedWith reply bytes (at.HasReply out kept) = reply ≡ front_of kept ++ take kept.behind bytes
+IsRepliedWith reply bytes (at.HasReply out preserved) =
+    reply ≡ front_of preserved ++ take preserved.behind bytes
 IsRepliedWith reply bytes _ = ⊥
 
 -- a FORGET that the caller owes is answered at any later moment, without the handle: the event
@@ -212,35 +213,37 @@ ForgettingIs s before behind c request options calls new (Some node) =
     × ((served_so s.page_size options request (length (addresses_of (writable c.descriptors))) all).calls
     ≡ calls_alone all)
 
--- this call was pending, and is answered: the event `ReceivesAnswer`. `told.forget` is the FORGET that the
+-- this call was pending, and is answered: the event `ReceivesAnswer`. `reported.forget` is the FORGET that
+-- the
 -- caller owes then, and the handle's session has the options that the chain leaves. `bytes`: the answer's
 -- data
 abbrev pub AnsweringIs : (s : Machine) (before behind : List InFlightChain) (c : InFlightChain)
-    (request bytes : List ℕ) (options : ℕ) (call : FileCall) (answer : FileAnswer) (told : Replied)
+    (request bytes : List ℕ) (options : ℕ) (call : FileCall) (answer : FileAnswer) (reported : Replied)
     (new : ChainHandle) → Type 0
-AnsweringIs s before behind c request bytes options call answer told new =
+AnsweringIs s before behind c request bytes options call answer reported new =
     let calls : Calls = (call, answer) ∷ [] in
     let given = served_so s.page_size options request (length (addresses_of (writable c.descriptors)))
     calls in
     let after = after_answer s before behind c request options calls tt in
     Happens any_files s (ReceivesAnswer c call answer) after
     × HoldsChain s.page_size (asked_chain c request options calls) new
-    × (given.calls ≡ call ∷ forget_calls told.forget)
+    × (given.calls ≡ call ∷ forget_calls reported.forget)
     × (new.session.options.0 ≡ given.options)
     × IsRepliedWith given.reply bytes new.state
     × ForgettingIs after before behind (asked_chain c request options calls) request options calls new
-    told.forget
+    reported.forget
 
 -- so it is for an answer to a decoded chain, with these bytes of data in the reply buffer
 unfoldable pub Answers : (old new : ChainHandle) → made_answer.FileAnswer → Replied → Type 0
-Answers old new answer told =
+Answers old new answer reported =
     (s : Machine) (before behind : List InFlightChain) (c : InFlightChain) (request bytes : List ℕ)
     (options : ℕ) →
     s.chains ≡ before ++ c ∷ behind →
     c.phase ≡ Asked request options [] →
     HoldsChain s.page_size c old →
-    TellsBytes bytes answer →
-    (call : FileCall) × AnsweringIs s before behind c request bytes options call (answer_of bytes answer) told
+    ReportsBytes bytes answer →
+    (call : FileCall) × AnsweringIs s before behind c request bytes options call (answer_of bytes answer)
+    reported
     new
 
 -- a push returns the stores of the chain's exchange at the queue's next used position, and the reply's front.
@@ -316,9 +319,9 @@ HasPopped s i q loaded _ w = w.state ≡ at.Free
 
 -- a pop ended by itself: the event `EndsPop`
 pub record EndsBy (s : Machine) (i : ℕ) (q q' : QueueState) (loaded : Loaded) (new : ChainHandle)
-    (told : walked.PopOutcome) : Type 0 where
+    (reported : walked.PopOutcome) : Type 0 where
   pub came : comes.CourseStep
-  pub told_is : told ≡ told_of new.descriptors.items came
+  pub reported_is : reported ≡ reported_of new.descriptors.items came
   pub happens : Happens any_files s (EndsPop i loaded new.descriptors.items came)
       (after_pop s i (live_of q) loaded new.descriptors.items came)
   pub queue : IsQueue (after_pop s i (live_of q) loaded new.descriptors.items came) i q'
@@ -326,9 +329,9 @@ pub record EndsBy (s : Machine) (i : ℕ) (q q' : QueueState) (loaded : Loaded) 
 
 -- the queue refused it without looking: the event `RefusesPop`
 pub record RefusedBy (s : Machine) (i : ℕ) (q q' : QueueState) (new : ChainHandle)
-    (told : walked.PopOutcome) : Type 0 where
+    (reported : walked.PopOutcome) : Type 0 where
   pub error : QueueError
-  pub told_is : told ≡ says.Refused error
+  pub reported_is : reported ≡ shows.Refused error
   pub after : Machine
   pub happens : Happens any_files s (RefusesPop i error) after
   pub queue : IsQueue after i q'
@@ -338,46 +341,47 @@ pub record RefusedBy (s : Machine) (i : ℕ) (q q' : QueueState) (new : ChainHan
 -- and nothing happened; it ended; or the queue refused it
 abbrev pub PopIs : (s : Machine) (i : ℕ) (q q' : QueueState) (p : Pop) (new : ChainHandle) →
     walked.PopOutcome → Type 0
-PopIs s i q q' p new (says.Load n) = HoldsPop s.limit p new × (q' ≡ q)
-PopIs s i q q' p new (says.Missing range access) = (new.state ≡ at.Free) × (q' ≡ q)
-PopIs s i q q' p new told = EndsBy s i q q' p.loaded new told ⊎ RefusedBy s i q q' new told
+PopIs s i q q' p new (shows.Load n) = HoldsPop s.limit p new × (q' ≡ q)
+PopIs s i q q' p new (shows.Missing range access) = (new.state ≡ at.Free) × (q' ≡ q)
+PopIs s i q q' p new reported = EndsBy s i q q' p.loaded new reported ⊎ RefusedBy s i q q' new reported
 
 -- a pop that begins
-unfoldable pub BeginsAPop : (old new : ChainHandle) → (q q' : QueueState) → went.LoadOutcome → Type 0
-BeginsAPop old new q q' wents.Part = ⊥
-BeginsAPop old new q q' (wents.On told) =
+unfoldable pub BeginsAPop : (old new : ChainHandle) → (q q' : QueueState) → outcome.LoadOutcome → Type 0
+BeginsAPop old new q q' outcomes.Part = ⊥
+BeginsAPop old new q q' (outcomes.On reported) =
     (s : Machine) (i : ℕ) →
     IsQueue s i q →
     s.places ≡ places_in old.regions →
     s.limit ≡ old.limit →
     s.limit ≤ 2 ^ 31 →
-    PopIs s i q q' (record { loaded = nothing; event_index = q.event_index }) new told
+    PopIs s i q q' (record { loaded = nothing; event_index = q.event_index }) new reported
 
 -- a pop that continues, in a run whose mappings are those of its beginning. A part of a load adds nothing; a
 -- whole load adds its bytes
-abbrev pub PopGoesOn : (s : Machine) (i : ℕ) (q q' : QueueState) (p : Pop) (old new : ChainHandle)
+abbrev pub PopContinues : (s : Machine) (i : ℕ) (q q' : QueueState) (p : Pop) (old new : ChainHandle)
     (bytes : List ℕ) →
-    went.LoadOutcome → Type 0
-PopGoesOn s i q q' p old new bytes wents.Part = HoldsPop s.limit p new × (q' ≡ q)
-PopGoesOn s i q q' p old new bytes (wents.On told) =
+    outcome.LoadOutcome → Type 0
+PopContinues s i q q' p old new bytes outcomes.Part = HoldsPop s.limit p new × (q' ≡ q)
+PopContinues s i q q' p old new bytes (outcomes.On reported) =
     (loaded : Loaded)
-    × (q.stopped ≡ None → AddsSo old.state (wents.On told) new.descriptors.items p.loaded (whole old bytes)
+    × (q.stopped ≡ None → AddsSo old.state (outcomes.On reported) new.descriptors.items p.loaded
+    (whole old bytes)
     loaded)
-    × PopIs s i q q' (record p { loaded = loaded }) new told
+    × PopIs s i q q' (record p { loaded = loaded }) new reported
 
 unfoldable pub ContinuesAPop :
-    (old new : ChainHandle) → (q q' : QueueState) → (bytes : List ℕ) → went.LoadOutcome → Type 0
-ContinuesAPop old new q q' bytes told =
+    (old new : ChainHandle) → (q q' : QueueState) → (bytes : List ℕ) → outcome.LoadOutcome → Type 0
+ContinuesAPop old new q q' bytes reported =
     (s : Machine) (i : ℕ) (p : Pop) →
     HoldsPop s.limit p old →
     IsQueue s i q →
     s.places ≡ places_in old.regions →
     p.event_index ≡ q.event_index →
     s.limit ≤ 2 ^ 31 →
-    PopGoesOn s i q q' p old new bytes told
+    PopContinues s i q q' p old new bytes reported
 
 -- a call of a pop: of a free handle it begins one, of another it continues the one that is under way
 abbrev pub PopsBy : state.ChainState → (old new : ChainHandle) → (q q' : QueueState) → (bytes : List ℕ) →
-    went.LoadOutcome → Type 0
-PopsBy at.Free old new q q' bytes told = BeginsAPop old new q q' told
-PopsBy st old new q q' bytes told = ContinuesAPop old new q q' bytes told
+    outcome.LoadOutcome → Type 0
+PopsBy at.Free old new q q' bytes reported = BeginsAPop old new q q' reported
+PopsBy st old new q q' bytes reported = ContinuesAPop old new q q' bytes reported

@@ -65,10 +65,10 @@ AddingIs page_size c es calls list list' e new why =
 
 -- so it is for an entry that is brought to a listing that the handle gathers
 unfoldable pub AddsEntry : (old new : ChainHandle) → (list list' : List ℕ) → Brought → Added → Type 0
-AddsEntry old new list list' e told =
+AddsEntry old new list list' e reported =
     (page_size : ℕ) (c : InFlightChain) (es : List Brought) (calls : Calls) →
     HoldsListing page_size c es calls list old →
-    AddingIs page_size c es calls list list' e new told
+    AddingIs page_size c es calls list list' e new reported
 
 -- a listing may end so by the entries that were added
 abbrev pub MayEnd : Listing → (list : List ℕ) → Ending → Type 0
@@ -89,9 +89,10 @@ MayFail errno listing list _ = ⊥
 pub record HasListed (page_size : ℕ) (c : InFlightChain) (calls : Calls) (list : List ℕ) (request : List ℕ)
     (options : ℕ) (out : InFlight) (len : ℕ) (new : ChainHandle) : Type 0 where
   pub holds : HoldsChain page_size c new
-  pub kept : ChainReply
-  pub state : new.state ≡ at.HasReply out kept
-  pub reply : (served_so page_size options request out.room_len calls).reply ≡ front_of kept ++ take len list
+  pub preserved : ChainReply
+  pub state : new.state ≡ at.HasReply out preserved
+  pub reply : (served_so page_size options request out.room_len calls).reply ≡ front_of preserved
+      ++ take len list
   pub none_pending :
       (served_so page_size options request (length (addresses_of (writable c.descriptors))) calls).calls
       ≡ calls_alone calls
@@ -100,8 +101,7 @@ pub record HasListed (page_size : ℕ) (c : InFlightChain) (calls : Calls) (list
 unfoldable pub EndsListing : (old new : ChainHandle) → (len : ℕ) → Type 0
 EndsListing old new len =
     (page_size : ℕ) (c : InFlightChain) (es : List Brought) (ending : Ending) (calls : Calls) (list : List ℕ)
-    →
-    (held : HoldsListing page_size c es calls list old) →
+    → (held : HoldsListing page_size c es calls list old) →
     MayEnd held.listing list ending →
     calls ≡ listing_calls (readdir_call held.asked) held.asked.with_nodes es ending →
     HasListed page_size c calls list held.request held.options held.out len new
@@ -110,8 +110,7 @@ EndsListing old new len =
 unfoldable pub FailsListing : (errno : ℕ) → (old new : ChainHandle) → (len : ℕ) → Type 0
 FailsListing errno old new len =
     (page_size : ℕ) (c : InFlightChain) (es : List Brought) (ending : Ending) (calls : Calls) (list : List ℕ)
-    →
-    (held : HoldsListing page_size c es calls list old) →
+    → (held : HoldsListing page_size c es calls list old) →
     MayFail errno held.listing list ending →
     calls ≡ listing_calls (readdir_call held.asked) held.asked.with_nodes es ending →
     HasListed page_size c calls list held.request held.options held.out len new
@@ -122,8 +121,7 @@ FailsListing errno old new len =
 abbrev pub BeginsListing : Type 0
 BeginsListing =
     (page_size : ℕ) (c : InFlightChain) (w : ChainHandle) (out : InFlight) (listing : Listing) (list : List ℕ)
-    →
-    w.state ≡ at.Lists out listing →
+    → w.state ≡ at.Lists out listing →
     HoldsChain page_size c w →
     HoldsListing page_size c [] [] list w
 

@@ -15,54 +15,54 @@ use Rattle.fs_chain.specs.declared.queue.QueueState.{QueueState}
 use Rattle.fs_chain.specs.declared.state.ChainState.TheVariants as at
 use Rattle.fs_chain.specs.declared.state.PopId.{PopId}
 use Rattle.fs_chain.specs.declared.popping.PopOutcome as walked
-use Rattle.fs_chain.specs.declared.popping.PopOutcome.TheVariants as tells
+use Rattle.fs_chain.specs.declared.popping.PopOutcome.TheVariants as reports
 use Rattle.fs_chain.specs.declared.chain_handle.ChainHandle.{ChainHandle}
-use Rattle.fs_chain.specs.Walks.{RefusalHasEvents, WalksOn, course_of, told_of}
+use Rattle.fs_chain.specs.Walks.{RefusalHasEvents, WalksOn, course_of, reported_of}
 
 -- the result of a pop, with these descriptors, is this offer. For a chain without a fault that holds if
 -- `request` has the length of its request; a load or a miss decides nothing yet
 abbrev pub IsOfferOf : List Descriptor → walked.PopOutcome → (request : List ℕ) → Offer → Type 0
-IsOfferOf ds (tells.Load n) request o = Unit {0}
-IsOfferOf ds tells.Idle request o = o ≡ Idle
-IsOfferOf ds (tells.Refused e) request o = o ≡ Refuses e
-IsOfferOf ds (tells.Chain head request_len room_len) request o =
+IsOfferOf ds (reports.Load n) request o = Unit {0}
+IsOfferOf ds reports.Idle request o = o ≡ Idle
+IsOfferOf ds (reports.Refused e) request o = o ≡ Refuses e
+IsOfferOf ds (reports.Chain head request_len room_len) request o =
     length request ≡ total_len (readable ds) →
     o ≡ Offers head (IsRequest request (addresses_of (writable ds)))
-IsOfferOf ds (tells.Faulty head fault) request o = o ≡ Offers head (CannotFetch fault)
-IsOfferOf ds (tells.Missing range access) request o = Unit {0}
+IsOfferOf ds (reports.Faulty head fault) request o = o ≡ Offers head (CannotFetch fault)
+IsOfferOf ds (reports.Missing range access) request o = Unit {0}
 
 -- the result of a pop is the offer of the course's queue in a memory
-abbrev pub TellsOffer : Memory → Course → ChainHandle → walked.PopOutcome → (request : List ℕ) → Type 0
-TellsOffer m course new told request =
-    IsOfferOf new.descriptors.items told request (offer m course.limit (queue_of course))
+abbrev pub ReportsOffer : Memory → Course → ChainHandle → walked.PopOutcome → (request : List ℕ) → Type 0
+ReportsOffer m course new reported request =
+    IsOfferOf new.descriptors.items reported request (offer m course.limit (queue_of course))
 
 -- a pop that continues returns the queue's offer in each memory with these contents: the handle's
 -- regions, the walk's loads with `bytes` added, and the request's bytes
-pub record GoesOnByLoads (loaded : Loaded) (course : Course) (walk : QueueWalk) (bytes : List ℕ)
-    (old new : ChainHandle) (told : walked.PopOutcome) : Type 0 where
+pub record ContinuesByLoads (loaded : Loaded) (course : Course) (walk : QueueWalk) (bytes : List ℕ)
+    (old new : ChainHandle) (reported : walked.PopOutcome) : Type 0 where
   pub came : comes.CourseStep
-  pub told_so : told ≡ told_of new.descriptors.items came
+  pub reported_so : reported ≡ reported_of new.descriptors.items came
   pub after : Loaded
   pub adds : AddsBytes walk bytes came loaded after
   pub offers : (h : Host) (request : List ℕ) →
       HasLoaded (memory_over h old.regions) (queue_of course) after request →
-      TellsOffer (memory_over h old.regions) course new told request
+      ReportsOffer (memory_over h old.regions) course new reported request
 
 -- for a queue that wasn't stopped, a call of `pop` returns the queue's offer in each memory with these
 -- contents: the handle's regions, all loads of the walk, and the request's bytes
 pub record WalksAreOffers : Type 0 where
   pub begins : (h : Host) (bytes request : List ℕ) (old new : ChainHandle) (before after : QueueState)
-      (told : walked.PopOutcome)
+      (reported : walked.PopOutcome)
       → before.stopped ≡ None
-      → RefusalHasEvents told old before
+      → RefusalHasEvents reported old before
       → old.state ≡ at.Free
-      → WalksOn bytes old new before after told
+      → WalksOn bytes old new before after reported
       → HasLoaded (memory_over h old.regions) (queue_of (course_of before old.limit)) nothing request
-      → TellsOffer (memory_over h old.regions) (course_of before old.limit) new told request
-  pub goes_on : (loaded : Loaded) (course : Course) (pop_id : PopId) (walk : QueueWalk) (bytes : List ℕ)
-      (old new : ChainHandle) (before after : QueueState) (told : walked.PopOutcome)
+      → ReportsOffer (memory_over h old.regions) (course_of before old.limit) new reported request
+  pub carries_on : (loaded : Loaded) (course : Course) (pop_id : PopId) (walk : QueueWalk) (bytes : List ℕ)
+      (old new : ChainHandle) (before after : QueueState) (reported : walked.PopOutcome)
       → before.stopped ≡ None
       → old.state ≡ at.Walking course pop_id walk
-      → WalksOn bytes old new before after told
+      → WalksOn bytes old new before after reported
       → IsWalkAt (places_in old.regions) (queue_of course) loaded old.descriptors.items walk
-      → GoesOnByLoads loaded course walk bytes old new told
+      → ContinuesByLoads loaded course walk bytes old new reported

@@ -26,13 +26,13 @@ use Rattle.fs_chain.specs.declared.chain_handle.ChainHandle.{ChainHandle}
 use Rattle.fs_chain.specs.Serials.{serial_error}
 
 -- the result that is returned for an entry
-abbrev pub told_added : Result (Unit {0}) reason.NotAdded → Result Added ChainError
-told_added (Ok done) = Ok added.In
-told_added (Err not_added.OtherKind) = Err error.OtherKind
-told_added (Err not_added.Full) = Ok added.Full
-told_added (Err not_added.NoRoom) = Ok added.NoRoom
-told_added (Err not_added.TooLong) = Ok added.TooLong
-told_added (Err not_added.ShortList) = Err error.ShortBuffer
+abbrev pub reported_added : Result (Unit {0}) reason.NotAdded → Result Added ChainError
+reported_added (Ok done) = Ok added.In
+reported_added (Err not_added.OtherKind) = Err error.OtherKind
+reported_added (Err not_added.Full) = Ok added.Full
+reported_added (Err not_added.NoRoom) = Ok added.NoRoom
+reported_added (Err not_added.TooLong) = Ok added.TooLong
+reported_added (Err not_added.ShortList) = Err error.ShortBuffer
 
 -- how an entry changes a listing and its list, and the consequences if it isn't added. If it is added, its
 -- bytes are put into the list behind the entries before it; no other byte changes
@@ -59,12 +59,13 @@ pub record Adds (old new : Listing) (list list' : List ℕ) (e : Brought)
 -- refuses it
 abbrev pub AddsTo : (old new : state.ChainState) → (list list' : List ℕ) → Brought →
     (outcome : Listing → Result (Unit {0}) reason.NotAdded) → Result Added ChainError → Type 0
-AddsTo (at.Lists out l) new list list' e outcome told =
-    (told ≡ told_added (outcome l))
+AddsTo (at.Lists out l) new list list' e outcome reported =
+    (reported ≡ reported_added (outcome l))
     × ((now : Listing) × (new ≡ at.Lists out now) × Adds l now list list' e (outcome l))
-AddsTo (at.Waits out w) new list list' e outcome told =
-    (told ≡ Err error.OtherKind) × (new ≡ at.Waits out w) × (list' ≡ list)
-AddsTo old new list list' e outcome told = (told ≡ Err error.WrongOrder) × (new ≡ old) × (list' ≡ list)
+AddsTo (at.Waits out w) new list list' e outcome reported =
+    (reported ≡ Err error.OtherKind) × (new ≡ at.Waits out w) × (list' ≡ list)
+AddsTo old new list list' e outcome reported =
+    (reported ≡ Err error.WrongOrder) × (new ≡ old) × (list' ≡ list)
 
 -- the length of the list that has the listing's entries, after a call that added one or none
 abbrev pub list_after : (before len : ℕ) → Result Added ChainError → ℕ
@@ -119,15 +120,15 @@ pub record IsFailedReply (l : Listing) (errno : ℕ) (reply : ListingReply) : Ty
 -- a listing that is being answered ends with its reply; every other state refuses
 abbrev pub RepliesBy :
     (Listing → ListingReply → Type 0) → (old new : state.ChainState) → Result ℕ ChainError → Type 0
-RepliesBy P (at.Lists out l) new told =
-    (reply : ListingReply) × (told ≡ Ok reply.len) × (new ≡ answered_by out reply) × P l reply
-RepliesBy P (at.Waits out w) new told = (told ≡ Err error.OtherKind) × (new ≡ at.Waits out w)
-RepliesBy P old new told = (told ≡ Err error.WrongOrder) × (new ≡ old)
+RepliesBy P (at.Lists out l) new reported =
+    (reply : ListingReply) × (reported ≡ Ok reply.len) × (new ≡ answered_by out reply) × P l reply
+RepliesBy P (at.Waits out w) new reported = (reported ≡ Err error.OtherKind) × (new ≡ at.Waits out w)
+RepliesBy P old new reported = (reported ≡ Err error.WrongOrder) × (new ≡ old)
 
 -- it ends with the entries so far
 abbrev pub EndsByEntries : (old new : state.ChainState) → Result ℕ ChainError → Type 0
-EndsByEntries old new told = RepliesBy IsListReply old new told
+EndsByEntries old new reported = RepliesBy IsListReply old new reported
 
 -- it ends with an error
 abbrev pub EndsByError : (errno : ℕ) → (old new : state.ChainState) → Result ℕ ChainError → Type 0
-EndsByError errno old new told = RepliesBy (λ l reply. IsFailedReply l errno reply) old new told
+EndsByError errno old new reported = RepliesBy (λ l reply. IsFailedReply l errno reply) old new reported

@@ -10,8 +10,8 @@ use Rattle.fs_regions.specs.Places.{left_in, places_in}
 use Rattle.fs_regions.specs.Walks.{asked_by, asked_len}
 use Rattle.fs_chain.specs.declared.error.ChainError.{ChainError}
 use Rattle.fs_chain.specs.declared.error.ChainError.TheVariants.{OutOfMemory, BadArgument}
-use Rattle.fs_chain.specs.declared.loads.LoadOutcome as went
-use Rattle.fs_chain.specs.declared.loads.LoadOutcome.TheVariants as goes
+use Rattle.fs_chain.specs.declared.loads.LoadOutcome as outcome
+use Rattle.fs_chain.specs.declared.loads.LoadOutcome.TheVariants as proceeds
 use Rattle.fs_chain.specs.declared.queue.QueueState.{QueueState}
 use Rattle.fs_chain.specs.declared.chain_handle.ChainHandle.{ChainHandle}
 use Rattle.fs_chain.specs.Orders.{IfWalking, IsWalking, load_len, walk_error}
@@ -56,21 +56,21 @@ whole w loaded = if load_len w.state == 0 then loaded else w.part.items ++ loade
 
 -- the result of these bytes: a part of the load, or the pop continues, if nothing is wrong with it. The
 -- session stays as it was
-abbrev pub GoesSo : (before : ChainHandle) → (q : QueueState) → (loaded : List ℕ) → went.LoadOutcome →
+abbrev pub ProceedsSo : (before : ChainHandle) → (q : QueueState) → (loaded : List ℕ) → outcome.LoadOutcome →
     (after : ChainHandle) → (q' : QueueState) → Type 0
-GoesSo w q loaded goes.Part w' q' =
+ProceedsSo w q loaded proceeds.Part w' q' =
     AreWanted w (length loaded)
     × (came w + length loaded < load_len w.state)
     × (walk_error w.state q (load_len w.state) ≡ None)
     × IsAllButPart w w'
     × (w'.part.items ≡ w.part.items ++ loaded)
     × (q' ≡ q)
-GoesSo w q loaded (goes.On told) w' q' =
+ProceedsSo w q loaded (proceeds.On reported) w' q' =
     ((load_len w.state ≡ 0) ⊎ AreWhole w (length loaded) ⊎ AreWanted w (length loaded))
     × (w'.part.items ≡ [])
     × (w'.session ≡ w.session)
     × (walk_error w.state q (length (whole w loaded)) ≡ None)
-    × WalksOn (whole w loaded) w w' q q' told
+    × WalksOn (whole w loaded) w w' q q' reported
 
 -- nothing changed: regions, limit, state, descriptors, the part of a load, and session are as they were
 abbrev pub IsSame : ChainHandle → ChainHandle → Type 0

@@ -7,9 +7,9 @@ use Rattle.fs_regions.specs.Places.{places_in}
 use Rattle.fs_regions.specs.Walks.{Loaded, Misses, nothing, queue_of}
 use Rattle.fs_chain.specs.declared.queue.QueueState.{QueueState}
 use Rattle.fs_chain.specs.declared.state.ChainState.TheVariants as at
-use Rattle.fs_chain.specs.declared.popping.PopOutcome.TheVariants as says
-use Rattle.fs_chain.specs.declared.loads.LoadOutcome as went
-use Rattle.fs_chain.specs.declared.loads.LoadOutcome.TheVariants as wents
+use Rattle.fs_chain.specs.declared.popping.PopOutcome.TheVariants as shows
+use Rattle.fs_chain.specs.declared.loads.LoadOutcome as outcome
+use Rattle.fs_chain.specs.declared.loads.LoadOutcome.TheVariants as outcomes
 use Rattle.fs_chain.specs.declared.chain_handle.ChainHandle.{ChainHandle}
 use Rattle.fs_chain.specs.Events.{event_fault, event_miss}
 use Rattle.fs_chain.specs.Walks.{DropsDescriptors, HasEvents, IsAllBut, course_of}
@@ -24,14 +24,14 @@ MissIsNoStep =
     (before after : QueueState) →
     before.stopped ≡ None →
     HasEvents old before →
-    (walks : WalksBy given old new before after (wents.On (says.Missing range access))) →
+    (walks : WalksBy given old new before after (outcomes.On (shows.Missing range access))) →
     (after ≡ before)
     × (new.state ≡ at.Free)
     × IsAllBut old new
     × (new.session ≡ old.session)
     × (new.part.items ≡ [])
     × (loaded : Loaded)
-    × LoadsOf given old new before after (wents.On (says.Missing range access)) walks loaded
+    × LoadsOf given old new before after (outcomes.On (shows.Missing range access)) walks loaded
     × Misses (places_in old.regions) old.limit (queue_of (course_of before old.limit)) loaded
     new.descriptors.items range access
 
@@ -40,14 +40,14 @@ MissIsNoStep =
 abbrev pub EventMissIsNoStep : Type 0
 EventMissIsNoStep =
     (given : List (List ℕ)) (e : QueueError) (range : IovaRange) (access : Permissions)
-    (old new : ChainHandle) (before after : QueueState) (told : went.LoadOutcome) →
+    (old new : ChainHandle) (before after : QueueState) (reported : outcome.LoadOutcome) →
     before.stopped ≡ None →
     event_fault (places_in old.regions) before ≡ Some e →
     event_miss (places_in old.regions) before ≡ Some (range, access) →
-    (walks : WalksBy given old new before after told) →
-    (told ≡ wents.On (says.Missing range access))
+    (walks : WalksBy given old new before after reported) →
+    (reported ≡ outcomes.On (shows.Missing range access))
     × (given ≡ [])
-    × LoadsOf given old new before after told walks nothing
+    × LoadsOf given old new before after reported walks nothing
     × DropsDescriptors old new
     × (new.part.items ≡ [])
     × (after ≡ before)
@@ -57,14 +57,14 @@ EventMissIsNoStep =
 abbrev pub EventFaultRefuses : Type 0
 EventFaultRefuses =
     (given : List (List ℕ)) (e : QueueError) (old new : ChainHandle) (before after : QueueState)
-    (told : went.LoadOutcome) →
+    (reported : outcome.LoadOutcome) →
     before.stopped ≡ None →
     event_fault (places_in old.regions) before ≡ Some e →
     event_miss (places_in old.regions) before ≡ None →
-    (walks : WalksBy given old new before after told) →
-    (told ≡ wents.On (says.Refused e))
+    (walks : WalksBy given old new before after reported) →
+    (reported ≡ outcomes.On (shows.Refused e))
     × (given ≡ [])
-    × LoadsOf given old new before after told walks nothing
+    × LoadsOf given old new before after reported walks nothing
     × DropsDescriptors old new
     × (new.part.items ≡ [])
     × (after ≡ record before { stopped = Some e })

@@ -31,5 +31,5 @@ serial_error _ mine serial = Some WrongOrder
 -- a call that is refused for this reason changes nothing; without a reason it does `Does`
 abbrev pub UnlessRefused :
     {A : Type 0} → (why : Option ChainError) → Result A ChainError → (Same Does : Type 0) → Type 0
-UnlessRefused why told Same Does =
-    ((e : ChainError) × (why ≡ Some e) × (told ≡ Err e) × Same) ⊎ ((why ≡ None) × Does)
+UnlessRefused why reported Same Does =
+    ((e : ChainError) × (why ≡ Some e) × (reported ≡ Err e) × Same) ⊎ ((why ≡ None) × Does)

@@ -65,32 +65,32 @@ abbrev pub mapping_error : IommuError → ChainError
 mapping_error iommu.OutOfMemory = OutOfMemory
 mapping_error _ = BadArgument
 
-abbrev pub told_of_table : {X : Type 0} → Result X IommuError → Result X ChainError
-told_of_table (Ok done) = Ok done
-told_of_table (Err e) = Err (mapping_error e)
+abbrev pub reported_of_table : {X : Type 0} → Result X IommuError → Result X ChainError
+reported_of_table (Ok done) = Ok done
+reported_of_table (Err e) = Err (mapping_error e)
 
 -- a table in its place maps whole pages; a call that is refused changes nothing
 abbrev pub MapsIn : (old : Option (List IotlbRange)) → (iova len guest : ℕ) → Permissions →
     (new : Option (List IotlbRange)) → {X : Type 0} → Result X ChainError → Type 0
-MapsIn None iova len guest access new told = (told ≡ Err WrongOrder) × (new ≡ None)
-MapsIn (Some old) iova len guest access None told = ⊥
-MapsIn (Some old) iova len guest access (Some new) {X} told =
-    (((are_pages iova len && guest % 4096 == 0) ≡ false) × (told ≡ Err BadArgument) × (new ≡ old))
+MapsIn None iova len guest access new reported = (reported ≡ Err WrongOrder) × (new ≡ None)
+MapsIn (Some old) iova len guest access None reported = ⊥
+MapsIn (Some old) iova len guest access (Some new) {X} reported =
+    (((are_pages iova len && guest % 4096 == 0) ≡ false) × (reported ≡ Err BadArgument) × (new ≡ old))
     ⊎ (((are_pages iova len && guest % 4096 == 0) ≡ true)
     × (set : Result X IommuError)
     × SetsMapping iova guest len access old new set
-    × (told ≡ told_of_table set))
+    × (reported ≡ reported_of_table set))
 
 -- a table in its place loses the mappings of whole pages, which end at 2^64 or below. The last address, of
 -- 2^64 - 1, is never mapped
 abbrev pub UnmapsIn : (old : Option (List IotlbRange)) → (iova len : ℕ) → (new : Option (List IotlbRange)) →
     {X : Type 0} → Result X ChainError → Type 0
-UnmapsIn None iova len new told = (told ≡ Err WrongOrder) × (new ≡ None)
-UnmapsIn (Some old) iova len None told = ⊥
-UnmapsIn (Some old) iova len (Some new) {X} told =
-    (((are_pages iova len ≡ false) ⊎ (2 ^ 64 < iova + len)) × (told ≡ Err BadArgument) × (new ≡ old))
+UnmapsIn None iova len new reported = (reported ≡ Err WrongOrder) × (new ≡ None)
+UnmapsIn (Some old) iova len None reported = ⊥
+UnmapsIn (Some old) iova len (Some new) {X} reported =
+    (((are_pages iova len ≡ false) ⊎ (2 ^ 64 < iova + len)) × (reported ≡ Err BadArgument) × (new ≡ old))
     ⊎ ((are_pages iova len ≡ true)
     × (iova + len ≤ 2 ^ 64)
     × (removed : Result X IommuError)
     × InvalidatesMapping iova (min len (2 ^ 64 - 1 - iova)) old new removed
-    × (told ≡ told_of_table removed))
+    × (reported ≡ reported_of_table removed))

@@ -21,7 +21,7 @@ use Rattle.fs_chain.specs.declared.state.PopId.{PopId}
 use Rattle.fs_chain.specs.declared.state.ChainState as state
 use Rattle.fs_chain.specs.declared.state.ChainState.TheVariants as at
 use Rattle.fs_chain.specs.declared.popping.PopOutcome as walked
-use Rattle.fs_chain.specs.declared.popping.PopOutcome.TheVariants as tells
+use Rattle.fs_chain.specs.declared.popping.PopOutcome.TheVariants as reports
 use Rattle.fs_chain.specs.declared.chain_handle.ChainHandle.{ChainHandle}
 use Rattle.fs_chain.specs.Events.{event_fault, event_miss}
 use Rattle.fs_chain.specs.Orders.{entries_asked}
@@ -56,13 +56,13 @@ abbrev pub no_reply : ChainReply
 no_reply = record { front = None; behind = 0 }
 
 -- the result that `pop` returns for this step, with these descriptors
-abbrev pub told_of : List Descriptor → comes.CourseStep → walked.PopOutcome
-told_of ds (step.Load walk) = tells.Load (asked_len walk)
-told_of ds step.Idle = tells.Idle
-told_of ds (step.Refused e) = tells.Refused e
-told_of ds (step.Chain head None) = tells.Chain head (count false ds) (count true ds)
-told_of ds (step.Chain head (Some fault)) = tells.Faulty head fault
-told_of ds (step.Missing range access) = tells.Missing range access
+abbrev pub reported_of : List Descriptor → comes.CourseStep → walked.PopOutcome
+reported_of ds (step.Load walk) = reports.Load (asked_len walk)
+reported_of ds step.Idle = reports.Idle
+reported_of ds (step.Refused e) = reports.Refused e
+reported_of ds (step.Chain head None) = reports.Chain head (count false ds) (count true ds)
+reported_of ds (step.Chain head (Some fault)) = reports.Faulty head fault
+reported_of ds (step.Missing range access) = reports.Missing range access
 
 -- the chain's state after this step
 abbrev pub state_after : Course → PopId → List Descriptor → comes.CourseStep → state.ChainState
@@ -125,12 +125,12 @@ abbrev pub DropsDescriptors : (old new : ChainHandle) → Type 0
 DropsDescriptors old new =
     IsAllButPart (record old { descriptors = new.descriptors }) new × (new.descriptors.items ≡ [])
 
--- handle and queue keep the result of a step on this course, and `told` is returned; of a faulty chain no
+-- handle and queue keep the result of a step on this course, and `reported` is returned; of a faulty chain no
 -- descriptor is kept
 abbrev pub KeepsStep : Course → PopId → comes.CourseStep → (old new : ChainHandle) →
     (before after : QueueState) → walked.PopOutcome → Type 0
-KeepsStep course pop_id came old new before after told =
-    (told ≡ told_of new.descriptors.items came)
+KeepsStep course pop_id came old new before after reported =
+    (reported ≡ reported_of new.descriptors.items came)
     × (new.state ≡ state_after course pop_id new.descriptors.items came)
     × (after ≡ queue_after before came)
     × LeavesNone came new.descriptors.items
@@ -139,17 +139,17 @@ KeepsStep course pop_id came old new before after told =
 -- a pop begins: without any load it reaches a step, which is kept and returned
 abbrev pub BeginsOn :
     Course → PopId → (old new : ChainHandle) → (before after : QueueState) → walked.PopOutcome → Type 0
-BeginsOn course pop_id old new before after told =
-    (came : comes.CourseStep) × KeepsStep course pop_id came old new before after told
+BeginsOn course pop_id old new before after reported =
+    (came : comes.CourseStep) × KeepsStep course pop_id came old new before after reported
     × IsCourseStep (places_in old.regions) course.limit (queue_of course) nothing new.descriptors.items came
 
 -- a pop continues with the bytes of a load. For all loads that may have led to its walk, it reaches
 -- this step, which is kept and returned
-abbrev pub GoesOn : Course → PopId → QueueWalk → (bytes : List ℕ) → (old new : ChainHandle) →
+abbrev pub Continues : Course → PopId → QueueWalk → (bytes : List ℕ) → (old new : ChainHandle) →
     (before after : QueueState) → walked.PopOutcome → Type 0
-GoesOn course pop_id walk bytes old new before after told =
+Continues course pop_id walk bytes old new before after reported =
     (came : comes.CourseStep)
-    × KeepsStep course pop_id came old new before after told
+    × KeepsStep course pop_id came old new before after reported
     × ((loaded : Loaded)
     → IsWalkAt (places_in old.regions) (queue_of course) loaded old.descriptors.items walk
     → ComesBy (places_in old.regions) course.limit (queue_of course) loaded walk bytes
@@ -162,8 +162,8 @@ HasEvents w q = event_fault (places_in w.regions) q ≡ None
 -- after a refusal or a miss, used_event and avail_event are mapped. A pop that begins while they aren't is
 -- refused, or misses them
 abbrev pub RefusalHasEvents : walked.PopOutcome → ChainHandle → QueueState → Type 0
-RefusalHasEvents (tells.Refused e) w q = HasEvents w q
-RefusalHasEvents (tells.Missing range access) w q = HasEvents w q
+RefusalHasEvents (reports.Refused e) w q = HasEvents w q
+RefusalHasEvents (reports.Missing range access) w q = HasEvents w q
 RefusalHasEvents _ w q = Unit {0}
 
 -- used_event or avail_event of the queue isn't mapped. If the table doesn't map one of them, the pop misses
@@ -171,50 +171,51 @@ RefusalHasEvents _ w q = Unit {0}
 -- descriptors of an earlier pop
 abbrev pub LacksEvents : QueueError → (miss : Option (IovaRange × Permissions)) → (old new : ChainHandle) →
     (before after : QueueState) → walked.PopOutcome → Type 0
-LacksEvents e (Some miss) old new before after told =
-    (told ≡ tells.Missing miss.0 miss.1) × DropsDescriptors old new × (after ≡ before)
-LacksEvents e None old new before after told =
-    (told ≡ tells.Refused e) × DropsDescriptors old new × (after ≡ record before { stopped = Some e })
+LacksEvents e (Some miss) old new before after reported =
+    (reported ≡ reports.Missing miss.0 miss.1) × DropsDescriptors old new × (after ≡ before)
+LacksEvents e None old new before after reported =
+    (reported ≡ reports.Refused e) × DropsDescriptors old new × (after ≡ record before { stopped = Some e })
 
 -- a pop begins, unless used_event or avail_event of the queue isn't mapped
 abbrev pub BeginsWhere : (fault : Option QueueError) → (old new : ChainHandle) → (before after : QueueState) →
     walked.PopOutcome → Type 0
-BeginsWhere (Some e) old new before after told =
-    LacksEvents e (event_miss (places_in old.regions) before) old new before after told
-BeginsWhere None old new before after told =
-    BeginsOn (course_of before old.limit) (pop_id_of old.regions before) old new before after told
+BeginsWhere (Some e) old new before after reported =
+    LacksEvents e (event_miss (places_in old.regions) before) old new before after reported
+BeginsWhere None old new before after reported =
+    BeginsOn (course_of before old.limit) (pop_id_of old.regions before) old new before after reported
 
 -- a stopped queue refuses every pop
 abbrev pub BeginsUnless : (stopped : Option QueueError) → (old new : ChainHandle) →
     (before after : QueueState) → walked.PopOutcome → Type 0
-BeginsUnless (Some why) old new before after told =
-    (told ≡ tells.Refused Stopped) × IsAllButPart old new × (after ≡ before)
-BeginsUnless None old new before after told =
-    BeginsWhere (event_fault (places_in old.regions) before) old new before after told
+BeginsUnless (Some why) old new before after reported =
+    (reported ≡ reports.Refused Stopped) × IsAllButPart old new × (after ≡ before)
+BeginsUnless None old new before after reported =
+    BeginsWhere (event_fault (places_in old.regions) before) old new before after reported
 
 abbrev pub BeginsPop : (old new : ChainHandle) → (before after : QueueState) → walked.PopOutcome → Type 0
-BeginsPop old new before after told = BeginsUnless before.stopped old new before after told
+BeginsPop old new before after reported = BeginsUnless before.stopped old new before after reported
 
 -- a pop continues, unless its queue was stopped meanwhile: then it is refused like every pop of a
 -- stopped queue, and the handle is free
-abbrev pub GoesOnUnless : (stopped : Option QueueError) → Course → PopId → QueueWalk → (bytes : List ℕ) →
+abbrev pub ContinuesUnless : (stopped : Option QueueError) → Course → PopId → QueueWalk → (bytes : List ℕ) →
     (old new : ChainHandle) → (before after : QueueState) → walked.PopOutcome → Type 0
-GoesOnUnless (Some why) course pop_id walk bytes old new before after told =
-    (told ≡ tells.Refused Stopped) × IsAllButPart (record old { state = at.Free }) new × (after ≡ before)
-GoesOnUnless None course pop_id walk bytes old new before after told =
-    GoesOn course pop_id walk bytes old new before after told
+ContinuesUnless (Some why) course pop_id walk bytes old new before after reported =
+    (reported ≡ reports.Refused Stopped) × IsAllButPart (record old { state = at.Free }) new
+    × (after ≡ before)
+ContinuesUnless None course pop_id walk bytes old new before after reported =
+    Continues course pop_id walk bytes old new before after reported
 
 -- a pop continues from the chain's state: with the bytes of its load, or with none at its beginning
 abbrev pub WalksFrom : state.ChainState → (bytes : List ℕ) → (old new : ChainHandle) →
     (before after : QueueState) → walked.PopOutcome → Type 0
-WalksFrom at.Free bytes old new before after told = BeginsPop old new before after told
-WalksFrom (at.Walking course pop_id walk) bytes old new before after told =
-    GoesOnUnless before.stopped course pop_id walk bytes old new before after told
-WalksFrom _ bytes old new before after told = ⊥
+WalksFrom at.Free bytes old new before after reported = BeginsPop old new before after reported
+WalksFrom (at.Walking course pop_id walk) bytes old new before after reported =
+    ContinuesUnless before.stopped course pop_id walk bytes old new before after reported
+WalksFrom _ bytes old new before after reported = ⊥
 
 abbrev pub WalksOn :
     (bytes : List ℕ) → (old new : ChainHandle) → (before after : QueueState) → walked.PopOutcome → Type 0
-WalksOn bytes old new before after told = WalksFrom old.state bytes old new before after told
+WalksOn bytes old new before after reported = WalksFrom old.state bytes old new before after reported
 
 -- the pop asks for table entries, their descriptors don't fit beside those that joined, and the allocator
 -- refused more room. A pop runs out of memory only then

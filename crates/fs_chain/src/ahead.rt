@@ -7,9 +7,10 @@ ghost use Rattle.fs_chain.specs.Ahead.{PopsAhead, ahead_error};
 ghost use Rattle.fs_chain.specs.AheadSteps.{PopsAheadBy};
 ghost use Rattle.fs_chain.specs.Events.{event_fault};
 ghost use Rattle.fs_chain.specs.Queues.{may_take};
-ghost use Rattle.fs_chain.specs.Walks.{IsAllBut, StaysForLoad, left_of, queue_after, state_after, told_of};
+ghost use Rattle.fs_chain.specs.Walks.{IsAllBut, StaysForLoad, left_of, queue_after, state_after};
+ghost use Rattle.fs_chain.specs.Walks.{reported_of};
 ghost use Rattle.fs_chain.specs.declared.state.ChainState.TheVariants as at;
-ghost use Rattle.fs_chain.specs.declared.loads.LoadOutcome.TheVariants as goes;
+ghost use Rattle.fs_chain.specs.declared.loads.LoadOutcome.TheVariants as proceeds;
 
 use crate::chain_handle::ChainHandle;
 use crate::error::ChainError;
@@ -32,7 +33,7 @@ impl ChainHandle {
         pop_id: PopId,
         step: CourseStep,
     ) -> PopOutcome
-        ensures told { result ≡ told_of self.new.descriptors.items step }
+        ensures reported { result ≡ reported_of self.new.descriptors.items step }
         ensures state { self.new.state ≡ state_after course pop_id self.new.descriptors.items step }
         ensures left { self.new.descriptors.items ≡ left_of step self.old.descriptors.items }
         ensures stays { StaysForLoad step self.old.descriptors self.new.descriptors }
@@ -52,11 +53,11 @@ impl ChainHandle {
         bytes: &[u8],
     ) -> PopOutcome
         requires free { self.old.state ≡ at.Free }
-        requires goes { queue.old.stopped ≡ None }
+        requires proceeds { queue.old.stopped ≡ None }
         requires events { event_fault (places_in self.old.regions) queue.old ≡ None }
         requires room { may_take queue.old ≡ true }
         ensures pops { PopsAhead (loads_ahead ahead.now bytes.now) self.old self.new queue.old queue.new
-            (goes.On result) }
+            (proceeds.On result) }
     {
         let course = Course {
             layout: queue.layout,
@@ -90,11 +91,11 @@ impl ChainHandle {
     #[inline(never)]
     fn begin_lacking(&mut self, queue: &mut QueueState, error: QueueError) -> PopOutcome
         requires free { self.old.state ≡ at.Free }
-        requires goes { queue.old.stopped ≡ None }
+        requires proceeds { queue.old.stopped ≡ None }
         requires events { event_fault (places_in self.old.regions) queue.old ≡ Some error }
         requires room { may_take queue.old ≡ true }
         ensures pops { (ahead : List AheadBytes)
-            → PopsAhead ahead self.old self.new queue.old queue.new (goes.On result) }
+            → PopsAhead ahead self.old self.new queue.old queue.new (proceeds.On result) }
     {
         let walked = self.begin_without_events(queue, error);
         self.clear_part();
@@ -112,7 +113,7 @@ impl ChainHandle {
         requires free { self.old.state ≡ at.Free }
         requires room { may_take queue.old ≡ true }
         ensures pops { PopsAhead (loads_ahead ahead.now bytes.now) self.old self.new queue.old queue.new
-            (goes.On result) }
+            (proceeds.On result) }
     {
         match queue.stopped {
             Some(_) => {
@@ -142,8 +143,8 @@ impl ChainHandle {
         ensures error { IfErr result (λ e. ahead_error self.old.state queue.old ≡ Some e) }
         ensures ok { OnOk result (ahead_error self.old.state queue.old ≡ None) }
         ensures same { OnErr result ((self.new ≡ self.old) × (queue.new ≡ queue.old)) }
-        ensures pops { IfOk result (λ told. PopsAhead (loads_ahead ahead.now bytes.now) self.old self.new
-            queue.old queue.new (goes.On told)) }
+        ensures pops { IfOk result (λ reported. PopsAhead (loads_ahead ahead.now bytes.now) self.old self.new
+            queue.old queue.new (proceeds.On reported)) }
         ensures step { IfOk result (PopsAheadBy self.old self.new queue.old queue.new) }
     {
         match &self.state {

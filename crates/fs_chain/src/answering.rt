@@ -63,8 +63,8 @@ fn reply_of(sent: Sent, behind: usize) -> (ChainReply, bool)
 
 impl ChainHandle {
     fn keep_answered(&mut self, out: InFlight, answered: Answered, behind: usize) -> Replied
-        ensures told { result ≡ replied_of answered }
-        ensures kept { self.new
+        ensures reported { result ≡ replied_of answered }
+        ensures preserved { self.new
             ≡ record self.old { state = at.HasReply out (reply_of answered.sent behind) } }
     {
         let (reply, has_room) = reply_of(answered.sent, behind);
@@ -83,8 +83,8 @@ impl ChainHandle {
         answer: FileAnswer,
     ) -> Result<Replied, ChainError>
         ensures given { IfOk result
-            (λ told. IsGiven (setting self.old.session.page_size self.old.session.options.0 waiting.room)
-            waiting answer out self.new.session.options.0 told self.new.state) }
+            (λ reported. IsGiven (setting self.old.session.page_size self.old.session.options.0 waiting.room)
+            waiting answer out self.new.session.options.0 reported self.new.state) }
         ensures taken { OnOk result (CanBeGiven waiting answer) }
         ensures refused { IfErr result (λ e. RefusesAnswer waiting answer e) }
         ensures same { OnErr result (self.new ≡ record self.old { state = at.Waits out waiting }) }
@@ -106,9 +106,9 @@ impl ChainHandle {
 
     // Answers the call in flight, if there is one. A listing isn't answered this way.
     fn answer_asked(&mut self, answer: FileAnswer) -> Result<Replied, ChainError>
-        ensures given { IfOk result (λ told. IfWaits self.old.state (λ out w.
+        ensures given { IfOk result (λ reported. IfWaits self.old.state (λ out w.
             IsGiven (setting self.old.session.page_size self.old.session.options.0 w.room) w answer out
-            self.new.session.options.0 told self.new.state)) }
+            self.new.session.options.0 reported self.new.state)) }
         ensures taken { OnOk result (IsWaiting self.old.state
             × IfWaits self.old.state (λ out w. CanBeGiven w answer)) }
         ensures refused { IfErr result (λ e. AnswerFails self.old.state answer e) }
@@ -140,9 +140,9 @@ impl ChainHandle {
     /// - `LongReply`: the data is too long for the reply.
     #[tactic(auto, using(crate::proofs::HoldsAnswered::answers_from))]
     pub fn answer(&mut self, serial: u32, answer: FileAnswer) -> Result<Replied, ChainError>
-        ensures given { IfOk result (λ told. IfWaits self.old.state (λ out w.
+        ensures given { IfOk result (λ reported. IfWaits self.old.state (λ out w.
             IsGiven (setting self.old.session.page_size self.old.session.options.0 w.room) w answer out
-            self.new.session.options.0 told self.new.state)) }
+            self.new.session.options.0 reported self.new.state)) }
         ensures mine { OnOk result (self.old.serial ≡ serial) }
         ensures taken { OnOk result (IsWaiting self.old.state
             × IfWaits self.old.state (λ out w. CanBeGiven w answer)) }
@@ -152,7 +152,7 @@ impl ChainHandle {
         ensures stays { IsAllBut self.old self.new
             × (self.new.descriptors ≡ self.old.descriptors)
             × (self.new.part ≡ self.old.part) }
-        ensures step { IfOk result (λ told. Answers self.old self.new answer told) }
+        ensures step { IfOk result (λ reported. Answers self.old self.new answer reported) }
     {
         match self.serial_error(serial) {
             Some(error) => Err(error),

@@ -20,7 +20,7 @@ impl ChainHandle {
     #[inline(always)]
     fn begin_course(&mut self, queue: &mut QueueState) -> PopOutcome
         requires free { self.old.state ≡ at.Free }
-        requires goes { queue.old.stopped ≡ None }
+        requires proceeds { queue.old.stopped ≡ None }
         ensures begins { BeginsPop self.old self.new queue.old queue.new result }
         ensures apart { (self.new.part ≡ self.old.part) × (self.new.session ≡ self.old.session) }
     {

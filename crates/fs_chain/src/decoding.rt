@@ -12,7 +12,7 @@ ghost use Rattle.virtiofsd_fuse.specs.Grammar.{Meaning, meaning};
 ghost use Rattle.virtiofsd_fuse.specs.Serving.{Setting, setting};
 ghost use Rattle.server_phases.specs.Asking.{AsksCall, HasAskerByFront, IsAskedBy, IsRequestFront, IsDecoded};
 ghost use Rattle.server_phases.specs.Asking.{IsDecodedByFront, is_decoded};
-ghost use Rattle.fs_chain.specs.Decoding.{IfUndecoded, IsKeptFor, KeepsCall, TellsMeaning, wanted};
+ghost use Rattle.fs_chain.specs.Decoding.{IfUndecoded, IsPreservedFor, KeepsCall, ReportsMeaning, wanted};
 ghost use Rattle.fs_chain.specs.Decoding.{wanted_after, wanted_by};
 ghost use Rattle.fs_chain.specs.Holds.{Decodes};
 ghost use Rattle.fs_chain.specs.Orders.{ask_error};
@@ -45,7 +45,7 @@ fn waiting_state(out: InFlight, waiting: Waiting) -> ChainState
     ensures keeps { (s : Setting) (m : Meaning) (bytes : List ℕ) (made : value.FileCall)
         → AsksCall s m bytes made waiting
         → KeepsCall s m bytes made out result }
-    ensures asker { IsKeptFor waiting.context result }
+    ensures asker { IsPreservedFor waiting.context result }
 {
     match Listing::begin(waiting) {
         Ok(listing) => ChainState::Lists(out, listing),
@@ -74,11 +74,11 @@ fn wanted(len: usize, whole: usize) -> usize
 impl ChainHandle {
     // Keeps a decoded request, and returns it.
     fn keep_asked<'a>(&mut self, out: InFlight, asked: DecodedRequest<'a>) -> Decoded<'a>
-        ensures tells { (s : Setting) (m : Meaning) (bytes : List ℕ)
+        ensures reports { (s : Setting) (m : Meaning) (bytes : List ℕ)
             → IsDecoded s m bytes asked.entry
-            → TellsMeaning s m bytes out result self.new.state }
-        ensures asker { (who : Context) → IsAskedBy who asked.entry → IsKeptFor who self.new.state }
-        ensures told { wanted_by result ≡ None }
+            → ReportsMeaning s m bytes out result self.new.state }
+        ensures asker { (who : Context) → IsAskedBy who asked.entry → IsPreservedFor who self.new.state }
+        ensures reported { wanted_by result ≡ None }
         ensures same { IsAllButPlace self.old self.new }
         ensures list { self.new.list_len ≡ self.old.list_len }
     {
@@ -104,14 +104,14 @@ impl ChainHandle {
 
     // Keeps the request that its first bytes decode to, if they suffice.
     fn keep_front<'a>(&mut self, out: InFlight, len: usize, asked: AskedFront<'a>) -> Decoded<'a>
-        ensures tells { (s : Setting) (m : Meaning) (bytes : List ℕ)
+        ensures reports { (s : Setting) (m : Meaning) (bytes : List ℕ)
             → IsDecodedByFront s m bytes asked.entry
-            → TellsMeaning s m bytes out result self.new.state }
+            → ReportsMeaning s m bytes out result self.new.state }
         ensures asker { (request : List ℕ)
             → HasAskerByFront request asked.entry
             → (h : InHeader) (more : List ℕ)
             → record_parser in_header request ≡ Ok (h, more)
-            → IsKeptFor (context_of h) self.new.state }
+            → IsPreservedFor (context_of h) self.new.state }
         ensures wanted { wanted_by result ≡ (if is_decoded asked.entry then None
             else Some (wanted len out.request_len)) }
         ensures same { IsAllButPlace self.old self.new }
@@ -136,18 +136,19 @@ impl ChainHandle {
         requires { self.old.state ≡ at.Taken out }
         ensures error { IfErr result (λ e. ask_error (at.Taken out) (length request.now) ≡ Some e) }
         ensures ok { OnOk result (ask_error (at.Taken out) (length request.now) ≡ None) }
-        ensures tells { IfOk result (λ told. (whole : List ℕ)
+        ensures reports { IfOk result (λ reported. (whole : List ℕ)
             → out.request_len ≡ length whole
             → IsRequestFront request.now whole
-            → TellsMeaning (setting session.page_size session.options.0 out.room_len)
-            (meaning session.options.0 whole out.room_len) (drop 80 whole) out told self.new.state) }
+            → ReportsMeaning (setting session.page_size session.options.0 out.room_len)
+            (meaning session.options.0 whole out.room_len) (drop 80 whole) out reported self.new.state) }
         ensures asker { OnOk result ((whole : List ℕ)
             → out.request_len ≡ length whole
             → IsRequestFront request.now whole
             → (h : InHeader) (more : List ℕ)
             → record_parser in_header whole ≡ Ok (h, more)
-            → IsKeptFor (context_of h) self.new.state) }
-        ensures wanted { IfOk result (λ told. wanted_by told ≡ wanted_after request.now out.request_len) }
+            → IsPreservedFor (context_of h) self.new.state) }
+        ensures wanted { IfOk result (λ reported. wanted_by reported ≡ wanted_after request.now
+            out.request_len) }
         ensures same { IsAllBut self.old self.new
             × (self.new.descriptors ≡ self.old.descriptors)
             × (self.new.part ≡ self.old.part) }
@@ -177,26 +178,26 @@ impl ChainHandle {
     ) -> Result<Decoded<'a>, ChainError>
         ensures error { IfErr result (λ e. ask_error self.old.state (length request.now) ≡ Some e) }
         ensures ok { OnOk result (ask_error self.old.state (length request.now) ≡ None) }
-        ensures tells { IfOk result (λ told. IfUndecoded self.old.state (λ out. (whole : List ℕ)
+        ensures reports { IfOk result (λ reported. IfUndecoded self.old.state (λ out. (whole : List ℕ)
             → out.request_len ≡ length whole
             → IsRequestFront request.now whole
-            → TellsMeaning (setting session.page_size session.options.0 out.room_len)
-            (meaning session.options.0 whole out.room_len) (drop 80 whole) out told self.new.state)) }
+            → ReportsMeaning (setting session.page_size session.options.0 out.room_len)
+            (meaning session.options.0 whole out.room_len) (drop 80 whole) out reported self.new.state)) }
         ensures asker { OnOk result (IfUndecoded self.old.state (λ out. (whole : List ℕ)
             → out.request_len ≡ length whole
             → IsRequestFront request.now whole
             → (h : InHeader) (more : List ℕ)
             → record_parser in_header whole ≡ Ok (h, more)
-            → IsKeptFor (context_of h) self.new.state)) }
-        ensures wanted { IfOk result (λ told. IfUndecoded self.old.state
-            (λ out. wanted_by told ≡ wanted_after request.now out.request_len)) }
+            → IsPreservedFor (context_of h) self.new.state)) }
+        ensures wanted { IfOk result (λ reported. IfUndecoded self.old.state
+            (λ out. wanted_by reported ≡ wanted_after request.now out.request_len)) }
         ensures same { IsAllBut self.old self.new
             × (self.new.descriptors ≡ self.old.descriptors)
             × (self.new.part ≡ self.old.part) }
         ensures session { OnOk result (self.new.session ≡ session) }
         ensures stays { OnErr result ((self.new.state ≡ self.old.state)
             × (self.new.session ≡ self.old.session)) }
-        ensures step { IfOk result (λ told. Decodes self.old self.new session request.now told) }
+        ensures step { IfOk result (λ reported. Decodes self.old self.new session request.now reported) }
     {
         match &self.state {
             ChainState::Taken(out) => {

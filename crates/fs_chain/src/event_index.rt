@@ -4,7 +4,7 @@
 ghost use Rattle.std.specs.Prelude.{◌≡◌, option_map};
 ghost use Rattle.fs_regions.specs.Places.{places_in};
 ghost use Rattle.fs_chain.specs.Events.{avail_event_at, event_fault, event_miss, notification_store};
-ghost use Rattle.fs_chain.specs.Events.{seen_at, store_of, tells_of, used_event_at};
+ghost use Rattle.fs_chain.specs.Events.{seen_at, store_of, notifies_of, used_event_at};
 ghost use Rattle.fs_chain.specs.HoldsAround.{StoresNotice};
 
 use crate::queue::QueueState;
@@ -51,13 +51,13 @@ pub(crate) fn seen_at(event_index: bool, layout: &QueueLayout) -> u64
 
 impl QueueState {
     // Whether to notify the driver of the next chain that is pushed, by those two bytes.
-    pub(crate) fn tells(&self, seen: [u8; 2]) -> bool
-        ensures { result ≡ tells_of self.now seen }
+    pub(crate) fn notifies(&self, seen: [u8; 2]) -> bool
+        ensures { result ≡ notifies_of self.now seen }
     {
         if self.event_index {
             u16::from_le_bytes(seen) == self.next_used
         } else {
-            Return::tells(seen)
+            Return::notifies(seen)
         }
     }
 

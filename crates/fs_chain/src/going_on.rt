@@ -98,7 +98,7 @@ impl ChainHandle {
         requires walking { IsWalking self.old.state }
         requires bytes { IfWalking self.old.state (λ walk. length loaded.now ≡ asked_len walk) }
         requires room { HasRoomFor self.old.descriptors (entries_asked self.old.state) }
-        requires goes { queue.old.stopped ≡ None }
+        requires proceeds { queue.old.stopped ≡ None }
         ensures walks { WalksOn loaded.now self.old self.new queue.old queue.new result }
         ensures apart { (self.new.part ≡ self.old.part) × (self.new.session ≡ self.old.session) }
     {

@@ -6,7 +6,7 @@ ghost use Rattle.server_replies.specs.Entries.{no_node};
 ghost use Rattle.server_phases.specs.Gathering.{added_found, added_plain};
 ghost use Rattle.fs_chain.specs.HoldsListings.{AddsEntry, EndsListing, FailsListing};
 ghost use Rattle.fs_chain.specs.Listings.{AddsTo, EndsByEntries, EndsByError, adding_error, answered_by};
-ghost use Rattle.fs_chain.specs.Listings.{list_after, list_error, told_added};
+ghost use Rattle.fs_chain.specs.Listings.{list_after, list_error, reported_added};
 ghost use Rattle.fs_chain.specs.Serials.{UnlessRefused, serial_error};
 ghost use Rattle.fs_chain.specs.Walks.{IsAllButPlace};
 ghost use Rattle.fs_chain.specs.declared.state.ChainState.TheVariants as at;
@@ -33,8 +33,8 @@ pub enum Added {
 }
 
 // The result that is returned for an entry.
-fn told_added(outcome: Result<(), NotAdded>) -> Result<Added, ChainError>
-    ensures { result ≡ told_added outcome }
+fn reported_added(outcome: Result<(), NotAdded>) -> Result<Added, ChainError>
+    ensures { result ≡ reported_added outcome }
 {
     match outcome {
         Ok(()) => Ok(Added::In),
@@ -47,10 +47,10 @@ fn told_added(outcome: Result<(), NotAdded>) -> Result<Added, ChainError>
 }
 
 // The length of the list that has the listing's entries, after an entry was added to one of length `len`.
-fn list_after(before: usize, len: usize, told: Result<Added, ChainError>) -> usize
-    ensures { result ≡ list_after before len told }
+fn list_after(before: usize, len: usize, reported: Result<Added, ChainError>) -> usize
+    ensures { result ≡ list_after before len reported }
 {
-    match told {
+    match reported {
         Ok(Added::In) => len,
         _ => before,
     }
@@ -99,9 +99,9 @@ impl ChainHandle {
         let len = list.len();
         let outcome = listing.add(list, entry);
         self.state = ChainState::Lists(out, listing);
-        let told = told_added(outcome);
-        self.list_len = list_after(self.list_len, len, told);
-        told
+        let reported = reported_added(outcome);
+        self.list_len = list_after(self.list_len, len, reported);
+        reported
     }
 
     // Adds an entry of READDIRPLUS to a listing.
@@ -121,9 +121,9 @@ impl ChainHandle {
         let len = list.len();
         let outcome = listing.add_with_node(list, entry, node);
         self.state = ChainState::Lists(out, listing);
-        let told = told_added(outcome);
-        self.list_len = list_after(self.list_len, len, told);
-        told
+        let reported = reported_added(outcome);
+        self.list_len = list_after(self.list_len, len, reported);
+        reported
     }
 
     // Puts an entry of READDIR behind those of the listing that is in flight, if one is.
@@ -161,7 +161,7 @@ impl ChainHandle {
         list: &mut [u8],
         entry: &DirEntry<'_>,
     ) -> Result<Added, ChainError>
-        ensures told { UnlessRefused (adding_error self.old serial (length list.old)) result
+        ensures reported { UnlessRefused (adding_error self.old serial (length list.old)) result
             ((self.new ≡ self.old)
             × (list.new ≡ list.old))
             (AddsTo self.old.state self.new.state list.old list.new
@@ -172,8 +172,8 @@ impl ChainHandle {
             (λ l. added_plain l (length list.old) (length entry.now.name.now)) result) }
         ensures list { self.new.list_len ≡ list_after self.old.list_len (length list.old) result }
         ensures stays { IsAllButPlace self.old self.new }
-        ensures step { IfOk result (λ told. AddsEntry self.old self.new list.old list.new
-            (listed entry.now, no_node (listed entry.now)) told) }
+        ensures step { IfOk result (λ reported. AddsEntry self.old self.new list.old list.new
+            (listed entry.now, no_node (listed entry.now)) reported) }
     {
         match self.adding_error(serial, list.len()) {
             Some(error) => Err(error),
@@ -218,7 +218,7 @@ impl ChainHandle {
         entry: &DirEntry<'_>,
         node: Entry<u64>,
     ) -> Result<Added, ChainError>
-        ensures told { UnlessRefused (adding_error self.old serial (length list.old)) result
+        ensures reported { UnlessRefused (adding_error self.old serial (length list.old)) result
             ((self.new ≡ self.old)
             × (list.new ≡ list.old))
             (AddsTo self.old.state self.new.state list.old list.new (listed entry.now, node)
@@ -229,7 +229,7 @@ impl ChainHandle {
         ensures list { self.new.list_len ≡ list_after self.old.list_len (length list.old) result }
         ensures stays { IsAllButPlace self.old self.new }
         ensures step { IfOk result
-            (λ told. AddsEntry self.old self.new list.old list.new (listed entry.now, node) told) }
+            (λ reported. AddsEntry self.old self.new list.old list.new (listed entry.now, node) reported) }
     {
         match self.adding_error(serial, list.len()) {
             Some(error) => Err(error),
@@ -239,7 +239,7 @@ impl ChainHandle {
 
     fn keep_listed(&mut self, out: InFlight, reply: ListingReply) -> usize
         ensures len { result ≡ reply.len }
-        ensures kept { self.new ≡ record self.old { state = answered_by out reply } }
+        ensures preserved { self.new ≡ record self.old { state = answered_by out reply } }
     {
         let behind = reply.len;
         let front = Some(reply.front);
@@ -273,7 +273,7 @@ impl ChainHandle {
     /// - `OtherKind`: the call is no listing.
     #[tactic(auto, using(crate::proofs::HoldsListed::ended_from))]
     pub fn end(&mut self, serial: u32) -> Result<usize, ChainError>
-        ensures told { UnlessRefused (serial_error self.old.state self.old.serial serial) result
+        ensures reported { UnlessRefused (serial_error self.old.state self.old.serial serial) result
             (self.new ≡ self.old) (EndsByEntries self.old.state self.new.state result) }
         ensures ended { OnOk result (EndsByEntries self.old.state self.new.state result) }
         ensures same { OnErr result (self.new ≡ self.old) }
@@ -309,7 +309,7 @@ impl ChainHandle {
     /// of `end`.
     #[tactic(auto, using(crate::proofs::HoldsListed::failed_from))]
     pub fn fail(&mut self, serial: u32, error: Errno) -> Result<usize, ChainError>
-        ensures told { UnlessRefused (serial_error self.old.state self.old.serial serial) result
+        ensures reported { UnlessRefused (serial_error self.old.state self.old.serial serial) result
             (self.new ≡ self.old) (EndsByError error self.old.state self.new.state result) }
         ensures failed { OnOk result (EndsByError error self.old.state self.new.state result) }
         ensures same { OnErr result (self.new ≡ self.old) }

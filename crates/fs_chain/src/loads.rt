@@ -4,7 +4,7 @@ ghost use Rattle.std.specs.Prelude.{◌≡◌, ◌⊎◌, ◌<◌, ◌≤◌, �
 ghost use Rattle.std.specs.Prelude.{IfOk, IfErr, IfSome, OnOk, OnErr, vec_capacity};
 ghost use Rattle.memory_requests.specs.Refused.{RoomWasRefused};
 ghost use Rattle.fs_chain.specs.Holds.{PopsBy};
-ghost use Rattle.fs_chain.specs.Loads.{AreDue, AreOthers, AreWanted, AreWhole, GoesSo, HasNoPlace};
+ghost use Rattle.fs_chain.specs.Loads.{AreDue, AreOthers, AreWanted, AreWhole, ProceedsSo, HasNoPlace};
 ghost use Rattle.fs_chain.specs.Loads.{IsLoadWindow, IsSame, RefusesWalk, came, due_len, whole};
 ghost use Rattle.fs_chain.specs.Orders.{load_len, walk_error};
 ghost use Rattle.fs_chain.specs.Walks.{IsAllBut, IsAllButPart, LacksRoom, WalksOn};
@@ -78,7 +78,7 @@ impl ChainHandle {
 
     // Keeps some first bytes of the load, or none.
     fn keep_part(&mut self, part: Vec<u8>)
-        ensures kept { self.new.part ≡ part }
+        ensures preserved { self.new.part ≡ part }
         ensures apart { self.new ≡ record self.old { part = self.new.part } }
         ensures stays { IsAllButPart self.old self.new }
     {
@@ -140,7 +140,8 @@ impl ChainHandle {
         requires whole { whole self.old loaded.now ≡ loaded.now }
         requires due { AreDue self.old loaded.now }
         requires len { length loaded.now ≡ due_len self.old loaded.now }
-        ensures goes { IfOk result (λ went. GoesSo self.old queue.old loaded.now went self.new queue.new) }
+        ensures proceeds { IfOk result (λ outcome. ProceedsSo self.old queue.old loaded.now outcome self.new
+            queue.new) }
         ensures error { IfErr result (RefusesWalk self.old queue.old loaded.now) }
         ensures same { OnErr result (IsSame self.old self.new × (queue.new ≡ queue.old)) }
     {
@@ -161,7 +162,8 @@ impl ChainHandle {
         loaded: &[u8],
     ) -> Result<LoadOutcome, ChainError>
         requires { 0 < load_len self.old.state }
-        ensures goes { IfOk result (λ went. GoesSo self.old queue.old loaded.now went self.new queue.new) }
+        ensures proceeds { IfOk result (λ outcome. ProceedsSo self.old queue.old loaded.now outcome self.new
+            queue.new) }
         ensures error { IfErr result (RefusesWalk self.old queue.old loaded.now) }
         ensures same { OnErr result (IsSame self.old self.new × (queue.new ≡ queue.old)) }
     {
@@ -201,11 +203,12 @@ impl ChainHandle {
     ///   load.
     #[tactic(auto, using(crate::proofs::HoldsPopped::pops_from))]
     pub fn pop(&mut self, queue: &mut QueueState, loaded: &[u8]) -> Result<LoadOutcome, ChainError>
-        ensures goes { IfOk result (λ went. GoesSo self.old queue.old loaded.now went self.new queue.new) }
+        ensures proceeds { IfOk result (λ outcome. ProceedsSo self.old queue.old loaded.now outcome self.new
+            queue.new) }
         ensures error { IfErr result (RefusesWalk self.old queue.old loaded.now) }
         ensures same { OnErr result (IsSame self.old self.new × (queue.new ≡ queue.old)) }
         ensures step { IfOk result
-            (λ went. PopsBy self.old.state self.old self.new queue.old queue.new loaded.now went) }
+            (λ outcome. PopsBy self.old.state self.old self.new queue.old queue.new loaded.now outcome) }
     {
         if self.load_len() != 0 {
             return self.give_part(queue, loaded);

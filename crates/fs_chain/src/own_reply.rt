@@ -16,8 +16,10 @@ impl ChainHandle {
         ensures error { IfErr result (λ e. own_len_error out.room_len len ≡ Some e) }
         ensures ok { OnOk result (own_len_error out.room_len len ≡ None) }
         ensures same { OnErr result (self.new ≡ self.old) }
-        ensures kept { OnOk result (self.new ≡ record self.old { state = at.HasReply out (own_reply len) }) }
-        ensures told { OnOk result ((front_len (own_reply len) ≡ 0) × (reply_len out (own_reply len) ≡ len)) }
+        ensures preserved { OnOk result (self.new ≡ record self.old
+            { state = at.HasReply out (own_reply len) }) }
+        ensures reported { OnOk result ((front_len (own_reply len) ≡ 0)
+            × (reply_len out (own_reply len) ≡ len)) }
     {
         if out.room_len < len || (u32::MAX as usize) < len {
             return Err(ChainError::LongReply);
@@ -32,9 +34,9 @@ impl ChainHandle {
         ensures error { IfErr result (λ e. own_error self.old.state self.old.serial serial len ≡ Some e) }
         ensures ok { OnOk result (own_error self.old.state self.old.serial serial len ≡ None) }
         ensures same { OnErr result (self.new ≡ self.old) }
-        ensures kept { OnOk result (IfUnanswered self.old.state
+        ensures preserved { OnOk result (IfUnanswered self.old.state
             (λ out. self.new ≡ record self.old { state = at.HasReply out (own_reply len) })) }
-        ensures told { OnOk result (IfUnanswered self.old.state (λ out. (front_len (own_reply len) ≡ 0)
+        ensures reported { OnOk result (IfUnanswered self.old.state (λ out. (front_len (own_reply len) ≡ 0)
             × (reply_len out (own_reply len) ≡ len))) }
     {
         match &self.state {
@@ -66,9 +68,9 @@ impl ChainHandle {
         ensures error { IfErr result (λ e. own_error self.old.state self.old.serial serial len ≡ Some e) }
         ensures ok { OnOk result (own_error self.old.state self.old.serial serial len ≡ None) }
         ensures same { OnErr result (self.new ≡ self.old) }
-        ensures kept { OnOk result (IfUnanswered self.old.state
+        ensures preserved { OnOk result (IfUnanswered self.old.state
             (λ out. self.new ≡ record self.old { state = at.HasReply out (own_reply len) })) }
-        ensures told { OnOk result (IfUnanswered self.old.state (λ out. (front_len (own_reply len) ≡ 0)
+        ensures reported { OnOk result (IfUnanswered self.old.state (λ out. (front_len (own_reply len) ≡ 0)
             × (reply_len out (own_reply len) ≡ len))) }
         ensures step { OnOk result (RepliesOwn self.old self.new len) }
     {

@@ -2,7 +2,8 @@
 
 ghost use Rattle.std.specs.Prelude.{◌≡◌, [], Some, None};
 ghost use Rattle.fs_chain.specs.Queues.{took};
-ghost use Rattle.fs_chain.specs.Walks.{IsAllBut, StaysForLoad, left_of, queue_after, state_after, told_of};
+ghost use Rattle.fs_chain.specs.Walks.{IsAllBut, StaysForLoad, left_of, queue_after, state_after};
+ghost use Rattle.fs_chain.specs.Walks.{reported_of};
 ghost use Rattle.fs_chain.specs.declared.state.ChainState.TheVariants as at;
 
 use crate::chain_handle::ChainHandle;
@@ -58,8 +59,8 @@ impl ChainHandle {
         pop_id: PopId,
         head: u16,
     ) -> PopOutcome
-        ensures told { result ≡ told_of self.old.descriptors.items (CourseStep.Chain head None) }
-        ensures kept { self.new ≡ record self.old {
+        ensures reported { result ≡ reported_of self.old.descriptors.items (CourseStep.Chain head None) }
+        ensures preserved { self.new ≡ record self.old {
           state = state_after course pop_id self.old.descriptors.items (CourseStep.Chain head None);
         } }
         ensures queue { queue.new ≡ took queue.old }
@@ -90,7 +91,7 @@ impl ChainHandle {
         head: u16,
         fault: ChainFault,
     ) -> PopOutcome
-        ensures told { result ≡ PopOutcome.Faulty head fault }
+        ensures reported { result ≡ PopOutcome.Faulty head fault }
         ensures state { self.new.state
             ≡ state_after course pop_id self.new.descriptors.items (CourseStep.Chain head (Some fault)) }
         ensures empty { self.new.descriptors.items ≡ [] }
@@ -132,7 +133,7 @@ impl ChainHandle {
         pop_id: PopId,
         step: CourseStep,
     ) -> PopOutcome
-        ensures told { result ≡ told_of self.new.descriptors.items step }
+        ensures reported { result ≡ reported_of self.new.descriptors.items step }
         ensures state { self.new.state ≡ state_after course pop_id self.new.descriptors.items step }
         ensures left { self.new.descriptors.items ≡ left_of step self.old.descriptors.items }
         ensures stays { StaysForLoad step self.old.descriptors self.new.descriptors }

@@ -2,7 +2,7 @@
 
 ghost use Rattle.std.specs.Prelude.{◌≡◌, ◌<◌, true, nat_lt, IfSome, None, Some, false, Err, IfErr, IfOk};
 ghost use Rattle.std.specs.Prelude.{OnOk, OnErr, length};
-ghost use Rattle.fs_chain.specs.Events.{tells_of};
+ghost use Rattle.fs_chain.specs.Events.{notifies_of};
 ghost use Rattle.fs_chain.specs.Orders.{end_error, front_len, has_ring, push_error, return_error};
 ghost use Rattle.fs_chain.specs.Queues.{gave};
 ghost use Rattle.fs_chain.specs.Holds.{EndsPush, Pushes};
@@ -172,7 +172,7 @@ impl ChainHandle {
         ensures same { OnErr result ((self.new ≡ self.old) × (queue.new ≡ queue.old)) }
         ensures free { OnOk result (self.new ≡ freed self.old) }
         ensures queue { OnOk result (queue.new ≡ gave queue.old) }
-        ensures tells { IfOk result (λ told. told ≡ tells_of queue.old seen) }
+        ensures notifies { IfOk result (λ reported. reported ≡ notifies_of queue.old seen) }
         ensures step { IfOk result (λ notice. EndsPush self.old queue.old queue.new seen notice) }
     {
         match &self.state {
@@ -180,10 +180,10 @@ impl ChainHandle {
                 if !queue.has_out(out) || !queue.pushing {
                     return Err(ChainError::OtherQueue);
                 }
-                let told = queue.tells(seen);
+                let reported = queue.notifies(seen);
                 self.free();
                 queue.pushed();
-                Ok(told)
+                Ok(reported)
             }
             _ => Err(ChainError::WrongOrder),
         }

@@ -12,7 +12,7 @@ use Rattle.fs_chain.specs.declared.queue.QueueState.{QueueState}
 use Rattle.notify.specs.Kicks.{NotifyState, ChecksWish, after}
 use Rattle.notify.specs.Threads.{ThreadedQueue, Walker}
 use Rattle.fs_notify.specs.Givers.{rules_of}
-use Rattle.fs_notify.specs.Takers.{HasU16Numbers, IsModelOf, SaysWish}
+use Rattle.fs_notify.specs.Takers.{HasU16Numbers, IsModelOf, ShowsWish}
 use Rattle.fs_chain_c.specs.declared.notifications.FsStore.{FsStore}
 use Rattle.fs_chain_c.specs.declared.queue.FsQueue.{FsQueue}
 use Rattle.fs_chain_c.specs.Handles.{EndsPush}
@@ -39,10 +39,10 @@ counted q k is avail used few = (
   subst (λ (n : ℕ). n < 2 ^ 16) (sym is.max_in_flight) (most q.max_in_flight few),
 )
 
-wishes_by : StoresAWish → (b : ChainHandle) (q : FsQueue) (told : FsStore) → SetsNotification b q 1 told 0
-    → q.next_avail < 2 ^ 16 → q.next_used < 2 ^ 16 → q.max_in_flight < 2 ^ 16 → WishesSo (Some b) q told
-wishes_by law b q told (inl none) avail used few = absurd (no_error error.BadArgument none.1)
-wishes_by law b q told (inr is) avail used few =
+wishes_by : StoresAWish → (b : ChainHandle) (q : FsQueue) (reported : FsStore) → SetsNotification b q 1 reported 0
+    → q.next_avail < 2 ^ 16 → q.next_used < 2 ^ 16 → q.max_in_flight < 2 ^ 16 → WishesSo (Some b) q reported
+wishes_by law b q reported (inl none) avail used few = absurd (no_error error.BadArgument none.1)
+wishes_by law b q reported (inr is) avail used few =
     let k = is.1 in
     let small = counted q k is.2 avail used few in (
       b,
@@ -51,27 +51,27 @@ wishes_by law b q told (inr is) avail used few =
       is.2,
       λ s.
           let walked : ThreadedQueue = walked_by k s in
-          let made = law b q told walked (inr is) in
+          let made = law b q reported walked (inr is) in
           let same : made.0 ≡ k = state_same q made.0 k made.1 is.2 in
           subst (λ (j : QueueState). HasU16Numbers j → IsModelOf j walked → walked.holder ≡ Walker →
-          StoresItsWish b j walked told) same made.2 small
+          StoresItsWish b j walked reported) same made.2 small
           (refl, refl) refl,
     )
 
-pub wishes_so : StoresAWish → (before after : Option ChainHandle) (q : FsQueue) (told : FsStore) (status : ℕ)
-    → AsksKicks before q 1 status told after → q.next_avail < 2 ^ 16 → q.next_used < 2 ^ 16 → q.max_in_flight < 2 ^ 16
-    → status ≡ 0 → WishesSo before q told
-wishes_so law None None q told status asks avail used few done = absurd (no_error error.WrongOrder (sym done ∙ asks.0))
-wishes_so law None (Some b') q told status asks avail used few done = absurd asks
-wishes_so law (Some b) None q told status asks avail used few done = absurd asks
-wishes_so law (Some b) (Some b') q told status asks avail used few done =
-    wishes_by law b q told (subst (λ (n : ℕ). SetsNotification b q 1 told n) done asks.0) avail used few
+pub wishes_so : StoresAWish → (before after : Option ChainHandle) (q : FsQueue) (reported : FsStore) (status : ℕ)
+    → AsksKicks before q 1 status reported after → q.next_avail < 2 ^ 16 → q.next_used < 2 ^ 16 → q.max_in_flight < 2 ^ 16
+    → status ≡ 0 → WishesSo before q reported
+wishes_so law None None q reported status asks avail used few done = absurd (no_error error.WrongOrder (sym done ∙ asks.0))
+wishes_so law None (Some b') q reported status asks avail used few done = absurd asks
+wishes_so law (Some b) None q reported status asks avail used few done = absurd asks
+wishes_so law (Some b) (Some b') q reported status asks avail used few done =
+    wishes_by law b q reported (subst (λ (n : ℕ). SetsNotification b q 1 reported n) done asks.0) avail used few
 
 -- the driver's two bytes are its wish, as flags and as an event
-says_so : (event_index : Bool) (bytes : List ℕ)
-    → SaysWish event_index bytes (from_le_bytes w16 bytes) (has_bit (from_le_bytes w16 bytes) 0)
-says_so true bytes = refl
-says_so false bytes = refl
+shows_so : (event_index : Bool) (bytes : List ℕ)
+    → ShowsWish event_index bytes (from_le_bytes w16 bytes) (has_bit (from_le_bytes w16 bytes) 0)
+shows_so true bytes = refl
+shows_so false bytes = refl
 
 checks_by : NotifyIsACheck → (b b' : ChainHandle) (q q' : FsQueue) (seen notify : ℕ) → EndsHandlePush b q seen notify 0 b' q'
     → seen < 2 ^ 16 → q.next_used < 2 ^ 16 → ChecksSo q seen notify
@@ -85,9 +85,9 @@ checks_by law b b' q q' seen notify (inr is) fits used =
           let made = law b b' q q' seen notify at (inr is) fits in
           let same : made.0 ≡ k = state_same q made.0 k made.1 is.2 in
           subst (λ (j : QueueState). j.next_used < 2 ^ 16 → at.published ≡ (gave j).next_used → at.unchecked ≡ 1
-          → SaysWish j.event_index (to_le_bytes w16 seen) at.event at.muted
+          → ShowsWish j.event_index (to_le_bytes w16 seen) at.event at.muted
           → (after (rules_of j) at ChecksWish).owes ≡ (at.owes || notify == 1)) same
-          made.2 (subst (λ (n : ℕ). n < 2 ^ 16) (sym is.2.next_used) used) refl refl (says_so k.event_index (to_le_bytes w16 seen)),
+          made.2 (subst (λ (n : ℕ). n < 2 ^ 16) (sym is.2.next_used) used) refl refl (shows_so k.event_index (to_le_bytes w16 seen)),
     )
 
 pub checks_so : NotifyIsACheck → (before now : Option ChainHandle) (q q' : FsQueue) (seen notify status : ℕ)

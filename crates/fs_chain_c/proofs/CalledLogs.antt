@@ -7,10 +7,10 @@ use Rattle.fs_chain_c.specs.declared.pushing.FsStores.{FsStores}
 use Rattle.fs_chain_c.specs.declared.queue.FsQueue.{FsQueue}
 use Rattle.fs_chain_c.specs.declared.ranges.FsRange.{FsRange}
 use Rattle.fs_chain_c.specs.Handles.{Pushes}
-use Rattle.fs_chain_c.specs.Logging.{PushTellsAddresses, RangesAreRoom}
+use Rattle.fs_chain_c.specs.Logging.{PushReportsAddresses, RangesAreRoom}
 use Rattle.fs_chain_c.specs.LogsCalled.{AreItsAddresses, MarksReply, MarksUsed}
 use Rattle.fs_chain_c.specs.Pushing.{PushesHandle}
-use Rattle.fs_chain_c.specs.Ranges.{FillsRanges, TellsRanges}
+use Rattle.fs_chain_c.specs.Ranges.{FillsRanges, ReportsRanges}
 use Rattle.fs_chain_c.proofs.CalledLemmas.{no_error}
 
 fills_by : RangesAreRoom → (b : ChainHandle) (from most count : ℕ) (ranges ranges' : List FsRange)
@@ -22,17 +22,17 @@ fills_by law b from most count ranges ranges' fills =
     subst (λ (l : List FsRange). AreItsAddresses b from l) (sym first) (λ low. law b from most rs low fills.4)
 
 pub marks_reply : RangesAreRoom → (before after : Option ChainHandle) (from most : ℕ) (ranges ranges' : List FsRange) (count : ℕ)
-    → TellsRanges before from most ranges count after ranges' → MarksReply before from count ranges'
-marks_reply law None None from most ranges ranges' count tells = tells.0
-marks_reply law None (Some b') from most ranges ranges' count tells = absurd tells
-marks_reply law (Some b) None from most ranges ranges' count tells = absurd tells
-marks_reply law (Some b) (Some b') from most ranges ranges' count tells =
-    fills_by law b from (min most (2 ^ 64 - 1 - from)) count ranges ranges' tells.0
+    → ReportsRanges before from most ranges count after ranges' → MarksReply before from count ranges'
+marks_reply law None None from most ranges ranges' count reports = reports.0
+marks_reply law None (Some b') from most ranges ranges' count reports = absurd reports
+marks_reply law (Some b) None from most ranges ranges' count reports = absurd reports
+marks_reply law (Some b) (Some b') from most ranges ranges' count reports =
+    fills_by law b from (min most (2 ^ 64 - 1 - from)) count ranges ranges' reports.0
 
-pub marks_used : PushTellsAddresses → (before after : Option ChainHandle) (q q' : FsQueue) (front front' : List ℕ) (told : FsStores)
-    (status : ℕ) → Pushes before q front status told after q' front' → status ≡ 0 → MarksUsed q told
-marks_used law None None q q' front front' told status pushes done = absurd (no_error error.WrongOrder (sym done ∙ pushes.0))
-marks_used law None (Some b') q q' front front' told status pushes done = absurd pushes
-marks_used law (Some b) None q q' front front' told status pushes done = absurd pushes
-marks_used law (Some b) (Some b') q q' front front' told status pushes done =
-    law b b' q q' front front' told (subst (λ (n : ℕ). PushesHandle b q front told n b' q' front') done pushes)
+pub marks_used : PushReportsAddresses → (before after : Option ChainHandle) (q q' : FsQueue) (front front' : List ℕ) (reported : FsStores)
+    (status : ℕ) → Pushes before q front status reported after q' front' → status ≡ 0 → MarksUsed q reported
+marks_used law None None q q' front front' reported status pushes done = absurd (no_error error.WrongOrder (sym done ∙ pushes.0))
+marks_used law None (Some b') q q' front front' reported status pushes done = absurd pushes
+marks_used law (Some b) None q q' front front' reported status pushes done = absurd pushes
+marks_used law (Some b) (Some b') q q' front front' reported status pushes done =
+    law b b' q q' front front' reported (subst (λ (n : ℕ). PushesHandle b q front reported n b' q' front') done pushes)

@@ -8,7 +8,7 @@ use Rattle.virtiofsd_fuse.specs.Serving.{setting}
 use Rattle.fs_chain.specs.declared.error.ChainError.TheVariants as error
 use Rattle.fs_chain.specs.declared.chain_handle.ChainHandle.{ChainHandle}
 use Rattle.fs_chain.specs.declared.decoding.Decoded.{Decoded}
-use Rattle.fs_chain.specs.declared.decoding.Decoded.TheVariants as tells
+use Rattle.fs_chain.specs.declared.decoding.Decoded.TheVariants as reports
 use Rattle.fs_chain.specs.declared.state.ChainState as state
 use Rattle.fs_chain.specs.declared.state.ChainState.TheVariants as at
 use Rattle.fs_chain.specs.Decoding.{IfUndecoded}
@@ -51,26 +51,26 @@ decodes_names law before after d request call status small asks done =
 
 -- ---- all of its bytes
 
-means_call : SpansHoldNames → (before kept : state.ChainState) (s : Session) (request : List ℕ) (made : FileCall)
-    → length request < 2 ^ 32 → IfUndecoded before (λ out. Keeps out kept s request made)
+means_call : SpansHoldNames → (before preserved : state.ChainState) (s : Session) (request : List ℕ) (made : FileCall)
+    → length request < 2 ^ 32 → IfUndecoded before (λ out. Keeps out preserved s request made)
     → IfUndecoded before (λ out. out.request_len ≡ length request → MeansCall request s.options.0 out.room_len made)
-means_call law (at.Taken out) kept s request made small keeps = λ all.
+means_call law (at.Taken out) preserved s request made small keeps = λ all.
     let m = meaning s.options.0 request out.room_len in
-    let asks = asks_of (setting s.page_size s.options.0 out.room_len) m (drop 80 request) made out kept
+    let asks = asks_of (setting s.page_size s.options.0 out.room_len) m (drop 80 request) made out preserved
     (keeps request all (take_all (length request) request (le_refl (length request)))) in (
       asks.0,
       asks.1,
       asks.2,
       law request (drop 80 request) s.options.0 out.room_len asks.0 made small asks.1 asks.2,
     )
-means_call law _ kept s request made small keeps = tt
+means_call law _ preserved s request made small keeps = tt
 
 means_by : SpansHoldNames → (b asked : ChainHandle) (s : Session) (request : List ℕ) (made : Decoded) → length request < 2 ^ 32
     → Decodes b s request made asked
     → IfCall made (λ (made : FileCall). IfUndecoded b.state (λ out. out.request_len ≡ length request
     → MeansCall request s.options.0 out.room_len made))
-means_by law b asked s request (tells.Call made) small decodes =
-    means_call law b.state asked.state s request made small decodes.tells
+means_by law b asked s request (reports.Call made) small decodes =
+    means_call law b.state asked.state s request made small decodes.reports
 means_by law b asked s request _ small decodes = tt
 
 pub means_names : SpansHoldNames → (before after : Option ChainHandle) (d : FsDevice) (request : List ℕ) (call : FsCall)

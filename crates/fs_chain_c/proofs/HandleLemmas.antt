@@ -6,7 +6,7 @@ use Rattle.fs_chain.specs.Orders.{memory_error}
 use Rattle.fs_chain.specs.declared.chain_handle.ChainHandle.{ChainHandle}
 use Rattle.fs_chain_c.specs.declared.device.FsDevice.{FsDevice}
 use Rattle.fs_chain_c.specs.declared.memory.FsRegion.{FsRegion}
-use Rattle.fs_chain_c.specs.Handles.{GoesOver, OnHandle, RefusesMemory, SetsHandle, SetsMemory}
+use Rattle.fs_chain_c.specs.Handles.{ProceedsOver, OnHandle, RefusesMemory, SetsHandle, SetsMemory}
 use Rattle.fs_chain_c.specs.Memory.{IsDevice, IsMemory}
 
 pub on_handle : (Does : ChainHandle → ChainHandle → Type 0) (Nothing : Type 0) (before after : Option ChainHandle) (b b' : ChainHandle)
@@ -23,9 +23,11 @@ sets_some d regions status before after b b' was is sets =
     (subst (λ (o : Option ChainHandle). SetsMemory (Some b) d regions status o) (sym is) sets)
 
 -- the same `ChainHandle` is told the same
-pub goes_along : (b : ChainHandle) (d : FsDevice) (regions : List FsRegion) (b' b'' : ChainHandle) → b'' ≡ b' → GoesOver b d regions b' →
-    GoesOver b d regions b''
-goes_along b d regions b' b'' same goes = let P : ChainHandle → Type 0 = λ x. GoesOver b d regions x in subst P (sym same) goes
+pub proceeds_along : (b : ChainHandle) (d : FsDevice) (regions : List FsRegion) (b' b'' : ChainHandle) → b'' ≡ b'
+    → ProceedsOver b d regions b' →
+    ProceedsOver b d regions b''
+proceeds_along b d regions b' b'' same proceeds =
+    let P : ChainHandle → Type 0 = λ x. ProceedsOver b d regions x in subst P (sym same) proceeds
 
 -- where the chain is is looked at behind the device's numbers and the regions
 pub state_refuses : {A : Type 0} (b : ChainHandle) (d : FsDevice) (regions : List FsRegion) (memory : List Region) (r : Result A ChainError)

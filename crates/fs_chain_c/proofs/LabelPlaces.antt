@@ -16,8 +16,8 @@ use Rattle.server_requests.specs.Extras.{SentParts, all_sent, extension, extensi
 use Rattle.server_requests.specs.Extras.{nothing_sent, one_group, part, parts_of, security_context, security_part, takes_group}
 use Rattle.server_requests.specs.Extras.{takes_security}
 use Rattle.fs_chain_c.proofs.NamePlaces.{AreFirst, AreNameAndValue, AreTwo, Begins, Ends, EndsIf, IfRead, IsName, IsRecord, NameStandsAt}
-use Rattle.fs_chain_c.proofs.NamePlaces.{StandsAt, both, exactly_read, front_read, get_drop, get_take, if_needed, name_kept, name_read}
-use Rattle.fs_chain_c.proofs.NamePlaces.{needed, place_kept, quiet, record_read, then_read, two_kept}
+use Rattle.fs_chain_c.proofs.NamePlaces.{StandsAt, both, exactly_read, front_read, get_drop, get_take, if_needed, name_preserved, name_read}
+use Rattle.fs_chain_c.proofs.NamePlaces.{needed, place_preserved, quiet, record_read, then_read, two_preserved}
 
 -- ---- a label at a place
 
@@ -42,8 +42,8 @@ shift_stands k at bytes l h =
 
 cut_stands : (at n : ℕ) (bytes : List ℕ) (l : SecurityContext) → LabelStands at (take n bytes) l → LabelStands at bytes l
 cut_stands at n bytes l h = (
-  (place_kept l.name bytes n at h.0.0, h.0.1, get_take bytes n (at + length l.name) 0 h.0.2),
-  place_kept l.label bytes n (at + (length l.name + 1)) h.1,
+  (place_preserved l.name bytes n at h.0.0, h.0.1, get_take bytes n (at + length l.name) 0 h.0.2),
+  place_preserved l.label bytes n (at + (length l.name + 1)) h.1,
 )
 
 behind_stands :
@@ -463,20 +463,20 @@ LabelAt request at None = Unit {0}
 LabelAt request at (Some l) = (at + 8 ≤ length request) × LabelStands (at + label_place (drop at request)) request l
 
 -- four bytes that were cut out of a request
-word_kept : (all : List ℕ) (k n j m : ℕ) → m + 4 ≤ length (drop j (take n (drop k all)))
+word_preserved : (all : List ℕ) (k n j m : ℕ) → m + 4 ≤ length (drop j (take n (drop k all)))
     → word m (drop j (take n (drop k all))) ≡ word m (drop (k + j) all)
-word_kept all k n j m long =
+word_preserved all k n j m long =
     let cut = take n (drop k all) in
     let w = take 4 (drop m (drop j cut)) in
     let left : length (drop m (drop j cut)) ≡ length (drop j cut) - m = length-drop m (drop j cut) in
     let four : length w ≡ 4 = length-take-le 4 (drop m (drop j cut)) (omega (arith, left, long)) in
     let begins : Begins (drop (j + m) cut) w =
     ap (λ (c : ℕ). take c (drop (j + m) cut)) four ∙ ap (take 4) (sym (drop-drop m j cut)) in
-    let kept : Begins (drop (j + m) (drop k all)) w = place_kept w (drop k all) n (j + m) begins in
+    let preserved : Begins (drop (j + m) (drop k all)) w = place_preserved w (drop k all) n (j + m) begins in
     let same : k + (j + m) ≡ k + j + m = omega arith in
     let there : drop (j + m) (drop k all) ≡ drop m (drop (k + j) all) =
     drop-drop (j + m) k all ∙ ap (λ (c : ℕ). drop c all) same ∙ sym (drop-drop m (k + j) all) in
-    ap (from_le_bytes w32) (sym kept ∙ ap (λ (c : ℕ). take c (drop (j + m) (drop k all))) four ∙ ap (take 4) there)
+    ap (from_le_bytes w32) (sym preserved ∙ ap (λ (c : ℕ). take c (drop (j + m) (drop k all))) four ∙ ap (take 4) there)
 
 label_at : (all : List ℕ) (k n j : ℕ) (o : Option SecurityContext) → LabelIn (drop j (take n (drop k all))) o → LabelAt all (k + j) o
 label_at all k n j None h = tt
@@ -488,8 +488,8 @@ label_at all k n j (Some l) h =
     let b : length cut ≡ min n (length (drop k all)) = length-take n (drop k all) in
     let c : length (drop k all) ≡ length all - k = length-drop k all in
     let place : label_place bytes ≡ label_place (drop (k + j) all) =
-    ap (λ (s : ℕ). label_place_by s (word 4 bytes)) (word_kept all k n j 0 (omega (arith, eight)))
-    ∙ ap (label_place_by (word 0 (drop (k + j) all))) (word_kept all k n j 4 (omega (arith, eight))) in
+    ap (λ (s : ℕ). label_place_by s (word 4 bytes)) (word_preserved all k n j 0 (omega (arith, eight)))
+    ∙ ap (label_place_by (word 0 (drop (k + j) all))) (word_preserved all k n j 4 (omega (arith, eight))) in
     let p = label_place bytes in
     let stands : LabelStands (k + (j + p)) all l =
     shift_stands k (j + p) all l (cut_stands (j + p) n (drop k all) l (shift_stands j p cut l h.1)) in
@@ -499,21 +499,21 @@ label_at all k n j (Some l) h =
     )
 
 -- a name and a label that stand in front of the first bytes at a place of a request
-pub new_kept : (request : List ℕ) (x : List ℕ × Extra) (k n : ℕ) → IsNew (take n (drop k request)) x
+pub new_preserved : (request : List ℕ) (x : List ℕ × Extra) (k n : ℕ) → IsNew (take n (drop k request)) x
     → NameStandsAt k request x.0 × LabelAt request (k + (length x.0 + 1)) x.1.security
-new_kept request x k n h =
+new_preserved request x k n h =
     let next : k + suc (length x.0) ≡ k + (length x.0 + 1) = omega arith in (
-      name_kept request x.0 k n h.0,
+      name_preserved request x.0 k n h.0,
       subst (λ (at : ℕ). LabelAt request at x.1.security) next (label_at request k n (suc (length x.0)) x.1.security h.1),
     )
 
-pub link_kept : (request : List ℕ) (x : NewLink) (k n : ℕ) → IsNewLink (take n (drop k request)) x
+pub link_preserved : (request : List ℕ) (x : NewLink) (k n : ℕ) → IsNewLink (take n (drop k request)) x
     → NameStandsAt k request x.name × NameStandsAt (k + (length x.name + 1)) request x.link
     × LabelAt request (k + (length x.name + 1) + (length x.link + 1)) x.extra.security
-link_kept request x k n h =
+link_preserved request x k n h =
     let i = suc (length x.name) in
     let j = suc (length x.link) in
-    let two = two_kept request x.name x.link k n h.0 in
+    let two = two_preserved request x.name x.link k n h.0 in
     let cut = take n (drop k request) in
     let label : LabelIn (drop (i + j) cut) x.extra.security =
     subst (λ (b : List ℕ). LabelIn b x.extra.security) (drop-drop j i cut) h.1 in

@@ -22,7 +22,7 @@ use Rattle.fs_chain.specs.declared.pushing.PushStores.{PushStores}
 use Rattle.fs_chain.specs.declared.queue.QueueState.{QueueState}
 use Rattle.fs_chain.specs.declared.state.ChainState as state
 use Rattle.fs_chain.specs.declared.state.ChainState.TheVariants as at
-use Rattle.fs_chain_c.specs.Logging.{PushTellsAddresses, RangesAreRoom, addresses_in, reply_buffer}
+use Rattle.fs_chain_c.specs.Logging.{PushReportsAddresses, RangesAreRoom, addresses_in, reply_buffer}
 use Rattle.fs_chain_c.specs.Ranges.{range_bytes}
 
 -- ---- ranges
@@ -138,15 +138,15 @@ pushed_there (at.Waits out w) k len s none by = absurd (cc)
 pushed_there (at.Lists out l) k len s none by = absurd (cc)
 pushed_there (at.Pushing out) k len s none by = absurd (cc)
 
-pub pushes : PushTellsAddresses
-pushes b b' q q' front front' told (inl none) = absurd (no_error error.BadArgument none.1)
-pushes b b' q q' front front' told (inr is) = elim is.3 [
+pub pushes : PushReportsAddresses
+pushes b b' q q' front front' reported (inl none) = absurd (no_error error.BadArgument none.1)
+pushes b b' q q' front front' reported (inr is) = elim is.3 [
   | inl done ↦
       let k = is.1 in
       let so = done.1 in
       let s = so.0 in
       let there = pushed_there b.state k (length front) s done.0 so.2 in
-      let mapped : (told.element_guest ≡ s.used.head.address) × (told.index_guest ≡ s.used.index.address) =
+      let mapped : (reported.element_guest ≡ s.used.head.address) × (reported.index_guest ≡ s.used.index.address) =
       elim so.4 [ inl here ↦ (here.1.8, here.1.9) | inr lost ↦ absurd (not_mapped lost.0) ] in
       (k, is.2, mapped.0 ∙ there.0, mapped.1 ∙ there.1)
   | inr why ↦ absurd (no_error why.0 why.3)

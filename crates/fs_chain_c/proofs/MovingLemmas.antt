@@ -224,13 +224,13 @@ restores d d' queues queues' ks saved count restored are =
     subst (λ (l : List FsQueue). AreQueueStates (take (length qs) l) ks) read.5
     (subst (λ (n : ℕ). AreQueueStates (take n queues') ks) read.2 are) in
     let go = go_on queues qs ks few is.2.3 are' in
-    let as_told : IsRecord bytes v d'.options qs =
+    let as_reported : IsRecord bytes v d'.options qs =
     subst (λ (n : ℕ). IsRecord bytes v n qs) (sym (ap (λ (x : FsDevice). x.options) read.4)) is in (
       bytes,
       has.1,
       v,
       has.2,
-      subst (λ (l : List Queue). IsRecord bytes v d'.options l) (sym go.0) as_told,
+      subst (λ (l : List Queue). IsRecord bytes v d'.options l) (sym go.0) as_reported,
       go.1,
       go.2,
     )

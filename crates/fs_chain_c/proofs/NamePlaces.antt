@@ -157,10 +157,10 @@ length_pairs zero bytes = refl
 length_pairs (suc n) bytes = ap suc (length_pairs n (drop 16 bytes))
 
 -- the first bytes have all of them
-pairs_kept : (n : ℕ) (bytes : List ℕ) → pairs_of n (take (n * 16) bytes) ≡ pairs_of n bytes
+pairs_preserved : (n : ℕ) (bytes : List ℕ) → pairs_of n (take (n * 16) bytes) ≡ pairs_of n bytes
 unfolding pairs_of
-pairs_kept zero bytes = refl
-pairs_kept (suc n) bytes =
+pairs_preserved zero bytes = refl
+pairs_preserved (suc n) bytes =
     let whole : suc n * 16 ≡ 16 + n * 16 = omega arith in
     let first : take 16 (take (suc n * 16) bytes) ≡ take 16 bytes = take-take 16 (suc n * 16) bytes (omega arith) in
     let others : drop 16 (take (suc n * 16) bytes) ≡ take (n * 16) (drop 16 bytes) =
@@ -168,7 +168,7 @@ pairs_kept (suc n) bytes =
     let pair : pair_in (take (suc n * 16) bytes) ≡ pair_in bytes =
     ap (λ (b : List ℕ). let r = made forget_one.parts forget_one.make b in (r.nodeid, r.nlookup)) first in
     ap (λ (p : ℕ × ℕ). p ∷ pairs_of n (drop 16 (take (suc n * 16) bytes))) pair
-    ∙ ap (λ (pairs : List (ℕ × ℕ)). pair_in bytes ∷ pairs) (ap (pairs_of n) others ∙ pairs_kept n (drop 16 bytes))
+    ∙ ap (λ (pairs : List (ℕ × ℕ)). pair_in bytes ∷ pairs) (ap (pairs_of n) others ∙ pairs_preserved n (drop 16 bytes))
 
 -- the pairs of some bytes, which stand in front of others, stand in the first so many of these
 pub pairs_held : (counts bytes : List ℕ) (n m : ℕ) → ArePairs n bytes (pairs_in counts)
@@ -183,7 +183,7 @@ pairs_held counts bytes n m are is =
     let there : m ≡ k * 16 = is (omega (arith, long)) ∙ twice in
     let whole : length (take (k * 16) bytes) ≡ k * 16 = length-take-le (k * 16) bytes long in
     let count : length (take (k * 16) bytes) / 16 ≡ k = omega (arith, whole) in
-    ap (λ (a : ℕ). pairs_in (take a bytes)) there ∙ ap (λ (a : ℕ). pairs_of a (take (k * 16) bytes)) count ∙ pairs_kept k bytes
+    ap (λ (a : ℕ). pairs_in (take a bytes)) there ∙ ap (λ (a : ℕ). pairs_of a (take (k * 16) bytes)) count ∙ pairs_preserved k bytes
     ∙ ap (λ (a : ℕ). pairs_of a bytes) same ∙ sym are.0
 
 -- ---- names
@@ -283,13 +283,13 @@ first_or d [] = d
 first_or d (y ∷ l) = y
 
 -- what stands in front of the first of some bytes stands in front of all
-front_kept : (name bytes : List ℕ) (n : ℕ) → Begins (take n bytes) name → Begins bytes name
-front_kept [] bytes n h = refl
-front_kept (b ∷ name) [] zero h = h
-front_kept (b ∷ name) [] (suc n) h = h
-front_kept (b ∷ name) (x ∷ bytes) zero h = absurd (cc)
-front_kept (b ∷ name) (x ∷ bytes) (suc n) h =
-    let rest = front_kept name bytes n (ap (drop 1) h) in
+front_preserved : (name bytes : List ℕ) (n : ℕ) → Begins (take n bytes) name → Begins bytes name
+front_preserved [] bytes n h = refl
+front_preserved (b ∷ name) [] zero h = h
+front_preserved (b ∷ name) [] (suc n) h = h
+front_preserved (b ∷ name) (x ∷ bytes) zero h = absurd (cc)
+front_preserved (b ∷ name) (x ∷ bytes) (suc n) h =
+    let rest = front_preserved name bytes n (ap (drop 1) h) in
     ap (λ (y : ℕ). y ∷ take (length name) bytes) (ap (first_or b) h) ∙ ap (λ (l : List ℕ). b ∷ l) rest
 
 none_in : (name : List ℕ) (k : ℕ) → Begins (drop k []) name → (bytes : List ℕ) → Begins bytes name
@@ -298,12 +298,12 @@ none_in (b ∷ name) zero h bytes = absurd (cc)
 none_in (b ∷ name) (suc k) h bytes = absurd (cc)
 
 -- and so at a place
-pub place_kept : (name bytes : List ℕ) (n k : ℕ) → Begins (drop k (take n bytes)) name → Begins (drop k bytes) name
-place_kept name bytes n zero h = front_kept name bytes n h
-place_kept name [] zero (suc k) h = h
-place_kept name [] (suc n) (suc k) h = h
-place_kept name (x ∷ bytes) zero (suc k) h = none_in name (suc k) h (drop k bytes)
-place_kept name (x ∷ bytes) (suc n) (suc k) h = place_kept name bytes n k h
+pub place_preserved : (name bytes : List ℕ) (n k : ℕ) → Begins (drop k (take n bytes)) name → Begins (drop k bytes) name
+place_preserved name bytes n zero h = front_preserved name bytes n h
+place_preserved name [] zero (suc k) h = h
+place_preserved name [] (suc n) (suc k) h = h
+place_preserved name (x ∷ bytes) zero (suc k) h = none_in name (suc k) h (drop k bytes)
+place_preserved name (x ∷ bytes) (suc n) (suc k) h = place_preserved name bytes n k h
 
 -- a byte of the first ones is one of all, and so is one behind some
 pub get_take : (bytes : List ℕ) (n i b : ℕ) → slice_get (take n bytes) i ≡ Some b → slice_get bytes i ≡ Some b
@@ -324,31 +324,40 @@ get_within (x ∷ bytes) zero b h = omega arith
 get_within (x ∷ bytes) (suc i) b h = let less = get_within bytes i b h in omega (arith, less)
 
 -- a name that stands in front of the first bytes at a place of some
-pub name_kept : (request name : List ℕ) (k n : ℕ) → IsName (take n (drop k request)) name → NameStandsAt k request name
-name_kept request name k n h =
-    (front_kept name (drop k request) n h.0, h.1, sym (get_drop request k (length name)) ∙ get_take (drop k request) n (length name) 0 h.2)
+pub name_preserved : (request name : List ℕ) (k n : ℕ) → IsName (take n (drop k request)) name → NameStandsAt k request name
+name_preserved request name k n h = (
+  front_preserved name (drop k request) n h.0,
+  h.1,
+  sym (get_drop request k (length name)) ∙ get_take (drop k request) n (length name) 0
+      h.2,
+)
 
 -- what stands behind it and its zero byte
-second_kept : (request first second : List ℕ) (k n : ℕ) → Begins (drop (suc (length first)) (take n (drop k request))) second
+second_preserved : (request first second : List ℕ) (k n : ℕ) → Begins (drop (suc (length first)) (take n (drop k request))) second
     → StandsAt (k + (length first + 1)) request second
-second_kept request first second k n h =
+second_preserved request first second k n h =
     let next : k + suc (length first) ≡ k + (length first + 1) = omega arith in
     let there : drop (suc (length first)) (drop k request) ≡ drop (k + (length first + 1)) request =
     drop-drop (suc (length first)) k request ∙ ap (λ (m : ℕ). drop m request) next in
-    subst (λ (b : List ℕ). Begins b second) there (place_kept second (drop k request) n (suc (length first)) h)
+    subst (λ (b : List ℕ). Begins b second) there (place_preserved second (drop k request) n (suc (length first)) h)
 
-pub two_kept : (request first second : List ℕ) (k n : ℕ) → AreTwo (take n (drop k request)) first second
+pub two_preserved : (request first second : List ℕ) (k n : ℕ) → AreTwo (take n (drop k request)) first second
     → NameStandsAt k request first × NameStandsAt (k + (length first + 1)) request second
-two_kept request first second k n h =
+two_preserved request first second k n h =
     let i = suc (length first) in
     let j = length second in
     let here : k + (i + j) ≡ k + (length first + 1) + j = omega arith in
     let in_front : slice_get (drop k request) (i + j) ≡ Some 0 =
     get_take (drop k request) n (i + j) 0 (sym (get_drop (take n (drop k request)) i j) ∙ h.1.2) in (
-      name_kept request first k n h.0,
-      (second_kept request first second k n h.1.0, h.1.1, sym (ap (slice_get request) here) ∙ sym (get_drop request k (i + j)) ∙ in_front),
+      name_preserved request first k n h.0,
+      (
+        second_preserved request first second k n h.1.0,
+        h.1.1,
+        sym (ap (slice_get request) here) ∙ sym (get_drop request k (i + j)) ∙
+            in_front,
+      ),
     )
 
-pub value_kept : (request name content : List ℕ) (k n : ℕ) → AreNameAndValue (take n (drop k request)) name content
+pub value_preserved : (request name content : List ℕ) (k n : ℕ) → AreNameAndValue (take n (drop k request)) name content
     → NameStandsAt k request name × StandsAt (k + (length name + 1)) request content
-value_kept request name content k n h = (name_kept request name k n h.0, second_kept request name content k n h.1)
+value_preserved request name content k n h = (name_preserved request name k n h.0, second_preserved request name content k n h.1)

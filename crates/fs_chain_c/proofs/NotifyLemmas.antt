@@ -8,14 +8,14 @@ use Rattle.vm_iotlb.specs.declared.permissions.Permissions.TheVariants.{Write}
 use Rattle.fs_regions.specs.Places.{Mapped}
 use Rattle.fs_chain.specs.declared.error.ChainError.{ChainError}
 use Rattle.fs_chain.specs.declared.error.ChainError.TheVariants as error
-use Rattle.fs_chain.specs.Events.{tells_of}
+use Rattle.fs_chain.specs.Events.{notifies_of}
 use Rattle.fs_chain.specs.Numbers.{chain_error_number}
 use Rattle.notify.specs.Threads.{ThreadedQueue, Wishes, WishIsThere, after_act}
 use Rattle.fs_notify.proofs.Returns as givers
 use Rattle.fs_notify.proofs.Wishes as takers
-use Rattle.fs_notify.specs.Takers.{SaysWish, ways_of}
+use Rattle.fs_notify.specs.Takers.{ShowsWish, ways_of}
 use Rattle.fs_chain_c.specs.declared.notifications.FsStore.{FsStore}
-use Rattle.fs_chain_c.specs.Notifications.{TellsStore}
+use Rattle.fs_chain_c.specs.Notifications.{ReportsStore}
 use Rattle.fs_chain_c.specs.Notifying.{NotifyIsACheck, StoresAWish}
 use Rattle.fs_chain_c.specs.Queues.{flag}
 use Rattle.fs_chain_c.specs.Pushing.{StandsHere}
@@ -27,27 +27,28 @@ refused error.BadArgument is = cc
 refused e is = cc
 
 -- a store that is told without an error
-pub told_store : (regions : Mapped) (store : Store) (told : FsStore) → TellsStore regions (Some store) told 0
-    → StandsHere regions Write store.address 2 told.at × (store.bytes ≡ to_le_bytes w16 told.value) × (told.len ≡ 2)
-told_store regions store told (inl done) = (done.1, done.2, done.3)
-told_store regions store told (inr lost) = absurd (never lost.0)
+pub reported_store : (regions : Mapped) (store : Store) (reported : FsStore) → ReportsStore regions (Some store) reported 0
+    → StandsHere regions Write store.address 2 reported.at × (store.bytes ≡ to_le_bytes w16 reported.value) × (reported.len ≡ 2)
+reported_store regions store reported (inl done) = (done.1, done.2, done.3)
+reported_store regions store reported (inr lost) = absurd (never lost.0)
   where
     never : ◌≡◌ {A = ℕ} 0 77 → ⊥
     never is = cc
 
 pub wishes : StoresAWish
-wishes b q told s (inl none) = absurd (refused error.BadArgument none.1)
-wishes b q told s (inr is) = (
+wishes b q reported s (inl none) = absurd (refused error.BadArgument none.1)
+wishes b q reported s (inr is) = (
   is.1,
   is.2,
   λ counted of walker.
       let asked = takers.rearms is.1 s counted of walker in
       let store = asked.0 in
       let end : ThreadedQueue = after_act (ways_of is.1) (after_act (ways_of is.1) s Wishes) WishIsThere in
-      let stored = told_store b.regions store told (subst (λ (x : Option Store). TellsStore b.regions x told 0) asked.1 is.3) in (
-        subst (λ (a : ℕ). StandsHere b.regions Write a 2 told.at) asked.2 stored.0,
+      let stored =
+      reported_store b.regions store reported (subst (λ (x : Option Store). ReportsStore b.regions x reported 0) asked.1 is.3) in (
+        subst (λ (a : ℕ). StandsHere b.regions Write a 2 reported.at) asked.2 stored.0,
         stored.2,
-        subst (λ (bytes : List ℕ). SaysWish is.1.event_index bytes end.event end.muted) stored.1 asked.5,
+        subst (λ (bytes : List ℕ). ShowsWish is.1.event_index bytes end.event end.muted) stored.1 asked.5,
         asked.6,
       ),
 )
@@ -62,10 +63,10 @@ checks b b' q q' seen notify u (inr is) fits = elim is.3 [
   | inl ended ↦ (
     is.1,
     is.2,
-    λ small at one says.
+    λ small at one shows.
         let same : from_le_bytes w16 (to_le_bytes w16 seen) ≡ seen = from_le_bytes-to_le_bytes_2 seen fits in
-        let check = givers.checks is.1 (to_le_bytes w16 seen) u small (subst (λ (n : ℕ). n < 2 ^ 16) (sym same) fits) at one says in
-        check ∙ ap (λ (n : Bool). u.owes || n) (sym (ap (λ (n : ℕ). n == 1) ended.2 ∙ flag_is (tells_of is.1 (to_le_bytes w16 seen)))),
+        let check = givers.checks is.1 (to_le_bytes w16 seen) u small (subst (λ (n : ℕ). n < 2 ^ 16) (sym same) fits) at one shows in
+        check ∙ ap (λ (n : Bool). u.owes || n) (sym (ap (λ (n : ℕ). n == 1) ended.2 ∙ flag_is (notifies_of is.1 (to_le_bytes w16 seen)))),
   )
   | inr why ↦ absurd (refused why.0 why.3.0)
 ]

@@ -110,7 +110,7 @@ flag_low false = omega arith
 
 -- a queue that isn't stopped is written to C's numbers, and read again
 pub put_back : (q : FsQueue) (k : QueueState) → IsQueueState q k → k.stopped ≡ None → IsQueueState (put q k) k
-put_back q k is goes = record {
+put_back q k is proceeds = record {
   lawful = is.lawful;
   size = is.size;
   desc = is.desc;
@@ -128,5 +128,5 @@ put_back q k is goes = record {
   event_bit = is.event_bit;
   reset_count = is.reset_count;
   pop_count = refl;
-  stopped = subst (λ (x : Option QueueError). stop_of (stop_number x) ≡ Some x) (sym goes) refl;
+  stopped = subst (λ (x : Option QueueError). stop_of (stop_number x) ≡ Some x) (sym proceeds) refl;
 }

@@ -25,7 +25,7 @@ use Rattle.virtiofsd_fuse.specs.DataApart.{begins_a_write, is_write}
 use Rattle.virtiofsd_fuse.specs.Grammar.{Asks, FileCommand, Given, Meaning, given, meaning, one, row}
 use Rattle.virtiofsd_fuse.specs.Serving.{Setting, setting}
 use Rattle.fs_chain.specs.declared.decoding.Decoded.{Decoded}
-use Rattle.fs_chain.specs.declared.decoding.Decoded.TheVariants as tells
+use Rattle.fs_chain.specs.declared.decoding.Decoded.TheVariants as reports
 use Rattle.fs_chain.specs.declared.error.ChainError.{ChainError}
 use Rattle.fs_chain.specs.declared.error.ChainError.TheVariants.{BadArgument}
 use Rattle.fs_chain.specs.declared.state.InFlight.{InFlight}
@@ -36,7 +36,7 @@ use Rattle.fs_chain.specs.Decoding.{IfUndecoded, KeepsCall, wanted_after, wanted
 use Rattle.fs_chain.specs.Orders.{ask_error, room_len}
 use Rattle.fs_chain_c.specs.declared.call.FsCall.{FsCall}
 use Rattle.fs_chain_c.specs.Decoding as asking
-use Rattle.fs_chain_c.specs.Decoding.{TellsAsked, fault_after}
+use Rattle.fs_chain_c.specs.Decoding.{ReportsAsked, fault_after}
 use Rattle.fs_chain_c.specs.Calls.{call_fields, opcode_in}
 use Rattle.fs_chain_c.specs.Spans.{AskedSpansHoldNames, HasNames, IfCall}
 use Rattle.fs_chain_c.proofs.NamePlaces.{IfRead, both, quiet, then_read}
@@ -112,8 +112,8 @@ opcode_more front more long =
 -- ---- what is told
 
 -- a call that is told is the first one of what the request means
-pub asks_of : (s : Setting) (m : Meaning) (bytes : List ℕ) (made : values.FileCall) (out : InFlight) (kept : state.ChainState)
-    → KeepsCall s m bytes made out kept
+pub asks_of : (s : Setting) (m : Meaning) (bytes : List ℕ) (made : values.FileCall) (out : InFlight) (preserved : state.ChainState)
+    → KeepsCall s m bytes made out preserved
     → (command : FileCommand) × (m ≡ Asks command) × (call_of bytes made ≡ first_call command)
 asks_of s m bytes made out (at.Waits same w) h = (h.1.0, h.1.1, h.1.2)
 asks_of s m bytes made out (at.Lists same l) h = (h.1.0, h.1.1, h.1.2)
@@ -121,21 +121,21 @@ asks_of s m bytes made out _ h = absurd h
 
 -- requests that begin so keep this call
 abbrev pub Keeps : InFlight → state.ChainState → Session → (request : List ℕ) → values.FileCall → Type 0
-Keeps out kept s request made =
+Keeps out preserved s request made =
     (all : List ℕ) → out.request_len ≡ length all → IsRequestFront request all
-    → KeepsCall (setting s.page_size s.options.0 out.room_len) (meaning s.options.0 all out.room_len) (drop 80 all) made out kept
+    → KeepsCall (setting s.page_size s.options.0 out.room_len) (meaning s.options.0 all out.room_len) (drop 80 all) made out preserved
 
-by_front : (b : Bool) (out : InFlight) (kept : state.ChainState) (s : Session) (request : List ℕ) (made : values.FileCall) (other : ℕ)
+by_front : (b : Bool) (out : InFlight) (preserved : state.ChainState) (s : Session) (request : List ℕ) (made : values.FileCall) (other : ℕ)
     → (length request == out.request_len) ≡ b
     → length request < 2 ^ 32 → length request ≤ out.request_len
     → (b || (nat_le 80 (length request) && nat_le (length request) out.request_len && begins_a_write request)) ≡ true
-    → Keeps out kept s request made → HasNames request made (call_fields request s.options.0 other made)
-by_front true out kept s request made other is small fits tells keeps =
+    → Keeps out preserved s request made → HasNames request made (call_fields request s.options.0 other made)
+by_front true out preserved s request made other is small fits reports keeps =
     let m = meaning s.options.0 request out.room_len in
-    let told = asks_of (setting s.page_size s.options.0 out.room_len) m (drop 80 request) made out kept
+    let reported = asks_of (setting s.page_size s.options.0 out.room_len) m (drop 80 request) made out preserved
     (keeps request (sym (eqb-true (length request) out.request_len is)) (take_all (length request) request (le_refl (length request)))) in
-    names_hold request (drop 80 request) s.options.0 out.room_len other told.0 made small told.1 told.2
-by_front false out kept s request made other is small fits tells keeps =
+    names_hold request (drop 80 request) s.options.0 out.room_len other reported.0 made small reported.1 reported.2
+by_front false out preserved s request made other is small fits reports keeps =
     let n = out.request_len - length request in
     let more : List ℕ = replicate n 0 in
     let all = request ++ more in
@@ -143,50 +143,50 @@ by_front false out kept s request made other is small fits tells keeps =
     let zeros : length more ≡ n = length-replicate {A = ℕ} n 0 in
     let whole : out.request_len ≡ length all = omega (arith, parts, zeros, fits) in
     let m = meaning s.options.0 all out.room_len in
-    let told = asks_of (setting s.page_size s.options.0 out.room_len) m (drop 80 all) made out kept
+    let reported = asks_of (setting s.page_size s.options.0 out.room_len) m (drop 80 all) made out preserved
     (keeps all whole (take_at request more (length request) refl)) in
-    let tests = both (nat_le 80 (length request) && nat_le (length request) out.request_len) (begins_a_write request) tells in
+    let tests = both (nat_le 80 (length request) && nat_le (length request) out.request_len) (begins_a_write request) reports in
     let long : 80 ≤ length request =
     leb-true 80 (length request) (both (nat_le 80 (length request)) (nat_le (length request) out.request_len) tests.0).0 in
     let write : is_write (opcode_of (opcode_in all)) ≡ true =
     ap (λ (o : ℕ). is_write (opcode_of o)) (opcode_more request more long) ∙ write_begins request tests.1 in
-    let writes : IsWrite (first_call told.0) = subst MeansWrite told.1 (write_means s.options.0 out.room_len all write) in
-    write_has request (drop 80 all) made (call_fields request s.options.0 other made) (subst IsWrite (sym told.2) writes)
+    let writes : IsWrite (first_call reported.0) = subst MeansWrite reported.1 (write_means s.options.0 out.room_len all write) in
+    write_has request (drop 80 all) made (call_fields request s.options.0 other made) (subst IsWrite (sym reported.2) writes)
 
 fits_by : (test : Bool) → ◌≡◌ {A = Option ChainError} (if test then Some BadArgument else None) None → test ≡ false
 fits_by true e = absurd (cc)
 fits_by false e = refl
 
-tells_by : (test : Bool) (n : ℕ) → ◌≡◌ {A = Option ℕ} None (if test then None else Some n) → test ≡ true
-tells_by true n e = refl
-tells_by false n e = absurd (cc)
+notifies_by : (test : Bool) (n : ℕ) → ◌≡◌ {A = Option ℕ} None (if test then None else Some n) → test ≡ true
+notifies_by true n e = refl
+notifies_by false n e = absurd (cc)
 
 call_named :
-    (before kept : state.ChainState) (s : Session) (request : List ℕ) (made : values.FileCall) (other : ℕ) → length request < 2 ^ 32
-    → ask_error before (length request) ≡ None → IfUndecoded before (λ out. Keeps out kept s request made)
-    → IfUndecoded before (λ out. wanted_by (tells.Call made) ≡ wanted_after request out.request_len)
+    (before preserved : state.ChainState) (s : Session) (request : List ℕ) (made : values.FileCall) (other : ℕ) → length request < 2 ^ 32
+    → ask_error before (length request) ≡ None → IfUndecoded before (λ out. Keeps out preserved s request made)
+    → IfUndecoded before (λ out. wanted_by (reports.Call made) ≡ wanted_after request out.request_len)
     → HasNames request made (call_fields request s.options.0 other made)
-call_named (at.Taken out) kept s request made other small can keeps wanted =
-    by_front (length request == out.request_len) out kept s request made other refl small
+call_named (at.Taken out) preserved s request made other small can keeps wanted =
+    by_front (length request == out.request_len) out preserved s request made other refl small
     (ltb-false out.request_len (length request) (fits_by (nat_lt out.request_len (length request)) can))
-    (tells_by (front_suffices request out.request_len) _ wanted) keeps
-call_named _ kept s request made other small can keeps wanted = absurd (cc)
+    (notifies_by (front_suffices request out.request_len) _ wanted) keeps
+call_named _ preserved s request made other small can keeps wanted = absurd (cc)
 
-told_named : (b asked b' : ChainHandle) (s : Session) (request : List ℕ) (made : Decoded) (fields call : FsCall) (status ticket : ℕ)
+reported_named : (b asked b' : ChainHandle) (s : Session) (request : List ℕ) (made : Decoded) (fields call : FsCall) (status ticket : ℕ)
     → length request < 2 ^ 32
-    → asking.Decodes b s request made asked → TellsAsked asked request made fields status b' → call ≡ record fields { ticket = ticket }
+    → asking.Decodes b s request made asked → ReportsAsked asked request made fields status b' → call ≡ record fields { ticket = ticket }
     → IfCall made (λ (made : values.FileCall). HasNames request made call)
-told_named b asked b' s request (tells.Call made) fields call status ticket small asks tells is =
+reported_named b asked b' s request (reports.Call made) fields call status ticket small asks reports is =
     let room = room_len asked.state in
-    let named = call_named b.state asked.state s request made room small asks.can asks.tells asks.wanted in
+    let named = call_named b.state asked.state s request made room small asks.can asks.reports asks.wanted in
     let same : asked.session.options.0 ≡ s.options.0 = ap (λ (x : Session). x.options.0) asks.session in
-    let fault = fault_after tells.1 in
+    let fault = fault_after reports.1 in
     let here : call ≡ record (call_fields request s.options.0 room made) { fault = fault; ticket = ticket } =
     is ∙ ap (λ (f : FsCall). record f { ticket = ticket })
-    (tells.3 ∙ ap (λ (o : ℕ). record (call_fields request o room made) { fault = fault }) same) in
+    (reports.3 ∙ ap (λ (o : ℕ). record (call_fields request o room made) { fault = fault }) same) in
     subst (λ (x : FsCall). HasNames request made x) (sym here) named
-told_named b asked b' s request _ fields call status ticket small asks tells is = tt
+reported_named b asked b' s request _ fields call status ticket small asks reports is = tt
 
 pub asked_spans_hold_names : AskedSpansHoldNames
 asked_spans_hold_names b d request call status b' small so =
-    told_named b so.2 b' so.0 request so.3 so.5 call status b.serial small so.4 so.6 so.7
+    reported_named b so.2 b' so.0 request so.3 so.5 call status b.serial small so.4 so.6 so.7

@@ -34,12 +34,12 @@ use Rattle.virtiofsd_fuse.specs.Grammar.{row_of, with_header}
 use Rattle.virtiofsd_fuse.specs.Listings.{listing_of}
 use Rattle.fs_chain_c.specs.declared.call.FsCall.{FsCall}
 use Rattle.fs_chain_c.specs.Calls.{at_rename, at_setxattr, behind, behind_names, call_fields, label_in, label_name_at, labelled, low}
-use Rattle.fs_chain_c.specs.Calls.{numbered, opcode_in, past, span, told_call, word_at}
+use Rattle.fs_chain_c.specs.Calls.{numbered, opcode_in, past, span, reported_call, word_at}
 use Rattle.fs_chain_c.specs.Spans.{AreNames, HasNames, IsLabelAt, IsNameAt, SpansHoldNames, bytes_at}
-use Rattle.fs_chain_c.proofs.LabelPlaces.{IsNew, IsNewLink, LabelAt, label_place, link_kept, link_read, new_kept, new_read, word}
+use Rattle.fs_chain_c.proofs.LabelPlaces.{IsNew, IsNewLink, LabelAt, label_place, link_preserved, link_read, new_preserved, new_read, word}
 use Rattle.fs_chain_c.proofs.NamePlaces.{ArePairs, AreNameAndValue, AreTwo, IfRead, IsName, IsRecord, NameStandsAt, StandBehind, StandsAt}
-use Rattle.fs_chain_c.proofs.NamePlaces.{both, counted_read, get_within, last_read, name_kept, needed, pairs_held}
-use Rattle.fs_chain_c.proofs.NamePlaces.{pairs_read, record_read, then_read, two_kept, two_read, value_kept, value_read, with_bytes_read}
+use Rattle.fs_chain_c.proofs.NamePlaces.{both, counted_read, get_within, last_read, name_preserved, needed, pairs_held, with_bytes_read}
+use Rattle.fs_chain_c.proofs.NamePlaces.{pairs_read, record_read, then_read, two_preserved, two_read, value_preserved, value_read}
 
 -- where the first name of RENAME or RENAME2 stands, by the request
 abbrev pub at_rename_of : Option Opcode → ℕ
@@ -133,7 +133,7 @@ module _ (all : List ℕ) (o : Option Opcode) (g : Given) where
 
   name_stands : (c : InHeader → List ℕ → FileCall) → ((name : List ℕ) → NameStandsAt 40 all name → Has (c g.header name))
       → Stands (grammar.name_row c g (drop 40 all))
-  name_stands c has = counted_stands last_name (c g.header) IsName last_read (λ name n h. has name (name_kept all name 40 n h))
+  name_stands c has = counted_stands last_name (c g.header) IsName last_read (λ name n h. has name (name_preserved all name 40 n h))
 
   -- a record and bytes behind it, and what is read of them
   bytes_stands : {R A : Type 0} (front : Given → Parser (R × List ℕ)) (parts : Given → R → Parser A) (c : InHeader → R → A
@@ -150,29 +150,27 @@ module _ (all : List ℕ) (o : Option Opcode) (g : Given) where
 
   new_stands : {R : Type 0} (s : RecordShape R) (k : ℕ) (c : InHeader → R → List ℕ × Extra → FileCall) → size s.parts ≡ k
       → ((r : R) (x : List ℕ × Extra) → NameStandsAt (40 + k) all x.0 × LabelAt all (40 + k + (length x.0 + 1)) x.1.security
-      → Has (c g.header r x))
-      → Stands (grammar.new_name_row s k c g (drop 40 all))
+      → Has (c g.header r x)) → Stands (grammar.new_name_row s k c g (drop 40 all))
   new_stands {R} s k c is has =
       bytes_stands (λ g. with_bytes s k g.header.len) (λ g r. new_name g.options) c (40 + k) IsNew
-      (with_bytes_read s k g.header.len all is) (λ r bytes. new_read g.options bytes) (λ r x n h. has r x (new_kept all x (40 + k) n h))
+      (with_bytes_read s k g.header.len all is) (λ r bytes. new_read g.options bytes)
+      (λ r x n h. has r x (new_preserved all x (40 + k) n h))
 
   record_name_stands : {R : Type 0} (s : RecordShape R) (k : ℕ) (c : InHeader → R → List ℕ → FileCall) → size s.parts ≡ k
       → ((r : R) (name : List ℕ) → NameStandsAt (40 + k) all name → Has (c g.header r name))
       → Stands (grammar.record_name_row s k c g (drop 40 all))
   record_name_stands {R} s k c is has =
       bytes_stands (λ g. with_bytes s k g.header.len) (λ g r. last_name) c (40 + k) IsName (with_bytes_read s k g.header.len all is)
-      (λ r bytes. last_read bytes)
-      (λ r name n h. has r name (name_kept all name (40 + k) n h))
+      (λ r bytes. last_read bytes) (λ r name n h. has r name (name_preserved all name (40 + k) n h))
 
   two_names_stands : {R : Type 0} (s : RecordShape R) (k : ℕ) (c : InHeader → R → List ℕ × List ℕ → FileCall) → size s.parts ≡ k
       → ((r : R) (names : List ℕ × List ℕ) → NameStandsAt (40 + k) all names.0 × NameStandsAt (40 + k + (length names.0 + 1)) all names.1
-      → Has (c g.header r names))
-      → Stands (grammar.two_names_row s k c g (drop 40 all))
+      → Has (c g.header r names)) → Stands (grammar.two_names_row s k c g (drop 40 all))
   two_names_stands {R} s k c is has =
       bytes_stands (λ g. with_bytes s k g.header.len) (λ g r. two_names) c (40 + k)
       (λ (bytes : List ℕ) (names : List ℕ × List ℕ). AreTwo bytes names.0 names.1)
       (with_bytes_read s k g.header.len all is) (λ r bytes. two_read bytes)
-      (λ r names n h. has r names (two_kept all names.0 names.1 (40 + k) n h))
+      (λ r names n h. has r names (two_preserved all names.0 names.1 (40 + k) n h))
 
   symlink_stands :
       ((x : NewLink) → NameStandsAt 40 all x.name × NameStandsAt (40 + (length x.name + 1)) all x.link
@@ -181,7 +179,7 @@ module _ (all : List ℕ) (o : Option Opcode) (g : Given) where
       → Stands (grammar.symlink_row g (drop 40 all))
   symlink_stands has =
       counted_stands (new_link g.options) (request.symlink_call g.header) IsNewLink (λ bytes. link_read g.options bytes)
-      (λ x n h. has x (link_kept all x 40 n h))
+      (λ x n h. has x (link_preserved all x 40 n h))
 
   -- a test, and then a name
   tested_read :
@@ -199,7 +197,7 @@ module _ (all : List ℕ) (o : Option Opcode) (g : Given) where
       request.getxattr_call 48 IsName
       (with_bytes_read inputs.getxattr_in 8 g.header.len all refl)
       (λ r bytes. tested_read (nat_le r.size (2 ^ 20)) (Sends grammar.ENOMEM) bytes)
-      (λ r name n h. name_kept all name 48 n h)
+      (λ r name n h. name_preserved all name 48 n h)
 
   listxattr_stands : Stands (grammar.listxattr_row g (drop 40 all))
   listxattr_stands =
@@ -272,7 +270,7 @@ setxattr_stands all o g =
     (at_setxattr g.options)
     (λ (bytes : List ℕ) (parts : List ℕ × List ℕ). AreNameAndValue bytes parts.0 parts.1) (setxattr_begins g.options g.header.len all)
     (λ r bytes. value_read r.size bytes)
-    (λ r parts n h. value_kept all parts.0 parts.1 (at_setxattr g.options) n h)
+    (λ r parts n h. value_preserved all parts.0 parts.1 (at_setxattr g.options) n h)
 
 row_stands : (all : List ℕ) (g : Given) (o : Opcode) → Stands all (Some o) g (row g o (drop 40 all))
 unfolding row
@@ -351,8 +349,8 @@ header_opcode all long =
     let test : nat_lt (length all) 16 ≡ false = le-ltb (length all) 16 (omega (arith, long)) in
     let there : take 4 (drop 4 (take 40 all)) ≡ take 4 (drop 4 all) =
     ap (take 4) (drop-take 4 36 all) ∙ take-take 4 36 (drop 4 all) (omega arith) in
-    let says : opcode_in all ≡ from_le_bytes w32 (take 4 (drop 4 all)) = rw test refl in
-    ap (from_le_bytes w32) there ∙ sym says
+    let shows : opcode_in all ≡ from_le_bytes w32 (take 4 (drop 4 all)) = rw test refl in
+    ap (from_le_bytes w32) there ∙ sym shows
 
 -- what holds of what each row comes to, of faults and of replies holds of what a request means
 module _ (P : Option Opcode → Meaning → Type 0) (faults : (o : Option Opcode) (e : Error)
@@ -486,34 +484,37 @@ setxattr_low false = refl
 
 -- the spans of a call's names
 abbrev Named : (request : List ℕ) → values.FileCall → FsCall → Type 0
-Named all made told = AreNames all made told.name told.name2 told.value
+Named all made reported = AreNames all made reported.name reported.name2 reported.value
 
-told_holds : (all bytes : List ℕ) (opcode options room : ℕ) (made : values.FileCall) → length all < 2 ^ 32
-    → NamesStand all (opcode_of opcode) options (call_of bytes made) → Named all made (told_call opcode options room made)
-told_holds all bytes opcode options room (value.Lookup context node name) small h = name_held all name.now 40 40 small (λ l. refl) h
-told_holds all bytes opcode options room (value.BatchForget context counts) small h =
+reported_holds : (all bytes : List ℕ) (opcode options room : ℕ) (made : values.FileCall) → length all < 2 ^ 32
+    → NamesStand all (opcode_of opcode) options (call_of bytes made) → Named all made (reported_call opcode options room made)
+reported_holds all bytes opcode options room (value.Lookup context node name) small h = name_held all name.now 40 40 small (λ l. refl) h
+reported_holds all bytes opcode options room (value.BatchForget context counts) small h =
     let left : length (drop 48 all) ≡ length all - 48 = length-drop 48 all in
     pairs_held counts.now (drop 48 all) h.0 (low (16 * (length counts.now / 16))) h.1 (λ fits. omega (arith, left, small, fits))
-told_holds all bytes opcode options room (value.Symlink context link node name extra) small h =
+reported_holds all bytes opcode options room (value.Symlink context link node name extra) small h =
     two_held all name.now link.now 40 small refl (h.0, h.1)
-told_holds all bytes opcode options room (value.Mknod context node name mode rdev umask extra) small h =
+reported_holds all bytes opcode options room (value.Mknod context node name mode rdev umask extra) small h =
     name_held all name.now 56 56 small (λ l. refl) h.0
-told_holds all bytes opcode options room (value.Mkdir context node name mode umask extra) small h =
+reported_holds all bytes opcode options room (value.Mkdir context node name mode umask extra) small h =
     name_held all name.now 48 48 small (λ l. refl) h.0
-told_holds all bytes opcode options room (value.Unlink context node name) small h = name_held all name.now 40 40 small (λ l. refl) h
-told_holds all bytes opcode options room (value.Rmdir context node name) small h = name_held all name.now 40 40 small (λ l. refl) h
-told_holds all bytes opcode options room (value.Rename context node old new_dir new flags) small h =
+reported_holds all bytes opcode options room (value.Unlink context node name) small h = name_held all name.now 40 40 small (λ l. refl) h
+reported_holds all bytes opcode options room (value.Rmdir context node name) small h = name_held all name.now 40 40 small (λ l. refl) h
+reported_holds all bytes opcode options room (value.Rename context node old new_dir new flags) small h =
     let there : NameStandsAt (at_rename opcode) all old.now × NameStandsAt (at_rename opcode + (length old.now + 1)) all new.now =
     subst (λ (k : ℕ). NameStandsAt k all old.now × NameStandsAt (k + (length old.now + 1)) all new.now) (sym (rename_at opcode)) h in
     two_held all old.now new.now (at_rename opcode) small (rename_low (opcode == 45)) there
-told_holds all bytes opcode options room (value.Link context old_node node name) small h = name_held all name.now 48 48 small (λ l. refl) h
-told_holds all bytes opcode options room (value.Setxattr context node name content flags extra) small h =
+reported_holds all bytes opcode options room (value.Link context old_node node name) small h =
+    name_held all name.now 48 48 small (λ l. refl) h
+reported_holds all bytes opcode options room (value.Setxattr context node name content flags extra) small h =
     value_held all name.now content.now (at_setxattr options) small (setxattr_low (bit_and options (2 ^ 29) == 0)) h
-told_holds all bytes opcode options room (value.Getxattr context node name size) small h = name_held all name.now 48 48 small (λ l. refl) h
-told_holds all bytes opcode options room (value.Removexattr context node name) small h = name_held all name.now 40 40 small (λ l. refl) h
-told_holds all bytes opcode options room (value.Create context node name mode kill flags umask extra) small h =
+reported_holds all bytes opcode options room (value.Getxattr context node name size) small h =
+    name_held all name.now 48 48 small (λ l. refl) h
+reported_holds all bytes opcode options room (value.Removexattr context node name) small h =
+    name_held all name.now 40 40 small (λ l. refl) h
+reported_holds all bytes opcode options room (value.Create context node name mode kill flags umask extra) small h =
     name_held all name.now 56 56 small (λ l. refl) h.0
-told_holds all bytes opcode options room _ small h = tt
+reported_holds all bytes opcode options room _ small h = tt
 
 -- ---- what is told of a label
 
@@ -524,8 +525,8 @@ LabelHeld all at (Some l) =
     let name = label_name_at all at in
     IsLabelAt all (Some l) (span name (length l.name.now)) (span (behind name (length l.name.now)) (length l.secctx.now))
 
-word_told : (all : List ℕ) (at : ℕ) → at + 4 ≤ length all → word_at all at ≡ word 0 (drop at all)
-word_told all at long =
+word_reported : (all : List ℕ) (at : ℕ) → at + 4 ≤ length all → word_at all at ≡ word 0 (drop at all)
+word_reported all at long =
     let test : nat_lt (length all - at) 4 ≡ false = le-ltb (length all - at) 4 (omega (arith, long)) in
     rw test refl
 
@@ -535,13 +536,13 @@ place_by : (first : Bool) (at size len : ℕ) → len < 2 ^ 32 → at + (if firs
 place_by true at size len small within = omega (arith, small, within)
 place_by false at size len small within = omega (arith, small, within)
 
-place_told : (all : List ℕ) (at : ℕ) → length all < 2 ^ 32 → at + 8 ≤ length all → at + label_place (drop at all) < length all
+place_reported : (all : List ℕ) (at : ℕ) → length all < 2 ^ 32 → at + 8 ≤ length all → at + label_place (drop at all) < length all
     → label_name_at all at ≡ at + label_place (drop at all)
-place_told all at small long within =
-    let size : word_at all at ≡ word 0 (drop at all) = word_told all at (omega (arith, long)) in
+place_reported all at small long within =
+    let size : word_at all at ≡ word 0 (drop at all) = word_reported all at (omega (arith, long)) in
     let next : past at 4 ≡ at + 4 = omega (arith, small, long) in
     let kind : word_at all (past at 4) ≡ word 4 (drop at all) =
-    ap (word_at all) next ∙ word_told all (at + 4) (omega (arith, long))
+    ap (word_at all) next ∙ word_reported all (at + 4) (omega (arith, long))
     ∙ ap (λ (b : List ℕ). from_le_bytes w32 (take 4 b)) (sym (drop-drop 4 at all)) in
     ap (λ (n : ℕ). past (if n == 1 then at else past at (word_at all at)) 16) kind
     ∙ ap (λ (n : ℕ). past (if word 4 (drop at all) == 1 then at else past at n) 16) size
@@ -557,29 +558,30 @@ label_held all at k (Some l) small is h =
     let p = k + label_place (drop k all) in
     let within : p + length name < length all = get_within all (p + length name) 0 h.1.0.2 in
     let here : at ≡ k = is (omega (arith, long)) in
-    let there : label_name_at all at ≡ p = ap (label_name_at all) here ∙ place_told all k small long (omega (arith, within)) in
+    let there : label_name_at all at ≡ p = ap (label_name_at all) here ∙ place_reported all k small long (omega (arith, within)) in
     let whole : low p ≡ p = omega (arith, within, small) in
     subst (λ (n : ℕ). IsLabelAt all (Some l) (span n (length name)) (span (behind n (length name)) (length l.secctx.now))) (sym there)
     (value_held all name l.secctx.now p small whole h.1)
 
-label_told : (all bytes : List ℕ) (o : Option Opcode) (options : ℕ) (made : values.FileCall) → length all < 2 ^ 32
+label_reported : (all bytes : List ℕ) (o : Option Opcode) (options : ℕ) (made : values.FileCall) → length all < 2 ^ 32
     → NamesStand all o options (call_of bytes made) → LabelHeld all (behind_names made) (label_in made)
-label_told all bytes o options (value.Symlink context link node name extra) small h =
+label_reported all bytes o options (value.Symlink context link node name extra) small h =
     label_held all (behind (behind 40 (length name.now)) (length link.now)) (40 + (length name.now + 1) + (length link.now + 1))
     extra.secctx small (λ l. omega (arith, small, l)) h.2
-label_told all bytes o options (value.Mknod context node name mode rdev umask extra) small h =
+label_reported all bytes o options (value.Mknod context node name mode rdev umask extra) small h =
     label_held all (behind 56 (length name.now)) (56 + (length name.now + 1)) extra.secctx small (λ l. omega (arith, small, l)) h.1
-label_told all bytes o options (value.Mkdir context node name mode umask extra) small h =
+label_reported all bytes o options (value.Mkdir context node name mode umask extra) small h =
     label_held all (behind 48 (length name.now)) (48 + (length name.now + 1)) extra.secctx small (λ l. omega (arith, small, l)) h.1
-label_told all bytes o options (value.Create context node name mode kill flags umask extra) small h =
+label_reported all bytes o options (value.Create context node name mode kill flags umask extra) small h =
     label_held all (behind 56 (length name.now)) (56 + (length name.now + 1)) extra.secctx small (λ l. omega (arith, small, l)) h.1
-label_told all bytes o options _ small h = tt
+label_reported all bytes o options _ small h = tt
 
 -- with the spans of a label a call's spans hold its names as before
-with_label : (all : List ℕ) (made : values.FileCall) (at : ℕ) (o : Option Label) (told : FsCall) → Named all made told → LabelHeld all at o
-    → Named all made (labelled all at o told) × IsLabelAt all o (labelled all at o told).label_name (labelled all at o told).label
-with_label all made at None told h k = (h, tt)
-with_label all made at (Some l) told h k = (h, k)
+with_label : (all : List ℕ) (made : values.FileCall) (at : ℕ) (o : Option Label) (reported : FsCall) → Named all made reported
+    → LabelHeld all at o → Named all made (labelled all at o reported)
+    × IsLabelAt all o (labelled all at o reported).label_name (labelled all at o reported).label
+with_label all made at None reported h k = (h, tt)
+with_label all made at (Some l) reported h k = (h, k)
 
 -- the names and the label of the call that a request means stand where they are told to
 pub names_hold : (all bytes : List ℕ) (options room other : ℕ) (command : FileCommand) (made : values.FileCall) → length all < 2 ^ 32
@@ -590,8 +592,8 @@ names_hold all bytes options room other command made small means calls =
     let stand : NamesStand all o options (first_call command) =
     subst (λ (m : Meaning). MeansNames all o options m) means (meaning_stands options room all) in
     let here : NamesStand all o options (call_of bytes made) = subst (λ (c : FileCall). NamesStand all o options c) (sym calls) stand in
-    with_label all made (behind_names made) (label_in made) (numbered all (told_call (opcode_in all) options other made))
-    (told_holds all bytes (opcode_in all) options other made small here) (label_told all bytes o options made small here)
+    with_label all made (behind_names made) (label_in made) (numbered all (reported_call (opcode_in all) options other made))
+    (reported_holds all bytes (opcode_in all) options other made small here) (label_reported all bytes o options made small here)
 
 pub spans_hold_names : SpansHoldNames
 spans_hold_names request bytes options room command made = names_hold request bytes options room room command made

@@ -121,8 +121,8 @@ abbrev pub data_len : (size room : ℕ) → ℕ
 data_len size room = min size (room - 16)
 
 -- the attributes that SETATTR sets (struct fuse_setattr_in)
-abbrev pub attr_told : SetattrIn → FsAttr
-attr_told a = record no_attr {
+abbrev pub attr_reported : SetattrIn → FsAttr
+attr_reported a = record no_attr {
   size = a.size;
   atime = a.atime;
   mtime = a.mtime;
@@ -180,41 +180,42 @@ is_of_open_file _ = false
 -- (room). A first name lies behind the request's header of 40 bytes and the record of its kind
 -- (linux/fuse.h). A reply's data lies in the reply buffer behind the reply's header of 16 bytes. A field that
 -- the call doesn't have is 0
-abbrev pub told_call : (opcode options room : ℕ) → FileCall → FsCall
-told_call opcode options room (value.Init capable) = record (made op.Init awaits.Init) { options = capable.0 }
-told_call opcode options room value.Destroy = made op.Destroy awaits.Done
-told_call opcode options room (value.Lookup context node name) =
+abbrev pub reported_call : (opcode options room : ℕ) → FileCall → FsCall
+reported_call opcode options room (value.Init capable) =
+    record (made op.Init awaits.Init) { options = capable.0 }
+reported_call opcode options room value.Destroy = made op.Destroy awaits.Done
+reported_call opcode options room (value.Lookup context node name) =
     record (made_by op.Lookup awaits.Entry context node) { name = span 40 (length name.now) }
-told_call opcode options room (value.Forget context node count) =
+reported_call opcode options room (value.Forget context node count) =
     record (made_by op.Forget awaits.None context node) { count = count }
-told_call opcode options room (value.BatchForget context counts) =
+reported_call opcode options room (value.BatchForget context counts) =
     record (made_by op.BatchForget awaits.None context 0) {
       count = length counts.now / 16;
       value = span 48 (16 * (length counts.now / 16));
     }
-told_call opcode options room (value.Getattr context node handle) =
+reported_call opcode options room (value.Getattr context node handle) =
     record (made_by op.Getattr awaits.Attr context node) {
       has_handle = flag (is_some handle);
       handle = unwrap_or handle 0;
     }
-told_call opcode options room (value.Setattr context node attr handle valid) =
+reported_call opcode options room (value.Setattr context node attr handle valid) =
     record (made_by op.Setattr awaits.Attr context node) {
       has_handle = flag (is_some handle);
       handle = unwrap_or handle 0;
       valid = valid.0;
       owner = attr.lock_owner;
-      attr = attr_told attr;
+      attr = attr_reported attr;
     }
-told_call opcode options room (value.Readlink context node) =
+reported_call opcode options room (value.Readlink context node) =
     record (made_by op.Readlink awaits.Data context node) { data_at = 16; data_len = room - 16 }
-told_call opcode options room (value.Symlink context link node name extra) =
+reported_call opcode options room (value.Symlink context link node name extra) =
     record (made_by op.Symlink awaits.Entry context node) {
       name = span 40 (length name.now);
       value = span (behind 40 (length name.now)) (length link.now);
       has_group = flag (is_some extra.sup_gid);
       group = unwrap_or extra.sup_gid 0;
     }
-told_call opcode options room (value.Mknod context node name mode rdev umask extra) =
+reported_call opcode options room (value.Mknod context node name mode rdev umask extra) =
     record (made_by op.Mknod awaits.Entry context node) {
       name = span 56 (length name.now);
       mode = mode;
@@ -223,7 +224,7 @@ told_call opcode options room (value.Mknod context node name mode rdev umask ext
       has_group = flag (is_some extra.sup_gid);
       group = unwrap_or extra.sup_gid 0;
     }
-told_call opcode options room (value.Mkdir context node name mode umask extra) =
+reported_call opcode options room (value.Mkdir context node name mode umask extra) =
     record (made_by op.Mkdir awaits.Entry context node) {
       name = span 48 (length name.now);
       mode = mode;
@@ -231,22 +232,22 @@ told_call opcode options room (value.Mkdir context node name mode umask extra) =
       has_group = flag (is_some extra.sup_gid);
       group = unwrap_or extra.sup_gid 0;
     }
-told_call opcode options room (value.Unlink context node name) =
+reported_call opcode options room (value.Unlink context node name) =
     record (made_by op.Unlink awaits.Done context node) { name = span 40 (length name.now) }
-told_call opcode options room (value.Rmdir context node name) =
+reported_call opcode options room (value.Rmdir context node name) =
     record (made_by op.Rmdir awaits.Done context node) { name = span 40 (length name.now) }
-told_call opcode options room (value.Rename context node old new_dir new flags) =
+reported_call opcode options room (value.Rename context node old new_dir new flags) =
     record (made_by op.Rename awaits.Done context node) {
       name = span (at_rename opcode) (length old.now);
       name2 = span (behind (at_rename opcode) (length old.now)) (length new.now);
       node2 = new_dir;
       flags = flags;
     }
-told_call opcode options room (value.Link context old_node node name) =
+reported_call opcode options room (value.Link context old_node node name) =
     record (made_by op.Link awaits.Entry context old_node) { name = span 48 (length name.now); node2 = node }
-told_call opcode options room (value.Open context node kill flags) =
+reported_call opcode options room (value.Open context node kill flags) =
     record (made_by op.Open awaits.Open context node) { flags = flags; kill_priv = flag kill }
-told_call opcode options room (value.Read context node handle most size offset owner flags) =
+reported_call opcode options room (value.Read context node handle most size offset owner flags) =
     record (made_by op.Read awaits.Data context node) {
       handle = handle;
       offset = offset;
@@ -257,7 +258,7 @@ told_call opcode options room (value.Read context node handle most size offset o
       has_owner = flag (is_some owner);
       owner = unwrap_or owner 0;
     }
-told_call opcode options room (value.Write context node handle len size offset owner delayed kill flags) =
+reported_call opcode options room (value.Write context node handle len size offset owner delayed kill flags) =
     record (made_by op.Write awaits.Write context node) {
       handle = handle;
       offset = offset;
@@ -270,8 +271,8 @@ told_call opcode options room (value.Write context node handle len size offset o
       delayed = flag delayed;
       kill_priv = flag kill;
     }
-told_call opcode options room (value.Statfs context node) = made_by op.Statfs awaits.Statfs context node
-told_call opcode options room (value.Release context node flags handle flush unlock owner) =
+reported_call opcode options room (value.Statfs context node) = made_by op.Statfs awaits.Statfs context node
+reported_call opcode options room (value.Release context node flags handle flush unlock owner) =
     record (made_by op.Release awaits.Done context node) {
       handle = handle;
       flags = flags;
@@ -280,18 +281,18 @@ told_call opcode options room (value.Release context node flags handle flush unl
       has_owner = flag (is_some owner);
       owner = unwrap_or owner 0;
     }
-told_call opcode options room (value.Fsync context node data_only handle) =
+reported_call opcode options room (value.Fsync context node data_only handle) =
     record (made_by op.Fsync awaits.Done context node) { handle = handle; data_only = flag data_only }
-told_call opcode options room (value.Fsyncdir context node data_only handle) =
+reported_call opcode options room (value.Fsyncdir context node data_only handle) =
     record (made_by op.Fsyncdir awaits.Done context node) { handle = handle; data_only = flag data_only }
-told_call opcode options room (value.Setxattr context node name value flags extra) =
+reported_call opcode options room (value.Setxattr context node name value flags extra) =
     record (made_by op.Setxattr awaits.Done context node) {
       name = span (at_setxattr options) (length name.now);
       value = span (behind (at_setxattr options) (length name.now)) (length value.now);
       flags = flags;
       setxattr_flags = extra.0;
     }
-told_call opcode options room (value.Getxattr context node name size) =
+reported_call opcode options room (value.Getxattr context node name size) =
     record (made_by op.Getxattr awaits.Data context node) {
       answer = answer_number (sized size);
       name = span 48 (length name.now);
@@ -299,20 +300,20 @@ told_call opcode options room (value.Getxattr context node name size) =
       data_at = 16;
       data_len = data_len size room;
     }
-told_call opcode options room (value.Listxattr context node size) =
+reported_call opcode options room (value.Listxattr context node size) =
     record (made_by op.Listxattr awaits.Data context node) {
       answer = answer_number (sized size);
       size = size;
       data_at = 16;
       data_len = data_len size room;
     }
-told_call opcode options room (value.Removexattr context node name) =
+reported_call opcode options room (value.Removexattr context node name) =
     record (made_by op.Removexattr awaits.Done context node) { name = span 40 (length name.now) }
-told_call opcode options room (value.Flush context node handle owner) =
+reported_call opcode options room (value.Flush context node handle owner) =
     record (made_by op.Flush awaits.Done context node) { handle = handle; owner = owner }
-told_call opcode options room (value.Opendir context node flags) =
+reported_call opcode options room (value.Opendir context node flags) =
     record (made_by op.Opendir awaits.Open context node) { flags = flags }
-told_call opcode options room (value.Readdir context node handle size offset) =
+reported_call opcode options room (value.Readdir context node handle size offset) =
     record (made_by op.Readdir awaits.Entries context node) {
       kind = call_number (listing opcode);
       handle = handle;
@@ -321,11 +322,11 @@ told_call opcode options room (value.Readdir context node handle size offset) =
       data_at = 16;
       data_len = data_len size room;
     }
-told_call opcode options room (value.Releasedir context node flags handle) =
+reported_call opcode options room (value.Releasedir context node flags handle) =
     record (made_by op.Releasedir awaits.Done context node) { handle = handle; flags = flags }
-told_call opcode options room (value.Access context node mask) =
+reported_call opcode options room (value.Access context node mask) =
     record (made_by op.Access awaits.Done context node) { mode = mask }
-told_call opcode options room (value.Create context node name mode kill flags umask extra) =
+reported_call opcode options room (value.Create context node name mode kill flags umask extra) =
     record (made_by op.Create awaits.Create context node) {
       name = span 56 (length name.now);
       mode = mode;
@@ -335,16 +336,16 @@ told_call opcode options room (value.Create context node name mode kill flags um
       has_group = flag (is_some extra.sup_gid);
       group = unwrap_or extra.sup_gid 0;
     }
-told_call opcode options room (value.Fallocate context node handle mode offset len) =
+reported_call opcode options room (value.Fallocate context node handle mode offset len) =
     record (made_by op.Fallocate awaits.Done context node) {
       handle = handle;
       mode = mode;
       offset = offset;
       size = len;
     }
-told_call opcode options room (value.Lseek context node handle offset whence) =
+reported_call opcode options room (value.Lseek context node handle offset whence) =
     record (made_by op.Lseek awaits.Lseek context node) { handle = handle; offset = offset; flags = whence }
-told_call opcode options room
+reported_call opcode options room
     (value.CopyFileRange context node handle offset node_out handle_out offset_out len flags) =
     record (made_by op.CopyFileRange awaits.Write context node) {
       handle = handle;
@@ -354,15 +355,15 @@ told_call opcode options room
       offset2 = offset_out;
       size = len;
     }
-told_call opcode options room (value.Syncfs context node) = made_by op.Syncfs awaits.Done context node
-told_call opcode options room value.Getlk = empty_call
-told_call opcode options room value.Setlk = empty_call
-told_call opcode options room value.Setlkw = empty_call
-told_call opcode options room value.Bmap = empty_call
-told_call opcode options room value.Ioctl = empty_call
-told_call opcode options room value.Poll = empty_call
-told_call opcode options room value.NotifyReply = empty_call
-told_call opcode options room value.TmpFile = empty_call
+reported_call opcode options room (value.Syncfs context node) = made_by op.Syncfs awaits.Done context node
+reported_call opcode options room value.Getlk = empty_call
+reported_call opcode options room value.Setlk = empty_call
+reported_call opcode options room value.Setlkw = empty_call
+reported_call opcode options room value.Bmap = empty_call
+reported_call opcode options room value.Ioctl = empty_call
+reported_call opcode options room value.Poll = empty_call
+reported_call opcode options room value.NotifyReply = empty_call
+reported_call opcode options room value.TmpFile = empty_call
 
 -- the opcode of a request, and its unique number (struct fuse_in_header); 0 if the request is shorter than 16
 -- bytes
@@ -428,4 +429,4 @@ labelled request at (Some l) call =
 abbrev pub call_fields : (request : List ℕ) → (options room : ℕ) → FileCall → FsCall
 call_fields request options room call =
     labelled request (behind_names call) (label_in call)
-    (numbered request (told_call (opcode_in request) options room call))
+    (numbered request (reported_call (opcode_in request) options room call))

@@ -13,12 +13,12 @@ use Rattle.virtiofsd_fuse.specs.Grammar.{known_options, meaning}
 use Rattle.virtiofsd_fuse.specs.Serving.{setting}
 use Rattle.fs_chain.specs.declared.answering.Replied.{Replied}
 use Rattle.fs_chain.specs.declared.decoding.Decoded.{Decoded}
-use Rattle.fs_chain.specs.declared.decoding.Decoded.TheVariants as tells
+use Rattle.fs_chain.specs.declared.decoding.Decoded.TheVariants as reports
 use Rattle.fs_chain.specs.declared.error.ChainError.{ChainError}
 use Rattle.fs_chain.specs.declared.error.ChainError.TheVariants.{BadArgument}
 use Rattle.fs_chain.specs.declared.chain_handle.ChainHandle.{ChainHandle}
 use Rattle.fs_chain.specs.Answers.{CanBeGiven, IfWaits, IsGiven, IsNotTaken, IsWaiting}
-use Rattle.fs_chain.specs.Decoding.{IfUndecoded, TellsMeaning, wanted_after, wanted_by}
+use Rattle.fs_chain.specs.Decoding.{IfUndecoded, ReportsMeaning, wanted_after, wanted_by}
 use Rattle.fs_chain.specs.Holds as holds
 use Rattle.fs_chain.specs.Numbers.{chain_error_number}
 use Rattle.fs_chain.specs.Orders.{ask_error, room_len}
@@ -32,15 +32,16 @@ use Rattle.fs_chain_c.specs.Memory.{IsDevice}
 
 -- the outcome of an answer with a ticket, in the session in which the `ChainHandle`'s request was decoded:
 -- the reply, or an error. On an error nothing changes
-pub record AnswersTicket (w : ChainHandle) (ticket : ℕ) (a : FileAnswer) (told : Result Replied ChainError)
+pub record AnswersTicket (w : ChainHandle) (ticket : ℕ) (a : FileAnswer)
+    (reported : Result Replied ChainError)
     (w' : ChainHandle) : Type 0 where
-  pub given : IfOk told (λ r. IfWaits w.state (λ out waiting.
+  pub given : IfOk reported (λ r. IfWaits w.state (λ out waiting.
       IsGiven (setting w.session.page_size w.session.options.0 waiting.room) waiting a out
       w'.session.options.0 r w'.state))
-  pub mine : OnOk told (w.serial ≡ ticket)
-  pub taken : OnOk told (IsWaiting w.state × IfWaits w.state (λ out waiting. CanBeGiven waiting a))
-  pub refused : IfErr told (λ e. IsNotTaken w ticket a e)
-  pub same : OnErr told (w' ≡ w)
+  pub mine : OnOk reported (w.serial ≡ ticket)
+  pub taken : OnOk reported (IsWaiting w.state × IfWaits w.state (λ out waiting. CanBeGiven waiting a))
+  pub refused : IfErr reported (λ e. IsNotTaken w ticket a e)
+  pub same : OnErr reported (w' ≡ w)
   pub page_size : w'.session.page_size ≡ w.session.page_size
   pub stays : IsAllBut w w' × (w'.descriptors ≡ w.descriptors) × (w'.part ≡ w.part)
 
@@ -52,7 +53,8 @@ replied_status (Err e) = chain_error_number e
 -- a `ChainHandle`'s call is answered, with this status
 abbrev pub AnswersHandle : ChainHandle → (ticket : ℕ) → FileAnswer → (status : ℕ) → ChainHandle → Type 0
 AnswersHandle b ticket a status b' =
-    (told : Result Replied ChainError) × AnswersTicket b ticket a told b' × (status ≡ replied_status told)
+    (reported : Result Replied ChainError) × AnswersTicket b ticket a reported b'
+    × (status ≡ replied_status reported)
 
 -- ---- a request
 
@@ -84,11 +86,11 @@ fault_after status = if status == 35 then error_number EncodeMessage else 0
 pub record Decodes (w : ChainHandle) (s : Session) (request : List ℕ) (made : Decoded)
     (w' : ChainHandle) : Type 0 where
   pub can : ask_error w.state (length request) ≡ None
-  pub tells :
+  pub reports :
       IfUndecoded w.state (λ out. (all : List ℕ)
       → out.request_len ≡ length all
       → IsRequestFront request all
-      → TellsMeaning (setting s.page_size s.options.0 out.room_len) (meaning s.options.0 all out.room_len)
+      → ReportsMeaning (setting s.page_size s.options.0 out.room_len) (meaning s.options.0 all out.room_len)
       (drop 80 all) out made w'.state)
   pub wanted : IfUndecoded w.state (λ out. wanted_by made ≡ wanted_after request out.request_len)
   pub step : holds.Decodes w w' s request made
@@ -106,19 +108,19 @@ IsDeviceSession d s = (s.page_size ≡ d.page_size) × (s.options.0 ≡ bit_and 
 
 -- the result of decoding, as C gets it: the call, or the fault of its reply. If more bytes are needed, it is
 -- their count, with 34; if there is no call, nothing; else the fault
-abbrev pub TellsAsked :
+abbrev pub ReportsAsked :
     ChainHandle → (request : List ℕ) → Decoded → FsCall → (status : ℕ) → ChainHandle → Type 0
-TellsAsked b request (tells.Call made) call status b' =
+ReportsAsked b request (reports.Call made) call status b' =
     (status ≡ 0)
     × (answered : ℕ) × AnswersAtOnce b (answer_unasked made) answered b'
     × (call ≡ record (call_fields request b.session.options.0 (room_len b.state) made) {
       fault = fault_after answered;
     })
-TellsAsked b request (tells.More n) call status b' =
+ReportsAsked b request (reports.More n) call status b' =
     (status ≡ 34) × (call ≡ numbered request (record empty_call { needed = low n })) × (b' ≡ b)
-TellsAsked b request tells.Nothing call status b' =
+ReportsAsked b request reports.Nothing call status b' =
     (status ≡ 0) × (call ≡ numbered request empty_call) × (b' ≡ b)
-TellsAsked b request (tells.Fault e) call status b' =
+ReportsAsked b request (reports.Fault e) call status b' =
     (status ≡ 0) × (call ≡ numbered request (record empty_call { fault = error_number e })) × (b' ≡ b)
 
 -- a request is decoded in the device's session, and the call has the ticket of the chain
@@ -130,7 +132,7 @@ DecodesSo b d request call status b' =
     × (asked : ChainHandle) × (made : Decoded)
     × Decodes b s request made asked
     × (fields : FsCall)
-    × TellsAsked asked request made fields status b'
+    × ReportsAsked asked request made fields status b'
     × (call ≡ record fields { ticket = b.serial })
 
 -- a `ChainHandle` decodes the first bytes of a request; `BadArgument`, if the numbers aren't a device's

@@ -54,8 +54,8 @@ IsNewHandle b =
     × (b.list_len ≡ 0)
 
 -- the next pops use these regions, with the device's limit, and no table translates their addresses
-abbrev pub GoesOver : ChainHandle → FsDevice → List FsRegion → ChainHandle → Type 0
-GoesOver b d regions b' =
+abbrev pub ProceedsOver : ChainHandle → FsDevice → List FsRegion → ChainHandle → Type 0
+ProceedsOver b d regions b' =
     (memory_error b.state d.limit ≡ None)
     × IsDevice d
     × IsMemory regions b'.regions.layout
@@ -80,7 +80,7 @@ RefusesMemory b d regions e =
 -- a `ChainHandle`'s memory is set, or an error is returned and nothing changes
 abbrev pub SetsHandle : ChainHandle → FsDevice → List FsRegion → (status : ℕ) → ChainHandle → Type 0
 SetsHandle b d regions status b' =
-    ((status ≡ 0) × GoesOver b d regions b')
+    ((status ≡ 0) × ProceedsOver b d regions b')
     ⊎ ((e : ChainError) × (status ≡ chain_error_number e) × RefusesMemory b d regions e × (b' ≡ b))
 
 -- why no `ChainHandle` is made: the numbers aren't a device's; the regions aren't a memory; or they are, and
@@ -95,7 +95,7 @@ abbrev pub MakesHandle : FsDevice → List FsRegion → (status : ℕ) → Optio
 MakesHandle d regions status None =
     (e : ChainError) × (status ≡ chain_error_number e) × RefusesNew d regions e
 MakesHandle d regions status (Some b') =
-    (b : ChainHandle) × IsNewHandle b × (status ≡ 0) × GoesOver b d regions b'
+    (b : ChainHandle) × IsNewHandle b × (status ≡ 0) × ProceedsOver b d regions b'
 
 -- a handle's memory is set: a handle without a `ChainHandle` gets a new one
 abbrev pub SetsMemory :
@@ -143,9 +143,9 @@ abbrev pub AbandonsChain : Option ChainHandle → Option ChainHandle → Type 0
 AbandonsChain before after = OnHandle IsFreed (Unit {0}) before after
 
 -- C gets the host windows of the chain's bytes in one direction; the handle doesn't change
-abbrev pub TellsStretches : Option ChainHandle → (write_only : Bool) → (from most : ℕ) →
+abbrev pub ReportsStretches : Option ChainHandle → (write_only : Bool) → (from most : ℕ) →
     (windows : List FsWindow) → (count : ℕ) → Option ChainHandle → (windows' : List FsWindow) → Type 0
-TellsStretches before d from most windows count after windows' =
+ReportsStretches before d from most windows count after windows' =
     OnHandle (λ b b'. FillsWindows b d from (min most (2 ^ 64 - 1 - from)) windows windows' count
     × (b' ≡ b)) ((count ≡ 0)
     × (windows' ≡ windows)) before after
@@ -153,10 +153,10 @@ TellsStretches before d from most windows count after windows' =
 -- the handle pushes its chain: C gets the stores
 abbrev pub Pushes : Option ChainHandle → FsQueue → (front : List ℕ) → (status : ℕ) → FsStores →
     Option ChainHandle → FsQueue → (front' : List ℕ) → Type 0
-Pushes before q front status told after q' front' =
-    OnHandle (λ b b'. PushesHandle b q front told status b' q' front')
+Pushes before q front status reported after q' front' =
+    OnHandle (λ b b'. PushesHandle b q front reported status b' q' front')
     ((status ≡ chain_error_number WrongOrder)
-    × (told ≡ no_stores)
+    × (reported ≡ no_stores)
     × (q' ≡ q)
     × (front' ≡ front)) before after
 

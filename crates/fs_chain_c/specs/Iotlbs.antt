@@ -61,9 +61,9 @@ abbrev pub MapsByNumber : IotlbPlace → (iova len guest : ℕ) → Option Permi
 MapsByNumber p iova len guest None status p' =
     (status ≡ chain_error_number BadArgument) × (p' ≡ p)
 MapsByNumber p iova len guest (Some access) status p' =
-    (told : Result (Unit {0}) ChainError)
-    × MapsIn p.table iova len guest access p'.table told
-    × (status ≡ status_of told)
+    (reported : Result (Unit {0}) ChainError)
+    × MapsIn p.table iova len guest access p'.table reported
+    × (status ≡ status_of reported)
 
 abbrev pub MapsTable :
     Option IotlbPlace → (iova len guest access status : ℕ) → Option IotlbPlace → Type 0
@@ -74,9 +74,9 @@ MapsTable before iova len guest access status after =
 -- the table loses mappings
 abbrev pub UnmapsPlace : IotlbPlace → (iova len status : ℕ) → IotlbPlace → Type 0
 UnmapsPlace p iova len status p' =
-    (told : Result (Unit {0}) ChainError)
-    × UnmapsIn p.table iova len p'.table told
-    × (status ≡ status_of told)
+    (reported : Result (Unit {0}) ChainError)
+    × UnmapsIn p.table iova len p'.table reported
+    × (status ≡ status_of reported)
 
 abbrev pub UnmapsTable : Option IotlbPlace → (iova len status : ℕ) → Option IotlbPlace → Type 0
 UnmapsTable before iova len status after =
@@ -86,7 +86,8 @@ UnmapsTable before iova len status after =
 abbrev pub ExchangesPlace :
     ChainHandle → IotlbPlace → (status : ℕ) → ChainHandle → IotlbPlace → Type 0
 ExchangesPlace b p status b' p' =
-    (told : Result (Unit {0}) ChainError) × ExchangesWith b b' p p' told × (status ≡ status_of told)
+    (reported : Result (Unit {0}) ChainError) × ExchangesWith b b' p p' reported
+    × (status ≡ status_of reported)
 
 -- the same, if C has both; else nothing changes
 abbrev pub ExchangesTables : Option ChainHandle → Option IotlbPlace → (status : ℕ) → Option ChainHandle →
@@ -104,21 +105,21 @@ no_miss = record { at = 0; len = 0; access = 0 }
 
 -- the first miss of a gathered descriptor from an address on: 39; 0 if there is none; 33 if there is no such
 -- descriptor
-abbrev pub TellsMissOf :
+abbrev pub ReportsMissOf :
     Option Descriptor → Option (IovaRange × Permissions) → (status : ℕ) → FsMiss → Type 0
-TellsMissOf None miss status told = (status ≡ 33) × (told ≡ no_miss)
-TellsMissOf (Some d) None status told = (status ≡ 0) × (told ≡ no_miss)
-TellsMissOf (Some d) (Some miss) status told =
+ReportsMissOf None miss status reported = (status ≡ 33) × (reported ≡ no_miss)
+ReportsMissOf (Some d) None status reported = (status ≡ 0) × (reported ≡ no_miss)
+ReportsMissOf (Some d) (Some miss) status reported =
     (status ≡ 39)
-    × (told ≡ record { at = miss.0.base.0; len = miss.0.length; access = access_number miss.1 })
+    × (reported ≡ record { at = miss.0.base.0; len = miss.0.length; access = access_number miss.1 })
 
-abbrev pub TellsMiss : ChainHandle → (index from status : ℕ) → FsMiss → Type 0
-TellsMiss w index from status told =
-    TellsMissOf (slice_get w.descriptors.items index)
-    (miss_at (places_in w.regions) (slice_get w.descriptors.items index) from) status told
+abbrev pub ReportsMiss : ChainHandle → (index from status : ℕ) → FsMiss → Type 0
+ReportsMiss w index from status reported =
+    ReportsMissOf (slice_get w.descriptors.items index)
+    (miss_at (places_in w.regions) (slice_get w.descriptors.items index) from) status reported
 
 -- whether the chain in flight uses one of n addresses
-abbrev pub TellsUse : ChainHandle → (iova n told : ℕ) → Type 0
-TellsUse w iova n told =
-    ((told ≡ 1) × (is_out w.state ≡ true) × (All (IsUntouched iova n) w.descriptors.items → ⊥))
-    ⊎ ((told ≡ 0) × (is_out w.state ≡ true → All (IsUntouched iova n) w.descriptors.items))
+abbrev pub ReportsUse : ChainHandle → (iova n reported : ℕ) → Type 0
+ReportsUse w iova n reported =
+    ((reported ≡ 1) × (is_out w.state ≡ true) × (All (IsUntouched iova n) w.descriptors.items → ⊥))
+    ⊎ ((reported ≡ 0) × (is_out w.state ≡ true → All (IsUntouched iova n) w.descriptors.items))

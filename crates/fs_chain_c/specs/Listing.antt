@@ -39,12 +39,12 @@ added_status (Err e) = chain_error_number e
 abbrev pub AddsToHandle : ChainHandle → (ticket : ℕ) → Brought → (outcome : Listing → Result (Unit {0})
     reason.NotAdded) → (list : List ℕ) → (status : ℕ) → ChainHandle → (list' : List ℕ) → Type 0
 AddsToHandle b ticket e outcome list status b' list' =
-    (told : Result Added ChainError)
-    × UnlessRefused (adding_error b ticket (length list)) told ((b' ≡ b)
-    × (list' ≡ list)) (AddsTo b.state b'.state list list' e outcome told)
-    × (b'.list_len ≡ list_after b.list_len (length list) told)
+    (reported : Result Added ChainError)
+    × UnlessRefused (adding_error b ticket (length list)) reported ((b' ≡ b)
+    × (list' ≡ list)) (AddsTo b.state b'.state list list' e outcome reported)
+    × (b'.list_len ≡ list_after b.list_len (length list) reported)
     × IsAllButPlace b b'
-    × (status ≡ added_status told)
+    × (status ≡ added_status reported)
 
 -- whether a directory may have an entry of this name: 1 to 255 bytes, and no slash among them
 abbrev pub is_name : List ℕ → Bool
@@ -108,13 +108,14 @@ ended_len (Err e) = 0
 -- a `ChainHandle`'s listing is answered by the entries so far
 abbrev pub EndsListing : ChainHandle → (ticket status len : ℕ) → ChainHandle → Type 0
 EndsListing b ticket status len b' =
-    (told : Result ℕ ChainError)
-    × UnlessRefused (serial_error b.state b.serial ticket) told (b' ≡ b) (EndsByEntries b.state b'.state told)
-    × OnErr told (b' ≡ b)
+    (reported : Result ℕ ChainError)
+    × UnlessRefused (serial_error b.state b.serial ticket) reported (b' ≡ b)
+    (EndsByEntries b.state b'.state reported)
+    × OnErr reported (b' ≡ b)
     × IsAllButPlace b b'
     ×
-    (status ≡ ended_status told)
-    × (len ≡ ended_len told)
+    (status ≡ ended_status reported)
+    × (len ≡ ended_len reported)
 
 -- the same of a handle; `WrongOrder` if it has no `ChainHandle`
 abbrev pub EndsHandleList : (ticket : ℕ) → Option ChainHandle → (status len : ℕ) → Option ChainHandle → Type 0
@@ -125,12 +126,12 @@ EndsHandleList ticket before status len after =
 -- a `ChainHandle`'s listing fails by an errno: its entries so far are the reply, if it has any
 abbrev pub FailsListing : (errno ticket : ℕ) → ChainHandle → (status : ℕ) → ChainHandle → Type 0
 FailsListing errno ticket b status b' =
-    (told : Result ℕ ChainError)
-    × UnlessRefused (serial_error b.state b.serial ticket) told (b' ≡ b)
-    (EndsByError errno b.state b'.state told)
-    × OnErr told (b' ≡ b)
+    (reported : Result ℕ ChainError)
+    × UnlessRefused (serial_error b.state b.serial ticket) reported (b' ≡ b)
+    (EndsByError errno b.state b'.state reported)
+    × OnErr reported (b' ≡ b)
     × IsAllButPlace b b'
-    × (status ≡ failed_status told)
+    × (status ≡ failed_status reported)
 
 -- a `ChainHandle`'s call fails by an errno. A listing may end by its entries; another call is answered by the
 -- errno

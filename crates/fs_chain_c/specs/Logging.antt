@@ -33,11 +33,11 @@ RangesAreRoom =
     → addresses_in rs ≡ take (range_bytes rs) (drop from (reply_buffer b))
 
 -- the addresses of element and index that `pk_push` returns are those of the queue's next used position
-abbrev pub PushTellsAddresses : Type 0
-PushTellsAddresses =
-    (b b' : ChainHandle) (q q' : FsQueue) (front front' : List ℕ) (told : FsStores)
-    → PushesHandle b q front told 0 b' q' front'
+abbrev pub PushReportsAddresses : Type 0
+PushReportsAddresses =
+    (b b' : ChainHandle) (q q' : FsQueue) (front front' : List ℕ) (reported : FsStores)
+    → PushesHandle b q front reported 0 b' q' front'
     → (k : QueueState)
     × IsQueueState q k
-    × (told.element_guest ≡ element_at (at_position k.layout k.next_used))
-    × (told.index_guest ≡ index_at (at_position k.layout k.next_used))
+    × (reported.element_guest ≡ element_at (at_position k.layout k.next_used))
+    × (reported.index_guest ≡ index_at (at_position k.layout k.next_used))

@@ -20,28 +20,28 @@ abbrev pub no_store : FsStore
 no_store = record { at = 0; value = 0; len = 0 }
 
 -- a store of two bytes at its host address, or of length 0 if there is none; 77 if its address isn't mapped
-abbrev pub TellsStore : Mapped → Option Store → FsStore → (status : ℕ) → Type 0
-TellsStore regions None told status = (status ≡ 0) × (told ≡ no_store)
-TellsStore regions (Some s) told status =
+abbrev pub ReportsStore : Mapped → Option Store → FsStore → (status : ℕ) → Type 0
+ReportsStore regions None reported status = (status ≡ 0) × (reported ≡ no_store)
+ReportsStore regions (Some s) reported status =
     ((status ≡ 0)
-    × StandsHere regions Write s.address 2 told.at
-    × (s.bytes ≡ to_le_bytes w16 told.value)
-    × (told.len ≡ 2))
-    ⊎ ((status ≡ 77) × IsNotHere regions Write s.address 2 × (told ≡ no_store))
+    × StandsHere regions Write s.address 2 reported.at
+    × (s.bytes ≡ to_le_bytes w16 reported.value)
+    × (reported.len ≡ 2))
+    ⊎ ((status ≡ 77) × IsNotHere regions Write s.address 2 × (reported ≡ no_store))
 
 -- the store for a queue of C's; `BadArgument`, if the numbers aren't a queue's
 abbrev pub SetsNotification : ChainHandle → FsQueue → (enabled : ℕ) → FsStore → (status : ℕ) → Type 0
-SetsNotification b q enabled told status =
-    ((IsQueue q → ⊥) × (status ≡ chain_error_number BadArgument) × (told ≡ no_store))
+SetsNotification b q enabled reported status =
+    ((IsQueue q → ⊥) × (status ≡ chain_error_number BadArgument) × (reported ≡ no_store))
     ⊎ (IsQueue q
     × (k : QueueState)
     × IsQueueState q k
-    × TellsStore b.regions (notification_store k (not (enabled == 0))) told status)
+    × ReportsStore b.regions (notification_store k (not (enabled == 0))) reported status)
 
 -- the same with a handle, which doesn't change
 abbrev pub AsksKicks :
     Option ChainHandle → FsQueue → (enabled : ℕ) → (status : ℕ) → FsStore → Option ChainHandle → Type 0
-AsksKicks before q enabled status told after =
-    OnHandle (λ b b'. SetsNotification b q enabled told status
+AsksKicks before q enabled status reported after =
+    OnHandle (λ b b'. SetsNotification b q enabled reported status
     × (b' ≡ b)) ((status ≡ chain_error_number WrongOrder)
-    × (told ≡ no_store)) before after
+    × (reported ≡ no_store)) before after

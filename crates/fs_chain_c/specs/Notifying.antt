@@ -8,7 +8,7 @@ use Rattle.fs_chain.specs.Queues.{gave}
 use Rattle.notify.specs.Kicks.{NotifyState, ChecksWish, after}
 use Rattle.notify.specs.Threads.{ThreadedQueue, Walker, Wishes, WishIsThere, after_act}
 use Rattle.fs_notify.specs.Givers.{rules_of}
-use Rattle.fs_notify.specs.Takers.{HasU16Numbers, IsModelOf, SaysWish, ways_of, wish_at}
+use Rattle.fs_notify.specs.Takers.{HasU16Numbers, IsModelOf, ShowsWish, ways_of, wish_at}
 use Rattle.fs_chain_c.specs.declared.notifications.FsStore.{FsStore}
 use Rattle.fs_chain_c.specs.declared.queue.FsQueue.{FsQueue}
 use Rattle.fs_chain_c.specs.Notifications.{SetsNotification}
@@ -18,21 +18,21 @@ use Rattle.fs_chain_c.specs.Pushing.{EndsHandlePush, StandsHere}
 -- a store is the model's wish for the next chain, once it has reached memory: it is where the device has the
 -- wish
 abbrev pub StoresItsWish : ChainHandle → QueueState → ThreadedQueue → FsStore → Type 0
-StoresItsWish b k s told =
+StoresItsWish b k s reported =
     let asked = after_act (ways_of k) (after_act (ways_of k) s Wishes) WishIsThere in
-    StandsHere b.regions Write (wish_at k) 2 told.at
-    × (told.len ≡ 2)
-    × SaysWish k.event_index (to_le_bytes w16 told.value) asked.event asked.muted
+    StandsHere b.regions Write (wish_at k) 2 reported.at
+    × (reported.len ≡ 2)
+    × ShowsWish k.event_index (to_le_bytes w16 reported.value) asked.event asked.muted
     × IsModelOf k asked
 
 -- the store that C makes before a thread sleeps is the model's wish for the next chain
 abbrev pub StoresAWish : Type 0
 StoresAWish =
-    (b : ChainHandle) (q : FsQueue) (told : FsStore) (s : ThreadedQueue)
-    → SetsNotification b q 1 told 0
+    (b : ChainHandle) (q : FsQueue) (reported : FsStore) (s : ThreadedQueue)
+    → SetsNotification b q 1 reported 0
     → (k : QueueState)
     × IsQueueState q k
-    × (HasU16Numbers k → IsModelOf k s → s.holder ≡ Walker → StoresItsWish b k s told)
+    × (HasU16Numbers k → IsModelOf k s → s.holder ≡ Walker → StoresItsWish b k s reported)
 
 -- `notify` is the result of the check by the model's giver, of the two bytes that C has loaded behind the
 -- barrier
@@ -46,5 +46,5 @@ NotifyIsACheck =
     × (k.next_used < 2 ^ 16
     → u.published ≡ (gave k).next_used
     → u.unchecked ≡ 1
-    → SaysWish k.event_index (to_le_bytes w16 seen) u.event u.muted
+    → ShowsWish k.event_index (to_le_bytes w16 seen) u.event u.muted
     → (after (rules_of k) u ChecksWish).owes ≡ (u.owes || notify == 1))

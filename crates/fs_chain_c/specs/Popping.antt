@@ -6,13 +6,13 @@ use Rattle.fs_regions.specs.Ahead.{AheadBytes}
 use Rattle.fs_chain.specs.Ahead.{PopsAhead, ahead_error}
 use Rattle.fs_chain.specs.declared.error.ChainError.{ChainError}
 use Rattle.fs_chain.specs.declared.error.ChainError.TheVariants.{BadArgument}
-use Rattle.fs_chain.specs.declared.loads.LoadOutcome as went
-use Rattle.fs_chain.specs.declared.loads.LoadOutcome.TheVariants as goes
+use Rattle.fs_chain.specs.declared.loads.LoadOutcome as outcome
+use Rattle.fs_chain.specs.declared.loads.LoadOutcome.TheVariants as proceeds
 use Rattle.fs_chain.specs.declared.queue.QueueState.{QueueState}
 use Rattle.fs_chain.specs.declared.popping.PopOutcome.{PopOutcome}
 use Rattle.fs_chain.specs.declared.popping.PopOutcome.TheVariants as comes
 use Rattle.fs_chain.specs.declared.chain_handle.ChainHandle.{ChainHandle}
-use Rattle.fs_chain.specs.Loads.{GoesSo, HasNoPlace, IsLoadWindow, IsSame, RefusesWalk, came}
+use Rattle.fs_chain.specs.Loads.{ProceedsSo, HasNoPlace, IsLoadWindow, IsSame, RefusesWalk, came}
 use Rattle.fs_chain.specs.Numbers.{chain_error_number}
 use Rattle.fs_chain_c.specs.declared.queue.FsQueue.{FsQueue}
 use Rattle.fs_chain_c.specs.declared.popping.FsPop.{FsPop}
@@ -46,52 +46,52 @@ abbrev pub load_step : Window → FsPop
 load_step v = record no_step { load_at = host_at v; load_len = v.len }
 
 -- the load that a pop still needs; 77 if its address isn't mapped
-abbrev pub TellsLoad : ChainHandle → FsPop → (status : ℕ) → Type 0
-TellsLoad b step status =
+abbrev pub ReportsLoad : ChainHandle → FsPop → (status : ℕ) → Type 0
+ReportsLoad b step status =
     ((v : Window) × IsLoadWindow b (came b) v × (status ≡ 32) × (step ≡ load_step v))
     ⊎ (HasNoPlace b (came b) × (status ≡ 77) × (step ≡ no_step))
 
 -- the load that a pop still needs after a refused call; nothing, if it needs none or the address isn't mapped
-abbrev pub TellsWanted : ChainHandle → FsPop → Type 0
-TellsWanted b step =
+abbrev pub ReportsWanted : ChainHandle → FsPop → Type 0
+ReportsWanted b step =
     ((v : Window) × IsLoadWindow b (came b) v × (step ≡ load_step v))
     ⊎ (HasNoPlace b (came b) × (step ≡ no_step))
 
 -- the result of a pop and its status: a load, no chain (33), a miss (39), a refusal, a chain, or a faulty
 -- chain
-abbrev pub TellsWent : ChainHandle → went.LoadOutcome → FsPop → (status : ℕ) → Type 0
-TellsWent b goes.Part step status = TellsLoad b step status
-TellsWent b (goes.On (comes.Load n)) step status = TellsLoad b step status
-TellsWent b (goes.On comes.Idle) step status = (status ≡ 33) × (step ≡ no_step)
-TellsWent b (goes.On (comes.Missing range access)) step status =
+abbrev pub ReportsOutcome : ChainHandle → outcome.LoadOutcome → FsPop → (status : ℕ) → Type 0
+ReportsOutcome b proceeds.Part step status = ReportsLoad b step status
+ReportsOutcome b (proceeds.On (comes.Load n)) step status = ReportsLoad b step status
+ReportsOutcome b (proceeds.On comes.Idle) step status = (status ≡ 33) × (step ≡ no_step)
+ReportsOutcome b (proceeds.On (comes.Missing range access)) step status =
     (status ≡ 39)
     × (step ≡ record no_step {
       miss_at = range.base.0;
       miss_len = range.length;
       miss_access = access_number access;
     })
-TellsWent b (goes.On (comes.Refused e)) step status = (status ≡ queue_number e) × (step ≡ no_step)
-TellsWent b (goes.On (comes.Chain head request room)) step status =
+ReportsOutcome b (proceeds.On (comes.Refused e)) step status = (status ≡ queue_number e) × (step ≡ no_step)
+ReportsOutcome b (proceeds.On (comes.Chain head request room)) step status =
     (status ≡ 0)
     × (step ≡ record no_step { head = head; request_len = request; reply_len = room; ticket = b.serial })
-TellsWent b (goes.On (comes.Faulty head fault)) step status =
+ReportsOutcome b (proceeds.On (comes.Faulty head fault)) step status =
     (status ≡ 0) × (step ≡ record no_step { head = head; fault = chain_fault_number fault })
 
 -- ---- a pop
 
 -- a pop over the core's queue; on an error nothing changes, and the result is the load that the pop
 -- still needs
-abbrev pub WalksKept : ChainHandle → FsQueue → QueueState → (loaded : List ℕ) → FsPop → (status : ℕ) →
+abbrev pub WalksPreserved : ChainHandle → FsQueue → QueueState → (loaded : List ℕ) → FsPop → (status : ℕ) →
     ChainHandle → FsQueue → Type 0
-WalksKept b q k loaded step status b' q' =
-    ((told : went.LoadOutcome) × (k' : QueueState)
-    × GoesSo b k loaded told b' k'
-    × TellsWent b' told step status
+WalksPreserved b q k loaded step status b' q' =
+    ((reported : outcome.LoadOutcome) × (k' : QueueState)
+    × ProceedsSo b k loaded reported b' k'
+    × ReportsOutcome b' reported step status
     × (q' ≡ put q k'))
     ⊎ ((e : ChainError)
     × RefusesWalk b k loaded e
     × (status ≡ chain_error_number e)
-    × TellsWanted b' step
+    × ReportsWanted b' step
     × IsSame b b'
     × (q' ≡ q))
 
@@ -100,21 +100,21 @@ abbrev pub PopsHandle :
     ChainHandle → FsQueue → (loaded : List ℕ) → FsPop → (status : ℕ) → ChainHandle → FsQueue → Type 0
 PopsHandle b q loaded step status b' q' =
     ((IsBegun q → ⊥) × (status ≡ chain_error_number BadArgument) × (step ≡ no_step) × (b' ≡ b) × (q' ≡ q))
-    ⊎ (IsBegun q × (k : QueueState) × IsQueueState q k × WalksKept b q k loaded step status b' q')
+    ⊎ (IsBegun q × (k : QueueState) × IsQueueState q k × WalksPreserved b q k loaded step status b' q')
 
 -- a pop over the core's queue by loads that were made ahead: calls of `pop` one after another. On an error
 -- nothing changes, and the result is the load that the pop still needs
-abbrev pub WalksKeptAhead : ChainHandle → FsQueue → QueueState → (ahead : List AheadBytes) → FsPop →
+abbrev pub WalksPreservedAhead : ChainHandle → FsQueue → QueueState → (ahead : List AheadBytes) → FsPop →
     (status : ℕ) → ChainHandle → FsQueue → Type 0
-WalksKeptAhead b q k ahead step status b' q' =
-    ((told : PopOutcome) × (k' : QueueState)
-    × PopsAhead ahead b b' k k' (goes.On told)
-    × TellsWent b' (goes.On told) step status
+WalksPreservedAhead b q k ahead step status b' q' =
+    ((reported : PopOutcome) × (k' : QueueState)
+    × PopsAhead ahead b b' k k' (proceeds.On reported)
+    × ReportsOutcome b' (proceeds.On reported) step status
     × (q' ≡ put q k'))
     ⊎ ((e : ChainError)
     × (ahead_error b.state k ≡ Some e)
     × (status ≡ chain_error_number e)
-    × TellsWanted b' step
+    × ReportsWanted b' step
     × (b' ≡ b)
     × (q' ≡ q))
 
@@ -123,4 +123,4 @@ abbrev pub PopsHandleAhead : ChainHandle → FsQueue → (ahead : List AheadByte
     ChainHandle → FsQueue → Type 0
 PopsHandleAhead b q ahead step status b' q' =
     ((IsBegun q → ⊥) × (status ≡ chain_error_number BadArgument) × (step ≡ no_step) × (b' ≡ b) × (q' ≡ q))
-    ⊎ (IsBegun q × (k : QueueState) × IsQueueState q k × WalksKeptAhead b q k ahead step status b' q')
+    ⊎ (IsBegun q × (k : QueueState) × IsQueueState q k × WalksPreservedAhead b q k ahead step status b' q')

@@ -13,7 +13,7 @@ use Rattle.fs_chain.specs.declared.queue.QueueState.{QueueState}
 use Rattle.fs_chain.specs.declared.pushing.PushStores.{PushStores}
 use Rattle.fs_chain.specs.declared.state.ChainState.TheVariants as at
 use Rattle.fs_chain.specs.Numbers.{chain_error_number}
-use Rattle.fs_chain.specs.Events.{tells_of}
+use Rattle.fs_chain.specs.Events.{notifies_of}
 use Rattle.fs_chain.specs.Orders.{end_error, give_up_error, has_ring, is_out, push_error, return_error}
 use Rattle.fs_chain.specs.Queues.{gave, gave_up}
 use Rattle.fs_chain.specs.Pushes.{IfHasReply, IsFreed, PushesBy, put_front}
@@ -51,18 +51,18 @@ StandsHere regions access guest len here =
     × (here ≡ host_at v)
 
 -- the stores of a push, by their host addresses, and the guest addresses of the used element and index
-abbrev pub TellsStores : Mapped → PushStores → FsStores → Type 0
-TellsStores regions s told =
-    (told.front_len ≡ s.front_len)
-    × StandsHere regions Write s.used.head.address 4 told.id_at
-    × (told.id ≡ s.used.head.value)
-    × StandsHere regions Write s.used.len.address 4 told.len_at
-    × (told.len ≡ s.used.len.value)
-    × StandsHere regions Write s.used.index.address 2 told.index_at
-    × (told.index ≡ s.used.index.value)
-    × StandsHere regions Read s.seen_at 2 told.seen_at
-    × (told.element_guest ≡ s.used.head.address)
-    × (told.index_guest ≡ s.used.index.address)
+abbrev pub ReportsStores : Mapped → PushStores → FsStores → Type 0
+ReportsStores regions s reported =
+    (reported.front_len ≡ s.front_len)
+    × StandsHere regions Write s.used.head.address 4 reported.id_at
+    × (reported.id ≡ s.used.head.value)
+    × StandsHere regions Write s.used.len.address 4 reported.len_at
+    × (reported.len ≡ s.used.len.value)
+    × StandsHere regions Write s.used.index.address 2 reported.index_at
+    × (reported.index ≡ s.used.index.value)
+    × StandsHere regions Read s.seen_at 2 reported.seen_at
+    × (reported.element_guest ≡ s.used.head.address)
+    × (reported.index_guest ≡ s.used.index.address)
 
 -- `len` bytes from a guest address on aren't mapped in one piece: the first isn't mapped, or the piece ends
 -- before the last
@@ -86,29 +86,29 @@ HaveNoPlaces regions s =
 -- 77 if the stores aren't mapped
 abbrev pub PushesSo : ChainHandle → QueueState → (front : List ℕ) → FsStores → (status : ℕ) → ChainHandle →
     (front' : List ℕ) → Type 0
-PushesSo b k front told status b' front' =
+PushesSo b k front reported status b' front' =
     (s : PushStores)
     × IfHasReply b.state (λ out reply. b' ≡ record b { state = at.Pushing out })
     × IfHasReply b.state (λ out reply. PushesBy k out reply s)
     × IfHasReply b.state (λ out reply. front' ≡ put_front reply front)
-    × (((status ≡ 0) × TellsStores b'.regions s told)
-    ⊎ ((status ≡ 77) × (told ≡ no_stores) × HaveNoPlaces b'.regions s))
+    × (((status ≡ 0) × ReportsStores b'.regions s reported)
+    ⊎ ((status ≡ 77) × (reported ≡ no_stores) × HaveNoPlaces b'.regions s))
 
 -- the same over the core's queue, on which no other push begins until this one ends. The queue's rings are
 -- where they were when the chain was popped. An error changes nothing, and a buffer of 160 bytes is never too
 -- short
-abbrev pub ReturnsKept : ChainHandle → FsQueue → QueueState → (front : List ℕ) → FsStores → (status : ℕ) →
-    ChainHandle → FsQueue → (front' : List ℕ) → Type 0
-ReturnsKept b q k front told status b' q' front' =
+abbrev pub ReturnsPreserved : ChainHandle → FsQueue → QueueState → (front : List ℕ) → FsStores → (status : ℕ)
+    → ChainHandle → FsQueue → (front' : List ℕ) → Type 0
+ReturnsPreserved b q k front reported status b' q' front' =
     ((return_error b.state k (length front) ≡ None)
-    × PushesSo b k front told status b' front'
+    × PushesSo b k front reported status b' front'
     × (q' ≡ put q (record k { pushing = true }))
     × (has_ring b.state b.regions ≡ true))
     ⊎ ((e : ChainError)
     × (push_error (has_ring b.state b.regions) b.state k (length front) ≡ Some e)
     × (e ≡ ShortBuffer → length front < 160)
     × (status ≡ chain_error_number e)
-    × (told ≡ no_stores)
+    × (reported ≡ no_stores)
     × (b' ≡ b)
     × (q' ≡ q)
     × (front' ≡ front))
@@ -116,14 +116,15 @@ ReturnsKept b q k front told status b' q' front' =
 -- the same over a queue of C's; `BadArgument`, if the numbers aren't a queue's
 abbrev pub PushesHandle : ChainHandle → FsQueue → (front : List ℕ) → FsStores → (status : ℕ) → ChainHandle →
     FsQueue → (front' : List ℕ) → Type 0
-PushesHandle b q front told status b' q' front' =
+PushesHandle b q front reported status b' q' front' =
     ((IsQueue q → ⊥)
     × (status ≡ chain_error_number BadArgument)
-    × (told ≡ no_stores)
+    × (reported ≡ no_stores)
     × (b' ≡ b)
     × (q' ≡ q)
     × (front' ≡ front))
-    ⊎ (IsQueue q × (k : QueueState) × IsQueueState q k × ReturnsKept b q k front told status b' q' front')
+    ⊎ (IsQueue q × (k : QueueState) × IsQueueState q k
+    × ReturnsPreserved b q k front reported status b' q' front')
 
 -- ---- the end of a push
 
@@ -133,12 +134,12 @@ RefusesPush b q e status b' q' = (status ≡ chain_error_number e) × (b' ≡ b)
 
 -- the stores are made: the chain is freed, and the core's queue pushes its next chain at the next position;
 -- on an error nothing changes
-abbrev pub EndsKept :
+abbrev pub EndsPreserved :
     ChainHandle → FsQueue → QueueState → (seen notify status : ℕ) → ChainHandle → FsQueue → Type 0
-EndsKept b q k seen notify status b' q' =
+EndsPreserved b q k seen notify status b' q' =
     ((end_error b.state k ≡ None)
     × (status ≡ 0)
-    × (notify ≡ flag (tells_of k (to_le_bytes w16 seen)))
+    × (notify ≡ flag (notifies_of k (to_le_bytes w16 seen)))
     × IsFreed b b'
     × (q' ≡ put q (gave k)))
     ⊎ ((e : ChainError) × (end_error b.state k ≡ Some e) × (notify ≡ 0) × RefusesPush b q e status b' q')
@@ -147,7 +148,7 @@ EndsKept b q k seen notify status b' q' =
 abbrev pub EndsHandlePush : ChainHandle → FsQueue → (seen notify status : ℕ) → ChainHandle → FsQueue → Type 0
 EndsHandlePush b q seen notify status b' q' =
     ((IsQueue q → ⊥) × (notify ≡ 0) × RefusesPush b q BadArgument status b' q')
-    ⊎ (IsQueue q × (k : QueueState) × IsQueueState q k × EndsKept b q k seen notify status b' q')
+    ⊎ (IsQueue q × (k : QueueState) × IsQueueState q k × EndsPreserved b q k seen notify status b' q')
 
 -- ---- a dropped chain
 
@@ -156,8 +157,8 @@ abbrev pub dropped : ChainHandle → QueueState → QueueState
 dropped b k = if is_out b.state then gave_up k else k
 
 -- a drop over the core's queue; on an error nothing changes
-abbrev pub DropsKept : ChainHandle → FsQueue → QueueState → (status : ℕ) → ChainHandle → FsQueue → Type 0
-DropsKept b q k status b' q' =
+abbrev pub DropsPreserved : ChainHandle → FsQueue → QueueState → (status : ℕ) → ChainHandle → FsQueue → Type 0
+DropsPreserved b q k status b' q' =
     ((give_up_error b.state k ≡ None) × (status ≡ 0) × IsFreed b b' × (q' ≡ put q (dropped b k)))
     ⊎ ((e : ChainError) × (give_up_error b.state k ≡ Some e) × RefusesPush b q e status b' q')
 
@@ -171,4 +172,4 @@ DropsHandleChain b q status b' q' =
     × IsQueue q
     × (k : QueueState)
     × IsQueueState q k
-    × DropsKept b q k status b' q')
+    × DropsPreserved b q k status b' q')

@@ -11,12 +11,12 @@ use Rattle.fs_chain_c.specs.Handles.{OnHandle}
 -- a range of the guest addresses of the reply buffer from byte `from` on, of 1 to `most` bytes; it ends
 -- with its descriptor at the latest
 abbrev pub IsReplyRange : ChainHandle → (from most : ℕ) → FsRange → Type 0
-IsReplyRange w from most told =
+IsReplyRange w from most reported =
     (is_out w.state ≡ true)
     × (n : ℕ)
-    × IsRangeFrom true w.descriptors.items from told.guest n
-    × (told.len ≡ min n most)
-    × (0 < told.len)
+    × IsRangeFrom true w.descriptors.items from reported.guest n
+    × (reported.len ≡ min n most)
+    × (0 < reported.len)
 
 -- ranges, one behind another
 abbrev pub AreReplyRanges : ChainHandle → (from most : ℕ) → List FsRange → Type 0
@@ -45,9 +45,9 @@ FillsRanges w from most ranges ranges' count =
     × (count < length ranges → range_bytes rs < most → RoomEnds w (from + range_bytes rs))
 
 -- C gets the ranges of the reply buffer; the handle doesn't change
-abbrev pub TellsRanges : Option ChainHandle → (from most : ℕ) → (ranges : List FsRange) → (count : ℕ) →
+abbrev pub ReportsRanges : Option ChainHandle → (from most : ℕ) → (ranges : List FsRange) → (count : ℕ) →
     Option ChainHandle → (ranges' : List FsRange) → Type 0
-TellsRanges before from most ranges count after ranges' =
+ReportsRanges before from most ranges count after ranges' =
     OnHandle (λ b b'. FillsRanges b from (min most (2 ^ 64 - 1 - from)) ranges ranges' count
     × (b' ≡ b)) ((count ≡ 0)
     × (ranges' ≡ ranges)) before after

@@ -8,7 +8,7 @@ use Rattle.fuse_values.specs.Values.{call_of, pairs_in}
 use Rattle.server_phases.specs.Waiting.{first_call}
 use Rattle.virtiofsd_fuse.specs.Grammar.{Asks, FileCommand, meaning}
 use Rattle.fs_chain.specs.declared.decoding.Decoded.{Decoded}
-use Rattle.fs_chain.specs.declared.decoding.Decoded.TheVariants as tells
+use Rattle.fs_chain.specs.declared.decoding.Decoded.TheVariants as reports
 use Rattle.fs_chain.specs.declared.chain_handle.ChainHandle.{ChainHandle}
 use Rattle.fs_chain_c.specs.declared.call.FsCall.{FsCall}
 use Rattle.fs_chain_c.specs.declared.call.FsSpan.{FsSpan}
@@ -59,9 +59,9 @@ IsLabelAt request (Some l) at other = IsNameAt request at l.name.now × (bytes_a
 
 -- the spans in a call's fields hold the call's names, and its label
 abbrev pub HasNames : (request : List ℕ) → FileCall → FsCall → Type 0
-HasNames request made told =
-    AreNames request made told.name told.name2 told.value
-    × IsLabelAt request (label_in made) told.label_name told.label
+HasNames request made reported =
+    AreNames request made reported.name reported.name2 reported.value
+    × IsLabelAt request (label_in made) reported.label_name reported.label
 
 -- for each request of less than 2^32 bytes, with any agreed options: the spans in its call's fields hold the
 -- call's names and its label
@@ -75,7 +75,7 @@ SpansHoldNames =
 
 -- a property of the call, if decoding returned one
 abbrev pub IfCall : Decoded → (FileCall → Type 0) → Type 0
-IfCall (tells.Call made) P = P made
+IfCall (reports.Call made) P = P made
 IfCall _ P = Unit {0}
 
 -- the spans that pk_decode returns, from all of a request's bytes or a WRITE's first ones, hold the names

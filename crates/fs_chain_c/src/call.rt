@@ -1,7 +1,8 @@
 //! The file call of a request, with the fields that C gets.
 
 ghost use Rattle.std.specs.Prelude.{◌≡◌, ◌-◌};
-ghost use Rattle.fs_chain_c.specs.Calls.{attr_told, behind, data_len, low, made, made_by, empty_call, span};
+ghost use Rattle.fs_chain_c.specs.Calls.{attr_reported, behind, data_len, low, made, made_by, empty_call};
+ghost use Rattle.fs_chain_c.specs.Calls.{span};
 
 use crate::answer_kind::{AnswerKind, call_number};
 use fuse_fs::Context;
@@ -235,22 +236,22 @@ impl FsCall {
     pub(crate) fn made(opcode: Opcode, answer: AnswerKind) -> FsCall
         ensures { result ≡ made opcode answer }
     {
-        let mut told = NO_CALL;
-        told.kind = call_number(opcode);
-        told.answer = answer.number();
-        told
+        let mut reported = NO_CALL;
+        reported.kind = call_number(opcode);
+        reported.answer = answer.number();
+        reported
     }
 
     // The same of a call that a process makes on a node.
     pub(crate) fn made_by(opcode: Opcode, answer: AnswerKind, who: &Context, node: u64) -> FsCall
         ensures { result ≡ made_by opcode answer who.now node }
     {
-        let mut told = FsCall::made(opcode, answer);
-        told.uid = who.uid.0;
-        told.gid = who.gid.0;
-        told.pid = who.pid.cast_unsigned();
-        told.node = node;
-        told
+        let mut reported = FsCall::made(opcode, answer);
+        reported.uid = who.uid.0;
+        reported.gid = who.gid.0;
+        reported.pid = who.pid.cast_unsigned();
+        reported.node = node;
+        reported
     }
 }
 
@@ -296,19 +297,19 @@ pub(crate) fn data_len(size: u32, room: usize) -> u64
 }
 
 // The attributes that SETATTR sets.
-pub(crate) fn attr_told(attr: &SetattrIn) -> FsAttr
-    ensures { result ≡ attr_told attr.now }
+pub(crate) fn attr_reported(attr: &SetattrIn) -> FsAttr
+    ensures { result ≡ attr_reported attr.now }
 {
-    let mut told = NO_ATTR;
-    told.size = attr.size;
-    told.atime = attr.atime;
-    told.mtime = attr.mtime;
-    told.ctime = attr.ctime;
-    told.atime_nanos = attr.atimensec;
-    told.mtime_nanos = attr.mtimensec;
-    told.ctime_nanos = attr.ctimensec;
-    told.mode = attr.mode;
-    told.uid = attr.uid.0;
-    told.gid = attr.gid.0;
-    told
+    let mut reported = NO_ATTR;
+    reported.size = attr.size;
+    reported.atime = attr.atime;
+    reported.mtime = attr.mtime;
+    reported.ctime = attr.ctime;
+    reported.atime_nanos = attr.atimensec;
+    reported.mtime_nanos = attr.mtimensec;
+    reported.ctime_nanos = attr.ctimensec;
+    reported.mode = attr.mode;
+    reported.uid = attr.uid.0;
+    reported.gid = attr.gid.0;
+    reported
 }

@@ -1,10 +1,10 @@
 //! The fields that C gets of each file call: one row for each.
 
 ghost use Rattle.std.specs.Prelude.{◌≡◌, true};
-ghost use Rattle.fs_chain_c.specs.Calls.{at_rename, at_setxattr, has_name, is_of_open_file, told_call};
+ghost use Rattle.fs_chain_c.specs.Calls.{at_rename, at_setxattr, has_name, is_of_open_file, reported_call};
 
 use crate::answer_kind::{AnswerKind, call_number, listing, sized};
-use crate::call::{FsCall, HEADER, attr_told, behind, behind_header, data_len, span};
+use crate::call::{FsCall, HEADER, attr_reported, behind, behind_header, data_len, span};
 use bitflags::Flags;
 use fuse_values::FileCall;
 use fuse_wire::Opcode;
@@ -47,19 +47,19 @@ fn at_setxattr(options: u64) -> usize
 // A match over all calls. A row of `of_a_node` is a call that a process makes on a node: the fields to match,
 // the answer's kind, and the fields to set. A row of `others` has the fields to match, the call to start
 // with, and the fields to set. Other arms follow the rows.
-macro_rules! told {
-    ($call:expr, $told:expr,
+macro_rules! reported {
+    ($call:expr, $reported:expr,
         of_a_node { $($name:ident { $($part:tt)* } $kind:ident $(, $field:ident: $value:expr)*;)* }
         others { $($other:ident { $($piece:tt)* } = $start:expr $(, $slot:ident: $given:expr)*;)* }
         $($arm:tt)*) => {
         match $call {
             $(FileCall::$name { context, node, $($part)* } => {
-                *$told = FsCall::made_by(Opcode::$name, AnswerKind::$kind, context, *node);
-                $($told.$field = $value;)*
+                *$reported = FsCall::made_by(Opcode::$name, AnswerKind::$kind, context, *node);
+                $($reported.$field = $value;)*
             })*
             $(FileCall::$other { $($piece)* } => {
-                *$told = $start;
-                $($told.$slot = $given;)*
+                *$reported = $start;
+                $($reported.$slot = $given;)*
             })*
             $($arm)*
         }
@@ -67,11 +67,11 @@ macro_rules! told {
 }
 
 // Fills a call whose request has names, as C gets it.
-fn named_call(opcode: u32, options: u64, room: usize, call: &FileCall<'_>, told: &mut FsCall)
+fn named_call(opcode: u32, options: u64, room: usize, call: &FileCall<'_>, reported: &mut FsCall)
     requires named { has_name call.now ≡ true }
-    ensures { told.new ≡ told_call opcode options room call.now }
+    ensures { reported.new ≡ reported_call opcode options room call.now }
 {
-    told!(call, told, of_a_node {
+    reported!(call, reported, of_a_node {
         Lookup { name } Entry, name: span(AT, name.len());
         Symlink { link, name, extra } Entry,
             name: span(AT, name.len()), value: span(behind(AT, name.len()), link.len()),
@@ -106,11 +106,17 @@ fn named_call(opcode: u32, options: u64, room: usize, call: &FileCall<'_>, told:
 }
 
 // Fills a call on an open file or directory, which it names by its handle, as C gets it.
-fn open_file_call(opcode: u32, options: u64, room: usize, call: &FileCall<'_>, told: &mut FsCall)
+fn open_file_call(
+    opcode: u32,
+    options: u64,
+    room: usize,
+    call: &FileCall<'_>,
+    reported: &mut FsCall,
+)
     requires opened { is_of_open_file call.now ≡ true }
-    ensures { told.new ≡ told_call opcode options room call.now }
+    ensures { reported.new ≡ reported_call opcode options room call.now }
 {
-    told!(call, told, of_a_node {
+    reported!(call, reported, of_a_node {
         Read { handle, room: most, size, offset, owner, flags } Data,
             handle: *handle, offset: *offset, size: u64::from(*size), data_at: HEADER, data_len: *most as u64,
             flags: *flags, has_owner: u8::from(owner.is_some()), owner: owner.unwrap_or(0);
@@ -140,21 +146,21 @@ fn open_file_call(opcode: u32, options: u64, room: usize, call: &FileCall<'_>, t
 
 /// Fills a call as C gets it, by the opcode of its request, the agreed options, and the length of the reply
 /// buffer.
-pub(crate) fn told_call(
+pub(crate) fn reported_call(
     opcode: u32,
     options: u64,
     room: usize,
     call: &FileCall<'_>,
-    told: &mut FsCall,
+    reported: &mut FsCall,
 )
-    ensures { told.new ≡ told_call opcode options room call.now }
+    ensures { reported.new ≡ reported_call opcode options room call.now }
 {
-    told!(call, told, of_a_node {
+    reported!(call, reported, of_a_node {
         Forget { count } None, count: *count;
         Getattr { handle } Attr, has_handle: u8::from(handle.is_some()), handle: handle.unwrap_or(0);
         Setattr { attr, handle, valid } Attr,
             has_handle: u8::from(handle.is_some()), handle: handle.unwrap_or(0), valid: valid.bits(),
-            owner: attr.lock_owner, attr: attr_told(attr);
+            owner: attr.lock_owner, attr: attr_reported(attr);
         Readlink {} Data, data_at: HEADER, data_len: behind_header(room);
         Open { kill, flags } Open, flags: *flags, kill_priv: u8::from(*kill);
         Statfs {} Statfs;
@@ -181,11 +187,11 @@ pub(crate) fn told_call(
             | FileCall::Mkdir { .. } | FileCall::Unlink { .. } | FileCall::Rmdir { .. }
             | FileCall::Rename { .. } | FileCall::Setxattr { .. } | FileCall::Getxattr { .. }
             | FileCall::Removexattr { .. } | FileCall::Create { .. } | FileCall::Link { .. } =>
-            named_call(opcode, options, room, call, told),
+            named_call(opcode, options, room, call, reported),
         FileCall::Read { .. } | FileCall::Write { .. } | FileCall::Release { .. }
             | FileCall::Fsync { .. } | FileCall::Fsyncdir { .. } | FileCall::Flush { .. }
             | FileCall::Readdir { .. } | FileCall::Releasedir { .. } | FileCall::Fallocate { .. }
             | FileCall::Lseek { .. } | FileCall::CopyFileRange { .. } =>
-            open_file_call(opcode, options, room, call, told)
+            open_file_call(opcode, options, room, call, reported)
     )
 }

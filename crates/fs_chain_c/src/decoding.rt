@@ -1,7 +1,7 @@
 //! Decoding a chain's request.
 
 ghost use Rattle.std.specs.Prelude.{◌≡◌};
-ghost use Rattle.fs_chain_c.specs.Decoding.{AnswersHandle, DecodesHandle, AnswersAtOnce, TellsAsked};
+ghost use Rattle.fs_chain_c.specs.Decoding.{AnswersHandle, DecodesHandle, AnswersAtOnce, ReportsAsked};
 ghost use Rattle.fs_chain_c.specs.Decoding.{answer_unasked, fault_after};
 
 use crate::call::FsCall;
@@ -73,10 +73,10 @@ fn fault_after(status: u32) -> u32
 }
 
 // The call of a decoded request, and a status.
-fn tell(handle: &mut ChainHandle, request: &[u8], told: Decoded<'_>, call: &mut FsCall) -> u32
-    ensures { TellsAsked handle.old request.now told.entry call.new result handle.new }
+fn tell(handle: &mut ChainHandle, request: &[u8], reported: Decoded<'_>, call: &mut FsCall) -> u32
+    ensures { ReportsAsked handle.old request.now reported.entry call.new result handle.new }
 {
-    match told {
+    match reported {
         Decoded::Call(made) => {
             let options = handle.session().options().bits();
             call_fields(request, options, handle.room_len(), &made, call);
@@ -120,9 +120,9 @@ pub fn decode_handle(
     let options = FsOptions::from_bits_retain(device.options);
     let session = Session::resume(device.page_size, options);
     match handle.decode(session, request) {
-        Ok(told) => {
+        Ok(reported) => {
             let ticket = handle.serial();
-            let status = tell(handle, request, told, call);
+            let status = tell(handle, request, reported, call);
             call.ticket = ticket;
             status
         }

@@ -3,7 +3,7 @@
 ghost use Rattle.std.specs.Prelude.{◌≡◌, ◌≤◌, false, true, None};
 ghost use Rattle.fs_chain_c.specs.Handles.{AbandonsChain, DropsChain, EndsPush, IsZeros, Numbers};
 ghost use Rattle.fs_regions.specs.Ahead.{loads_ahead};
-ghost use Rattle.fs_chain_c.specs.Handles.{NumbersHandle, Pushes, SetsMemory, TellsStretches, Pops};
+ghost use Rattle.fs_chain_c.specs.Handles.{NumbersHandle, Pushes, SetsMemory, ReportsStretches, Pops};
 ghost use Rattle.fs_chain_c.specs.Handles.{PopsAheadOf};
 ghost use Rattle.fs_chain_c.specs.Queues.{BeginsQueue};
 ghost use Rattle.fs_chain_c.specs.States.{handle_state};
@@ -210,7 +210,7 @@ fn tell_windows(
     len: u64,
     windows: &mut [FsWindow],
 ) -> usize
-    ensures { TellsStretches chain.old.held.value write_only from len windows.old result
+    ensures { ReportsStretches chain.old.held.value write_only from len windows.old result
         chain.new.held.value windows.new }
 {
     let Some(handle) = chain.take(alloc) else {
@@ -230,7 +230,7 @@ pub extern "C" fn pk_request_windows(
     len: u64,
     windows: &mut [FsWindow],
 ) -> usize
-    ensures { TellsStretches chain.old.held.value false from len windows.old result
+    ensures { ReportsStretches chain.old.held.value false from len windows.old result
         chain.new.held.value windows.new }
 {
     tell_windows(alloc, chain, false, from, len, windows)
@@ -245,7 +245,7 @@ pub extern "C" fn pk_reply_windows(
     len: u64,
     windows: &mut [FsWindow],
 ) -> usize
-    ensures { TellsStretches chain.old.held.value true from len windows.old result
+    ensures { ReportsStretches chain.old.held.value true from len windows.old result
         chain.new.held.value windows.new }
 {
     tell_windows(alloc, chain, true, from, len, windows)
@@ -289,8 +289,8 @@ pub extern "C" fn pk_pushed(
         *notify = 0;
         return wrong_order();
     };
-    let (told, status) = end_handle_push(&mut handle, queue, seen);
-    *notify = told;
+    let (reported, status) = end_handle_push(&mut handle, queue, seen);
+    *notify = reported;
     *chain = FsChain::of_box(handle);
     status
 }

@@ -5,7 +5,7 @@ ghost use Rattle.std.specs.Int.{w32, w64, from_le_bytes};
 ghost use Rattle.fs_chain_c.specs.Calls.{call_fields, numbered, opcode_in, unique_in};
 
 use crate::call::FsCall;
-use crate::call_table::told_call;
+use crate::call_table::reported_call;
 use crate::labels::add_label;
 use fuse_values::FileCall;
 
@@ -58,11 +58,11 @@ pub fn call_fields(
     options: u64,
     room: usize,
     call: &FileCall<'_>,
-    told: &mut FsCall,
+    reported: &mut FsCall,
 )
-    ensures { told.new ≡ call_fields request.now options room call.now }
+    ensures { reported.new ≡ call_fields request.now options room call.now }
 {
-    told_call(opcode_in(request), options, room, call, told);
-    number(request, told);
-    add_label(request, call, told);
+    reported_call(opcode_in(request), options, room, call, reported);
+    number(request, reported);
+    add_label(request, call, reported);
 }

@@ -14,10 +14,10 @@ use memory_requests::boxed;
 use std::alloc::Global;
 
 // The status of a result: 0, or the error's number.
-fn status_of(told: Result<(), ChainError>) -> u32
-    ensures { result ≡ status_of told }
+fn status_of(reported: Result<(), ChainError>) -> u32
+    ensures { result ≡ status_of reported }
 {
-    match told {
+    match reported {
         Ok(()) => 0,
         Err(error) => u32::from(error.number()),
     }

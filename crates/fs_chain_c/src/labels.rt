@@ -63,15 +63,15 @@ fn label_name_at(request: &[u8], at: usize) -> usize
 }
 
 /// Adds the offsets of a new node's label and of its name, if the request has one.
-pub(crate) fn add_label(request: &[u8], call: &FileCall<'_>, told: &mut FsCall)
-    ensures { told.new ≡ labelled request.now (behind_names call.now) (label_in call.now) told.old }
+pub(crate) fn add_label(request: &[u8], call: &FileCall<'_>, reported: &mut FsCall)
+    ensures { reported.new ≡ labelled request.now (behind_names call.now) (label_in call.now) reported.old }
 {
     match label_in(call) {
         Some(label) => {
             let name = label_name_at(request, behind_names(call));
-            told.has_label = 1;
-            told.label_name = span(name, label.name.len());
-            told.label = span(behind(name, label.name.len()), label.secctx.len());
+            reported.has_label = 1;
+            reported.label_name = span(name, label.name.len());
+            reported.label = span(behind(name, label.name.len()), label.secctx.len());
         }
         None => {}
     }

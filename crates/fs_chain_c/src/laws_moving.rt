@@ -1,6 +1,6 @@
 //! Laws of a device that C moves: its record, and the addresses for a migration's log.
 
-ghost use Rattle.fs_chain_c.specs.Logging.{PushTellsAddresses, RangesAreRoom};
+ghost use Rattle.fs_chain_c.specs.Logging.{PushReportsAddresses, RangesAreRoom};
 ghost use Rattle.fs_chain_c.specs.Moving.{MovesByRecord, RestoresARecord, SavesARecord};
 
 /// `pk_save` writes a record of the queues that the core has, and `pk_restore_unnumbered` resets them from
@@ -15,5 +15,5 @@ pub fn law_moves()
 /// The addresses of `pk_reply_ranges` and `pk_push` are those that the push's stores write.
 pub fn law_log()
     ensures room { RangesAreRoom }
-    ensures used { PushTellsAddresses }
+    ensures used { PushReportsAddresses }
 {}

@@ -36,10 +36,10 @@ const ENTRIES: u32 = 38;
 const NAME_MAX: usize = 255;
 
 // The status of an added entry.
-fn added_status(told: Result<Added, ChainError>) -> u32
-    ensures { result ≡ added_status told }
+fn added_status(reported: Result<Added, ChainError>) -> u32
+    ensures { result ≡ added_status reported }
 {
-    match told {
+    match reported {
         Ok(Added::In) => 0,
         Ok(Added::Full) => FULL,
         Ok(Added::NoRoom) | Ok(Added::TooLong) => LIST_FAILS,
@@ -209,8 +209,8 @@ pub extern "C" fn pk_reply_entries(
         *len = 0;
         return wrong_order();
     };
-    let (status, told) = end_listing(&mut handle, ticket);
-    *len = told;
+    let (status, reported) = end_listing(&mut handle, ticket);
+    *len = reported;
     *chain = FsChain::of_box(handle);
     status
 }

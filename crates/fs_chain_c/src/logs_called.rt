@@ -2,7 +2,7 @@
 
 ghost use Rattle.std.specs.Prelude.{◌≡◌};
 ghost use Rattle.fs_chain_c.specs.LogsCalled.{MarksReply, MarksUsed};
-ghost use Rattle.fs_chain_c.specs.Ranges.{TellsRanges};
+ghost use Rattle.fs_chain_c.specs.Ranges.{ReportsRanges};
 
 use crate::exports::pk_push;
 use crate::handle::FsChain;
@@ -22,7 +22,7 @@ pub fn mark_reply(
     ranges: &mut [FsRange],
 ) -> usize
     ensures marks { MarksReply chain.old.held.value from result ranges.new }
-    ensures fills { TellsRanges chain.old.held.value from len ranges.old result chain.new.held.value
+    ensures fills { ReportsRanges chain.old.held.value from len ranges.old result chain.new.held.value
         ranges.new }
 {
     law_log();

@@ -4,7 +4,7 @@ ghost use Rattle.std.specs.Prelude.{◌≡◌};
 ghost use Rattle.fs_chain.specs.Numbers.{chain_error_number};
 ghost use Rattle.fs_chain.specs.declared.error.ChainError.TheVariants.{WrongOrder};
 ghost use Rattle.fs_chain_c.specs.Handles.{OnHandle};
-ghost use Rattle.fs_chain_c.specs.Iotlbs.{TellsMiss, TellsUse, no_miss};
+ghost use Rattle.fs_chain_c.specs.Iotlbs.{ReportsMiss, ReportsUse, no_miss};
 
 use crate::access::access_number;
 use crate::exports::wrong_order;
@@ -46,7 +46,7 @@ impl FsMiss {
 
 // The first miss of a gathered descriptor from an address on, and a status.
 fn miss_of(handle: &ChainHandle, index: usize, from: u64) -> (FsMiss, u32)
-    ensures { TellsMiss handle.now index from result.1 result.0 }
+    ensures { ReportsMiss handle.now index from result.1 result.0 }
 {
     if handle.gathered() <= index {
         return (FsMiss::nothing(), NO_DESCRIPTOR);
@@ -73,7 +73,7 @@ pub extern "C" fn pk_miss(
     from: u64,
     miss: &mut FsMiss,
 ) -> u32
-    ensures { OnHandle (λ b b'. TellsMiss b index from result miss.new × (b' ≡ b))
+    ensures { OnHandle (λ b b'. ReportsMiss b index from result miss.new × (b' ≡ b))
         ((result ≡ chain_error_number WrongOrder) × (miss.new ≡ no_miss))
         chain.old.held.value chain.new.held.value }
 {
@@ -81,15 +81,15 @@ pub extern "C" fn pk_miss(
         *miss = FsMiss::nothing();
         return wrong_order();
     };
-    let (told, status) = miss_of(&handle, index, from);
-    *miss = told;
+    let (reported, status) = miss_of(&handle, index, from);
+    *miss = reported;
     *chain = FsChain::of_box(handle);
     status
 }
 
 // Whether the chain in flight uses one of some addresses: 1 or 0.
 fn use_of(handle: &ChainHandle, iova: u64, len: u64) -> u8
-    ensures { TellsUse handle.now iova len result }
+    ensures { ReportsUse handle.now iova len result }
 {
     if handle.uses(iova, len) { 1 } else { 0 }
 }
@@ -97,13 +97,13 @@ fn use_of(handle: &ChainHandle, iova: u64, len: u64) -> u8
 /// Returns whether the chain in flight uses one of `len` I/O addresses with its request or reply buffer.
 #[unsafe(no_mangle)]
 pub extern "C" fn pk_uses(alloc: Global, chain: &mut FsChain, iova: u64, len: u64) -> u8
-    ensures { OnHandle (λ b b'. TellsUse b iova len result × (b' ≡ b)) (result ≡ 0)
+    ensures { OnHandle (λ b b'. ReportsUse b iova len result × (b' ≡ b)) (result ≡ 0)
         chain.old.held.value chain.new.held.value }
 {
     let Some(handle) = chain.take(alloc) else {
         return 0;
     };
-    let told = use_of(&handle, iova, len);
+    let reported = use_of(&handle, iova, len);
     *chain = FsChain::of_box(handle);
-    told
+    reported
 }

@@ -22,7 +22,7 @@ fn are_queues(queues: &[FsQueue]) -> bool
         let _size = queue.size;
         let _next = queue.next_avail;
         let _used = queue.next_used;
-        if queue.kept().is_none() {
+        if queue.preserved().is_none() {
             return false;
         }
     }

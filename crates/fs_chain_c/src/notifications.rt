@@ -41,13 +41,13 @@ impl FsStore {
 fn set_notification(handle: &ChainHandle, queue: &FsQueue, enabled: u32) -> (FsStore, u32)
     ensures { SetsNotification handle.now queue.now enabled result.0 result.1 }
 {
-    let Some(kept) = queue.kept() else {
+    let Some(preserved) = queue.preserved() else {
         return (
             FsStore::nothing(),
             u32::from(ChainError::BadArgument.number()),
         );
     };
-    let Some(store) = kept.notification_store(enabled != 0) else {
+    let Some(store) = preserved.notification_store(enabled != 0) else {
         return (FsStore::nothing(), 0);
     };
     match here(handle, store.address, 2, Permissions::Write) {
@@ -74,8 +74,8 @@ pub extern "C" fn pk_set_notification(
         *store = FsStore::nothing();
         return wrong_order();
     };
-    let (told, status) = set_notification(&handle, queue, enabled);
-    *store = told;
+    let (reported, status) = set_notification(&handle, queue, enabled);
+    *store = reported;
     *chain = FsChain::of_box(handle);
     status
 }

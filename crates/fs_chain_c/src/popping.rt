@@ -2,7 +2,8 @@
 
 ghost use Rattle.std.specs.Prelude.{◌≡◌, ◌≤◌};
 ghost use Rattle.fs_regions.specs.Ahead.{loads_ahead};
-ghost use Rattle.fs_chain_c.specs.Popping.{TellsLoad, TellsWanted, TellsWent, PopsHandle, PopsHandleAhead};
+ghost use Rattle.fs_chain_c.specs.Popping.{ReportsLoad, ReportsWanted, ReportsOutcome, PopsHandle};
+ghost use Rattle.fs_chain_c.specs.Popping.{PopsHandleAhead};
 ghost use Rattle.fs_chain_c.specs.Popping.{host_at, no_step};
 
 use crate::access::access_number;
@@ -78,7 +79,7 @@ pub fn host_at(window: &VolatileSlice) -> usize
 
 // The load that a pop still needs, if any.
 fn still_wanted(handle: &ChainHandle, step: &mut FsPop)
-    ensures told { TellsWanted handle.now step.new }
+    ensures reported { ReportsWanted handle.now step.new }
     ensures few { step.new.load_len ≤ 4096 }
 {
     *step = FsPop::nothing();
@@ -92,8 +93,8 @@ fn still_wanted(handle: &ChainHandle, step: &mut FsPop)
 }
 
 // The load that the pop still needs, and a status; nothing if its address isn't mapped.
-fn told_load(handle: &ChainHandle, step: &mut FsPop) -> u32
-    ensures told { TellsLoad handle.now step.new result }
+fn reported_load(handle: &ChainHandle, step: &mut FsPop) -> u32
+    ensures reported { ReportsLoad handle.now step.new result }
     ensures few { step.new.load_len ≤ 4096 }
 {
     *step = FsPop::nothing();
@@ -109,13 +110,13 @@ fn told_load(handle: &ChainHandle, step: &mut FsPop) -> u32
 
 // A pop's result, as C gets it.
 #[inline(always)]
-fn told(handle: &ChainHandle, went: LoadOutcome, step: &mut FsPop) -> u32
-    ensures told { TellsWent handle.now went step.new result }
+fn reported(handle: &ChainHandle, outcome: LoadOutcome, step: &mut FsPop) -> u32
+    ensures reported { ReportsOutcome handle.now outcome step.new result }
     ensures few { step.new.load_len ≤ 4096 }
 {
     *step = FsPop::nothing();
-    match went {
-        LoadOutcome::Part | LoadOutcome::On(PopOutcome::Load(_)) => told_load(handle, step),
+    match outcome {
+        LoadOutcome::Part | LoadOutcome::On(PopOutcome::Load(_)) => reported_load(handle, step),
         LoadOutcome::On(PopOutcome::Idle) => IDLE,
         LoadOutcome::On(PopOutcome::Refused(error)) => u32::from(error.number()),
         LoadOutcome::On(PopOutcome::Missing { range, access }) => {
@@ -155,14 +156,14 @@ pub fn pop_handle(
     ensures pops { PopsHandle handle.old queue.old loaded.now step.new result handle.new queue.new }
     ensures few { step.new.load_len ≤ 4096 }
 {
-    let Some(mut kept) = queue.begun() else {
+    let Some(mut preserved) = queue.begun() else {
         *step = FsPop::nothing();
         return u32::from(ChainError::BadArgument.number());
     };
-    match handle.pop(&mut kept, loaded) {
-        Ok(went) => {
-            queue.put(&kept);
-            told(handle, went, step)
+    match handle.pop(&mut preserved, loaded) {
+        Ok(outcome) => {
+            queue.put(&preserved);
+            reported(handle, outcome, step)
         }
         Err(error) => {
             still_wanted(handle, step);
@@ -184,14 +185,14 @@ pub fn pop_handle_ahead(
         handle.new queue.new }
     ensures few { step.new.load_len ≤ 4096 }
 {
-    let Some(mut kept) = queue.begun() else {
+    let Some(mut preserved) = queue.begun() else {
         *step = FsPop::nothing();
         return u32::from(ChainError::BadArgument.number());
     };
-    match handle.pop_ahead(&mut kept, ahead, bytes) {
-        Ok(went) => {
-            queue.put(&kept);
-            told(handle, LoadOutcome::On(went), step)
+    match handle.pop_ahead(&mut preserved, ahead, bytes) {
+        Ok(outcome) => {
+            queue.put(&preserved);
+            reported(handle, LoadOutcome::On(outcome), step)
         }
         Err(error) => {
             still_wanted(handle, step);

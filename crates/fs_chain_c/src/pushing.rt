@@ -1,9 +1,10 @@
 //! How a chain is pushed to its queue, and how it is dropped.
 
 ghost use Rattle.std.specs.Prelude.{◌≡◌, ◌<◌, None, IfSome};
-ghost use Rattle.fs_chain_c.specs.Pushing.{DropsHandleChain, DropsKept, EndsHandlePush, EndsKept};
-ghost use Rattle.fs_chain_c.specs.Pushing.{HaveNoPlaces, IsNotHere, PushesHandle, ReturnsKept, StandsHere};
-ghost use Rattle.fs_chain_c.specs.Pushing.{TellsStores, no_stores};
+ghost use Rattle.fs_chain_c.specs.Pushing.{DropsHandleChain, DropsPreserved, EndsHandlePush, EndsPreserved};
+ghost use Rattle.fs_chain_c.specs.Pushing.{HaveNoPlaces, IsNotHere, PushesHandle, ReturnsPreserved};
+ghost use Rattle.fs_chain_c.specs.Pushing.{StandsHere};
+ghost use Rattle.fs_chain_c.specs.Pushing.{ReportsStores, no_stores};
 
 use crate::popping::NOT_MAPPED;
 use crate::queue::FsQueue;
@@ -74,8 +75,8 @@ pub(crate) fn here(
 
 // The stores of a push by their host addresses; None if one isn't mapped.
 #[inline(always)]
-fn told_stores(handle: &ChainHandle, stores: &PushStores) -> Option<FsStores>
-    ensures some { IfSome result (TellsStores handle.now.regions stores.now) }
+fn reported_stores(handle: &ChainHandle, stores: &PushStores) -> Option<FsStores>
+    ensures some { IfSome result (ReportsStores handle.now.regions stores.now) }
     ensures none { result ≡ None → HaveNoPlaces handle.now.regions stores.now }
 {
     let used = &stores.used;
@@ -106,32 +107,32 @@ fn told_stores(handle: &ChainHandle, stores: &PushStores) -> Option<FsStores>
 }
 
 // Pushes a chain to the core's queue, and returns a status.
-fn return_kept(
+fn return_preserved(
     handle: &mut ChainHandle,
     queue: &mut FsQueue,
-    mut kept: QueueState,
+    mut preserved: QueueState,
     front: &mut [u8],
-    told: &mut FsStores,
+    reported: &mut FsStores,
 ) -> u32
-    ensures { ReturnsKept handle.old queue.old kept front.old told.new result handle.new
+    ensures { ReturnsPreserved handle.old queue.old preserved front.old reported.new result handle.new
         queue.new front.new }
 {
-    match handle.push(&mut kept, front) {
+    match handle.push(&mut preserved, front) {
         Ok(stores) => {
-            queue.put(&kept);
-            match told_stores(handle, &stores) {
+            queue.put(&preserved);
+            match reported_stores(handle, &stores) {
                 Some(found) => {
-                    *told = found;
+                    *reported = found;
                     0
                 }
                 None => {
-                    *told = FsStores::nothing();
+                    *reported = FsStores::nothing();
                     NOT_MAPPED
                 }
             }
         }
         Err(error) => {
-            *told = FsStores::nothing();
+            *reported = FsStores::nothing();
             u32::from(error.number())
         }
     }
@@ -142,33 +143,33 @@ pub fn push_handle(
     handle: &mut ChainHandle,
     queue: &mut FsQueue,
     front: &mut [u8],
-    told: &mut FsStores,
+    reported: &mut FsStores,
 ) -> u32
-    ensures { PushesHandle handle.old queue.old front.old told.new result handle.new queue.new front.new }
+    ensures { PushesHandle handle.old queue.old front.old reported.new result handle.new queue.new front.new }
 {
-    match queue.kept() {
-        Some(kept) => return_kept(handle, queue, kept, front, told),
+    match queue.preserved() {
+        Some(preserved) => return_preserved(handle, queue, preserved, front, reported),
         None => {
-            *told = FsStores::nothing();
+            *reported = FsStores::nothing();
             u32::from(ChainError::BadArgument.number())
         }
     }
 }
 
 // Ends the push of a chain of the core's queue.
-fn end_kept(
+fn end_preserved(
     handle: &mut ChainHandle,
     queue: &mut FsQueue,
-    mut kept: QueueState,
+    mut preserved: QueueState,
     seen: u16,
 ) -> (u8, u32)
-    ensures { EndsKept handle.old queue.old kept seen result.0 result.1 handle.new queue.new }
+    ensures { EndsPreserved handle.old queue.old preserved seen result.0 result.1 handle.new queue.new }
 {
-    match handle.pushed(&mut kept, seen.to_le_bytes()) {
-        Ok(told) => {
-            queue.put(&kept);
+    match handle.pushed(&mut preserved, seen.to_le_bytes()) {
+        Ok(reported) => {
+            queue.put(&preserved);
             handle.abandon();
-            (u8::from(told), 0)
+            (u8::from(reported), 0)
         }
         Err(error) => (0, u32::from(error.number())),
     }
@@ -178,19 +179,19 @@ fn end_kept(
 pub fn end_handle_push(handle: &mut ChainHandle, queue: &mut FsQueue, seen: u16) -> (u8, u32)
     ensures { EndsHandlePush handle.old queue.old seen result.0 result.1 handle.new queue.new }
 {
-    match queue.kept() {
-        Some(kept) => end_kept(handle, queue, kept, seen),
+    match queue.preserved() {
+        Some(preserved) => end_preserved(handle, queue, preserved, seen),
         None => (0, u32::from(ChainError::BadArgument.number())),
     }
 }
 
 // Drops a chain, or ends a pop, over the core's queue.
-fn drop_kept(handle: &mut ChainHandle, queue: &mut FsQueue, mut kept: QueueState) -> u32
-    ensures { DropsKept handle.old queue.old kept result handle.new queue.new }
+fn drop_preserved(handle: &mut ChainHandle, queue: &mut FsQueue, mut preserved: QueueState) -> u32
+    ensures { DropsPreserved handle.old queue.old preserved result handle.new queue.new }
 {
-    match handle.give_up(&mut kept) {
+    match handle.give_up(&mut preserved) {
         Ok(()) => {
-            queue.put(&kept);
+            queue.put(&preserved);
             handle.abandon();
             0
         }
@@ -207,8 +208,8 @@ pub fn drop_handle_chain(handle: &mut ChainHandle, queue: &mut FsQueue) -> u32
         handle.abandon();
         return 0;
     }
-    match queue.kept() {
-        Some(kept) => drop_kept(handle, queue, kept),
+    match queue.preserved() {
+        Some(preserved) => drop_preserved(handle, queue, preserved),
         None => u32::from(ChainError::BadArgument.number()),
     }
 }

@@ -75,8 +75,8 @@ impl FsQueue {
 
     /// The queue as the core has it; None if these are no queue's numbers.
     #[inline(always)]
-    pub fn kept(&self) -> Option<QueueState>
-        ensures kept { IfSome result (IsQueueState self.now) }
+    pub fn preserved(&self) -> Option<QueueState>
+        ensures preserved { IfSome result (IsQueueState self.now) }
         ensures is { OnSome result (IsQueue self.now) }
         ensures none { IfNone result (IsQueue self.now → ⊥) }
     {
@@ -108,28 +108,28 @@ impl FsQueue {
     /// The same of a queue that was begun; None if its numbers were never set.
     #[inline(always)]
     pub fn begun(&self) -> Option<QueueState>
-        ensures kept { IfSome result (IsQueueState self.now) }
+        ensures preserved { IfSome result (IsQueueState self.now) }
         ensures is { OnSome result (IsBegun self.now) }
         ensures none { IfNone result (IsBegun self.now → ⊥) }
     {
-        let Some(kept) = self.kept() else {
+        let Some(preserved) = self.preserved() else {
             return None;
         };
         if self.reset_count == 0 {
             return None;
         }
-        Some(kept)
+        Some(preserved)
     }
 
     /// Writes the numbers that a call changed to C's queue.
-    pub fn put(&mut self, kept: &QueueState)
-        ensures { self.new ≡ put self.old kept.now }
+    pub fn put(&mut self, preserved: &QueueState)
+        ensures { self.new ≡ put self.old preserved.now }
     {
-        self.next_avail = kept.next_avail;
-        self.next_used = kept.next_used;
-        self.pushing = u8::from(kept.pushing);
-        self.pop_count = kept.pop_count;
-        self.stopped = stop_number(&kept.stopped);
+        self.next_avail = preserved.next_avail;
+        self.next_used = preserved.next_used;
+        self.pushing = u8::from(preserved.pushing);
+        self.pop_count = preserved.pop_count;
+        self.stopped = stop_number(&preserved.stopped);
     }
 
     /// Resets the queue to a position, if its numbers are a queue's then: no chain of it is in flight.
@@ -144,7 +144,7 @@ impl FsQueue {
         fresh.pushing = 0;
         fresh.reset_count = self.reset_count.wrapping_add(1);
         fresh.stopped = 0;
-        if fresh.kept().is_none() {
+        if fresh.preserved().is_none() {
             return false;
         }
         *self = fresh;

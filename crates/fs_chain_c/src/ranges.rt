@@ -1,7 +1,7 @@
 //! The guest addresses of a reply buffer.
 
 ghost use Rattle.std.specs.Prelude.{◌≡◌, ◌<◌, ◌≤◌, ◌-◌, ◌^◌, min, IfSome, None};
-ghost use Rattle.fs_chain_c.specs.Ranges.{FillsRanges, IsReplyRange, RoomEnds, TellsRanges};
+ghost use Rattle.fs_chain_c.specs.Ranges.{FillsRanges, IsReplyRange, RoomEnds, ReportsRanges};
 
 use crate::handle::FsChain;
 use fs_chain::ChainHandle;
@@ -63,7 +63,7 @@ pub extern "C" fn pk_reply_ranges(
     len: u64,
     ranges: &mut [FsRange],
 ) -> usize
-    ensures { TellsRanges chain.old.held.value from len ranges.old result chain.new.held.value ranges.new }
+    ensures { ReportsRanges chain.old.held.value from len ranges.old result chain.new.held.value ranges.new }
 {
     let Some(handle) = chain.take(alloc) else {
         return 0;

@@ -39,13 +39,13 @@ fn queue_of(queue: &FsQueue) -> Result<Queue, ChainError>
     ensures err { IfErr result (λ e. (e ≡ BadArgument) ⊎ (e ≡ ChainInFlight)) }
     ensures why { IfErr result (RefusesToSave queue.now) }
 {
-    let Some(kept) = queue.kept() else {
+    let Some(preserved) = queue.preserved() else {
         return Err(ChainError::BadArgument);
     };
     if queue.in_flight() != 0 {
         return Err(ChainError::ChainInFlight);
     }
-    Ok(Queue::resume(kept.layout, queue.next_avail, queue.stopped != 0))
+    Ok(Queue::resume(preserved.layout, queue.next_avail, queue.stopped != 0))
 }
 
 // Whether a record can keep these queues: `BadArgument` or `ChainInFlight` of the first that it can't.
@@ -152,8 +152,8 @@ pub extern "C" fn pk_save(
 ) -> u32
     ensures { Saves device.now queues.now buffer.old result len.new buffer.new }
 {
-    let (told, refused) = save(alloc, device, queues, buffer);
-    *len = told;
+    let (reported, refused) = save(alloc, device, queues, buffer);
+    *len = reported;
     saved_status(refused)
 }
 
@@ -196,7 +196,7 @@ fn fit_record(queues: &[FsQueue], restored: &[Queue]) -> bool
     ensures none { result ≡ false → FitRecord queues.now restored.now → ⊥ }
 {
     for k in 0..restored.len() {
-        if numbers_over(&queues[k], &restored[k]).kept().is_none() {
+        if numbers_over(&queues[k], &restored[k]).preserved().is_none() {
             return false;
         }
     }

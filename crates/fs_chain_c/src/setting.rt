@@ -1,7 +1,7 @@
 //! Setting a handle's memory.
 
 ghost use Rattle.std.specs.Prelude.{◌≡◌, IfOk, IfErr, OnErr, OnOk, option_map};
-ghost use Rattle.fs_chain_c.specs.Handles.{GoesOver, IsNewHandle, MakesHandle, RefusesMemory, RefusesNew};
+ghost use Rattle.fs_chain_c.specs.Handles.{ProceedsOver, IsNewHandle, MakesHandle, RefusesMemory, RefusesNew};
 ghost use Rattle.fs_chain_c.specs.Handles.{SetsHandle};
 
 use crate::device::FsDevice;
@@ -18,7 +18,7 @@ fn go_over(
     device: &FsDevice,
     regions: &[FsRegion],
 ) -> Result<(), ChainError>
-    ensures ok { OnOk result (GoesOver handle.old device.now regions.now handle.new) }
+    ensures ok { OnOk result (ProceedsOver handle.old device.now regions.now handle.new) }
     ensures refused { IfErr result (RefusesMemory handle.old device.now regions.now) }
     ensures same { OnErr result (handle.new ≡ handle.old) }
 {
@@ -54,7 +54,7 @@ fn made(
 ) -> Result<Box<ChainHandle>, ChainError>
     ensures ok { IfOk result (λ made. (b : ChainHandle)
         × IsNewHandle b
-        × GoesOver b device.now regions.now made.value) }
+        × ProceedsOver b device.now regions.now made.value) }
     ensures refused { IfErr result (RefusesNew device.now regions.now) }
 {
     if !device.is_lawful() {

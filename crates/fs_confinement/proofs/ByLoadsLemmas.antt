@@ -29,7 +29,7 @@ use Rattle.fs_queue.proofs.BoundLemmas.{walks_end}
 use Rattle.fs_queue.proofs.LoadLemmas.{step_still}
 use Rattle.fs_queue.proofs.OfferByLemmas.{offer_is_still}
 use Rattle.fs_queue.proofs.ReadLemmas.{length-bytes}
-use Rattle.fs_queue.proofs.RingLemmas.{IsPair, pick, index_lost, index_tells, entry_tells, ring_is_still}
+use Rattle.fs_queue.proofs.RingLemmas.{IsPair, pick, index_lost, index_reports, entry_reports, ring_is_still}
 use Rattle.fs_queue.proofs.StillLemmas.{IsSound, sound_at, sound_next, outside, mapped, still_exactly}
 use Rattle.fs_confinement.specs.ReadSet.{ring_reads, entry_reads, walk_reads, request_reads, chain_reads, waiting_reads}
 use Rattle.fs_confinement.specs.ByLoads.{came_at, all_came, request_addresses, request_came, WalksReadTheirLoads, OffersReadTheirLoads}
@@ -181,7 +181,7 @@ alone_reads m q index is = by_reach (reach m Read (avail_index_at q) 2) refl
         let some : index ≡ Some bs = is ∙ (rw e refl) in
         let pair = pair_of m (avail_index_at q) true e in
         let waits = (from_le_bytes w16 bs + (2 ^ 16 - q.position)) % 2 ^ 16 in
-        ap (ring_reads q) (index_tells q index bs (from_le_bytes w16 bs) waits some pair.0 pair.1 refl refl)
+        ap (ring_reads q) (index_reports q index bs (from_le_bytes w16 bs) waits some pair.0 pair.1 refl refl)
         ∙ picked_reads q (waits == 0) (nat_lt q.size waits)
         ∙ ap (addresses (avail_index_at q)) (sym pair.0)
         ∙ sym (ap (came_at (avail_index_at q)) some)
@@ -205,11 +205,12 @@ both_reads m q index entry is es asks = by_reach (reach m Read (avail_index_at q
         let pair = pair_of m a true e in
         let there : IsPair r entry = subst (IsPair r) (sym es) (pair_of m r (reach m Read r 2) refl) in
         let h = holding (index_load q (Some bs) ∷ entry_load q entry ∷ []) in
-        let tells = entry_tells q bs entry pair.0 pair.1 there (ap (λ (o : Option (List ℕ)). asks_entry (alone q o)) (sym some) ∙ asks) in
+        let reports =
+        entry_reports q bs entry pair.0 pair.1 there (ap (λ (o : Option (List ℕ)). asks_entry (alone q o)) (sym some) ∙ asks) in
         let came : (if is_some entry then addresses r 2 else []) ≡ came_at r entry =
         ap (λ (o : Option (List ℕ)). if is_some o then addresses r 2 else []) es ∙ entry_if (reach m Read r 2) ∙ sym (ap (came_at r) es) in
         let here : ring_reads q (both q (Some bs) entry) ≡ came_at a (Some bs) ++ came_at r entry =
-        ap (ring_reads q) tells ∙ said_reads q (is_some entry) (nat_le q.size (number h w16 r)) (number h w16 r)
+        ap (ring_reads q) reports ∙ said_reads q (is_some entry) (nat_le q.size (number h w16 r)) (number h w16 r)
         ∙ ap (λ (n : ℕ). addresses a n ++ (if is_some entry then addresses r 2 else [])) (sym pair.0)
         ∙ ap (λ (xs : List ℕ). came_at a (Some bs) ++ xs) came in
         subst (λ (o : Option (List ℕ)). ring_reads q (both q o entry) ≡ came_at a o ++ came_at r entry) (sym some) here
@@ -225,21 +226,21 @@ record RingCame (m : Memory) (q : Queue) (index entry : Option (List ℕ)) (w : 
   waits : w ≡ next_avail m q
   reads : ring_reads q w ≡ came_at (avail_index_at q) index ++ came_at (ring_entry_at q) entry
 
-told : (P : NextAvail → Type 0) (entry : Option (List ℕ)) (one two w : NextAvail) (a b c : Bool) → (b ≡ false → entry ≡ None → P one) →
+reported : (P : NextAvail → Type 0) (entry : Option (List ℕ)) (one two w : NextAvail) (a b c : Bool) → (b ≡ false → entry ≡ None → P one) →
     (b ≡ true → P two) →
     (if not a then None else if not b then without_entry entry one else if not c then None else Some two) ≡ Some w → P w
-told P entry one two w false b c p s e = absurd (cc)
-told P None one two w true false c p s e = let same : one ≡ w = cc in subst P same (p refl refl)
-told P (Some bs) one two w true false c p s e = absurd (cc)
-told P entry one two w true true false p s e = absurd (cc)
-told P entry one two w true true true p s e = let same : two ≡ w = cc in subst P same (s refl)
+reported P entry one two w false b c p s e = absurd (cc)
+reported P None one two w true false c p s e = let same : one ≡ w = cc in subst P same (p refl refl)
+reported P (Some bs) one two w true false c p s e = absurd (cc)
+reported P entry one two w true true false p s e = absurd (cc)
+reported P entry one two w true true true p s e = let same : two ≡ w = cc in subst P same (s refl)
 
 ring_came : (m : Memory) (q : Queue) (index entry : Option (List ℕ)) (w : NextAvail) → IsLoadOf m 2 (index_load q index) →
     (asks_entry (alone q index) ≡ true → IsLoadOf m 2 (entry_load q entry)) →
     available_by q index entry ≡ Some w → RingCame m q index entry w
 ring_came m q index entry w is es e =
     let in_memory = if reach m Read (ring_entry_at q) 2 then Some (bytes m (ring_entry_at q) 2) else None in
-    told (RingCame m q index entry) entry (alone q index) (both q index entry) w (is_whole 2 index) (asks_entry (alone q index))
+    reported (RingCame m q index entry) entry (alone q index) (both q index entry) w (is_whole 2 index) (asks_entry (alone q index))
     (is_whole 2 entry)
     (λ asks none. record {
       waits = (ring_is_still m q index in_memory is refl).alone asks;
@@ -329,12 +330,12 @@ module _ (m : Memory) (q : Queue) (head : ℕ) (ls : List Load) where
   refused_came : (request : List ℕ) (e : QueueError) (o : Offer) → chain_reads m q head (Refuses e) ≡ [] →
       without_chain ls request (Refuses e) ≡ Some o → Came request o
   refused_came request e o none is =
-      subst (λ (x : Offer). chain_reads m q head x ≡ []) (kept ls request is) none ∙ sym (no_chain q ls request (Refuses e) o is)
+      subst (λ (x : Offer). chain_reads m q head x ≡ []) (preserved ls request is) none ∙ sym (no_chain q ls request (Refuses e) o is)
     where
-      kept : (ks : List Load) (bs : List ℕ) → without_chain ks bs (Refuses e) ≡ Some o → Refuses e ≡ o
-      kept [] [] h = cc
-      kept [] (b ∷ bs) h = absurd (cc)
-      kept (k ∷ ks) bs h = absurd (cc)
+      preserved : (ks : List Load) (bs : List ℕ) → without_chain ks bs (Refuses e) ≡ Some o → Refuses e ≡ o
+      preserved [] [] h = cc
+      preserved [] (b ∷ bs) h = absurd (cc)
+      preserved (k ∷ ks) bs h = absurd (cc)
 
 -- ---- the offer
 

@@ -24,7 +24,7 @@ use Rattle.plain_machine.specs.declared.refusal.Refusal.TheVariants as why
 use Rattle.plain_machine.specs.Step.{State, Exchange, Calls, Idle, Refused, Exchanged, Exchanges, StepOf, StepEnd}
 use Rattle.plain_machine.specs.Run as run
 use Rattle.plain_machine.specs.Run.{Turns, Command, Answer, Effect, KickEnds, KickRun, Kicks, KickAnswer, HasEffect, Does, Performs, Run}
-use Rattle.plain_machine.specs.Run.{RunTold, Affects, IsDecided, effect}
+use Rattle.plain_machine.specs.Run.{RunReported, Affects, IsDecided, effect}
 use Rattle.plain_machine.specs.Run.{insert, insert_block, is_known, some_overlap, reset}
 use Rattle.fs_confinement.specs.ReadSet.{place_if, places_for, is_at, is_among, Touched, nothing, and_then, step_touches}
 use Rattle.fs_confinement.specs.ReadSet.{end_touches, kick_touches, kicks_touch, guest_reads, guest_writes, plain_touches, command_touches}
@@ -190,28 +190,28 @@ end_misses block s i zero refused e = misses_nothing block
 end_misses block s i (suc most) None e = step_misses block s (slice_get s.queues i) Idle e
 end_misses block s i (suc most) (Some error) e = step_misses block s (slice_get s.queues i) (Refused error) e
 
-kick_misses : {F : Type 0} (may : May F) (block : ℕ) (s : State F) (i most : ℕ) (told : Turns) (refused : Option DeviceError)
-    (after : State F) (ran : KickRun may s i most told refused after) →
-    Hides block s.memory.layout → MissesAnd block (kick_touches may s i most told refused after ran) (layout_of after)
+kick_misses : {F : Type 0} (may : May F) (block : ℕ) (s : State F) (i most : ℕ) (reported : Turns) (refused : Option DeviceError)
+    (after : State F) (ran : KickRun may s i most reported refused after) →
+    Hides block s.memory.layout → MissesAnd block (kick_touches may s i most reported refused after ran) (layout_of after)
 unfolding KickRun kick_touches
 kick_misses may block s i most [] refused after is e =
     (end_misses block s i most refused e, subst (Hides block) (sym (end_layout may s i most refused after is)) e)
-kick_misses may block s i zero (x ∷ told) refused after is e = absurd is
-kick_misses may block s i (suc most) (x ∷ told) refused after (mid, step, rest) e =
-    let later = kick_misses may block mid i most told refused after rest
+kick_misses may block s i zero (x ∷ reported) refused after is e = absurd is
+kick_misses may block s i (suc most) (x ∷ reported) refused after (mid, step, rest) e =
+    let later = kick_misses may block mid i most reported refused after rest
     (subst (Hides block) (sym (step_layout may s i (slice_get s.queues i) x.calls x.exchange x.notice mid step)) e) in (
       misses_both block (step_touches s (slice_get s.queues i) (Exchanged x.exchange x.notice))
-          (kick_touches may mid i most told refused after rest)
+          (kick_touches may mid i most reported refused after rest)
           (step_misses block s (slice_get s.queues i) (Exchanged x.exchange x.notice) e) later.0,
       later.1,
     )
 
-kicks_miss : {F : Type 0} (may : May F) (block : ℕ) (s : State F) (i most : ℕ) (o : Option Queue) (told : Turns) (k : KickAnswer)
-    (after : State F) (ran : Kicks may s i most o told k after) →
-    Hides block s.memory.layout → MissesAnd block (kicks_touch may s i most o told k after ran) (layout_of after)
-kicks_miss {F} may block s i most None told k after is e =
+kicks_miss : {F : Type 0} (may : May F) (block : ℕ) (s : State F) (i most : ℕ) (o : Option Queue) (reported : Turns) (k : KickAnswer)
+    (after : State F) (ran : Kicks may s i most o reported k after) →
+    Hides block s.memory.layout → MissesAnd block (kicks_touch may s i most o reported k after ran) (layout_of after)
+kicks_miss {F} may block s i most None reported k after is e =
     (misses_nothing block, subst (λ (t : State F). Hides block (layout_of t)) (sym is.0) e)
-kicks_miss may block s i most (Some q) told k after is e = kick_misses may block s i most told k.refused after is.0 e
+kicks_miss may block s i most (Some q) reported k after is e = kick_misses may block s i most reported k.refused after is.0 e
 
 -- ---- layouts that change
 
@@ -330,44 +330,49 @@ plain_misses block s (run.GuestWrite a bytes) answer e = write_misses block s a 
 plain_misses block s _ answer e = misses_nothing block
 
 lacks_hides :
-    {F : Type 0} (block : ℕ) (s : State F) (command : Command) (told : Turns) (after : State F) → run.LacksMemory s command told after →
+    {F : Type 0} (block : ℕ) (s : State F) (command : Command) (reported : Turns) (after : State F)
+    → run.LacksMemory s command reported after →
     Hides block s.memory.layout → Hides block (layout_of after)
 lacks_hides {F} block s command [] after t e = subst (λ (k : State F). Hides block (layout_of k)) (sym t.1) e
-lacks_hides block s command (x ∷ told) after t e = absurd t
+lacks_hides block s command (x ∷ reported) after t e = absurd t
 
-effect_hides : {F : Type 0} (block : ℕ) (s : State F) (command : Command) (told : Turns) (answer : Answer) (after : State F) →
+effect_hides : {F : Type 0} (block : ℕ) (s : State F) (command : Command) (reported : Turns) (answer : Answer) (after : State F) →
     IsTrue (leaves_hidden block command) → Hides block s.memory.layout →
-    HasEffect s command told answer after → Hides block (layout_of after)
+    HasEffect s command reported answer after → Hides block (layout_of after)
 effect_hides block s command [] answer after leaves e t = affect_hides block s command answer after leaves e t
-effect_hides block s command (x ∷ told) answer after leaves e t = absurd t
+effect_hides block s command (x ∷ reported) answer after leaves e t = absurd t
 
-does_hides : {F : Type 0} (may : May F) (block : ℕ) (s : State F) (command : Command) (told : Turns) (answer : Answer) (after : State F) →
-    IsTrue (leaves_hidden block command) → Hides block s.memory.layout →
-    Does may s command told answer after → Hides block (layout_of after)
-does_hides may block s (run.Kick i most) told (run.Served k) after leaves e t =
-    (kicks_miss may block s i most (slice_get s.queues i) told k after t e).1
-does_hides may block s (run.Kick i most) told answer after leaves e t = absurd t
-does_hides may block s command told answer after leaves e t = effect_hides block s command told answer after leaves e t
+does_hides : {F : Type 0} (may : May F) (block : ℕ) (s : State F) (command : Command) (reported : Turns) (answer : Answer) (after : State F)
+    → IsTrue (leaves_hidden block command) → Hides block s.memory.layout →
+    Does may s command reported answer after → Hides block (layout_of after)
+does_hides may block s (run.Kick i most) reported (run.Served k) after leaves e t =
+    (kicks_miss may block s i most (slice_get s.queues i) reported k after t e).1
+does_hides may block s (run.Kick i most) reported answer after leaves e t = absurd t
+does_hides may block s command reported answer after leaves e t = effect_hides block s command reported answer after leaves e t
 
 performs_hides :
-    {F : Type 0} (may : May F) (block : ℕ) (s : State F) (command : Command) (told : Turns) (answer : Answer) (after : State F) →
+    {F : Type 0} (may : May F) (block : ℕ) (s : State F) (command : Command) (reported : Turns) (answer : Answer) (after : State F) →
     IsTrue (leaves_hidden block command) → Hides block s.memory.layout →
-    Performs may s command told answer after → Hides block (layout_of after)
-performs_hides may block s command told (run.IsRefused why.OutOfMemory) after leaves e t = lacks_hides block s command told after t e
-performs_hides may block s command told answer after leaves e t = does_hides may block s command told answer after leaves e t
+    Performs may s command reported answer after → Hides block (layout_of after)
+performs_hides may block s command reported (run.IsRefused why.OutOfMemory) after leaves e t =
+    lacks_hides block s command reported after t e
+performs_hides may block s command reported answer after leaves e t = does_hides may block s command reported answer after leaves e t
 
-kick_answer_misses : {F : Type 0} (may : May F) (block : ℕ) (s : State F) (i most : ℕ) (told : Turns) (answer : Answer) (after : State F)
-    (done : Performs may s (run.Kick i most) told answer after) →
-    Hides block s.memory.layout → Misses block (command_touches may s (run.Kick i most) told answer after done)
-kick_answer_misses may block s i most told (run.Served k) after done e =
-    (kicks_miss may block s i most (slice_get s.queues i) told k after done e).0
-kick_answer_misses may block s i most told _ after done e = misses_nothing block
+kick_answer_misses : {F : Type 0} (may : May F) (block : ℕ) (s : State F) (i most : ℕ) (reported : Turns) (answer : Answer)
+    (after : State F)
+    (done : Performs may s (run.Kick i most) reported answer after) →
+    Hides block s.memory.layout → Misses block (command_touches may s (run.Kick i most) reported answer after done)
+kick_answer_misses may block s i most reported (run.Served k) after done e =
+    (kicks_miss may block s i most (slice_get s.queues i) reported k after done e).0
+kick_answer_misses may block s i most reported _ after done e = misses_nothing block
 
-command_misses : {F : Type 0} (may : May F) (block : ℕ) (s : State F) (command : Command) (told : Turns) (answer : Answer) (after : State F)
-    (done : Performs may s command told answer after) →
-    Hides block s.memory.layout → Misses block (command_touches may s command told answer after done)
-command_misses may block s (run.Kick i most) told answer after done e = kick_answer_misses may block s i most told answer after done e
-command_misses may block s command told answer after done e = plain_misses block s command answer e
+command_misses : {F : Type 0} (may : May F) (block : ℕ) (s : State F) (command : Command) (reported : Turns) (answer : Answer)
+    (after : State F)
+    (done : Performs may s command reported answer after) →
+    Hides block s.memory.layout → Misses block (command_touches may s command reported answer after done)
+command_misses may block s (run.Kick i most) reported answer after done e =
+    kick_answer_misses may block s i most reported answer after done e
+command_misses may block s command reported answer after done e = plain_misses block s command answer e
 
 -- ---- runs
 
@@ -375,19 +380,19 @@ both_true : (a b : Bool) → IsTrue (a && b) → IsTrue a × IsTrue b
 both_true true b e = (refl, e)
 both_true false b e = absurd (cc)
 
-run_misses : {F : Type 0} (may : May F) (block : ℕ) (s after : State F) (events : List (Command × Answer)) (tolds : List Turns)
-    (ran : RunTold may s events tolds after) →
+run_misses : {F : Type 0} (may : May F) (block : ℕ) (s after : State F) (events : List (Command × Answer)) (all_reported : List Turns)
+    (ran : RunReported may s events all_reported after) →
     IsTrue (list_all (leaves_hidden block) (map (λ e. e.0) events)) → Hides block s.memory.layout →
-    Misses block (run_touches may s events tolds after ran)
-unfolding RunTold run_touches
+    Misses block (run_touches may s events all_reported after ran)
+unfolding RunReported run_touches
 run_misses may block s after [] [] ran leaves e = misses_nothing block
-run_misses may block s after [] (told ∷ tolds) ran leaves e = absurd ran
+run_misses may block s after [] (reported ∷ all_reported) ran leaves e = absurd ran
 run_misses may block s after (v ∷ vs) [] ran leaves e = absurd ran
-run_misses may block s after (v ∷ vs) (told ∷ tolds) (mid, performs, rest) leaves e =
+run_misses may block s after (v ∷ vs) (reported ∷ all_reported) (mid, performs, rest) leaves e =
     let parts = both_true (leaves_hidden block v.0) (list_all (leaves_hidden block) (map (λ e. e.0) vs)) leaves in
-    misses_both block (command_touches may s v.0 told v.1 mid performs) (run_touches may mid vs tolds after rest)
-    (command_misses may block s v.0 told v.1 mid performs e)
-    (run_misses may block mid after vs tolds rest parts.1 (performs_hides may block s v.0 told v.1 mid parts.0 e performs))
+    misses_both block (command_touches may s v.0 reported v.1 mid performs) (run_touches may mid vs all_reported after rest)
+    (command_misses may block s v.0 reported v.1 mid performs e)
+    (run_misses may block mid after vs all_reported rest parts.1 (performs_hides may block s v.0 reported v.1 mid parts.0 e performs))
 
 -- a command that leaves a block hidden answers no bytes of all blocks
 no_copy : (block : ℕ) (command : Command) → IsTrue (leaves_hidden block command) → IsTrue (not (copies command))
@@ -406,14 +411,16 @@ no_copies block (v ∷ vs) e =
     let parts = both_true (leaves_hidden block v.0) (list_all (leaves_hidden block) (map (λ e. e.0) vs)) e in
     and_both (not (copies v.0)) (copies_nothing vs) (no_copy block v.0 parts.0) (no_copies block vs parts.1)
 
-pub touches_nothing_of : {F : Type 0} (may : May F) (block : ℕ) (a after : State F) (events : List (Command × Answer)) (tolds : List Turns)
-    (ran : RunTold may a events tolds after) →
-    IsHidden block a (map (λ e. e.0) events) → TouchesNothingOf may block a after events tolds ran
-touches_nothing_of may block a after events tolds ran hidden =
-    let misses = run_misses may block a after events tolds ran hidden.1 (negated (list_any (is_of block) a.memory.layout) hidden.0) in
+pub touches_nothing_of : {F : Type 0} (may : May F) (block : ℕ) (a after : State F) (events : List (Command × Answer))
+    (all_reported : List Turns)
+    (ran : RunReported may a events all_reported after) →
+    IsHidden block a (map (λ e. e.0) events) → TouchesNothingOf may block a after events all_reported ran
+touches_nothing_of may block a after events all_reported ran hidden =
+    let misses =
+    run_misses may block a after events all_reported ran hidden.1 (negated (list_any (is_of block) a.memory.layout) hidden.0) in
     record {
-      unread = λ offset. among_outside block offset (run_touches may a events tolds after ran).read misses.read;
-      unwritten = λ offset. among_outside block offset (run_touches may a events tolds after ran).written misses.written;
+      unread = λ offset. among_outside block offset (run_touches may a events all_reported after ran).read misses.read;
+      unwritten = λ offset. among_outside block offset (run_touches may a events all_reported after ran).written misses.written;
     }
 
 -- hosts that differ only in the block agree on places that aren't in it
@@ -440,10 +447,10 @@ zip_firsts (c ∷ cs) (a ∷ as') e = ap (λ (xs : List Command). c ∷ xs) (zip
 pub keeps_secret : {F : Type 0} (may : May F) → HiddenBlocksAreSecret may →
     (block : ℕ) (before after : State F) (commands : List Command) (answers : List Answer) → length answers ≡ length commands →
     Run may before (zip commands answers) after → IsHidden block before commands → KeepsSecret may block before after (zip commands answers)
-keeps_secret may law block before after commands answers long (tolds, ran) hidden =
+keeps_secret may law block before after commands answers long (all_reported, ran) hidden =
     let firsts : map (λ e. e.0) (zip commands answers) ≡ commands = zip_firsts commands answers (sym long) in
-    let none = law block before after (zip commands answers) tolds ran (subst (IsHidden block before) (sym firsts) hidden) in (
-      tolds,
+    let none = law block before after (zip commands answers) all_reported ran (subst (IsHidden block before) (sym firsts) hidden) in (
+      all_reported,
       ran,
       λ other differ.
           let allows = none.1 other differ in (

@@ -23,7 +23,7 @@ comes_of s request room calls =
 
 -- the answers alone determine a step's exchange and its calls. Afterwards the guest's memory has the
 -- reply in the reply buffer, the used element and the used index, and is otherwise as before
-pub record ToldByAnswers {F : Type 0} (s after : State F) (q : Queue) (head : ℕ) (request room : List ℕ)
+pub record ReportedByAnswers {F : Type 0} (s after : State F) (q : Queue) (head : ℕ) (request room : List ℕ)
     (calls : Calls) (x : Exchange) : Type 0 where
   pub exchange : x ≡ served_exchange head request (comes_of s request room calls)
   pub asked : calls_alone calls ≡ (comes_of s request room calls).calls
@@ -37,4 +37,4 @@ AnswersAreSeen {F} may =
     (notice : Bool) →
     OffersRequest s i q head request room →
     Step may s i calls (Exchanged x notice) after →
-    ToldByAnswers s after q head request room calls x
+    ReportedByAnswers s after q head request room calls x

@@ -6,7 +6,7 @@ use Rattle.vm_memory_core.specs.Host.{Host, Block, Place, with_blocks}
 use Rattle.virtiofsd_fuse.specs.Serving.{May}
 use Rattle.plain_machine.specs.Step.{State}
 use Rattle.plain_machine.specs.Run as run
-use Rattle.plain_machine.specs.Run.{Command, Answer, Turns, RunTold, with_host}
+use Rattle.plain_machine.specs.Run.{Command, Answer, Turns, RunReported, with_host}
 use Rattle.fs_confinement.specs.ReadSet.{is_among, byte_of, run_touches, read_set, written_set}
 
 -- a block with its bytes set to zero, of the same length, with its marks
@@ -64,21 +64,22 @@ copies_nothing events = list_all (λ e. not (copies e.0)) events
 -- notifications and calls. It touches the same places, and the states after it differ only in bytes
 -- that differed before and weren't written
 pub record AllowsToo {F : Type 0} (may : May F) (a b after : State F) (events : List (Command
-    × Answer)) (tolds : List Turns) (ran : RunTold may a events tolds after) : Type 0 where
+    × Answer)) (all_reported : List Turns) (ran : RunReported may a events all_reported after) : Type 0 where
   pub end : State F
-  pub run : RunTold may b events tolds end
-  pub touched : run_touches may b events tolds end run ≡ run_touches may a events tolds after ran
+  pub run : RunReported may b events all_reported end
+  pub touched : run_touches may b events all_reported end run ≡ run_touches may a events all_reported after
+      ran
   pub rest : SameButBytes after end
   pub bytes : KeepDifference a.memory.host b.memory.host after.memory.host end.memory.host
-      (written_set may a events tolds after ran)
+      (written_set may a events all_reported after ran)
 
 -- theorem: a run without an image and a harvest is allowed from each state that differs only in bytes
 -- outside its read set
 abbrev pub Confinement : {F : Type 0} → May F → Type 0
 Confinement {F} may =
     (a b after : State F) (events : List (Command
-    × Answer)) (tolds : List Turns) (ran : RunTold may a events tolds after) →
+    × Answer)) (all_reported : List Turns) (ran : RunReported may a events all_reported after) →
     IsTrue (copies_nothing events) →
     SameButBytes a b →
-    AgreeOn a.memory.host b.memory.host (read_set may a events tolds after ran) →
-    AllowsToo may a b after events tolds ran
+    AgreeOn a.memory.host b.memory.host (read_set may a events all_reported after ran) →
+    AllowsToo may a b after events all_reported ran

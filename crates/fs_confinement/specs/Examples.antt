@@ -2,7 +2,7 @@
 -- memories.
 use Rattle.std.specs.Prelude.{◌≡◌, ℕ, true, false, List, [], ◌∷◌, ◌++◌, map, Some, None, refl}
 use Rattle.vm_iotlb.specs.declared.permissions.Permissions.TheVariants.{Read, Write, ReadWrite}
-use Rattle.vm_iotlb.specs.Ranges.{table_kept}
+use Rattle.vm_iotlb.specs.Ranges.{table_held}
 use Rattle.vm_memory_core.specs.Host.{Place, new_block}
 use Rattle.vm_memory.specs.Layout.{place}
 use Rattle.vm_memory.specs.Memory.{Memory, addresses, io_memory, memory_of, stored_all}
@@ -15,7 +15,7 @@ use Rattle.plain_machine.specs.Step.{State, Exchanged}
 use Rattle.plain_machine.specs.declared.error.DeviceError.TheVariants as device_error
 use Rattle.plain_machine.specs.declared.refusal.Refusal.TheVariants as why
 use Rattle.plain_machine.specs.Run as run
-use Rattle.plain_machine.specs.Run.{Command, Answer, Turn, KickRun, RunTold, effect}
+use Rattle.plain_machine.specs.Run.{Command, Answer, Turn, KickRun, RunReported, effect}
 use Rattle.plain_machine.specs.Examples.{blank, queue, put, descriptor_bytes, with_one_request}
 use Rattle.plain_machine.specs.Examples.{with_descriptors, Nothing, may, device, unknown_exchange}
 use Rattle.plain_machine.specs.Examples.{after_reply, one_step}
@@ -118,7 +118,7 @@ twice =
 
 one_place : map (λ a. is_among 0 9 (places_for twice Read (a ∷ []))) (0 ∷ 1 ∷ 5 ∷ 9 ∷ [])
     ≡ false ∷ true ∷ true ∷ false ∷ []
-unfolding place table_kept
+unfolding place table_held
 one_place = refl
 
 -- a request at an I/O address that is mapped to 0x1000; the other addresses are mapped to themselves
@@ -136,7 +136,7 @@ translated =
 -- the request is read at the address that it is mapped to
 translated_read : map (λ a. is_among 0 a (places_for translated Read (reads translated)))
     (0x1000 ∷ 0x1027 ∷ 0x1028 ∷ 0x8000 ∷ 0x2000 ∷ []) ≡ true ∷ true ∷ false ∷ false ∷ false ∷ []
-unfolding offer place addresses stored_all path found table_kept
+unfolding offer place addresses stored_all path found table_held
 translated_read = refl
 
 -- ---- runs
@@ -166,8 +166,8 @@ written =
 abbrev accesses : List (Command × Answer)
 accesses = (run.GuestRead 1 2, run.Bytes (0 ∷ 0 ∷ [])) ∷ (run.GuestWrite 3 (7 ∷ []), run.Done) ∷ []
 
-accessed : RunTold may small accesses ([] ∷ [] ∷ []) written
-unfolding RunTold effect place addresses stored_all
+accessed : RunReported may small accesses ([] ∷ [] ∷ []) written
+unfolding RunReported effect place addresses stored_all
 accessed = (small, refl, (written, refl, refl))
 
 accesses_touch : run_touches may small accesses ([] ∷ [] ∷ []) written accessed
@@ -194,8 +194,8 @@ read_byte_matters = refl
 abbrev past_the_end : List (Command × Answer)
 past_the_end = (run.GuestRead 3 2, run.IsRefused why.NoPlace) ∷ []
 
-refused : RunTold may small past_the_end ([] ∷ []) small
-unfolding RunTold effect place addresses
+refused : RunReported may small past_the_end ([] ∷ []) small
+unfolding RunReported effect place addresses
 refused = (small, refl, refl)
 
 refused_touches :

@@ -6,7 +6,7 @@ use Rattle.vm_memory.specs.Layout.{Region}
 use Rattle.virtiofsd_fuse.specs.Serving.{May}
 use Rattle.plain_machine.specs.Step.{State}
 use Rattle.plain_machine.specs.Run as run
-use Rattle.plain_machine.specs.Run.{Command, Answer, Turns, Run, RunTold}
+use Rattle.plain_machine.specs.Run.{Command, Answer, Turns, Run, RunReported}
 use Rattle.fs_confinement.specs.ReadSet.{is_among, byte_of, read_set, written_set}
 use Rattle.fs_confinement.specs.Confinement.{copies, SameButBytes, AllowsToo}
 
@@ -38,26 +38,27 @@ pub record DifferInBlock {F : Type 0} (block : ℕ) (a b : State F) : Type 0 whe
 
 -- a run neither reads nor writes this block
 pub record TouchesNothingOf {F : Type 0} (may : May F) (block : ℕ) (a after : State F) (events : List (Command
-    × Answer)) (tolds : List Turns) (ran : RunTold may a events tolds after) : Type 0 where
-  pub unread : (offset : ℕ) → is_among block offset (read_set may a events tolds after ran) ≡ false
-  pub unwritten : (offset : ℕ) → is_among block offset (written_set may a events tolds after ran) ≡ false
+    × Answer)) (all_reported : List Turns) (ran : RunReported may a events all_reported after) : Type 0 where
+  pub unread : (offset : ℕ) → is_among block offset (read_set may a events all_reported after ran) ≡ false
+  pub unwritten : (offset : ℕ) → is_among block offset (written_set may a events all_reported after ran) ≡
+      false
 
 -- theorem: a run beside a hidden block doesn't touch it, and is allowed with any other bytes in it
 abbrev pub HiddenBlocksAreSecret : {F : Type 0} → May F → Type 0
 HiddenBlocksAreSecret {F} may =
     (block : ℕ) (a after : State F) (events : List (Command
-    × Answer)) (tolds : List Turns) (ran : RunTold may a events tolds after) →
+    × Answer)) (all_reported : List Turns) (ran : RunReported may a events all_reported after) →
     IsHidden block a (map (λ e. e.0) events) →
-    TouchesNothingOf may block a after events tolds ran
-    × ((b : State F) → DifferInBlock block a b → AllowsToo may a b after events tolds ran)
+    TouchesNothingOf may block a after events all_reported ran
+    × ((b : State F) → DifferInBlock block a b → AllowsToo may a b after events all_reported ran)
 
 -- a run has exchanges, notifications and calls behind its answers that are also possible with any other
 -- bytes in a block. The state afterwards then differs only in that block
 abbrev pub KeepsSecret :
     {F : Type 0} → May F → (block : ℕ) → (before after : State F) → List (Command × Answer) → Type 0
 KeepsSecret {F} may block before after events =
-    (tolds : List Turns)
-    × RunTold may before events tolds after
+    (all_reported : List Turns)
+    × RunReported may before events all_reported after
     × ((other : State F) →
     DifferInBlock block before other →
-    (end : State F) × RunTold may other events tolds end × DifferInBlock block after end)
+    (end : State F) × RunReported may other events all_reported end × DifferInBlock block after end)

@@ -24,7 +24,7 @@ use Rattle.plain_machine.specs.MarkedPages.{returned_addresses}
 use Rattle.plain_machine.specs.Step as step
 use Rattle.plain_machine.specs.Step.{State, Exchange, StepEnd, Refused, Exchanged}
 use Rattle.plain_machine.specs.Run as run
-use Rattle.plain_machine.specs.Run.{Command, Answer, Turns, KickRun, Kicks, KickAnswer, Performs, RunTold}
+use Rattle.plain_machine.specs.Run.{Command, Answer, Turns, KickRun, Kicks, KickAnswer, Performs, RunReported}
 
 -- ---- places
 
@@ -152,8 +152,8 @@ end_touches s i (suc most) (Some e) = step_touches s (slice_get s.queues i) (Ref
 
 -- the places that a kick touches, step by step
 unfoldable pub kick_touches : {F : Type 0} → (may : May F) → (s : State F) → (queue most : ℕ) →
-    (told : Turns) → (refused : Option DeviceError) → (after : State F) →
-    KickRun may s queue most told refused after → Touched
+    (reported : Turns) → (refused : Option DeviceError) → (after : State F) →
+    KickRun may s queue most reported refused after → Touched
 unfolding KickRun
 kick_touches may s i most [] refused after ends = end_touches s i most refused
 kick_touches may s i zero (t ∷ ts) refused after none = nothing
@@ -163,11 +163,11 @@ kick_touches may s i (suc most) (t ∷ ts) refused after (mid, first, rest) =
 
 -- the places that a kick of a queue touches; none if the queue is missing
 abbrev pub kicks_touch : {F : Type 0} → (may : May F) → (s : State F) → (queue most : ℕ) →
-    (o : Option Queue) → (told : Turns) → (k : KickAnswer) → (after : State F) →
-    Kicks may s queue most o told k after → Touched
-kicks_touch may s i most None told k after kicked = nothing
-kicks_touch may s i most (Some q) told k after kicked =
-    kick_touches may s i most told k.refused after kicked.0
+    (o : Option Queue) → (reported : Turns) → (k : KickAnswer) → (after : State F) →
+    Kicks may s queue most o reported k after → Touched
+kicks_touch may s i most None reported k after kicked = nothing
+kicks_touch may s i most (Some q) reported k after kicked =
+    kick_touches may s i most reported k.refused after kicked.0
 
 -- the places that a guest's read with this answer touches: its physical addresses; none if it is
 -- refused
@@ -191,32 +191,33 @@ plain_touches s _ answer = nothing
 
 -- the places that a command touches
 abbrev pub command_touches : {F : Type 0} → (may : May F) → (s : State F) → (command : Command) →
-    (told : Turns) → (answer : Answer) → (after : State F) →
-    Performs may s command told answer after → Touched
-command_touches may s (run.Kick i most) told (run.Served k) after done =
-    kicks_touch may s i most (slice_get s.queues i) told k after done
-command_touches may s (run.Kick i most) told _ after done = nothing
-command_touches may s command told answer after done = plain_touches s command answer
+    (reported : Turns) → (answer : Answer) → (after : State F) →
+    Performs may s command reported answer after → Touched
+command_touches may s (run.Kick i most) reported (run.Served k) after done =
+    kicks_touch may s i most (slice_get s.queues i) reported k after done
+command_touches may s (run.Kick i most) reported _ after done = nothing
+command_touches may s command reported answer after done = plain_touches s command answer
 
 -- the places that a run touches, command by command
 unfoldable pub run_touches : {F : Type 0} → (may : May F) → (s : State F) →
-    (events : List (Command × Answer)) → (tolds : List Turns) → (after : State F) →
-    RunTold may s events tolds after → Touched
-unfolding RunTold
+    (events : List (Command × Answer)) → (all_reported : List Turns) → (after : State F) →
+    RunReported may s events all_reported after → Touched
+unfolding RunReported
 run_touches may s [] [] after ran = nothing
-run_touches may s [] (told ∷ tolds) after none = nothing
+run_touches may s [] (reported ∷ all_reported) after none = nothing
 run_touches may s (e ∷ es) [] after none = nothing
-run_touches may s (e ∷ es) (told ∷ tolds) after (mid, first, rest) =
-    and_then (command_touches may s e.0 told e.1 mid first) (run_touches may mid es tolds after rest)
+run_touches may s (e ∷ es) (reported ∷ all_reported) after (mid, first, rest) =
+    and_then (command_touches may s e.0 reported e.1 mid first)
+    (run_touches may mid es all_reported after rest)
 
 -- the read set of a run: the places that it reads
 abbrev pub read_set : {F : Type 0} → (may : May F) → (s : State F) → (events : List (Command × Answer)) →
-    (tolds : List Turns) → (after : State F) →
-    RunTold may s events tolds after → List Place
-read_set may s events tolds after ran = (run_touches may s events tolds after ran).read
+    (all_reported : List Turns) → (after : State F) →
+    RunReported may s events all_reported after → List Place
+read_set may s events all_reported after ran = (run_touches may s events all_reported after ran).read
 
 -- the places that a run writes
 abbrev pub written_set : {F : Type 0} → (may : May F) → (s : State F) → (events : List (Command × Answer)) →
-    (tolds : List Turns) → (after : State F) →
-    RunTold may s events tolds after → List Place
-written_set may s events tolds after ran = (run_touches may s events tolds after ran).written
+    (all_reported : List Turns) → (after : State F) →
+    RunReported may s events all_reported after → List Place
+written_set may s events all_reported after ran = (run_touches may s events all_reported after ran).written

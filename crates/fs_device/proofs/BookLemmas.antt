@@ -27,7 +27,7 @@ use Rattle.plain_machine.specs.declared.refusal.Refusal.TheVariants as why
 use Rattle.plain_machine.specs.Step.{State, Exchange, Calls, Exchanged, Exchanges, StepOf, faulty, served_exchange, EachSuits, calls_alone}
 use Rattle.plain_machine.specs.Step.{answers_alone}
 use Rattle.plain_machine.specs.Run as run
-use Rattle.plain_machine.specs.Run.{Turn, Turns, Command, Answer, KickRun, Kicks, KickAnswer, Does, Performs, RunTold}
+use Rattle.plain_machine.specs.Run.{Turn, Turns, Command, Answer, KickRun, Kicks, KickAnswer, Does, Performs, RunReported}
 use Rattle.fs_device.specs.Books.{answered, sent, written, accepted, nodes_in, nodes_listed, opcode_in, entry_count, forget_count}
 use Rattle.fs_device.specs.Books.{forgets_meant, IsBalanced}
 use Rattle.fs_device.proofs.NodeLemmas.{drop_reply, drop_error, none_in_nothing, not_zero}
@@ -125,8 +125,8 @@ module _ (n : ℕ) (some : n ≢ 0) (s : Setting) (o : Option Opcode) where
       let y = counts_more n (c, a) more in
       let e : entries_in n more ≡ 0 = ap (entries_in n) (no_step more asks) in
       let k : counts_in n more ≡ 0 = ap (counts_in n) (no_step more asks) in
-      let told = fits unique a suit.0 in
-      omega (arith, x, y, e, k, told)
+      let reported = fits unique a suit.0 in
+      omega (arith, x, y, e, k, reported)
 
   -- the same of the call that was made
   one_made :
@@ -178,12 +178,12 @@ module _ (n : ℕ) (some : n ≢ 0) (s : Setting) (o : Option Opcode) where
       (start_given unique capable readahead one.0 fits only.0)
 
   -- a directory's entries, with the calls that come with them
-  went_balances : (unique : ℕ) (l : ListRequest) (ds : List Listed) (steps : Calls) (nodes : Bool) → l.with_nodes ≡ nodes →
+  outcome_balances : (unique : ℕ) (l : ListRequest) (ds : List Listed) (steps : Calls) (nodes : Bool) → l.with_nodes ≡ nodes →
       ListFits s.room o nodes → EachSuits steps →
       (list_entries l ds l.size (s.room - 16) (answers_alone steps)).calls ≡ calls_alone steps →
       Balanced n o ((readdir_call l, call.Entries ds) ∷ steps) 0
       (list_ended s unique l (list_entries l ds l.size (s.room - 16) (answers_alone steps)))
-  went_balances unique l ds steps true is fits suit asks =
+  outcome_balances unique l ds steps true is fits suit asks =
       let w = list_entries l ds l.size (s.room - 16) (answers_alone steps) in
       let bytes = listing_bytes unique l.with_nodes w.bytes w.error in
       let whole = listing_whole unique w.bytes w.error in
@@ -201,7 +201,7 @@ module _ (n : ℕ) (some : n ≢ 0) (s : Setting) (o : Option Opcode) where
       replied_whole n o ((readdir_call l, call.Entries ds) ∷ steps) 0 s.options (readdir_call l ∷ w.calls) bytes
       (nat_lt s.room (length bytes))
       (le-ltb s.room (length bytes) low) (omega (arith, same, x, y, k)) refl
-  went_balances unique l ds steps false is fits suit asks =
+  outcome_balances unique l ds steps false is fits suit asks =
       let w = list_entries l ds l.size (s.room - 16) (answers_alone steps) in
       let bytes = listing_bytes unique l.with_nodes w.bytes w.error in
       let nothing = no_step steps (sym (plain_asks_nothing l is ds l.size (s.room - 16) (answers_alone steps)) ∙ asks) in
@@ -264,7 +264,7 @@ module _ (n : ℕ) (some : n ≢ 0) (s : Setting) (o : Option Opcode) where
       sym (replied_asks (nat_lt s.room (length bytes)) (readdir_call l ∷ w.calls) s.options bytes) ∙ asks in
       let same : readdir_call l ≡ c = cc in
       subst (λ (c : FileCall). Balanced n o ((c, call.Entries ds) ∷ steps) 0 (list_ended s unique l w)) same
-      (went_balances unique l ds steps l.with_nodes refl fits suit.1 (cc))
+      (outcome_balances unique l ds steps l.with_nodes refl fits suit.1 (cc))
   list_given unique l c (call.Wants options) steps fits suit asks =
       unlisted l c (call.Wants options) steps [] false (cc) suit.0 (cc) (none_in_nothing o)
 
@@ -340,91 +340,95 @@ step_balances may n some s i (Some q) calls x notice after t = exchange_balances
 -- ---- kicks
 
 -- over exchanges
-abbrev ToldBalances : (n : ℕ) → Turns → Type 0
-ToldBalances n told = sum_by (answered n) told + sum_by (accepted n) told ≡ sum_by (written n) told + sum_by (sent n) told
+abbrev ReportedBalances : (n : ℕ) → Turns → Type 0
+ReportedBalances n reported =
+    sum_by (answered n) reported + sum_by (accepted n) reported ≡ sum_by (written n) reported + sum_by (sent n) reported
 
 kick_balances : {F : Type 0} (may : May F) (n : ℕ) → n ≢ 0 →
-    (s : State F) (i most : ℕ) (told : Turns) (refused : Option DeviceError) (after : State F) →
-    KickRun may s i most told refused after → ToldBalances n told
+    (s : State F) (i most : ℕ) (reported : Turns) (refused : Option DeviceError) (after : State F) →
+    KickRun may s i most reported refused after → ReportedBalances n reported
 unfolding KickRun
 kick_balances may n some s i most [] refused after t = refl
-kick_balances may n some s i zero (x ∷ told) refused after t = absurd t
-kick_balances may n some s i (suc most) (x ∷ told) refused after (mid, step, rest) =
+kick_balances may n some s i zero (x ∷ reported) refused after t = absurd t
+kick_balances may n some s i (suc most) (x ∷ reported) refused after (mid, step, rest) =
     let own = step_balances may n some s i (slice_get s.queues i) x.calls x.exchange x.notice mid step in
-    let others = kick_balances may n some mid i most told refused after rest in
-    let a = sum_by-cons (answered n) x told in
-    let b = sum_by-cons (accepted n) x told in
-    let c = sum_by-cons (written n) x told in
-    let d = sum_by-cons (sent n) x told in
+    let others = kick_balances may n some mid i most reported refused after rest in
+    let a = sum_by-cons (answered n) x reported in
+    let b = sum_by-cons (accepted n) x reported in
+    let c = sum_by-cons (written n) x reported in
+    let d = sum_by-cons (sent n) x reported in
     omega (arith, own, others, a, b, c, d)
 
 kicks_balance : {F : Type 0} (may : May F) (n : ℕ) → n ≢ 0 →
-    (s : State F) (i most : ℕ) (o : Option Queue) (told : Turns) (k : KickAnswer) (after : State F) →
-    Kicks may s i most o told k after → ToldBalances n told
-kicks_balance may n some s i most None told k after t = subst (ToldBalances n) (sym t.1) refl
-kicks_balance may n some s i most (Some q) told k after t = kick_balances may n some s i most told k.refused after t.0
+    (s : State F) (i most : ℕ) (o : Option Queue) (reported : Turns) (k : KickAnswer) (after : State F) →
+    Kicks may s i most o reported k after → ReportedBalances n reported
+kicks_balance may n some s i most None reported k after t = subst (ReportedBalances n) (sym t.1) refl
+kicks_balance may n some s i most (Some q) reported k after t = kick_balances may n some s i most reported k.refused after t.0
 
 -- ---- runs
 
 does_balance :
-    {F : Type 0} (may : May F) (n : ℕ) → n ≢ 0 → (s : State F) (command : Command) (told : Turns) (answer : Answer) (after : State F) →
-    Does may s command told answer after → ToldBalances n told
+    {F : Type 0} (may : May F) (n : ℕ) → n ≢ 0 → (s : State F) (command : Command) (reported : Turns) (answer : Answer) (after : State F) →
+    Does may s command reported answer after → ReportedBalances n reported
 does_balance may n some s command [] answer after t = refl
-does_balance may n some s (run.Kick i most) (x ∷ told) (run.Served k) after t =
-    kicks_balance may n some s i most (slice_get s.queues i) (x ∷ told) k after t
-does_balance may n some s (run.Kick i most) (x ∷ told) run.Done after t = absurd t
-does_balance may n some s (run.Kick i most) (x ∷ told) (run.Bytes bytes) after t = absurd t
-does_balance may n some s (run.Kick i most) (x ∷ told) (run.NewBlockIs number) after t = absurd t
-does_balance may n some s (run.Kick i most) (x ∷ told) (run.Copied host) after t = absurd t
-does_balance may n some s (run.Kick i most) (x ∷ told) (run.Pages pages) after t = absurd t
-does_balance may n some s (run.Kick i most) (x ∷ told) (run.IsRefused refusal) after t = absurd t
-does_balance may n some s (run.GuestRead a k) (x ∷ told) answer after t = absurd t
-does_balance may n some s (run.GuestWrite a bs) (x ∷ told) answer after t = absurd t
-does_balance may n some s (run.NewBlock k) (x ∷ told) answer after t = absurd t
-does_balance may n some s (run.InsertRegion base block) (x ∷ told) answer after t = absurd t
-does_balance may n some s (run.RemoveRegion base size) (x ∷ told) answer after t = absurd t
-does_balance may n some s (run.SetLayout layout) (x ∷ told) answer after t = absurd t
-does_balance may n some s (run.Map iova target k perm) (x ∷ told) answer after t = absurd t
-does_balance may n some s (run.Unmap iova k) (x ∷ told) answer after t = absurd t
-does_balance may n some s run.UnmapAll (x ∷ told) answer after t = absurd t
-does_balance may n some s (run.SetIommu on) (x ∷ told) answer after t = absurd t
-does_balance may n some s (run.ResetQueue queue size desc avail used) (x ∷ told) answer after t = absurd t
-does_balance may n some s run.Image (x ∷ told) answer after t = absurd t
-does_balance may n some s run.Harvest (x ∷ told) answer after t = absurd t
+does_balance may n some s (run.Kick i most) (x ∷ reported) (run.Served k) after t =
+    kicks_balance may n some s i most (slice_get s.queues i) (x ∷ reported) k after t
+does_balance may n some s (run.Kick i most) (x ∷ reported) run.Done after t = absurd t
+does_balance may n some s (run.Kick i most) (x ∷ reported) (run.Bytes bytes) after t = absurd t
+does_balance may n some s (run.Kick i most) (x ∷ reported) (run.NewBlockIs number) after t = absurd t
+does_balance may n some s (run.Kick i most) (x ∷ reported) (run.Copied host) after t = absurd t
+does_balance may n some s (run.Kick i most) (x ∷ reported) (run.Pages pages) after t = absurd t
+does_balance may n some s (run.Kick i most) (x ∷ reported) (run.IsRefused refusal) after t = absurd t
+does_balance may n some s (run.GuestRead a k) (x ∷ reported) answer after t = absurd t
+does_balance may n some s (run.GuestWrite a bs) (x ∷ reported) answer after t = absurd t
+does_balance may n some s (run.NewBlock k) (x ∷ reported) answer after t = absurd t
+does_balance may n some s (run.InsertRegion base block) (x ∷ reported) answer after t = absurd t
+does_balance may n some s (run.RemoveRegion base size) (x ∷ reported) answer after t = absurd t
+does_balance may n some s (run.SetLayout layout) (x ∷ reported) answer after t = absurd t
+does_balance may n some s (run.Map iova target k perm) (x ∷ reported) answer after t = absurd t
+does_balance may n some s (run.Unmap iova k) (x ∷ reported) answer after t = absurd t
+does_balance may n some s run.UnmapAll (x ∷ reported) answer after t = absurd t
+does_balance may n some s (run.SetIommu on) (x ∷ reported) answer after t = absurd t
+does_balance may n some s (run.ResetQueue queue size desc avail used) (x ∷ reported) answer after t = absurd t
+does_balance may n some s run.Image (x ∷ reported) answer after t = absurd t
+does_balance may n some s run.Harvest (x ∷ reported) answer after t = absurd t
 
 performs_balance :
-    {F : Type 0} (may : May F) (n : ℕ) → n ≢ 0 → (s : State F) (command : Command) (told : Turns) (answer : Answer) (after : State F) →
-    Performs may s command told answer after → ToldBalances n told
+    {F : Type 0} (may : May F) (n : ℕ) → n ≢ 0 → (s : State F) (command : Command) (reported : Turns) (answer : Answer) (after : State F) →
+    Performs may s command reported answer after → ReportedBalances n reported
 performs_balance may n some s command [] (run.IsRefused why.OutOfMemory) after t = refl
-performs_balance may n some s command (x ∷ told) (run.IsRefused why.OutOfMemory) after t = absurd t
-performs_balance may n some s command told (run.IsRefused why.NoPlace) after t = does_balance may n some s command told _ after t
-performs_balance may n some s command told (run.IsRefused why.EmptyBlock) after t = does_balance may n some s command told _ after t
-performs_balance may n some s command told (run.IsRefused why.UnknownBlock) after t = does_balance may n some s command told _ after t
-performs_balance may n some s command told (run.IsRefused why.BadRegion) after t = does_balance may n some s command told _ after t
-performs_balance may n some s command told (run.IsRefused why.Overlap) after t = does_balance may n some s command told _ after t
-performs_balance may n some s command told (run.IsRefused why.NoRegion) after t = does_balance may n some s command told _ after t
-performs_balance may n some s command told (run.IsRefused why.BadMapping) after t = does_balance may n some s command told _ after t
-performs_balance may n some s command told (run.IsRefused why.NoSuchQueue) after t = does_balance may n some s command told _ after t
-performs_balance may n some s command told run.Done after t = does_balance may n some s command told _ after t
-performs_balance may n some s command told (run.Bytes bytes) after t = does_balance may n some s command told _ after t
-performs_balance may n some s command told (run.NewBlockIs number) after t = does_balance may n some s command told _ after t
-performs_balance may n some s command told (run.Served k) after t = does_balance may n some s command told _ after t
-performs_balance may n some s command told (run.Copied host) after t = does_balance may n some s command told _ after t
-performs_balance may n some s command told (run.Pages pages) after t = does_balance may n some s command told _ after t
+performs_balance may n some s command (x ∷ reported) (run.IsRefused why.OutOfMemory) after t = absurd t
+performs_balance may n some s command reported (run.IsRefused why.NoPlace) after t = does_balance may n some s command reported _ after t
+performs_balance may n some s command reported (run.IsRefused why.EmptyBlock) after t = does_balance may n some s command reported _ after t
+performs_balance may n some s command reported (run.IsRefused why.UnknownBlock) after t =
+    does_balance may n some s command reported _ after t
+performs_balance may n some s command reported (run.IsRefused why.BadRegion) after t = does_balance may n some s command reported _ after t
+performs_balance may n some s command reported (run.IsRefused why.Overlap) after t = does_balance may n some s command reported _ after t
+performs_balance may n some s command reported (run.IsRefused why.NoRegion) after t = does_balance may n some s command reported _ after t
+performs_balance may n some s command reported (run.IsRefused why.BadMapping) after t = does_balance may n some s command reported _ after t
+performs_balance may n some s command reported (run.IsRefused why.NoSuchQueue) after t =
+    does_balance may n some s command reported _ after t
+performs_balance may n some s command reported run.Done after t = does_balance may n some s command reported _ after t
+performs_balance may n some s command reported (run.Bytes bytes) after t = does_balance may n some s command reported _ after t
+performs_balance may n some s command reported (run.NewBlockIs number) after t = does_balance may n some s command reported _ after t
+performs_balance may n some s command reported (run.Served k) after t = does_balance may n some s command reported _ after t
+performs_balance may n some s command reported (run.Copied host) after t = does_balance may n some s command reported _ after t
+performs_balance may n some s command reported (run.Pages pages) after t = does_balance may n some s command reported _ after t
 
 -- a run balances
 pub run_balances :
-    {F : Type 0} (may : May F) (n : ℕ) → n ≢ 0 → (s : State F) (events : List (Command × Answer)) (tolds : List Turns) (after : State F) →
-    RunTold may s events tolds after → IsBalanced n tolds
-unfolding RunTold
+    {F : Type 0} (may : May F) (n : ℕ) → n ≢ 0 → (s : State F) (events : List (Command × Answer)) (all_reported : List Turns)
+    (after : State F) →
+    RunReported may s events all_reported after → IsBalanced n all_reported
+unfolding RunReported
 run_balances may n some s [] [] after t = refl
-run_balances may n some s [] (told ∷ tolds) after t = absurd t
+run_balances may n some s [] (reported ∷ all_reported) after t = absurd t
 run_balances may n some s (e ∷ es) [] after t = absurd t
-run_balances may n some s (e ∷ es) (told ∷ tolds) after (mid, performs, rest) =
-    let own = performs_balance may n some s e.0 told e.1 mid performs in
-    let others = run_balances may n some mid es tolds after rest in
-    let a = sum_by-cons (λ (l : Turns). sum_by (answered n) l) told tolds in
-    let b = sum_by-cons (λ (l : Turns). sum_by (accepted n) l) told tolds in
-    let c = sum_by-cons (λ (l : Turns). sum_by (written n) l) told tolds in
-    let d = sum_by-cons (λ (l : Turns). sum_by (sent n) l) told tolds in
+run_balances may n some s (e ∷ es) (reported ∷ all_reported) after (mid, performs, rest) =
+    let own = performs_balance may n some s e.0 reported e.1 mid performs in
+    let others = run_balances may n some mid es all_reported after rest in
+    let a = sum_by-cons (λ (l : Turns). sum_by (answered n) l) reported all_reported in
+    let b = sum_by-cons (λ (l : Turns). sum_by (accepted n) l) reported all_reported in
+    let c = sum_by-cons (λ (l : Turns). sum_by (written n) l) reported all_reported in
+    let d = sum_by-cons (λ (l : Turns). sum_by (sent n) l) reported all_reported in
     omega (arith, own, others, a, b, c, d)

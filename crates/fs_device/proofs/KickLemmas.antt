@@ -40,52 +40,53 @@ refused_of may s after i (Some q) (device.Queue stop.AvailFlagsUnreachable) call
 refused_of may s after i (Some q) (device.Queue stop.DescriptorUnreachable) calls t = (t.0, refl, t.2)
 
 -- what a kick comes to, given that it goes on so
-abbrev Goes : {F : Type 0} → May F → State F → ℕ → ℕ → List (Exchange × Bool) → State F → ℕ → Type 0
-Goes {F} may s i most done mid left =
+abbrev Proceeds : {F : Type 0} → May F → State F → ℕ → ℕ → List (Exchange × Bool) → State F → ℕ → Type 0
+Proceeds {F} may s i most done mid left =
     (rest : List (Exchange × Bool)) (refused : Option DeviceError) (after : State F) → KickLists may mid i left rest refused after →
     KickLists may s i most (done ++ rest) refused after
 
 ended : {F : Type 0} (may : May F) (s mid after : State F) (i most left : ℕ) (done : List (Exchange × Bool))
-    (refused : Option DeviceError) → Goes may s i most done mid left →
+    (refused : Option DeviceError) → Proceeds may s i most done mid left →
     KickRun may mid i left [] refused after → KickLists may s i most done refused after
-ended may s mid after i most left done refused goes end =
+ended may s mid after i most left done refused proceeds end =
     subst (λ (xs : List (Exchange × Bool)). KickLists may s i most xs refused after) (append-nil done)
-    (goes [] refused after ([], end, refl))
+    (proceeds [] refused after ([], end, refl))
 
 pub ends_idle : {F : Type 0} (may : May F) (s mid after : State F) (i most left : ℕ) (done : List (Exchange × Bool)) (calls : Calls) →
-    Goes may s i most done mid left →
+    Proceeds may s i most done mid left →
     0 < left → Step may mid i calls Idle after → KickLists may s i most done None after
 unfolding KickRun
-ends_idle may s mid after i most zero done calls goes some step = absurd (omega arith)
-ends_idle may s mid after i most (suc left) done calls goes some step =
-    ended may s mid after i most (suc left) done None goes (idle_of may mid after i (slice_get mid.queues i) calls step)
+ends_idle may s mid after i most zero done calls proceeds some step = absurd (omega arith)
+ends_idle may s mid after i most (suc left) done calls proceeds some step =
+    ended may s mid after i most (suc left) done None proceeds (idle_of may mid after i (slice_get mid.queues i) calls step)
 
 pub ends_refused : {F : Type 0} (may : May F) (s mid after : State F) (i most left : ℕ) (done : List (Exchange × Bool)) (e : DeviceError)
-    (calls : Calls) → Goes may s i most done mid left →
+    (calls : Calls) → Proceeds may s i most done mid left →
     0 < left → Step may mid i calls (Refused e) after → KickLists may s i most done (Some e) after
 unfolding KickRun
-ends_refused may s mid after i most zero done e calls goes some step = absurd (omega arith)
-ends_refused may s mid after i most (suc left) done e calls goes some step =
-    ended may s mid after i most (suc left) done (Some e) goes (refused_of may mid after i (slice_get mid.queues i) e calls step)
+ends_refused may s mid after i most zero done e calls proceeds some step = absurd (omega arith)
+ends_refused may s mid after i most (suc left) done e calls proceeds some step =
+    ended may s mid after i most (suc left) done (Some e) proceeds (refused_of may mid after i (slice_get mid.queues i) e calls step)
 
 pub ends_full : {F : Type 0} (may : May F) (s mid : State F) (i most left : ℕ) (done : List (Exchange × Bool)) →
-    Goes may s i most done mid left → left ≡ 0 → KickLists may s i most done None mid
+    Proceeds may s i most done mid left → left ≡ 0 → KickLists may s i most done None mid
 unfolding KickRun
-ends_full may s mid i most zero done goes none = ended may s mid mid i most 0 done None goes refl
-ends_full may s mid i most (suc left) done goes none = absurd (omega arith)
+ends_full may s mid i most zero done proceeds none = ended may s mid mid i most 0 done None proceeds refl
+ends_full may s mid i most (suc left) done proceeds none = absurd (omega arith)
 
-pub goes_on : {F : Type 0} (may : May F) (s mid next : State F) (i most left more : ℕ) (done : List (Exchange × Bool)) (x : Exchange × Bool)
-    (calls : Calls) → Goes may s i most done mid left →
-    left ≡ suc more → Step may mid i calls (Exchanged x.0 x.1) next → Goes may s i most (done ++ x ∷ []) next more
+pub carries_on : {F : Type 0} (may : May F) (s mid next : State F) (i most left more : ℕ) (done : List (Exchange × Bool))
+    (x : Exchange × Bool)
+    (calls : Calls) → Proceeds may s i most done mid left →
+    left ≡ suc more → Step may mid i calls (Exchanged x.0 x.1) next → Proceeds may s i most (done ++ x ∷ []) next more
 unfolding KickRun
-goes_on may s mid next i most zero more done x calls goes some step rest refused after (told, run, is) = absurd (omega arith)
-goes_on may s mid next i most (suc left) more done x calls goes some step rest refused after (told, run, is) =
+carries_on may s mid next i most zero more done x calls proceeds some step rest refused after (reported, run, is) = absurd (omega arith)
+carries_on may s mid next i most (suc left) more done x calls proceeds some step rest refused after (reported, run, is) =
     let same : more ≡ left = omega arith in
     let turn : Turn = record { exchange = x.0; notice = x.1; calls = calls } in
     subst (λ (xs : List (Exchange × Bool)). KickLists may s i most xs refused after) (sym (append_assoc done (x ∷ []) rest))
-    (goes (x ∷ rest) refused after (
-      turn ∷ told,
-      (next, step, subst (λ (n : ℕ). KickRun may next i n told refused after) same run),
+    (proceeds (x ∷ rest) refused after (
+      turn ∷ reported,
+      (next, step, subst (λ (n : ℕ). KickRun may next i n reported refused after) same run),
       ap (λ (xs : List (Exchange × Bool)). x ∷ xs) is,
     ))
 

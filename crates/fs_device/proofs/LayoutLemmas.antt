@@ -20,7 +20,7 @@ use Rattle.vm_memory.specs.Layout.{Backing}
 use Rattle.vm_memory.specs.Making.{backing_at, region_over}
 use Rattle.plain_machine.specs.declared.refusal.Refusal.TheVariants as why
 use Rattle.plain_machine.specs.Step.{State}
-use Rattle.plain_machine.specs.Run.{is_known, has_len, some_overlap, goes_in, block_goes_in, insert_block, insert, no}
+use Rattle.plain_machine.specs.Run.{is_known, has_len, some_overlap, fits_in, block_fits_in, insert_block, insert, no}
 use Rattle.vm_memory.proofs.ChangeLemmas.{above_all}
 use Rattle.vm_memory.proofs.LayoutLemmas.{HasBlock}
 
@@ -38,16 +38,16 @@ held_grown xs ys (r ∷ l) held =
     (omega (arith, held.0, count), index_before xs ys r.block held.0 ∙ held.1, held_grown xs ys l held.2)
 
 -- the blocks hold the layout as before, whether or not there is one more
-pub kept : (count : ℕ → ℕ) (n : ℕ) (old new : Host) (l : List Region) (made : Result ℕ AllocError) →
+pub preserved : (count : ℕ → ℕ) (n : ℕ) (old new : Host) (l : List Region) (made : Result ℕ AllocError) →
     IfOk made (λ number. new ≡ with_block old (record { bytes = replicate n 0; marks = replicate (count n) false })) →
     OnErr made (new ≡ old) →
     AreHeld (lengths old) l → AreHeld (lengths new) l
-kept count n old new l (Ok number) ok err held =
+preserved count n old new l (Ok number) ok err held =
     let block : Block = record { bytes = replicate n 0; marks = replicate (count n) false } in
     let more : lengths new ≡ lengths old ++ length block.bytes ∷ [] =
     ap lengths ok ∙ map-append (λ (b : Block). length b.bytes) old.blocks (block ∷ []) in
     subst (λ (xs : List ℕ). AreHeld xs l) (sym more) (held_grown (lengths old) (length block.bytes ∷ []) l held)
-kept count n old new l (Err e) ok err held = subst (λ (h : Host). AreHeld (lengths h) l) (sym err) held
+preserved count n old new l (Err e) ok err held = subst (λ (h : Host). AreHeld (lengths h) l) (sym err) held
 
 pub page_count-is : (n : ℕ) → pages_of 4096 n ≡ page_count n
 page_count-is n = omega arith
@@ -203,23 +203,23 @@ within base m r e =
       | false ↦ λ some. absurd (cc)
     ] e
 
-goes_of : (layout : List Region) (base block : ℕ) (m : Backing) (o : Option Block) → Some m ≡ option_map (with_number block) o →
-    block_goes_in layout base block o ≡ goes_in layout (over base m)
-goes_of layout base block m None e = absurd (cc)
-goes_of layout base block m (Some b) e =
+proceeds_of : (layout : List Region) (base block : ℕ) (m : Backing) (o : Option Block) → Some m ≡ option_map (with_number block) o →
+    block_fits_in layout base block o ≡ fits_in layout (over base m)
+proceeds_of layout base block m None e = absurd (cc)
+proceeds_of layout base block m (Some b) e =
     let same : with_number block b ≡ m = cc in
-    ap (λ (k : Backing). goes_in layout (over base k)) same
+    ap (λ (k : Backing). fits_in layout (over base k)) same
 
 -- it may be there too
-pub goes : (h : Host) (layout : List Region) (base block : ℕ) (m : Backing) (r : Region) → Some m ≡ backing_at h block →
+pub proceeds : (h : Host) (layout : List Region) (base block : ℕ) (m : Backing) (r : Region) → Some m ≡ backing_at h block →
     Some r ≡ region_over m base → list_any (overlap r) layout ≡ false →
-    IsTrue (block_goes_in layout base block (slice_get h.blocks block))
-goes h layout base block m r there made apart =
+    IsTrue (block_fits_in layout base block (slice_get h.blocks block))
+proceeds h layout base block m r there made apart =
     let is = within base m r made in
     let alone : list_any (overlap (over base m)) layout ≡ false =
     subst (λ (k : Region). list_any (overlap k) layout ≡ false) (sym is.1) apart in
-    let enters : goes_in layout (over base m) ≡ true = rw (is.0, alone) refl in
-    goes_of layout base block m (slice_get h.blocks block) there ∙ enters
+    let enters : fits_in layout (over base m) ≡ true = rw (is.0, alone) refl in
+    proceeds_of layout base block m (slice_get h.blocks block) there ∙ enters
 
 has_in : (blocks : List Block) (block : ℕ) (m : Backing) (o : Option Block) → slice_get blocks block ≡ o →
     Some m ≡ option_map (with_number block) o →

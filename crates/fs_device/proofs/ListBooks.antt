@@ -9,12 +9,12 @@ use Rattle.fuse_fs.specs.declared.answers.Context.{Context}
 use Rattle.fuse_fs.specs.declared.answers.Entry.{Entry}
 use Rattle.fuse_fs.specs.Calls.{FileCall, FileAnswer, Listed, suits}
 use Rattle.fuse_fs.specs.Calls as call
-use Rattle.server_replies.specs.Entries.{Fit, GoesIn, IsFull, IsWrong, fit_of, entry_len, entry_bytes, no_node, is_dot}
+use Rattle.server_replies.specs.Entries.{Fit, FitsIn, IsFull, IsWrong, fit_of, entry_len, entry_bytes, no_node, is_dot}
 use Rattle.virtiofsd_fuse.specs.Listings.{ListRequest, ListingResult, Next, placed, forget_lookup, with_entry, after_call, looked_up}
 use Rattle.virtiofsd_fuse.specs.Listings.{list_entry, list_entries}
 use Rattle.plain_machine.specs.Step.{Calls, EachSuits, calls_alone, answers_alone}
 use Rattle.fs_device.specs.Books.{entry_count, forget_count, nodes_listed}
-use Rattle.fs_device.proofs.NodeLemmas.{goes_in_fits, length_entry, nodes_more}
+use Rattle.fs_device.proofs.NodeLemmas.{fits_in_fits, length_entry, nodes_more}
 use Rattle.fs_device.proofs.MeaningLemmas.{no_entry, not_true}
 
 -- the entries of a node in the answers, and the counts of it in the calls
@@ -96,11 +96,11 @@ taken_back n who x steps suit e most =
     rw (nothing_listed most, one.1) (omega (arith, none, a, b))
 
 placed_balances : (n : ℕ) (who : Context) (e : Entry ℕ) (d : Listed) (fit : Fit) (next : ListingResult) (steps : Calls) → e.inode < 2 ^ 64 →
-    (fit ≡ GoesIn → length d.name < 2 ^ 32) → EachSuits steps →
+    (fit ≡ FitsIn → length d.name < 2 ^ 32) → EachSuits steps →
     (next.calls ≡ calls_alone steps → Balanced n 0 steps next) →
     (placed fit (entry_bytes true e d) (forget_lookup who e.inode ∷ []) next).calls ≡ calls_alone steps →
     Balanced n (is_node n e.inode) steps (placed fit (entry_bytes true e d) (forget_lookup who e.inode ∷ []) next)
-placed_balances n who e d GoesIn next steps node name suit rest asks most fits =
+placed_balances n who e d FitsIn next steps node name suit rest asks most fits =
     put_in n e d next steps node (name refl) (rest asks) most fits
 placed_balances n who e d IsFull next steps node name suit rest asks most fits = taken_back n who e.inode steps suit asks most
 placed_balances n who e d (IsWrong errno) next steps node name suit rest asks most fits = taken_back n who e.inode steps suit asks most
@@ -114,7 +114,7 @@ entry_balances :
 entry_balances n who e d next left room steps node suit rest asks =
     let len = entry_len true (length d.name) in
     placed_balances n who e d (fit_of (length d.name) len left room) (next (left - len) (room - len) (answers_alone steps)) steps node
-    (λ fits. (goes_in_fits (length d.name) len left room fits).0) suit (rest (left - len) (room - len)) asks
+    (λ fits. (fits_in_fits (length d.name) len left room fits).0) suit (rest (left - len) (room - len)) asks
 
 -- ---- a look-up
 
@@ -224,9 +224,9 @@ list_balances n some l nodes (d ∷ ds) steps left room suit asks most low =
 -- ---- its bytes have room
 
 placed_fits : (e : Entry ℕ) (d : Listed) (fit : Fit) (undo : List FileCall) (next : ListingResult) (room : ℕ) →
-    (fit ≡ GoesIn → entry_len true (length d.name) ≤ room) →
+    (fit ≡ FitsIn → entry_len true (length d.name) ≤ room) →
     length next.bytes ≤ room - entry_len true (length d.name) → length (placed fit (entry_bytes true e d) undo next).bytes ≤ room
-placed_fits e d GoesIn undo next room fits low =
+placed_fits e d FitsIn undo next room fits low =
     let a = length-append (entry_bytes true e d) next.bytes in
     let b = length_entry e d in
     let c = fits refl in
@@ -240,7 +240,7 @@ entry_fits : (e : Entry ℕ) (d : Listed) (undo : List FileCall) (next : Next) (
 entry_fits e d undo next left room answers low =
     let len = entry_len true (length d.name) in
     placed_fits e d (fit_of (length d.name) len left room) undo (next (left - len) (room - len) answers) room
-    (λ fits. (goes_in_fits (length d.name) len left room fits).1) (low (left - len) (room - len) answers)
+    (λ fits. (fits_in_fits (length d.name) len left room fits).1) (low (left - len) (room - len) answers)
 
 looked_up_fits : (l : ListRequest) (d : Listed) (next : Next) (left room : ℕ) (answers : List FileAnswer) →
     ((left room : ℕ) (answers : List FileAnswer) → length (next left room answers).bytes ≤ room) →
@@ -282,7 +282,7 @@ list_fits l nodes (d ∷ ds) left room answers =
 -- ---- without nodes no call is made
 
 placed_asks_nothing : (bytes : List ℕ) (fit : Fit) (next : ListingResult) → next.calls ≡ [] → (placed fit bytes [] next).calls ≡ []
-placed_asks_nothing bytes GoesIn next none = none
+placed_asks_nothing bytes FitsIn next none = none
 placed_asks_nothing bytes IsFull next none = refl
 placed_asks_nothing bytes (IsWrong errno) next none = refl
 

@@ -7,7 +7,7 @@ use Rattle.std.specs.declared.alloc.AllocError.{AllocError}
 use Rattle.std.proofs.lemmas.Bool.Decides.{nat_tests}
 use Rattle.vm_iotlb.specs.declared.range.IotlbRange.{IotlbRange}
 use Rattle.vm_iotlb.specs.Table.{Table}
-use Rattle.vm_iotlb.specs.AddressRuns.{begins_anew_about, goes_on_at}
+use Rattle.vm_iotlb.specs.AddressRuns.{begins_anew_about, carries_on_at}
 use Rattle.vm_memory_core.specs.Host.{Host, with_block}
 use Rattle.vm_memory_core.specs.Lending.{with_table_at}
 use Rattle.vm_memory.specs.Layout.{Region}
@@ -15,7 +15,7 @@ use Rattle.vm_memory.specs.Translated.{HoldsBehind, ranges_in}
 use Rattle.plain_machine.specs.declared.refusal.Refusal.TheVariants as why
 use Rattle.plain_machine.specs.Step.{State}
 use Rattle.plain_machine.specs.Run.{IsRefused, ChangesTable, ends_fit}
-use Rattle.fs_device.proofs.LayoutLemmas.{kept}
+use Rattle.fs_device.proofs.LayoutLemmas.{preserved}
 
 -- ---- ends
 
@@ -58,10 +58,10 @@ both : (x y : Bool) → x ≡ true → y ≡ true → (x && y) ≡ true
 both x y e f = rw e f
 
 -- memory is wanted for some addresses alone, where their end fits and a range is split there
-pub wanted_to_unmap : (t : Table) (a n : ℕ) → a + n < 2 ^ 64 → 0 < n → goes_on_at t (a + n) ≡ true →
-    ((nat_lt 0 n && ends_fit a n) && goes_on_at t (a + n)) ≡ true
+pub wanted_to_unmap : (t : Table) (a n : ℕ) → a + n < 2 ^ 64 → 0 < n → carries_on_at t (a + n) ≡ true →
+    ((nat_lt 0 n && ends_fit a n) && carries_on_at t (a + n)) ≡ true
 wanted_to_unmap t a n fits some on =
-    both (nat_lt 0 n && ends_fit a n) (goes_on_at t (a + n)) (both (nat_lt 0 n) (ends_fit a n) (wanted n some) (ends a n fits)) on
+    both (nat_lt 0 n && ends_fit a n) (carries_on_at t (a + n)) (both (nat_lt 0 n) (ends_fit a n) (wanted n some) (ends a n fits)) on
 
 pub wanted_to_map : (t u : Table) (a b n : ℕ) → a + n < 2 ^ 64 → b + n < 2 ^ 64 → 0 < n → begins_anew_about t u a (a + n) ≡ true →
     ((nat_lt 0 n && (ends_fit a n && ends_fit b n)) && begins_anew_about t u a (a + n)) ≡ true
@@ -73,13 +73,13 @@ wanted_to_map t u a b n fits target some anew =
 -- ---- what a host holds
 
 -- whether or not there is one more block
-pub kept_behind : (count : ℕ → ℕ) (n : ℕ) (old new : Host) (l : List Region) (number set : ℕ) (made : Result ℕ AllocError) →
+pub preserved_behind : (count : ℕ → ℕ) (n : ℕ) (old new : Host) (l : List Region) (number set : ℕ) (made : Result ℕ AllocError) →
     IfOk made (λ number. new ≡ with_block old (record { bytes = replicate n 0; marks = replicate (count n) false })) →
     OnErr made (new ≡ old) →
     HoldsBehind old l number set → HoldsBehind new l number set
-kept_behind count n old new l number set (Ok block) ok err held = (
-  kept count n old new l (Ok block) ok err held.0,
+preserved_behind count n old new l number set (Ok block) ok err held = (
+  preserved count n old new l (Ok block) ok err held.0,
   subst (λ (h : Host). number < length h.tables) (sym ok) held.1,
   subst (λ (h : Host). set < length h.io_marks) (sym ok) held.2,
 )
-kept_behind count n old new l number set (Err e) ok err held = subst (λ (h : Host). HoldsBehind h l number set) (sym err) held
+preserved_behind count n old new l number set (Err e) ok err held = subst (λ (h : Host). HoldsBehind h l number set) (sym err) held

@@ -9,7 +9,7 @@ use mathlib.Core.List.{map-map}
 use mathlib.Core.Path.{fun_ext}
 use Rattle.vm_iotlb.specs.declared.permissions.Permissions.TheVariants.{Read, Write}
 use Rattle.vm_iotlb.specs.Table.{Table, mapped, unmapped, nothing_mapped}
-use Rattle.vm_iotlb.specs.AddressRuns.{begins_anew_about, goes_on_at}
+use Rattle.vm_iotlb.specs.AddressRuns.{begins_anew_about, carries_on_at}
 use Rattle.vm_memory_core.specs.Host.{Host, Block, unmarked, cleared, with_block, new_block}
 use Rattle.vm_memory_core.specs.Lending.{with_table_at}
 use Rattle.vm_memory.specs.Layout.{Region, fits, overlap, is_region, with_region, without_region}
@@ -28,10 +28,10 @@ use Rattle.plain_machine.specs.Step.{State, Exchange, Calls, StepEnd, Idle, Refu
 use Rattle.plain_machine.specs.Step.{after_return, faulty, served_exchange, with_queue}
 use Rattle.plain_machine.specs.Run as run
 use Rattle.plain_machine.specs.Run.{Turns, Command, Answer, Effect, KickEnds, KickRun, Kicks, KickAnswer, Affects, ChangesTable, HasEffect}
-use Rattle.plain_machine.specs.Run.{Does, IsDecided, Performs, LacksMemory, RunTold, effect}
+use Rattle.plain_machine.specs.Run.{Does, IsDecided, Performs, LacksMemory, RunReported, effect}
 use Rattle.plain_machine.specs.Run.{guest_read, guest_write, make_block, insert, insert_block, remove_region, set_layout, is_known, has_len}
 use Rattle.plain_machine.specs.Run.{some_overlap, reset, with_host}
-use Rattle.plain_machine.specs.Run.{with_layout, with_ranges, goes_in, block_goes_in, command_takes_memory, ends_fit, no}
+use Rattle.plain_machine.specs.Run.{with_layout, with_ranges, fits_in, block_fits_in, command_takes_memory, ends_fit, no}
 use Rattle.fs_device.specs.Marks.{without_marks, without_its_marks, SameButMarks, SameAnswer, SameEvents}
 use Rattle.fs_device.proofs.MarkLemmas.{unmarked_memory, stores_aside, bytes_same, offers_same, notices_same}
 
@@ -75,7 +75,7 @@ module _ {F : Type 0} (s : State F) (h : Host) (same : without_marks s.memory.ho
   returns_alike i q room expected options x notice after r =
       let end = after_return (with_host s h) i q expected.head room expected.reply options after.files in
       let alike = ap (λ (k : State F). k.memory) (return_alike i q room expected options x notice after r) in
-      record { exchange = r.exchange; state = refl; told = r.told ∙ notices_same after.memory end.memory alike q }
+      record { exchange = r.exchange; state = refl; reported = r.reported ∙ notices_same after.memory end.memory alike q }
 
 module _ {F : Type 0} (may : May F) (s : State F) (h : Host) (same : without_marks s.memory.host ≡ without_marks h) where
   exchange_alike : (i : ℕ) (q : Queue) (o : Offer) (calls : Calls) (x : Exchange) (notice : Bool) (after : State F) →
@@ -143,23 +143,23 @@ module _ {F : Type 0} (may : May F) where
   end_alike s t same i (suc most) None after step = step_alike s t same i [] Idle after step
   end_alike s t same i (suc most) (Some e) after step = step_alike s t same i [] (Refused e) after step
 
-  kick_alike : (s t : State F) → SameButMarks s t → (i most : ℕ) (told : Turns) (refused : Option DeviceError) (after : State F) →
-      KickRun may s i most told refused after →
-      Matched (λ end. KickRun may t i most told refused end) after
+  kick_alike : (s t : State F) → SameButMarks s t → (i most : ℕ) (reported : Turns) (refused : Option DeviceError) (after : State F) →
+      KickRun may s i most reported refused after →
+      Matched (λ end. KickRun may t i most reported refused end) after
   unfolding KickRun
   kick_alike s t same i most [] refused after is = end_alike s t same i most refused after is
-  kick_alike s t same i zero (x ∷ told) refused after is = absurd is
-  kick_alike s t same i (suc most) (x ∷ told) refused after (mid, step, rest) =
+  kick_alike s t same i zero (x ∷ reported) refused after is = absurd is
+  kick_alike s t same i (suc most) (x ∷ reported) refused after (mid, step, rest) =
       let first = step_alike s t same i x.calls (Exchanged x.exchange x.notice) mid step in
-      let others = kick_alike mid first.0 first.2 i most told refused after rest in
+      let others = kick_alike mid first.0 first.2 i most reported refused after rest in
       (others.0, (first.0, first.1, others.1), others.2)
 
-  kicks_alike : (s t : State F) → SameButMarks s t → (i most : ℕ) (o : Option Queue) (told : Turns) (k : KickAnswer) (after : State F) →
-      Kicks may s i most o told k after →
-      Matched (λ end. Kicks may t i most o told k end) after
-  kicks_alike s t same i most None told k after is = (t, (refl, is.1, is.2), ap without_its_marks is.0 ∙ same)
-  kicks_alike s t same i most (Some q) told k after is =
-      let all = kick_alike s t same i most told k.refused after is.0 in (all.0, (all.1, is.1), all.2)
+  kicks_alike : (s t : State F) → SameButMarks s t → (i most : ℕ) (o : Option Queue) (reported : Turns) (k : KickAnswer) (after : State F) →
+      Kicks may s i most o reported k after →
+      Matched (λ end. Kicks may t i most o reported k end) after
+  kicks_alike s t same i most None reported k after is = (t, (refl, is.1, is.2), ap without_its_marks is.0 ∙ same)
+  kicks_alike s t same i most (Some q) reported k after is =
+      let all = kick_alike s t same i most reported k.refused after is.0 in (all.0, (all.1, is.1), all.2)
 
 -- ---- what the other commands do
 
@@ -195,12 +195,12 @@ cleared_aside h = ap (λ (blocks : List Block). record (without_marks h) { block
 block_aside : (h : Host) (b : Block) → without_marks (with_block h b) ≡ with_block (without_marks h) (unmarked b)
 block_aside h b = ap (λ (blocks : List Block). record (without_marks h) { blocks = blocks }) (map-append unmarked h.blocks (b ∷ []))
 
-len_kept : (n : ℕ) (o : Option Block) → has_len n (option_map unmarked o) ≡ has_len n o
-len_kept n None = refl
-len_kept n (Some b) = refl
+len_preserved : (n : ℕ) (o : Option Block) → has_len n (option_map unmarked o) ≡ has_len n o
+len_preserved n None = refl
+len_preserved n (Some b) = refl
 
-known_kept : (h : Host) (r : Region) → is_known (without_marks h) r ≡ is_known h r
-known_kept h r = ap (has_len r.size) (slice_get-map unmarked h.blocks r.block) ∙ len_kept r.size (slice_get h.blocks r.block)
+known_preserved : (h : Host) (r : Region) → is_known (without_marks h) r ≡ is_known h r
+known_preserved h r = ap (has_len r.size) (slice_get-map unmarked h.blocks r.block) ∙ len_preserved r.size (slice_get h.blocks r.block)
 
 module _ {F : Type 0} (s : State F) (h : Host) (same : without_marks s.memory.host ≡ without_marks h) where
   refused_alike : (refusal : Refusal) → EffectAlike (no refusal s) (no refusal (with_host s h))
@@ -214,9 +214,9 @@ module _ {F : Type 0} (s : State F) (h : Host) (same : without_marks s.memory.ho
 
   read_alike : (a n : ℕ) → EffectAlike (guest_read s a n) (guest_read (with_host s h) a n)
   read_alike a n =
-      let told = ap (λ (f : ℕ → ℕ). run.Bytes (map f (addresses a n)))
+      let reported = ap (λ (f : ℕ → ℕ). run.Bytes (map f (addresses a n)))
       (sym (bytes_same (physical s.memory) (physical (with_host s h).memory) physical_alike)) in
-      either_alike (reach (physical s.memory) Read a n) _ _ _ _ (record { answer = told; state = same_state s h same })
+      either_alike (reach (physical s.memory) Read a n) _ _ _ _ (record { answer = reported; state = same_state s h same })
       (refused_alike why.NoPlace)
 
   write_alike : (a : ℕ) (bs : List ℕ) → EffectAlike (guest_write s a bs) (guest_write (with_host s h) a bs)
@@ -263,7 +263,7 @@ module _ {F : Type 0} (s : State F) (h : Host) (same : without_marks s.memory.ho
   layout_alike : (layout : List Region) → EffectAlike (set_layout s layout) (set_layout (with_host s h) layout)
   layout_alike layout =
       let known : is_known s.memory.host ≡ is_known h =
-      sym (fun_ext (known_kept s.memory.host)) ∙ ap is_known same ∙ fun_ext (known_kept h) in
+      sym (fun_ext (known_preserved s.memory.host)) ∙ ap is_known same ∙ fun_ext (known_preserved h) in
       either_as _ _ _ _ _ _ (ap (λ (f : Region → Bool). not (list_all f layout)) known) (refused_alike why.UnknownBlock)
       (either_alike (not (list_all fits layout)) _ _ _ _ (refused_alike why.BadRegion)
       (either_alike (some_overlap layout) _ _ _ _ (refused_alike why.Overlap)
@@ -309,13 +309,13 @@ answered_so : {F : Type 0} (Can : Answer → State F → Type 0) (answer : Answe
     AnsweredAlike Can answer after
 answered_so Can answer after m = (answer, m.0, same_answer answer, m.1, m.2)
 
-goes_alike : (layout : List Region) (base block : ℕ) (o p : Option Block) → option_map unmarked o ≡ option_map unmarked p →
-    block_goes_in layout base block o ≡ block_goes_in layout base block p
-goes_alike layout base block None None is = refl
-goes_alike layout base block None (Some c) is = absurd (cc)
-goes_alike layout base block (Some b) None is = absurd (cc)
-goes_alike layout base block (Some b) (Some c) is =
-    ap (λ (n : ℕ). goes_in layout (record { start = base; size = n; block = block }))
+proceeds_alike : (layout : List Region) (base block : ℕ) (o p : Option Block) → option_map unmarked o ≡ option_map unmarked p →
+    block_fits_in layout base block o ≡ block_fits_in layout base block p
+proceeds_alike layout base block None None is = refl
+proceeds_alike layout base block None (Some c) is = absurd (cc)
+proceeds_alike layout base block (Some b) None is = absurd (cc)
+proceeds_alike layout base block (Some b) (Some c) is =
+    ap (λ (n : ℕ). fits_in layout (record { start = base; size = n; block = block }))
     (ap (λ (o : Option Block). unwrap_or (option_map (λ b. length b.bytes) o) 0) is)
 
 module _ {F : Type 0} (s : State F) (h : Host) (same : without_marks s.memory.host ≡ without_marks h) where
@@ -323,11 +323,11 @@ module _ {F : Type 0} (s : State F) (h : Host) (same : without_marks s.memory.ho
   table_alike = ap (λ (k : Host). table_in k s.memory.table) same
 
   takes_alike : (command : Command) → command_takes_memory s command ≡ command_takes_memory (with_host s h) command
-  takes_alike (run.InsertRegion base block) = goes_alike s.memory.layout base block _ _ (there_alike s h same block)
+  takes_alike (run.InsertRegion base block) = proceeds_alike s.memory.layout base block _ _ (there_alike s h same block)
   takes_alike (run.Map iova target n perm) =
       ap (λ (t : Table). (nat_lt 0 n && (ends_fit iova n && ends_fit target n))
       && begins_anew_about t (mapped iova target n perm t) iova (iova + n)) table_alike
-  takes_alike (run.Unmap iova n) = ap (λ (t : Table). (nat_lt 0 n && ends_fit iova n) && goes_on_at t (iova + n)) table_alike
+  takes_alike (run.Unmap iova n) = ap (λ (t : Table). (nat_lt 0 n && ends_fit iova n) && carries_on_at t (iova + n)) table_alike
   takes_alike _ = refl
 
   change_alike : (fit : Bool) (table : Table) (answer : Answer) (after : State F) → ChangesTable s fit table answer after →
@@ -375,15 +375,15 @@ module _ {F : Type 0} (s : State F) (h : Host) (same : without_marks s.memory.ho
   affect_alike (run.Kick i most) answer after t = absurd t
   affect_alike command answer after t = answered_by_effect command answer after t
 
-  has_effect_alike : (command : Command) (told : Turns) (answer : Answer) (after : State F) → HasEffect s command told answer after →
-      AnsweredAlike (λ other end. HasEffect (with_host s h) command told other end) answer after
+  has_effect_alike : (command : Command) (reported : Turns) (answer : Answer) (after : State F) → HasEffect s command reported answer after
+      → AnsweredAlike (λ other end. HasEffect (with_host s h) command reported other end) answer after
   has_effect_alike command [] answer after t = affect_alike command answer after t
-  has_effect_alike command (x ∷ told) answer after t = absurd t
+  has_effect_alike command (x ∷ reported) answer after t = absurd t
 
-  lack_alike : (command : Command) (told : Turns) (after : State F) → LacksMemory s command told after →
-      Matched (λ end. LacksMemory (with_host s h) command told end) after
+  lack_alike : (command : Command) (reported : Turns) (after : State F) → LacksMemory s command reported after →
+      Matched (λ end. LacksMemory (with_host s h) command reported end) after
   lack_alike command [] after t = (with_host s h, (subst IsTrue (takes_alike command) t.0, refl), unchanged_alike s h same after t.1)
-  lack_alike command (x ∷ told) after t = absurd t
+  lack_alike command (x ∷ reported) after t = absurd t
 
 -- an answer that isn't a failed allocation
 abbrev Suffices : Answer → Type 0
@@ -392,55 +392,59 @@ Suffices answer = Unit {0}
 
 module _ {F : Type 0} (may : May F) where
   does_alike : (s : State F) (h : Host) → without_marks s.memory.host ≡ without_marks h →
-      (command : Command) (told : Turns) (answer : Answer) (after : State F) →
-      Does may s command told answer after → AnsweredAlike (λ other end. Does may (with_host s h) command told other end) answer after
-  does_alike s h same (run.Kick i most) told (run.Served k) after t =
-      answered_so (λ other end. Does may (with_host s h) (run.Kick i most) told other end) (run.Served k) after
-      (kicks_alike may s (with_host s h) (same_state s h same) i most (slice_get s.queues i) told k after t)
-  does_alike s h same (run.Kick i most) told answer after t = absurd t
-  does_alike s h same command told answer after t = has_effect_alike s h same command told answer after t
+      (command : Command) (reported : Turns) (answer : Answer) (after : State F) →
+      Does may s command reported answer after → AnsweredAlike (λ other end. Does may (with_host s h) command reported other end) answer
+      after
+  does_alike s h same (run.Kick i most) reported (run.Served k) after t =
+      answered_so (λ other end. Does may (with_host s h) (run.Kick i most) reported other end) (run.Served k) after
+      (kicks_alike may s (with_host s h) (same_state s h same) i most (slice_get s.queues i) reported k after t)
+  does_alike s h same (run.Kick i most) reported answer after t = absurd t
+  does_alike s h same command reported answer after t = has_effect_alike s h same command reported answer after t
 
   performed :
-      (s : State F) (command : Command) (told : Turns) (answer other : Answer) (end : State F) → Suffices answer → SameAnswer answer other →
-      Does may s command told other end → Performs may s command told other end
-  performed s command told (run.IsRefused why.OutOfMemory) other end enough same does = absurd enough
-  performed s command told (run.Pages old) (run.Pages new) end enough same does = does
-  performed s command told (run.Pages old) other end enough same does = absurd same
-  performed s command told (run.Copied old) (run.Copied new) end enough same does = does
-  performed s command told (run.Copied old) other end enough same does = absurd same
-  performed s command told answer other end enough same does =
-      subst (λ (a : Answer). Performs may s command told a end) (sym same) (subst (λ (a : Answer). Does may s command told a end) same does)
+      (s : State F) (command : Command) (reported : Turns) (answer other : Answer) (end : State F) → Suffices answer
+      → SameAnswer answer other →
+      Does may s command reported other end → Performs may s command reported other end
+  performed s command reported (run.IsRefused why.OutOfMemory) other end enough same does = absurd enough
+  performed s command reported (run.Pages old) (run.Pages new) end enough same does = does
+  performed s command reported (run.Pages old) other end enough same does = absurd same
+  performed s command reported (run.Copied old) (run.Copied new) end enough same does = does
+  performed s command reported (run.Copied old) other end enough same does = absurd same
+  performed s command reported answer other end enough same does =
+      subst (λ (a : Answer). Performs may s command reported a end) (sym same)
+      (subst (λ (a : Answer). Does may s command reported a end) same does)
 
   performs_over : (s : State F) (h : Host) → without_marks s.memory.host ≡ without_marks h →
-      (command : Command) (told : Turns) (answer : Answer) (after : State F) →
-      Performs may s command told answer after →
-      AnsweredAlike (λ other end. Performs may (with_host s h) command told other end) answer after
-  performs_over s h same command told (run.IsRefused why.OutOfMemory) after t =
-      answered_so (λ other end. Performs may (with_host s h) command told other end) (run.IsRefused why.OutOfMemory) after
-      (lack_alike s h same command told after t)
-  performs_over s h same command told answer after t =
-      let new = does_alike s h same command told answer after t in
-      (new.0, new.1, new.2, performed (with_host s h) command told answer new.0 new.1 tt new.2 new.3, new.4)
+      (command : Command) (reported : Turns) (answer : Answer) (after : State F) →
+      Performs may s command reported answer after →
+      AnsweredAlike (λ other end. Performs may (with_host s h) command reported other end) answer after
+  performs_over s h same command reported (run.IsRefused why.OutOfMemory) after t =
+      answered_so (λ other end. Performs may (with_host s h) command reported other end) (run.IsRefused why.OutOfMemory) after
+      (lack_alike s h same command reported after t)
+  performs_over s h same command reported answer after t =
+      let new = does_alike s h same command reported answer after t in
+      (new.0, new.1, new.2, performed (with_host s h) command reported answer new.0 new.1 tt new.2 new.3, new.4)
 
-  performs_alike : (s t : State F) → SameButMarks s t → (command : Command) (told : Turns) (answer : Answer) (after : State F) →
-      Performs may s command told answer after →
-      AnsweredAlike (λ other end. Performs may t command told other end) answer after
-  performs_alike s t same command told answer after performs =
-      over_host s t (λ (k : State F). AnsweredAlike (λ other end. Performs may k command told other end) answer after) same
-      (λ h alike. performs_over s h alike command told answer after performs)
+  performs_alike : (s t : State F) → SameButMarks s t → (command : Command) (reported : Turns) (answer : Answer) (after : State F) →
+      Performs may s command reported answer after →
+      AnsweredAlike (λ other end. Performs may t command reported other end) answer after
+  performs_alike s t same command reported answer after performs =
+      over_host s t (λ (k : State F). AnsweredAlike (λ other end. Performs may k command reported other end) answer after) same
+      (λ h alike. performs_over s h alike command reported answer after performs)
 
   -- ---- runs
 
   -- a run from a state that differs in marks alone
   pub run_alike :
-      (s t after : State F) (events : List (Command × Answer)) (tolds : List Turns) → SameButMarks s t → RunTold may s events tolds after →
-      (others : List (Command × Answer)) × (end : State F) × SameEvents events others × RunTold may t others tolds end
+      (s t after : State F) (events : List (Command × Answer)) (all_reported : List Turns) → SameButMarks s t
+      → RunReported may s events all_reported after →
+      (others : List (Command × Answer)) × (end : State F) × SameEvents events others × RunReported may t others all_reported end
       × SameButMarks after end
-  unfolding RunTold
+  unfolding RunReported
   run_alike s t after [] [] same ran = ([], t, tt, refl, ap without_its_marks ran ∙ same)
-  run_alike s t after [] (told ∷ tolds) same ran = absurd ran
+  run_alike s t after [] (reported ∷ all_reported) same ran = absurd ran
   run_alike s t after (e ∷ es) [] same ran = absurd ran
-  run_alike s t after (e ∷ es) (told ∷ tolds) same (mid, performs, rest) =
-      let first = performs_alike s t same e.0 told e.1 mid performs in
-      let others = run_alike mid first.1 after es tolds first.4 rest in
+  run_alike s t after (e ∷ es) (reported ∷ all_reported) same (mid, performs, rest) =
+      let first = performs_alike s t same e.0 reported e.1 mid performs in
+      let others = run_alike mid first.1 after es all_reported first.4 rest in
       ((e.0, first.0) ∷ others.0, others.1, (refl, first.2, others.2), (first.1, first.3, others.3), others.4)

@@ -148,20 +148,20 @@ by_entry : (n : ℕ) (o : Opcode) (c : FileCall) (unique : ℕ) (a : FileAnswer)
     kind_of c ≡ call.IsEntry →
     ((bytes : List ℕ) → suits c (call.Bytes bytes) ≡ false) → IsTrue (suits c a) →
     Counted n o unique c a
-by_entry n o c unique (call.Failed errno) begins told kind no_bytes fits = failed_counts n o unique errno
-by_entry n o c unique call.Done begins told kind no_bytes fits = not_true (rw kind at fits)
-by_entry n o c unique (call.HasEntry e) begins told kind no_bytes fits =
-    rw told (entry_alone n o unique e begins (node_fits e.inode (rw kind at fits)))
-by_entry n o c unique (call.HasAttr attr timeout) begins told kind no_bytes fits = not_true (rw kind at fits)
-by_entry n o c unique (call.Opened handle options) begins told kind no_bytes fits = not_true (rw kind at fits)
-by_entry n o c unique (call.Created e handle options) begins told kind no_bytes fits = not_true (rw kind at fits)
-by_entry n o c unique (call.Bytes bytes) begins told kind no_bytes fits = not_true (sym (no_bytes bytes) ∙ fits)
-by_entry n o c unique (call.Count k) begins told kind no_bytes fits = not_true (rw kind at fits)
-by_entry n o c unique (call.Stats st) begins told kind no_bytes fits = not_true (rw kind at fits)
-by_entry n o c unique (call.Wrote k) begins told kind no_bytes fits = not_true (rw kind at fits)
-by_entry n o c unique (call.Offset k) begins told kind no_bytes fits = not_true (rw kind at fits)
-by_entry n o c unique (call.Entries ds) begins told kind no_bytes fits = not_true (rw kind at fits)
-by_entry n o c unique (call.Wants options) begins told kind no_bytes fits = not_true (rw kind at fits)
+by_entry n o c unique (call.Failed errno) begins reported kind no_bytes fits = failed_counts n o unique errno
+by_entry n o c unique call.Done begins reported kind no_bytes fits = not_true (rw kind at fits)
+by_entry n o c unique (call.HasEntry e) begins reported kind no_bytes fits =
+    rw reported (entry_alone n o unique e begins (node_fits e.inode (rw kind at fits)))
+by_entry n o c unique (call.HasAttr attr timeout) begins reported kind no_bytes fits = not_true (rw kind at fits)
+by_entry n o c unique (call.Opened handle options) begins reported kind no_bytes fits = not_true (rw kind at fits)
+by_entry n o c unique (call.Created e handle options) begins reported kind no_bytes fits = not_true (rw kind at fits)
+by_entry n o c unique (call.Bytes bytes) begins reported kind no_bytes fits = not_true (sym (no_bytes bytes) ∙ fits)
+by_entry n o c unique (call.Count k) begins reported kind no_bytes fits = not_true (rw kind at fits)
+by_entry n o c unique (call.Stats st) begins reported kind no_bytes fits = not_true (rw kind at fits)
+by_entry n o c unique (call.Wrote k) begins reported kind no_bytes fits = not_true (rw kind at fits)
+by_entry n o c unique (call.Offset k) begins reported kind no_bytes fits = not_true (rw kind at fits)
+by_entry n o c unique (call.Entries ds) begins reported kind no_bytes fits = not_true (rw kind at fits)
+by_entry n o c unique (call.Wants options) begins reported kind no_bytes fits = not_true (rw kind at fits)
 
 -- if both hold, the first does
 first_holds : (a b : Bool) → (a && b) ≡ true → a ≡ true
@@ -172,21 +172,21 @@ by_creation : (n : ℕ) (o : Opcode) (c : FileCall) (unique : ℕ) (a : FileAnsw
     kind_of c ≡ call.IsCreate →
     ((bytes : List ℕ) → suits c (call.Bytes bytes) ≡ false) → IsTrue (suits c a) →
     Counted n o unique c a
-by_creation n o c unique (call.Failed errno) begins told kind no_bytes fits = failed_counts n o unique errno
-by_creation n o c unique call.Done begins told kind no_bytes fits = not_true (rw kind at fits)
-by_creation n o c unique (call.HasEntry e) begins told kind no_bytes fits = not_true (rw kind at fits)
-by_creation n o c unique (call.HasAttr attr timeout) begins told kind no_bytes fits = not_true (rw kind at fits)
-by_creation n o c unique (call.Opened handle options) begins told kind no_bytes fits = not_true (rw kind at fits)
-by_creation n o c unique (call.Created e handle options) begins told kind no_bytes fits =
-    rw told (entry_counts n o unique e (spelled (open_out (open_out_of handle options))) begins
+by_creation n o c unique (call.Failed errno) begins reported kind no_bytes fits = failed_counts n o unique errno
+by_creation n o c unique call.Done begins reported kind no_bytes fits = not_true (rw kind at fits)
+by_creation n o c unique (call.HasEntry e) begins reported kind no_bytes fits = not_true (rw kind at fits)
+by_creation n o c unique (call.HasAttr attr timeout) begins reported kind no_bytes fits = not_true (rw kind at fits)
+by_creation n o c unique (call.Opened handle options) begins reported kind no_bytes fits = not_true (rw kind at fits)
+by_creation n o c unique (call.Created e handle options) begins reported kind no_bytes fits =
+    rw reported (entry_counts n o unique e (spelled (open_out (open_out_of handle options))) begins
     (node_fits e.inode (first_holds (nat_lt e.inode (2 ^ 64)) (call.is_handle handle) (rw kind at fits))))
-by_creation n o c unique (call.Bytes bytes) begins told kind no_bytes fits = not_true (sym (no_bytes bytes) ∙ fits)
-by_creation n o c unique (call.Count k) begins told kind no_bytes fits = not_true (rw kind at fits)
-by_creation n o c unique (call.Stats st) begins told kind no_bytes fits = not_true (rw kind at fits)
-by_creation n o c unique (call.Wrote k) begins told kind no_bytes fits = not_true (rw kind at fits)
-by_creation n o c unique (call.Offset k) begins told kind no_bytes fits = not_true (rw kind at fits)
-by_creation n o c unique (call.Entries ds) begins told kind no_bytes fits = not_true (rw kind at fits)
-by_creation n o c unique (call.Wants options) begins told kind no_bytes fits = not_true (rw kind at fits)
+by_creation n o c unique (call.Bytes bytes) begins reported kind no_bytes fits = not_true (sym (no_bytes bytes) ∙ fits)
+by_creation n o c unique (call.Count k) begins reported kind no_bytes fits = not_true (rw kind at fits)
+by_creation n o c unique (call.Stats st) begins reported kind no_bytes fits = not_true (rw kind at fits)
+by_creation n o c unique (call.Wrote k) begins reported kind no_bytes fits = not_true (rw kind at fits)
+by_creation n o c unique (call.Offset k) begins reported kind no_bytes fits = not_true (rw kind at fits)
+by_creation n o c unique (call.Entries ds) begins reported kind no_bytes fits = not_true (rw kind at fits)
+by_creation n o c unique (call.Wants options) begins reported kind no_bytes fits = not_true (rw kind at fits)
 
 -- calls that have an entry, or none, and take no count back
 quiet_call : (n : ℕ) (o : Opcode) (c : FileCall) → replies_entry o ≡ false → lists_nodes o ≡ false → has_entry (kind_of c) ≡ false →
@@ -197,12 +197,13 @@ quiet_call n o c a b without keeps = (other_fits n o c a b without, keeps)
 entry_call : (n : ℕ) (o : Opcode) (c : FileCall) → replies_entry o ≡ true → is_silent c ≡ false → kind_of c ≡ call.IsEntry →
     ((bytes : List ℕ) → suits c (call.Bytes bytes) ≡ false) →
     forget_count n c ≡ 0 → CallFits n (Some o) c × (forget_count n c ≡ 0)
-entry_call n o c begins told kind no_bytes keeps = (λ unique a fits. by_entry n o c unique a begins told kind no_bytes fits, keeps)
+entry_call n o c begins reported kind no_bytes keeps = (λ unique a fits. by_entry n o c unique a begins reported kind no_bytes fits, keeps)
 
 creating_call : (n : ℕ) (o : Opcode) (c : FileCall) → replies_entry o ≡ true → is_silent c ≡ false → kind_of c ≡ call.IsCreate →
     ((bytes : List ℕ) → suits c (call.Bytes bytes) ≡ false) →
     forget_count n c ≡ 0 → CallFits n (Some o) c × (forget_count n c ≡ 0)
-creating_call n o c begins told kind no_bytes keeps = (λ unique a fits. by_creation n o c unique a begins told kind no_bytes fits, keeps)
+creating_call n o c begins reported kind no_bytes keeps =
+    (λ unique a fits. by_creation n o c unique a begins reported kind no_bytes fits, keeps)
 
 -- ---- rows of the grammar
 

@@ -21,13 +21,13 @@ use Rattle.fs_queue.specs.Queue.{Queue}
 use Rattle.fs_record.specs.Laws.{OneReading}
 use Rattle.fs_record.specs.Record.{Second, IsRecordFor, IsSavable}
 use Rattle.fs_device.specs.DevicePartsView.{DeviceParts, device_bytes}
-use Rattle.fs_record.specs.Streams.{GoesOut}
+use Rattle.fs_record.specs.Streams.{Leaves}
 use Rattle.virtiofsd_fuse.specs.Serving.{May}
 use Rattle.fs_device.specs.declared.command.Answer as said
 use Rattle.fs_device.specs.declared.command.Command as fetched
 use Rattle.plain_machine.specs.Step.{State}
 use Rattle.plain_machine.specs.Run as run
-use Rattle.plain_machine.specs.Run.{Command, Answer, Turns, Performs, RunTold, Run, with_host}
+use Rattle.plain_machine.specs.Run.{Command, Answer, Turns, Performs, RunReported, Run, with_host}
 use Rattle.fs_device.specs.CommandView.{answer_of, command_of}
 use Rattle.fs_device.specs.Moving.{CanMoveAgain, HasItsMarks, ImageCatchesUp, RunsFromImage, follows_image, pages_answered, pages_of_answer}
 use Rattle.fs_device.proofs.LayoutLemmas.{page_count-is}
@@ -125,10 +125,10 @@ answered_next : (first now new whole : Host) (answers : List said.Answer) (i : �
 answered_next first now new whole answers i a ps lt is has put same left =
     let rest = pages_of_answers (drop (i + 1) answers) in
     let next = pages_from answers i a ps lt is has in
-    let kept : lengths new ≡ lengths now = ap (λ (s : Shape). s.block_lengths) same in
+    let preserved : lengths new ≡ lengths now = ap (λ (s : Shape). s.block_lengths) same in
     let there = subst (HavePlaces (lengths now)) next left.1 in (
       ap (λ (h : Host). pages_put h rest) put ∙ sym (pages_put-append now ps rest) ∙ sym (ap (pages_put now) next) ∙ left.0,
-      subst (λ (ls : List ℕ). HavePlaces ls rest) (sym kept) (places_back (lengths now) ps rest 0 (there 0)),
+      subst (λ (ls : List ℕ). HavePlaces ls rest) (sym preserved) (places_back (lengths now) ps rest 0 (there 0)),
       same ∙ left.2,
     )
 
@@ -163,33 +163,33 @@ answered_all first now whole answers i ge left =
 
 -- one run after another
 runs_joined :
-    {F : Type 0} (may : May F) (s mid after : State F) (es fs : List (Command × Answer)) (ts us : List Turns) → RunTold may s es ts mid →
-    RunTold may mid fs us after → RunTold may s (es ++ fs) (ts ++ us) after
-unfolding RunTold
-runs_joined may s mid after [] fs [] us one other = subst (λ k. RunTold may k fs us after) one other
+    {F : Type 0} (may : May F) (s mid after : State F) (es fs : List (Command × Answer)) (ts us : List Turns) → RunReported may s es ts mid
+    → RunReported may mid fs us after → RunReported may s (es ++ fs) (ts ++ us) after
+unfolding RunReported
+runs_joined may s mid after [] fs [] us one other = subst (λ k. RunReported may k fs us after) one other
 runs_joined may s mid after [] fs (t ∷ ts) us one other = absurd one
 runs_joined may s mid after (e ∷ es) fs [] us one other = absurd one
 runs_joined may s mid after (e ∷ es) fs (t ∷ ts) us (k, performs, rest) other =
     (k, performs, runs_joined may k mid after es fs ts us rest other)
 
 one_command : {F : Type 0} (may : May F) (s after : State F) (e : Command × Answer) → Performs may s e.0 [] e.1 after →
-    RunTold may s (e ∷ []) ([] ∷ []) after
-unfolding RunTold
+    RunReported may s (e ∷ []) ([] ∷ []) after
+unfolding RunReported
 one_command may s after e performs = (after, performs, refl)
 
 one_before : {F : Type 0} (may : May F) (s mid after : State F) (e : Command × Answer) (es : List (Command × Answer)) (ts : List Turns) →
-    Performs may s e.0 [] e.1 mid → RunTold may mid es ts after →
-    RunTold may s (e ∷ es) ([] ∷ ts) after
-unfolding RunTold
+    Performs may s e.0 [] e.1 mid → RunReported may mid es ts after →
+    RunReported may s (e ∷ es) ([] ∷ ts) after
+unfolding RunReported
 one_before may s mid after e es ts performs rest = (mid, performs, rest)
 
 -- commands between an image and a harvest
 between : {F : Type 0} (may : May F) (s began mid after : State F) (image harvest : Answer) (events : List (Command × Answer)) →
     Performs may s run.Image [] image began → Run may began events mid → Performs may mid run.Harvest [] harvest after →
     Run may s ((run.Image, image) ∷ events ++ (run.Harvest, harvest) ∷ []) after
-between may s began mid after image harvest events imaged (tolds, did) harvested =
-    let all = runs_joined may began mid after events _ tolds _ did (one_command may mid after (run.Harvest, harvest) harvested) in
-    ([] ∷ (tolds ++ [] ∷ []), one_before may s began after (run.Image, image) _ _ imaged all)
+between may s began mid after image harvest events imaged (all_reported, did) harvested =
+    let all = runs_joined may began mid after events _ all_reported _ did (one_command may mid after (run.Harvest, harvest) harvested) in
+    ([] ∷ (all_reported ++ [] ∷ []), one_before may s began after (run.Image, image) _ _ imaged all)
 
 -- each command may follow an image
 abbrev CanFollow : List fetched.Command → Type 0
@@ -229,12 +229,12 @@ pub stays_off : {F : Type 0} (may : May F) (s began mid : State F) (copy : Host)
     CanMoveAgain may →
     s.memory.translates ≡ false → HasItsMarks s.memory.host → CanFollow cs →
     Performs may s run.Image [] (run.Copied copy) began → Run may began (with_answers cs answers) mid → mid.memory.translates ≡ false
-stays_off may s began mid copy cs answers law off marks follow imaged (tolds, did) =
+stays_off may s began mid copy cs answers law off marks follow imaged (all_reported, did) =
     let from : RunsFromImage may s copy (with_answers cs answers) mid = record {
       off = off;
       marks = marks;
       follow = all_follow cs answers follow;
-      run = ([] ∷ tolds, one_before may s began mid (run.Image, run.Copied copy) _ _ imaged did);
+      run = ([] ∷ all_reported, one_before may s began mid (run.Image, run.Copied copy) _ _ imaged did);
     } in
     (law s mid copy (with_answers cs answers) from).0
 
@@ -282,7 +282,7 @@ both_err (Err e) f p q = f e p q
 -- what was saved and read back is what was saved
 pub brought : {F E : Type 0} (r : Result (Unit {0}) E) (d : DeviceParts F) (page_size limit options : ℕ) (queues : List Queue)
     (had has left rest taken : List ℕ) (failed fails : Bool)
-    → OneReading → is_err r ≡ false → had ≡ [] → GoesOut (device_bytes d) (Some had) failed r (Some has) fails
+    → OneReading → is_err r ≡ false → had ≡ [] → Leaves (device_bytes d) (Some had) failed r (Some has) fails
     → OnOk r (IsSavable d.options d.queues) → d.page_size < 2 ^ 32 → d.limit < 2 ^ 64
     → left ≡ has → left ≡ taken ++ rest → IsRecordFor taken page_size limit options queues → (options ≡ d.options) × (queues ≡ d.queues)
 brought (Err x) d page_size limit options queues had has left rest taken failed fails law ok none out savable small low same read is =
@@ -301,8 +301,8 @@ pub put_whole : (copy one two : Host) (xs ys : List Page) (r : Result (Unit {0})
     shape one ≡ shape copy → first_refused (lengths copy) 0 (xs ++ ys) ≡ None →
     r ≡ applied (first_refused (lengths one) 0 ys) → OnOk r (two ≡ pages_put one ys) → two ≡ pages_put copy (xs ++ ys)
 put_whole copy one two xs ys r put same places outcome ok =
-    let kept : lengths one ≡ lengths copy = ap (λ (s : Shape). s.block_lengths) same in
-    let none = ap (λ (ls : List ℕ). first_refused ls 0 ys) kept ∙ (places_split (lengths copy) xs ys places).1 in
+    let preserved : lengths one ≡ lengths copy = ap (λ (s : Shape). s.block_lengths) same in
+    let none = ap (λ (ls : List ℕ). first_refused ls 0 ys) preserved ∙ (places_split (lengths copy) xs ys places).1 in
     put_all r _ outcome none ok ∙ ap (λ (h : Host). pages_put h ys) put ∙ sym (pages_put-append copy xs ys)
 
 -- the pages of answers and of a last harvest are those that the run answered
@@ -330,7 +330,7 @@ is_moved {F} may s here there copy events last ps law from same is =
       from = from;
       over = over;
       same = whole;
-      goes_on = λ later tolds end ran.
-          runs_joined may s here end ((run.Image, run.Copied copy) ∷ until_harvest events last) later done.0 tolds done.1
-          (subst (λ (k : State F). RunTold may k later tolds end) whole ran);
+      carries_on = λ later all_reported end ran.
+          runs_joined may s here end ((run.Image, run.Copied copy) ∷ until_harvest events last) later done.0 all_reported done.1
+          (subst (λ (k : State F). RunReported may k later all_reported end) whole ran);
     }

@@ -29,7 +29,7 @@ use Rattle.plain_machine.specs.declared.refusal.Refusal.TheVariants as why
 use Rattle.plain_machine.specs.Step.{State, Exchange, Calls, Idle, Refused, Exchanged, Exchanges, StepOf}
 use Rattle.plain_machine.specs.Run as run
 use Rattle.plain_machine.specs.Run.{Turns, Command, Answer, Effect, KickEnds, KickRun, Kicks, KickAnswer, HasEffect, Does, Performs}
-use Rattle.plain_machine.specs.Run.{RunTold, Affects, effect, insert}
+use Rattle.plain_machine.specs.Run.{RunReported, Affects, effect, insert}
 use Rattle.plain_machine.specs.Run.{insert_block, is_known, some_overlap, reset}
 use Rattle.fs_device.specs.Moving.{follows_image, made_over, pages_of_answer, pages_answered, HasItsMarks, IsStale, MovedIsLast, page_mark}
 use Rattle.fs_device.specs.Moving.{RunsFromImage}
@@ -108,166 +108,180 @@ end_held may image s i (suc most) None after t h = idle_held may image s i (slic
 end_held may image s i (suc most) (Some e) after t h = refused_held may image s i (slice_get s.queues i) [] e after t h
 
 kick_held :
-    {F : Type 0} (may : May F) (image : Host) (s : State F) (i most : ℕ) (told : Turns) (refused : Option DeviceError) (after : State F) →
-    KickRun may s i most told refused after → HeldIn image s → HeldIn image after
+    {F : Type 0} (may : May F) (image : Host) (s : State F) (i most : ℕ) (reported : Turns) (refused : Option DeviceError) (after : State F)
+    → KickRun may s i most reported refused after → HeldIn image s → HeldIn image after
 unfolding KickRun
 kick_held may image s i most [] refused after t h = end_held may image s i most refused after t h
-kick_held may image s i zero (x ∷ told) refused after t h = absurd t
-kick_held may image s i (suc most) (x ∷ told) refused after (mid, step, rest) h =
-    kick_held may image mid i most told refused after rest
+kick_held may image s i zero (x ∷ reported) refused after t h = absurd t
+kick_held may image s i (suc most) (x ∷ reported) refused after (mid, step, rest) h =
+    kick_held may image mid i most reported refused after rest
     (step_held may image s i (slice_get s.queues i) x.calls x.exchange x.notice mid step h)
 
-kicks_held : {F : Type 0} (may : May F) (image : Host) (s : State F) (i most : ℕ) (o : Option Queue) (told : Turns) (k : KickAnswer)
+kicks_held : {F : Type 0} (may : May F) (image : Host) (s : State F) (i most : ℕ) (o : Option Queue) (reported : Turns) (k : KickAnswer)
     (after : State F) →
-    Kicks may s i most o told k after → HeldIn image s → HeldIn image after
-kicks_held may image s i most None told k after t h = subst (HeldIn image) (sym t.0) h
-kicks_held may image s i most (Some q) told k after t h = kick_held may image s i most told k.refused after t.0 h
+    Kicks may s i most o reported k after → HeldIn image s → HeldIn image after
+kicks_held may image s i most None reported k after t h = subst (HeldIn image) (sym t.0) h
+kicks_held may image s i most (Some q) reported k after t h = kick_held may image s i most reported k.refused after t.0 h
 
 -- ---- commands
 
 -- the image with an answer's pages, which have their places and leave its lengths, tracks the state
-abbrev GoesOn : {F : Type 0} → Host → Effect F → Type 0
-GoesOn image (answer, after) =
+abbrev Continues : {F : Type 0} → Host → Effect F → Type 0
+Continues image (answer, after) =
     HeldIn (pages_put image (pages_of_answer answer)) after × HavePlaces (lengths image) (pages_of_answer answer)
     × (lengths (pages_put image (pages_of_answer answer)) ≡ lengths image)
 
 -- if no page is answered
-goes : (image : Host) {on : Bool} {host : Host} → (on ≡ false) × Tracks image host →
+proceeds : (image : Host) {on : Bool} {host : Host} → (on ≡ false) × Tracks image host →
     ((on ≡ false) × Tracks (pages_put image []) host) × HavePlaces (lengths image) [] × (lengths (pages_put image []) ≡ lengths image)
 unfolding pages_put first_refused
-goes image h = (h, λ i. refl, refl)
+proceeds image h = (h, λ i. refl, refl)
 
-whichever : {F : Type 0} (image : Host) (b : Bool) (x y : Effect F) → GoesOn image x → GoesOn image y → GoesOn image (if b then x else y)
+whichever : {F : Type 0} (image : Host) (b : Bool) (x y : Effect F) → Continues image x → Continues image y
+    → Continues image (if b then x else y)
 whichever image true x y p q = p
 whichever image false x y p q = q
 
-insert_goes : {F : Type 0} (image : Host) (s : State F) (r : Region) → HeldIn image s → GoesOn image (insert s r)
-insert_goes image s r h = whichever image (not (fits r)) _ _ (goes image h)
-    (whichever image (list_any (overlap r) s.memory.layout) _ _ (goes image h) (goes image h))
+insert_proceeds : {F : Type 0} (image : Host) (s : State F) (r : Region) → HeldIn image s → Continues image (insert s r)
+insert_proceeds image s r h = whichever image (not (fits r)) _ _ (proceeds image h)
+    (whichever image (list_any (overlap r) s.memory.layout) _ _ (proceeds image h) (proceeds image h))
 
-block_goes : {F : Type 0} (image : Host) (s : State F) (base block : ℕ) (o : Option Block) → HeldIn image s →
-    GoesOn image (insert_block s base block o)
-block_goes image s base block None h = goes image h
-block_goes image s base block (Some b) h = insert_goes image s _ h
+block_proceeds : {F : Type 0} (image : Host) (s : State F) (base block : ℕ) (o : Option Block) → HeldIn image s →
+    Continues image (insert_block s base block o)
+block_proceeds image s base block None h = proceeds image h
+block_proceeds image s base block (Some b) h = insert_proceeds image s _ h
 
-reset_goes :
-    {F : Type 0} (image : Host) (s : State F) (i : ℕ) (anew : Queue) (o : Option Queue) → HeldIn image s → GoesOn image (reset s i anew o)
-reset_goes image s i anew None h = goes image h
-reset_goes image s i anew (Some q) h = goes image h
+reset_proceeds :
+    {F : Type 0} (image : Host) (s : State F) (i : ℕ) (anew : Queue) (o : Option Queue) → HeldIn image s
+    → Continues image (reset s i anew o)
+reset_proceeds image s i anew None h = proceeds image h
+reset_proceeds image s i anew (Some q) h = proceeds image h
 
-switch_goes : {F : Type 0} (image : Host) (s : State F) (on : Bool) → IsTrue (not on) → HeldIn image s → GoesOn image (run.set_iommu s on)
-switch_goes image s true follows h = absurd (cc)
-switch_goes image s false follows h = goes image (refl, h.1)
+switch_proceeds : {F : Type 0} (image : Host) (s : State F) (on : Bool) → IsTrue (not on) → HeldIn image s
+    → Continues image (run.set_iommu s on)
+switch_proceeds image s true follows h = absurd (cc)
+switch_proceeds image s false follows h = proceeds image (refl, h.1)
 
-harvest_goes : {F : Type 0} (image : Host) (s : State F) → HeldIn image s → GoesOn image (run.harvest s)
-harvest_goes image s h =
+harvest_proceeds : {F : Type 0} (image : Host) (s : State F) → HeldIn image s → Continues image (run.harvest s)
+harvest_proceeds image s h =
     ((h.0, tracks_harvest image s.memory.host h.1), harvest_placed image s.memory.host h.1, harvest-lengths image s.memory.host h.1)
 
-by_effect : {F : Type 0} (image : Host) (e : Effect F) (answer : Answer) (after : State F) → (answer, after) ≡ e → GoesOn image e →
-    GoesOn image (answer, after)
-by_effect image e answer after t h = subst (GoesOn image) (sym t) h
+by_effect : {F : Type 0} (image : Host) (e : Effect F) (answer : Answer) (after : State F) → (answer, after) ≡ e → Continues image e →
+    Continues image (answer, after)
+by_effect image e answer after t h = subst (Continues image) (sym t) h
 
-affect_goes : {F : Type 0} (image : Host) (s : State F) (command : Command) (answer : Answer) (after : State F) →
+affect_proceeds : {F : Type 0} (image : Host) (s : State F) (command : Command) (answer : Answer) (after : State F) →
     IsTrue (follows_image command) → HeldIn image s →
-    Affects s command answer after → GoesOn image (answer, after)
+    Affects s command answer after → Continues image (answer, after)
 unfolding effect
-affect_goes image s (run.GuestRead a n) answer after follows h t =
+affect_proceeds image s (run.GuestRead a n) answer after follows h t =
     by_effect image (run.guest_read s a n) answer after t
-    (whichever image (reach (physical s.memory) Read a n) _ _ (goes image h) (goes image h))
-affect_goes image s (run.GuestWrite a bs) answer after follows h t =
+    (whichever image (reach (physical s.memory) Read a n) _ _ (proceeds image h) (proceeds image h))
+affect_proceeds image s (run.GuestWrite a bs) answer after follows h t =
     let written = stores_held image (physical s.memory) (zip (addresses a (length bs)) bs) (refl, h.1) in
     by_effect image (run.guest_write s a bs) answer after t
-    (whichever image (reach (physical s.memory) Write a (length bs)) _ _ (goes image (h.0, written.1)) (goes image h))
-affect_goes image s (run.NewBlock n) answer after follows h t = absurd (cc)
-affect_goes image s (run.InsertRegion base block) answer after follows h t =
+    (whichever image (reach (physical s.memory) Write a (length bs)) _ _ (proceeds image (h.0, written.1)) (proceeds image h))
+affect_proceeds image s (run.NewBlock n) answer after follows h t = absurd (cc)
+affect_proceeds image s (run.InsertRegion base block) answer after follows h t =
     by_effect image (insert_block s base block (slice_get s.memory.host.blocks block)) answer after t
-    (block_goes image s base block (slice_get s.memory.host.blocks block) h)
-affect_goes image s (run.RemoveRegion base size) answer after follows h t =
+    (block_proceeds image s base block (slice_get s.memory.host.blocks block) h)
+affect_proceeds image s (run.RemoveRegion base size) answer after follows h t =
     by_effect image (run.remove_region s base size) answer after t
-    (whichever image (list_any (is_region base size) s.memory.layout) _ _ (goes image h) (goes image h))
-affect_goes image s (run.SetLayout layout) answer after follows h t =
+    (whichever image (list_any (is_region base size) s.memory.layout) _ _ (proceeds image h) (proceeds image h))
+affect_proceeds image s (run.SetLayout layout) answer after follows h t =
     by_effect image (run.set_layout s layout) answer after t
-    (whichever image (not (list_all (is_known s.memory.host) layout)) _ _ (goes image h)
-    (whichever image (not (list_all fits layout)) _ _ (goes image h)
-    (whichever image (some_overlap layout) _ _ (goes image h) (goes image h))))
-affect_goes image s (run.Map iova target n perm) answer after follows h t = absurd (cc)
-affect_goes image s (run.Unmap iova n) answer after follows h t = absurd (cc)
-affect_goes image s run.UnmapAll answer after follows h t = absurd (cc)
-affect_goes image s (run.SetIommu on) answer after follows h t =
-    by_effect image (run.set_iommu s on) answer after t (switch_goes image s on follows h)
-affect_goes image s (run.Kick queue most) answer after follows h t = absurd t
-affect_goes image s (run.ResetQueue queue size desc avail used) answer after follows h t =
+    (whichever image (not (list_all (is_known s.memory.host) layout)) _ _ (proceeds image h)
+    (whichever image (not (list_all fits layout)) _ _ (proceeds image h)
+    (whichever image (some_overlap layout) _ _ (proceeds image h) (proceeds image h))))
+affect_proceeds image s (run.Map iova target n perm) answer after follows h t = absurd (cc)
+affect_proceeds image s (run.Unmap iova n) answer after follows h t = absurd (cc)
+affect_proceeds image s run.UnmapAll answer after follows h t = absurd (cc)
+affect_proceeds image s (run.SetIommu on) answer after follows h t =
+    by_effect image (run.set_iommu s on) answer after t (switch_proceeds image s on follows h)
+affect_proceeds image s (run.Kick queue most) answer after follows h t = absurd t
+affect_proceeds image s (run.ResetQueue queue size desc avail used) answer after follows h t =
     by_effect image (reset s queue (fresh size desc avail used) (slice_get s.queues queue)) answer after t
-    (reset_goes image s queue (fresh size desc avail used) (slice_get s.queues queue) h)
-affect_goes image s run.Image answer after follows h t = absurd (cc)
-affect_goes image s run.Harvest answer after follows h t = by_effect image (run.harvest s) answer after t (harvest_goes image s h)
+    (reset_proceeds image s queue (fresh size desc avail used) (slice_get s.queues queue) h)
+affect_proceeds image s run.Image answer after follows h t = absurd (cc)
+affect_proceeds image s run.Harvest answer after follows h t = by_effect image (run.harvest s) answer after t (harvest_proceeds image s h)
 
-effect_goes : {F : Type 0} (image : Host) (s : State F) (command : Command) (told : Turns) (answer : Answer) (after : State F) →
+effect_proceeds : {F : Type 0} (image : Host) (s : State F) (command : Command) (reported : Turns) (answer : Answer) (after : State F) →
     IsTrue (follows_image command) → HeldIn image s →
-    HasEffect s command told answer after → GoesOn image (answer, after)
-effect_goes image s command [] answer after follows h t = affect_goes image s command answer after follows h t
-effect_goes image s command (x ∷ told) answer after follows h t = absurd t
+    HasEffect s command reported answer after → Continues image (answer, after)
+effect_proceeds image s command [] answer after follows h t = affect_proceeds image s command answer after follows h t
+effect_proceeds image s command (x ∷ reported) answer after follows h t = absurd t
 
-does_goes : {F : Type 0} (may : May F) (image : Host) (s : State F) (command : Command) (told : Turns) (answer : Answer) (after : State F) →
+does_proceeds : {F : Type 0} (may : May F) (image : Host) (s : State F) (command : Command) (reported : Turns) (answer : Answer)
+    (after : State F) →
     IsTrue (follows_image command) → HeldIn image s →
-    Does may s command told answer after → GoesOn image (answer, after)
-does_goes may image s (run.Kick i most) told (run.Served k) after follows h t =
-    goes image (kicks_held may image s i most (slice_get s.queues i) told k after t h)
-does_goes may image s (run.Kick i most) told run.Done after follows h t = absurd t
-does_goes may image s (run.Kick i most) told (run.Bytes bytes) after follows h t = absurd t
-does_goes may image s (run.Kick i most) told (run.NewBlockIs number) after follows h t = absurd t
-does_goes may image s (run.Kick i most) told (run.Copied host) after follows h t = absurd t
-does_goes may image s (run.Kick i most) told (run.Pages pages) after follows h t = absurd t
-does_goes may image s (run.Kick i most) told (run.IsRefused refusal) after follows h t = absurd t
-does_goes may image s (run.GuestRead a n) told answer after follows h t =
-    effect_goes image s (run.GuestRead a n) told answer after follows h t
-does_goes may image s (run.GuestWrite a bs) told answer after follows h t =
-    effect_goes image s (run.GuestWrite a bs) told answer after follows h t
-does_goes may image s (run.NewBlock n) told answer after follows h t = effect_goes image s (run.NewBlock n) told answer after follows h t
-does_goes may image s (run.InsertRegion base block) told answer after follows h t =
-    effect_goes image s (run.InsertRegion base block) told answer after follows h t
-does_goes may image s (run.RemoveRegion base size) told answer after follows h t =
-    effect_goes image s (run.RemoveRegion base size) told answer after follows h t
-does_goes may image s (run.SetLayout layout) told answer after follows h t =
-    effect_goes image s (run.SetLayout layout) told answer after follows h t
-does_goes may image s (run.Map iova target n perm) told answer after follows h t =
-    effect_goes image s (run.Map iova target n perm) told answer after follows h t
-does_goes may image s (run.Unmap iova n) told answer after follows h t =
-    effect_goes image s (run.Unmap iova n) told answer after follows h t
-does_goes may image s run.UnmapAll told answer after follows h t = effect_goes image s run.UnmapAll told answer after follows h t
-does_goes may image s (run.SetIommu on) told answer after follows h t = effect_goes image s (run.SetIommu on) told answer after follows h t
-does_goes may image s (run.ResetQueue queue size desc avail used) told answer after follows h t =
-    effect_goes image s (run.ResetQueue queue size desc avail used) told answer after follows h t
-does_goes may image s run.Image told answer after follows h t = effect_goes image s run.Image told answer after follows h t
-does_goes may image s run.Harvest told answer after follows h t = effect_goes image s run.Harvest told answer after follows h t
+    Does may s command reported answer after → Continues image (answer, after)
+does_proceeds may image s (run.Kick i most) reported (run.Served k) after follows h t =
+    proceeds image (kicks_held may image s i most (slice_get s.queues i) reported k after t h)
+does_proceeds may image s (run.Kick i most) reported run.Done after follows h t = absurd t
+does_proceeds may image s (run.Kick i most) reported (run.Bytes bytes) after follows h t = absurd t
+does_proceeds may image s (run.Kick i most) reported (run.NewBlockIs number) after follows h t = absurd t
+does_proceeds may image s (run.Kick i most) reported (run.Copied host) after follows h t = absurd t
+does_proceeds may image s (run.Kick i most) reported (run.Pages pages) after follows h t = absurd t
+does_proceeds may image s (run.Kick i most) reported (run.IsRefused refusal) after follows h t = absurd t
+does_proceeds may image s (run.GuestRead a n) reported answer after follows h t =
+    effect_proceeds image s (run.GuestRead a n) reported answer after follows h t
+does_proceeds may image s (run.GuestWrite a bs) reported answer after follows h t =
+    effect_proceeds image s (run.GuestWrite a bs) reported answer after follows h t
+does_proceeds may image s (run.NewBlock n) reported answer after follows h t =
+    effect_proceeds image s (run.NewBlock n) reported answer after follows h t
+does_proceeds may image s (run.InsertRegion base block) reported answer after follows h t =
+    effect_proceeds image s (run.InsertRegion base block) reported answer after follows h t
+does_proceeds may image s (run.RemoveRegion base size) reported answer after follows h t =
+    effect_proceeds image s (run.RemoveRegion base size) reported answer after follows h t
+does_proceeds may image s (run.SetLayout layout) reported answer after follows h t =
+    effect_proceeds image s (run.SetLayout layout) reported answer after follows h t
+does_proceeds may image s (run.Map iova target n perm) reported answer after follows h t =
+    effect_proceeds image s (run.Map iova target n perm) reported answer after follows h t
+does_proceeds may image s (run.Unmap iova n) reported answer after follows h t =
+    effect_proceeds image s (run.Unmap iova n) reported answer after follows h t
+does_proceeds may image s run.UnmapAll reported answer after follows h t =
+    effect_proceeds image s run.UnmapAll reported answer after follows h t
+does_proceeds may image s (run.SetIommu on) reported answer after follows h t =
+    effect_proceeds image s (run.SetIommu on) reported answer after follows h t
+does_proceeds may image s (run.ResetQueue queue size desc avail used) reported answer after follows h t =
+    effect_proceeds image s (run.ResetQueue queue size desc avail used) reported answer after follows h t
+does_proceeds may image s run.Image reported answer after follows h t = effect_proceeds image s run.Image reported answer after follows h t
+does_proceeds may image s run.Harvest reported answer after follows h t =
+    effect_proceeds image s run.Harvest reported answer after follows h t
 
-performs_goes : {F : Type 0} (may : May F) (image : Host) (s : State F) (command : Command) (told : Turns) (answer : Answer)
+performs_proceeds : {F : Type 0} (may : May F) (image : Host) (s : State F) (command : Command) (reported : Turns) (answer : Answer)
     (after : State F) → IsTrue (follows_image command) → HeldIn image s →
-    Performs may s command told answer after → GoesOn image (answer, after)
-performs_goes may image s command [] (run.IsRefused why.OutOfMemory) after follows h t = goes image (subst (HeldIn image) (sym t.1) h)
-performs_goes may image s command (x ∷ told) (run.IsRefused why.OutOfMemory) after follows h t = absurd t
-performs_goes may image s command told (run.IsRefused why.NoPlace) after follows h t =
-    does_goes may image s command told _ after follows h t
-performs_goes may image s command told (run.IsRefused why.EmptyBlock) after follows h t =
-    does_goes may image s command told _ after follows h t
-performs_goes may image s command told (run.IsRefused why.UnknownBlock) after follows h t =
-    does_goes may image s command told _ after follows h t
-performs_goes may image s command told (run.IsRefused why.BadRegion) after follows h t =
-    does_goes may image s command told _ after follows h t
-performs_goes may image s command told (run.IsRefused why.Overlap) after follows h t =
-    does_goes may image s command told _ after follows h t
-performs_goes may image s command told (run.IsRefused why.NoRegion) after follows h t =
-    does_goes may image s command told _ after follows h t
-performs_goes may image s command told (run.IsRefused why.BadMapping) after follows h t =
-    does_goes may image s command told _ after follows h t
-performs_goes may image s command told (run.IsRefused why.NoSuchQueue) after follows h t =
-    does_goes may image s command told _ after follows h t
-performs_goes may image s command told run.Done after follows h t = does_goes may image s command told _ after follows h t
-performs_goes may image s command told (run.Bytes bytes) after follows h t = does_goes may image s command told _ after follows h t
-performs_goes may image s command told (run.NewBlockIs number) after follows h t = does_goes may image s command told _ after follows h t
-performs_goes may image s command told (run.Served k) after follows h t = does_goes may image s command told _ after follows h t
-performs_goes may image s command told (run.Copied host) after follows h t = does_goes may image s command told _ after follows h t
-performs_goes may image s command told (run.Pages pages) after follows h t = does_goes may image s command told _ after follows h t
+    Performs may s command reported answer after → Continues image (answer, after)
+performs_proceeds may image s command [] (run.IsRefused why.OutOfMemory) after follows h t =
+    proceeds image (subst (HeldIn image) (sym t.1) h)
+performs_proceeds may image s command (x ∷ reported) (run.IsRefused why.OutOfMemory) after follows h t = absurd t
+performs_proceeds may image s command reported (run.IsRefused why.NoPlace) after follows h t =
+    does_proceeds may image s command reported _ after follows h t
+performs_proceeds may image s command reported (run.IsRefused why.EmptyBlock) after follows h t =
+    does_proceeds may image s command reported _ after follows h t
+performs_proceeds may image s command reported (run.IsRefused why.UnknownBlock) after follows h t =
+    does_proceeds may image s command reported _ after follows h t
+performs_proceeds may image s command reported (run.IsRefused why.BadRegion) after follows h t =
+    does_proceeds may image s command reported _ after follows h t
+performs_proceeds may image s command reported (run.IsRefused why.Overlap) after follows h t =
+    does_proceeds may image s command reported _ after follows h t
+performs_proceeds may image s command reported (run.IsRefused why.NoRegion) after follows h t =
+    does_proceeds may image s command reported _ after follows h t
+performs_proceeds may image s command reported (run.IsRefused why.BadMapping) after follows h t =
+    does_proceeds may image s command reported _ after follows h t
+performs_proceeds may image s command reported (run.IsRefused why.NoSuchQueue) after follows h t =
+    does_proceeds may image s command reported _ after follows h t
+performs_proceeds may image s command reported run.Done after follows h t = does_proceeds may image s command reported _ after follows h t
+performs_proceeds may image s command reported (run.Bytes bytes) after follows h t =
+    does_proceeds may image s command reported _ after follows h t
+performs_proceeds may image s command reported (run.NewBlockIs number) after follows h t =
+    does_proceeds may image s command reported _ after follows h t
+performs_proceeds may image s command reported (run.Served k) after follows h t =
+    does_proceeds may image s command reported _ after follows h t
+performs_proceeds may image s command reported (run.Copied host) after follows h t =
+    does_proceeds may image s command reported _ after follows h t
+performs_proceeds may image s command reported (run.Pages pages) after follows h t =
+    does_proceeds may image s command reported _ after follows h t
 
 -- ---- runs
 
@@ -278,54 +292,55 @@ CanFollow events = AllByRecursion (λ e. IsTrue (follows_image e.0)) events
 abbrev Arrives : {F : Type 0} → Host → List (Command × Answer) → State F → Type 0
 Arrives image events after = HeldIn (pages_put image (pages_answered events)) after × HavePlaces (lengths image) (pages_answered events)
 
-run_goes : {F : Type 0} (may : May F) (image : Host) (s : State F) (events : List (Command × Answer)) (tolds : List Turns)
+run_proceeds : {F : Type 0} (may : May F) (image : Host) (s : State F) (events : List (Command × Answer)) (all_reported : List Turns)
     (after : State F) → CanFollow events → HeldIn image s →
-    RunTold may s events tolds after → Arrives image events after
-unfolding RunTold
-run_goes may image s [] [] after follows h t = subst (λ s. Arrives image [] s) (sym t) (let now = goes image h in (now.0, now.1))
-run_goes may image s [] (told ∷ tolds) after follows h t = absurd t
-run_goes may image s (e ∷ es) [] after follows h t = absurd t
-run_goes may image s (e ∷ es) (told ∷ tolds) after follows h (mid, performs, rest) =
-    let now = performs_goes may image s e.0 told e.1 mid follows.0 h performs in
-    let later = run_goes may (pages_put image (pages_of_answer e.1)) mid es tolds after follows.1 now.0 rest in (
+    RunReported may s events all_reported after → Arrives image events after
+unfolding RunReported
+run_proceeds may image s [] [] after follows h t = subst (λ s. Arrives image [] s) (sym t) (let now = proceeds image h in (now.0, now.1))
+run_proceeds may image s [] (reported ∷ all_reported) after follows h t = absurd t
+run_proceeds may image s (e ∷ es) [] after follows h t = absurd t
+run_proceeds may image s (e ∷ es) (reported ∷ all_reported) after follows h (mid, performs, rest) =
+    let now = performs_proceeds may image s e.0 reported e.1 mid follows.0 h performs in
+    let later = run_proceeds may (pages_put image (pages_of_answer e.1)) mid es all_reported after follows.1 now.0 rest in (
       subst (λ (k : Host). HeldIn k after) (sym (pages_put-append image (pages_of_answer e.1) (pages_answered es))) later.0,
       places-append (lengths image) (pages_of_answer e.1) (pages_answered es) now.1
           (subst (λ (l : List ℕ). HavePlaces l (pages_answered es)) now.2 later.1),
     )
 
 -- an image that answered its copy tracks the state after
-image_held : {F : Type 0} (may : May F) (s : State F) (copy : Host) (told : Turns) (after : State F) → s.memory.translates ≡ false →
+image_held : {F : Type 0} (may : May F) (s : State F) (copy : Host) (reported : Turns) (after : State F) → s.memory.translates ≡ false →
     HasItsMarks s.memory.host →
-    Performs may s run.Image told (run.Copied copy) after → HeldIn copy after
+    Performs may s run.Image reported (run.Copied copy) after → HeldIn copy after
 unfolding effect
 image_held {F} may s copy [] after off marks t =
     let answer : run.Copied copy ≡ run.Copied (cleared s.memory.host) = ap (λ (p : Effect F). p.0) t in
     let is : copy ≡ cleared s.memory.host = cc in
     subst (λ (k : Host). HeldIn k after) (sym is)
     (subst (λ (p : Effect F). HeldIn (cleared s.memory.host) p.1) (sym t) (off, tracks_copy s.memory.host marks))
-image_held may s copy (x ∷ told) after off marks t = absurd t
+image_held may s copy (x ∷ reported) after off marks t = absurd t
 
 -- what a run from an image begins with, once the image was made
-abbrev GoesFrom : {F : Type 0} → May F → Host → List (Command × Answer) → State F → Type 0
-GoesFrom {F} may copy events after = (mid : State F) × (tolds : List Turns) × HeldIn copy mid × RunTold may mid events tolds after
+abbrev ProceedsFrom : {F : Type 0} → May F → Host → List (Command × Answer) → State F → Type 0
+ProceedsFrom {F} may copy events after =
+    (mid : State F) × (all_reported : List Turns) × HeldIn copy mid × RunReported may mid events all_reported after
 
-begins : {F : Type 0} (may : May F) (s after : State F) (copy : Host) (events : List (Command × Answer)) (tolds : List Turns) →
+begins : {F : Type 0} (may : May F) (s after : State F) (copy : Host) (events : List (Command × Answer)) (all_reported : List Turns) →
     s.memory.translates ≡ false → HasItsMarks s.memory.host →
-    RunTold may s ((run.Image, run.Copied copy) ∷ events) tolds after → GoesFrom may copy events after
-unfolding RunTold
+    RunReported may s ((run.Image, run.Copied copy) ∷ events) all_reported after → ProceedsFrom may copy events after
+unfolding RunReported
 begins may s after copy events [] off marks t = absurd t
-begins may s after copy events (told ∷ tolds) off marks (mid, performs, rest) =
-    (mid, tolds, image_held may s copy told mid off marks performs, rest)
+begins may s after copy events (reported ∷ all_reported) off marks (mid, performs, rest) =
+    (mid, all_reported, image_held may s copy reported mid off marks performs, rest)
 
 from_image : {F : Type 0} (may : May F) (s after : State F) (copy : Host) (events : List (Command × Answer)) →
-    RunsFromImage may s copy events after → GoesFrom may copy events after
+    RunsFromImage may s copy events after → ProceedsFrom may copy events after
 from_image may s after copy events r = begins may s after copy events r.run.0 r.off r.marks r.run.1
 
 arrives : {F : Type 0} (may : May F) (s after : State F) (copy : Host) (events : List (Command × Answer)) →
     RunsFromImage may s copy events after → Arrives copy events after
 arrives may s after copy events r =
     let b = from_image may s after copy events r in
-    run_goes may copy b.0 events b.1 after r.follow b.2 b.3
+    run_proceeds may copy b.0 events b.1 after r.follow b.2 b.3
 
 pub stale_is_marked : {F : Type 0} (may : May F) (s after : State F) (copy : Host) (events : List (Command × Answer)) (p : Place) →
     RunsFromImage may s copy events after →
@@ -350,34 +365,35 @@ can_move_again may s after copy events r =
 -- a run up to its last command, and that command
 abbrev Ends : {F : Type 0} → May F → State F → List (Command × Answer) → Command × Answer → State F → Type 0
 Ends {F} may s events e after =
-    (mid : State F) × (tolds : List Turns) × (told : Turns) × RunTold may s events tolds mid × Performs may mid e.0 told e.1 after
+    (mid : State F) × (all_reported : List Turns) × (reported : Turns) × RunReported may s events all_reported mid
+    × Performs may mid e.0 reported e.1 after
 
-ends : {F : Type 0} (may : May F) (s after : State F) (events : List (Command × Answer)) (e : Command × Answer) (tolds : List Turns) →
-    RunTold may s (events ++ e ∷ []) tolds after → Ends may s events e after
-unfolding RunTold
+ends : {F : Type 0} (may : May F) (s after : State F) (events : List (Command × Answer)) (e : Command × Answer) (all_reported : List Turns)
+    → RunReported may s (events ++ e ∷ []) all_reported after → Ends may s events e after
+unfolding RunReported
 ends may s after [] e [] t = absurd t
-ends may s after [] e (told ∷ []) (mid, performs, rest) =
-    (s, [], told, refl, subst (λ k. Performs may s e.0 told e.1 k) (sym rest) performs)
-ends may s after [] e (told ∷ x ∷ tolds) (mid, performs, rest) = absurd rest
+ends may s after [] e (reported ∷ []) (mid, performs, rest) =
+    (s, [], reported, refl, subst (λ k. Performs may s e.0 reported e.1 k) (sym rest) performs)
+ends may s after [] e (reported ∷ x ∷ all_reported) (mid, performs, rest) = absurd rest
 ends may s after (x ∷ events) e [] t = absurd t
-ends may s after (x ∷ events) e (told ∷ tolds) (mid, performs, rest) =
-    let later = ends may mid after events e tolds rest in
-    (later.0, told ∷ later.1, later.2, (mid, performs, later.3), later.4)
+ends may s after (x ∷ events) e (reported ∷ all_reported) (mid, performs, rest) =
+    let later = ends may mid after events e all_reported rest in
+    (later.0, reported ∷ later.1, later.2, (mid, performs, later.3), later.4)
 
 follow_front : (events : List (Command × Answer)) (e : Command × Answer) → CanFollow (events ++ e ∷ []) → CanFollow events
 follow_front [] e f = tt
 follow_front (x ∷ events) e f = (f.0, follow_front events e f.1)
 
 last_is_host :
-    {F : Type 0} (may : May F) (image : Host) (mid after : State F) (told : Turns) (last : List Page) → Tracks image mid.memory.host →
-    Performs may mid run.Harvest told (run.Pages last) after → pages_put image last ≡ after.memory.host
+    {F : Type 0} (may : May F) (image : Host) (mid after : State F) (reported : Turns) (last : List Page) → Tracks image mid.memory.host →
+    Performs may mid run.Harvest reported (run.Pages last) after → pages_put image last ≡ after.memory.host
 unfolding effect
 last_is_host {F} may image mid after [] last f t =
     let answer : run.Pages last ≡ run.Pages (harvested mid.memory.host) = ap (λ (p : Effect F). p.0) t in
     let is : last ≡ harvested mid.memory.host = cc in
     let host : after.memory.host ≡ cleared mid.memory.host = ap (λ (p : Effect F). p.1.memory.host) t in
     ap (pages_put image) is ∙ harvest_is_host image mid.memory.host f ∙ sym host
-last_is_host may image mid after (x ∷ told) last f t = absurd t
+last_is_host may image mid after (x ∷ reported) last f t = absurd t
 
 pages_in_all : (events : List (Command × Answer)) (last : List Page) →
     pages_answered (events ++ (run.Harvest, run.Pages last) ∷ []) ≡ pages_answered events ++ last
@@ -391,7 +407,7 @@ pub image_catches_up : {F : Type 0} (may : May F) (s after : State F) (copy : Ho
 image_catches_up may s after copy events last r =
     let b = from_image may s after copy (events ++ (run.Harvest, run.Pages last) ∷ []) r in
     let e = ends may b.0 after events (run.Harvest, run.Pages last) b.1 b.3 in
-    let front = run_goes may copy b.0 events e.1 e.0 (follow_front events (run.Harvest, run.Pages last) r.follow) b.2 e.3 in
+    let front = run_proceeds may copy b.0 events e.1 e.0 (follow_front events (run.Harvest, run.Pages last) r.follow) b.2 e.3 in
     ap (pages_put copy) (pages_in_all events last)
     ∙ pages_put-append copy (pages_answered events) last
     ∙ last_is_host may (pages_put copy (pages_answered events)) e.0 after e.2 last front.0.1 e.4

@@ -17,7 +17,7 @@ use Rattle.fuse_fs.specs.Answers.{entry_out_of}
 use Rattle.fuse_fs.specs.Replies.{dirent_of}
 use Rattle.fuse_fs.specs.Calls.{Listed}
 use Rattle.server_replies.specs.WholeReplies.{reply_bytes, error_bytes}
-use Rattle.server_replies.specs.Entries.{dirent_len, entry_len, dirent_bytes, node_bytes, entry_bytes, fit_of, GoesIn, IsFull, IsWrong, EIO}
+use Rattle.server_replies.specs.Entries.{dirent_len, entry_len, dirent_bytes, node_bytes, entry_bytes, fit_of, FitsIn, IsFull, IsWrong, EIO}
 use Rattle.server_replies.specs.Entries.{EOVERFLOW}
 use Rattle.server_replies.proofs.ReplyLemmas.{length_header, length_error}
 use Rattle.fs_device.specs.Books.{replies_entry, lists_nodes, first_node, name_len_of, nodes_listed, nodes_of, nodes_in}
@@ -85,16 +85,16 @@ one_node o all n fs more is begins small =
 -- ---- the entries of READDIRPLUS
 
 -- an entry that goes in has a name whose length fits, and the room has place for it
-fits_by : (a b c : Bool) (x y : ℕ) → (if a then IsWrong x else if b then IsFull else if c then IsWrong y else GoesIn) ≡ GoesIn →
+fits_by : (a b c : Bool) (x y : ℕ) → (if a then IsWrong x else if b then IsFull else if c then IsWrong y else FitsIn) ≡ FitsIn →
     (a ≡ false) × (c ≡ false)
 fits_by true b c x y e = absurd (cc)
 fits_by false true c x y e = absurd (cc)
 fits_by false false true x y e = absurd (cc)
 fits_by false false false x y e = (refl, refl)
 
-pub goes_in_fits : (name_len len left room : ℕ) → fit_of name_len len left room ≡ GoesIn → (name_len < 2 ^ 32) × (len ≤ room)
+pub fits_in_fits : (name_len len left room : ℕ) → fit_of name_len len left room ≡ FitsIn → (name_len < 2 ^ 32) × (len ≤ room)
 unfolding fit_of
-goes_in_fits name_len len left room e =
+fits_in_fits name_len len left room e =
     let h = fits_by (nat_le (2 ^ 32) name_len) (nat_lt left len) (nat_lt room len) EOVERFLOW EIO e in
     (leb-false (2 ^ 32) name_len h.0, ltb-false room len h.1)
 

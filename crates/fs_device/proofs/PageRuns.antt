@@ -68,18 +68,18 @@ grown_marks (b ∷ blocks) n (suc block) page = grown_marks blocks n block page
 module _ {F : Type 0} (may : May F) where
   -- nothing was written
   abbrev Marked : State F → ℕ → ℕ → Turns → State F → Type 0
-  Marked s i most told after = (written : List ℕ) × KickWrites may s i most told written × Marks s.memory written after.memory.host
+  Marked s i most reported after = (written : List ℕ) × KickWrites may s i most reported written × Marks s.memory written after.memory.host
 
   nothing_marked : (s : State F) (i most : ℕ) (after : State F) → after.memory ≡ s.memory → Marked s i most [] after
   unfolding KickWrites
   nothing_marked s i most after same = ([], refl, subst (λ (m : Memory). Marks s.memory [] m.host) (sym same) (none_written s.memory))
 
-  kick_marks : (s : State F) (i most : ℕ) (told : Turns) (refused : Option DeviceError) (after : State F) →
-      KickRun may s i most told refused after → Marked s i most told after
+  kick_marks : (s : State F) (i most : ℕ) (reported : Turns) (refused : Option DeviceError) (after : State F) →
+      KickRun may s i most reported refused after → Marked s i most reported after
   unfolding KickRun KickWrites
   kick_marks s i most [] refused after t = nothing_marked s i most after (end_keeps may s i most refused after t)
-  kick_marks s i zero (x ∷ told) refused after t = absurd t
-  kick_marks s i (suc most) (x ∷ told) refused after (mid, step, rest) =
+  kick_marks s i zero (x ∷ reported) refused after t = absurd t
+  kick_marks s i (suc most) (x ∷ reported) refused after (mid, step, rest) =
       let found = step_offers may s mid i x.calls x.exchange x.notice step in
       let o = found.0 in
       let ws = writes o.queue x.exchange.head (room_of o.fetched) x.exchange.reply in
@@ -87,17 +87,17 @@ module _ {F : Type 0} (may : May F) where
       let here : Marks s.memory (map (λ w. w.0) ws) mid.memory.host =
       subst (λ (m : Memory). Marks s.memory (map (λ w. w.0) ws) m.host) (sym is) (writes_mark s.memory ws) in
       let same : ways mid.memory ≡ ways s.memory = ap ways is ∙ ways_stay s.memory ws in
-      let later = kick_marks mid i most told refused after rest in (
+      let later = kick_marks mid i most reported refused after rest in (
         map (λ w. w.0) ws ++ later.0,
         (mid, step, o, later.0, later.1, refl),
         marks_join s.memory mid.memory (map (λ w. w.0) ws) later.0 after.memory.host same here later.2,
       )
 
-  kicks_mark : (s : State F) (i most : ℕ) (o : Option Queue) (told : Turns) (k : KickAnswer) (after : State F) →
-      Kicks may s i most o told k after → Marked s i most told after
-  kicks_mark s i most None told k after t =
+  kicks_mark : (s : State F) (i most : ℕ) (o : Option Queue) (reported : Turns) (k : KickAnswer) (after : State F) →
+      Kicks may s i most o reported k after → Marked s i most reported after
+  kicks_mark s i most None reported k after t =
       subst (λ (l : Turns). Marked s i most l after) (sym t.1) (nothing_marked s i most after (ap (λ (k : State F). k.memory) t.0))
-  kicks_mark s i most (Some q) told k after t = kick_marks s i most told k.refused after t.0
+  kicks_mark s i most (Some q) reported k after t = kick_marks s i most reported k.refused after t.0
 
 -- ---- what the other commands do
 
@@ -130,20 +130,20 @@ whichever may s command true x y p q = p
 whichever may s command false x y p q = q
 
 module _ {F : Type 0} (may : May F) (s : State F) where
-  kept : KeepsMarks s.memory.host s.memory.host
-  kept = keeps s.memory.host
+  preserved : KeepsMarks s.memory.host s.memory.host
+  preserved = keeps s.memory.host
 
   block_marks : (base block : ℕ) (o : Option Block) → EffectMarks may s (run.InsertRegion base block) (insert_block s base block o)
-  block_marks base block None = kept
+  block_marks base block None = preserved
   block_marks base block (Some b) =
       let r : Region = record { start = base; size = length b.bytes; block = block } in
-      whichever may s (run.InsertRegion base block) (not (fits r)) _ _ kept
-      (whichever may s (run.InsertRegion base block) (list_any (overlap r) s.memory.layout) _ _ kept kept)
+      whichever may s (run.InsertRegion base block) (not (fits r)) _ _ preserved
+      (whichever may s (run.InsertRegion base block) (list_any (overlap r) s.memory.layout) _ _ preserved preserved)
 
   reset_marks : (i size desc avail used : ℕ) (o : Option Queue) →
       EffectMarks may s (run.ResetQueue i size desc avail used) (reset s i (fresh size desc avail used) o)
-  reset_marks i size desc avail used None = kept
-  reset_marks i size desc avail used (Some q) = kept
+  reset_marks i size desc avail used None = preserved
+  reset_marks i size desc avail used (Some q) = preserved
 
   table_marks : (fit : Bool) (table : Table) (answer : Answer) (after : State F) (command : Command) →
       ((end : State F) → KeepsMarks s.memory.host end.memory.host → DoneMarks s command end) →
@@ -154,36 +154,36 @@ module _ {F : Type 0} (may : May F) (s : State F) where
       let host : KeepsMarks s.memory.host after.memory.host =
       subst (λ (k : State F). KeepsMarks s.memory.host k.memory.host) (sym t.1.3) there in
       subst (λ (a : Answer). AnswerMarks may a s command [] after) (sym t.0) (done after host)
-  table_marks false table answer after command done t = by_effect may s command (run.no why.BadMapping s) answer after t kept
+  table_marks false table answer after command done t = by_effect may s command (run.no why.BadMapping s) answer after t preserved
 
   affect_marks :
       (command : Command) (answer : Answer) (after : State F) → Affects s command answer after → AnswerMarks may answer s command [] after
   unfolding effect
   affect_marks (run.GuestRead a n) answer after t =
       by_effect may s (run.GuestRead a n) (run.guest_read s a n) answer after t
-      (whichever may s (run.GuestRead a n) (reach (physical s.memory) Read a n) _ _ kept kept)
+      (whichever may s (run.GuestRead a n) (reach (physical s.memory) Read a n) _ _ preserved preserved)
   affect_marks (run.GuestWrite a bs) answer after t =
       by_effect may s (run.GuestWrite a bs) (run.guest_write s a bs) answer after t
-      (whichever may s (run.GuestWrite a bs) (reach (physical s.memory) Write a (length bs)) _ _ (write_marks s.memory a bs) kept)
+      (whichever may s (run.GuestWrite a bs) (reach (physical s.memory) Write a (length bs)) _ _ (write_marks s.memory a bs) preserved)
   affect_marks (run.NewBlock n) answer after t =
       by_effect may s (run.NewBlock n) (run.make_block s n) answer after t
-      (whichever may s (run.NewBlock n) (n == 0) _ _ kept
+      (whichever may s (run.NewBlock n) (n == 0) _ _ preserved
       (record { blocks = λ block page. grown_marks s.memory.host.blocks n block page; io_sets = λ set page. refl }))
   affect_marks (run.InsertRegion base block) answer after t =
       by_effect may s (run.InsertRegion base block) (insert_block s base block (slice_get s.memory.host.blocks block)) answer after t
       (block_marks base block (slice_get s.memory.host.blocks block))
   affect_marks (run.RemoveRegion base size) answer after t =
       by_effect may s (run.RemoveRegion base size) (run.remove_region s base size) answer after t
-      (whichever may s (run.RemoveRegion base size) (list_any (is_region base size) s.memory.layout) _ _ kept kept)
+      (whichever may s (run.RemoveRegion base size) (list_any (is_region base size) s.memory.layout) _ _ preserved preserved)
   affect_marks (run.SetLayout layout) answer after t =
       let c = run.SetLayout layout in
       by_effect may s c (run.set_layout s layout) answer after t
-      (whichever may s c (not (list_all (is_known s.memory.host) layout)) _ _ kept
-      (whichever may s c (not (list_all fits layout)) _ _ kept (whichever may s c (some_overlap layout) _ _ kept kept)))
+      (whichever may s c (not (list_all (is_known s.memory.host) layout)) _ _ preserved
+      (whichever may s c (not (list_all fits layout)) _ _ preserved (whichever may s c (some_overlap layout) _ _ preserved preserved)))
   affect_marks (run.Map iova target n perm) answer after t = table_marks _ _ answer after (run.Map iova target n perm) (λ end h. h) t
   affect_marks (run.Unmap iova n) answer after t = table_marks _ _ answer after (run.Unmap iova n) (λ end h. h) t
   affect_marks run.UnmapAll answer after t = table_marks true nothing_mapped answer after run.UnmapAll (λ end h. h) t
-  affect_marks (run.SetIommu on) answer after t = by_effect may s (run.SetIommu on) (run.set_iommu s on) answer after t kept
+  affect_marks (run.SetIommu on) answer after t = by_effect may s (run.SetIommu on) (run.set_iommu s on) answer after t preserved
   affect_marks (run.Kick i most) answer after t = absurd t
   affect_marks (run.ResetQueue i size desc avail used) answer after t =
       by_effect may s (run.ResetQueue i size desc avail used) (reset s i (fresh size desc avail used) (slice_get s.queues i)) answer after t
@@ -191,50 +191,50 @@ module _ {F : Type 0} (may : May F) (s : State F) where
   affect_marks run.Image answer after t = by_effect may s run.Image (run.image s) answer after t (clears s.memory.host)
   affect_marks run.Harvest answer after t = by_effect may s run.Harvest (run.harvest s) answer after t (clears s.memory.host)
 
-  effect_marks : (command : Command) (told : Turns) (answer : Answer) (after : State F) → HasEffect s command told answer after →
-      AnswerMarks may answer s command told after
+  effect_marks : (command : Command) (reported : Turns) (answer : Answer) (after : State F) → HasEffect s command reported answer after →
+      AnswerMarks may answer s command reported after
   effect_marks command [] answer after t = affect_marks command answer after t
-  effect_marks command (x ∷ told) answer after t = absurd t
+  effect_marks command (x ∷ reported) answer after t = absurd t
 
-  does_mark : (command : Command) (told : Turns) (answer : Answer) (after : State F) → Does may s command told answer after →
-      AnswerMarks may answer s command told after
-  does_mark (run.Kick i most) told (run.Served k) after t = kicks_mark may s i most (slice_get s.queues i) told k after t
-  does_mark (run.Kick i most) told run.Done after t = absurd t
-  does_mark (run.Kick i most) told (run.Bytes bytes) after t = absurd t
-  does_mark (run.Kick i most) told (run.NewBlockIs number) after t = absurd t
-  does_mark (run.Kick i most) told (run.Copied host) after t = absurd t
-  does_mark (run.Kick i most) told (run.Pages pages) after t = absurd t
-  does_mark (run.Kick i most) told (run.IsRefused refusal) after t = absurd t
-  does_mark (run.GuestRead a n) told answer after t = effect_marks (run.GuestRead a n) told answer after t
-  does_mark (run.GuestWrite a bs) told answer after t = effect_marks (run.GuestWrite a bs) told answer after t
-  does_mark (run.NewBlock n) told answer after t = effect_marks (run.NewBlock n) told answer after t
-  does_mark (run.InsertRegion base block) told answer after t = effect_marks (run.InsertRegion base block) told answer after t
-  does_mark (run.RemoveRegion base size) told answer after t = effect_marks (run.RemoveRegion base size) told answer after t
-  does_mark (run.SetLayout layout) told answer after t = effect_marks (run.SetLayout layout) told answer after t
-  does_mark (run.Map iova target n perm) told answer after t = effect_marks (run.Map iova target n perm) told answer after t
-  does_mark (run.Unmap iova n) told answer after t = effect_marks (run.Unmap iova n) told answer after t
-  does_mark run.UnmapAll told answer after t = effect_marks run.UnmapAll told answer after t
-  does_mark (run.SetIommu on) told answer after t = effect_marks (run.SetIommu on) told answer after t
-  does_mark (run.ResetQueue i size desc avail used) told answer after t =
-      effect_marks (run.ResetQueue i size desc avail used) told answer after t
-  does_mark run.Image told answer after t = effect_marks run.Image told answer after t
-  does_mark run.Harvest told answer after t = effect_marks run.Harvest told answer after t
+  does_mark : (command : Command) (reported : Turns) (answer : Answer) (after : State F) → Does may s command reported answer after →
+      AnswerMarks may answer s command reported after
+  does_mark (run.Kick i most) reported (run.Served k) after t = kicks_mark may s i most (slice_get s.queues i) reported k after t
+  does_mark (run.Kick i most) reported run.Done after t = absurd t
+  does_mark (run.Kick i most) reported (run.Bytes bytes) after t = absurd t
+  does_mark (run.Kick i most) reported (run.NewBlockIs number) after t = absurd t
+  does_mark (run.Kick i most) reported (run.Copied host) after t = absurd t
+  does_mark (run.Kick i most) reported (run.Pages pages) after t = absurd t
+  does_mark (run.Kick i most) reported (run.IsRefused refusal) after t = absurd t
+  does_mark (run.GuestRead a n) reported answer after t = effect_marks (run.GuestRead a n) reported answer after t
+  does_mark (run.GuestWrite a bs) reported answer after t = effect_marks (run.GuestWrite a bs) reported answer after t
+  does_mark (run.NewBlock n) reported answer after t = effect_marks (run.NewBlock n) reported answer after t
+  does_mark (run.InsertRegion base block) reported answer after t = effect_marks (run.InsertRegion base block) reported answer after t
+  does_mark (run.RemoveRegion base size) reported answer after t = effect_marks (run.RemoveRegion base size) reported answer after t
+  does_mark (run.SetLayout layout) reported answer after t = effect_marks (run.SetLayout layout) reported answer after t
+  does_mark (run.Map iova target n perm) reported answer after t = effect_marks (run.Map iova target n perm) reported answer after t
+  does_mark (run.Unmap iova n) reported answer after t = effect_marks (run.Unmap iova n) reported answer after t
+  does_mark run.UnmapAll reported answer after t = effect_marks run.UnmapAll reported answer after t
+  does_mark (run.SetIommu on) reported answer after t = effect_marks (run.SetIommu on) reported answer after t
+  does_mark (run.ResetQueue i size desc avail used) reported answer after t =
+      effect_marks (run.ResetQueue i size desc avail used) reported answer after t
+  does_mark run.Image reported answer after t = effect_marks run.Image reported answer after t
+  does_mark run.Harvest reported answer after t = effect_marks run.Harvest reported answer after t
 
 pub commands_mark : {F : Type 0} (may : May F) → CommandsMark may
 commands_mark {F} may s after command [] (run.IsRefused why.OutOfMemory) t =
     subst (λ (k : State F). KeepsMarks s.memory.host k.memory.host) (sym t.1) (keeps s.memory.host)
-commands_mark may s after command (x ∷ told) (run.IsRefused why.OutOfMemory) t = absurd t
-commands_mark may s after command told (run.IsRefused why.NoPlace) t = does_mark may s command told _ after t
-commands_mark may s after command told (run.IsRefused why.EmptyBlock) t = does_mark may s command told _ after t
-commands_mark may s after command told (run.IsRefused why.UnknownBlock) t = does_mark may s command told _ after t
-commands_mark may s after command told (run.IsRefused why.BadRegion) t = does_mark may s command told _ after t
-commands_mark may s after command told (run.IsRefused why.Overlap) t = does_mark may s command told _ after t
-commands_mark may s after command told (run.IsRefused why.NoRegion) t = does_mark may s command told _ after t
-commands_mark may s after command told (run.IsRefused why.BadMapping) t = does_mark may s command told _ after t
-commands_mark may s after command told (run.IsRefused why.NoSuchQueue) t = does_mark may s command told _ after t
-commands_mark may s after command told run.Done t = does_mark may s command told _ after t
-commands_mark may s after command told (run.Bytes bytes) t = does_mark may s command told _ after t
-commands_mark may s after command told (run.NewBlockIs number) t = does_mark may s command told _ after t
-commands_mark may s after command told (run.Served k) t = does_mark may s command told _ after t
-commands_mark may s after command told (run.Copied host) t = does_mark may s command told _ after t
-commands_mark may s after command told (run.Pages pages) t = does_mark may s command told _ after t
+commands_mark may s after command (x ∷ reported) (run.IsRefused why.OutOfMemory) t = absurd t
+commands_mark may s after command reported (run.IsRefused why.NoPlace) t = does_mark may s command reported _ after t
+commands_mark may s after command reported (run.IsRefused why.EmptyBlock) t = does_mark may s command reported _ after t
+commands_mark may s after command reported (run.IsRefused why.UnknownBlock) t = does_mark may s command reported _ after t
+commands_mark may s after command reported (run.IsRefused why.BadRegion) t = does_mark may s command reported _ after t
+commands_mark may s after command reported (run.IsRefused why.Overlap) t = does_mark may s command reported _ after t
+commands_mark may s after command reported (run.IsRefused why.NoRegion) t = does_mark may s command reported _ after t
+commands_mark may s after command reported (run.IsRefused why.BadMapping) t = does_mark may s command reported _ after t
+commands_mark may s after command reported (run.IsRefused why.NoSuchQueue) t = does_mark may s command reported _ after t
+commands_mark may s after command reported run.Done t = does_mark may s command reported _ after t
+commands_mark may s after command reported (run.Bytes bytes) t = does_mark may s command reported _ after t
+commands_mark may s after command reported (run.NewBlockIs number) t = does_mark may s command reported _ after t
+commands_mark may s after command reported (run.Served k) t = does_mark may s command reported _ after t
+commands_mark may s after command reported (run.Copied host) t = does_mark may s command reported _ after t
+commands_mark may s after command reported (run.Pages pages) t = does_mark may s command reported _ after t

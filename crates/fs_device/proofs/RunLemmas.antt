@@ -2,7 +2,7 @@
 use Rattle.std.proofs.Common.{◌≡◌, suc, List, [], ◌∷◌, ◌++◌, length, map, zip, append_assoc, append-nil, ◌∙◌, arith, sym, refl, ap, subst}
 use Rattle.virtiofsd_fuse.specs.Serving.{May}
 use Rattle.plain_machine.specs.Step.{State}
-use Rattle.plain_machine.specs.Run.{Command, Answer, Turns, Performs, RunTold, Run}
+use Rattle.plain_machine.specs.Run.{Command, Answer, Turns, Performs, RunReported, Run}
 
 -- one more of each
 zip_more : {X Y A B : Type 0} (f : X → A) (g : Y → B) (xs : List X) (ys : List Y) (x : X) (y : Y) → length ys ≡ length xs →
@@ -13,24 +13,25 @@ zip_more f g (a ∷ xs) [] x y same = absurd (omega arith)
 zip_more {X} {Y} {A} {B} f g (a ∷ xs) (b ∷ ys) x y same = ap (λ (l : List (A × B)). (f a, g b) ∷ l) (zip_more f g xs ys x y (omega arith))
 
 -- what a run comes to, given that it goes on so
-abbrev Goes : {F : Type 0} → May F → State F → List (Command × Answer) → State F → Type 0
-Goes {F} may s done mid = (events : List (Command × Answer)) (after : State F) → Run may mid events after → Run may s (done ++ events) after
+abbrev Proceeds : {F : Type 0} → May F → State F → List (Command × Answer) → State F → Type 0
+Proceeds {F} may s done mid =
+    (events : List (Command × Answer)) (after : State F) → Run may mid events after → Run may s (done ++ events) after
 
 pub run_more : {F X Y : Type 0} (may : May F) (f : X → Command) (g : Y →
     Answer) (s mid next : State F) (xs : List X) (ys : List Y) (x : X) (y : Y) → length ys ≡ length xs →
-    Goes may s (zip (map f xs) (map g ys)) mid → (told : Turns) × Performs may mid (f x) told (g y) next →
-    Goes may s (zip (map f (xs ++ x ∷ [])) (map g (ys ++ y ∷ []))) next
-unfolding RunTold
-run_more may f g s mid next xs ys x y same goes (told, done) events after (tolds, run) =
+    Proceeds may s (zip (map f xs) (map g ys)) mid → (reported : Turns) × Performs may mid (f x) reported (g y) next →
+    Proceeds may s (zip (map f (xs ++ x ∷ [])) (map g (ys ++ y ∷ []))) next
+unfolding RunReported
+run_more may f g s mid next xs ys x y same proceeds (reported, done) events after (all_reported, run) =
     let one : zip (map f (xs ++ x ∷ [])) (map g (ys ++ y ∷ [])) ++ events ≡ zip (map f xs) (map g ys) ++ (f x, g y) ∷ events =
     ap (λ (l : List (Command × Answer)). l ++ events) (zip_more f g xs ys x y same)
     ∙ append_assoc (zip (map f xs) (map g ys)) ((f x, g y) ∷ []) events in
     subst (λ (l : List (Command × Answer)). Run may s l after) (sym one)
-    (goes ((f x, g y) ∷ events) after (told ∷ tolds, (next, done, run)))
+    (proceeds ((f x, g y) ∷ events) after (reported ∷ all_reported, (next, done, run)))
 
-pub run_ends : {F : Type 0} (may : May F) (s mid : State F) (done : List (Command × Answer)) → Goes may s done mid → Run may s done mid
-unfolding RunTold
-run_ends may s mid done goes = subst (λ (l : List (Command × Answer)). Run may s l mid) (append-nil done) (goes [] mid ([], refl))
+pub run_ends : {F : Type 0} (may : May F) (s mid : State F) (done : List (Command × Answer)) → Proceeds may s done mid → Run may s done mid
+unfolding RunReported
+run_ends may s mid done proceeds = subst (λ (l : List (Command × Answer)). Run may s l mid) (append-nil done) (proceeds [] mid ([], refl))
 
 pub nothing_left : {X : Type 0} (l : List X) → length l ≡ 0 → l ≡ []
 nothing_left [] h = refl

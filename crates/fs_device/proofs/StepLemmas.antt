@@ -18,7 +18,7 @@ use Rattle.plain_machine.specs.Step.{Step, after_return}
 use Rattle.fs_device.specs.DevicePartsView.{DeviceParts}
 use Rattle.fs_device.specs.DeviceView.{ServesChain, state_of}
 use Rattle.fs_queue.specs.Windows as queue
-use Rattle.fs_device.specs.Phases.{GoesBack, HasTaken, IsEmptyUnlessDeviceTook, IsTakenFrom, TakesOrEnds}
+use Rattle.fs_device.specs.Phases.{IsReturned, HasTaken, IsEmptyUnlessDeviceTook, IsTakenFrom, TakesOrEnds}
 use Rattle.vm_memory_core.proofs.Stores.{changed_at-set}
 
 -- a queue that goes on by one chain is set among the others
@@ -142,8 +142,8 @@ pub gives_back : {F : Type 0} (f : Fixed) (m m' : Memory) (queues : List Queue) 
     (reply : List ℕ) (notice : Bool) → slice_get queues i ≡ Some p →
     (IsTaken m p has.fetched t → m' ≡ returned m p t.head (room_of has.fetched) reply) →
     (IsTaken m p has.fetched t → notice ≡ wants_notice m' p) → q' ≡ advanced p →
-    GoesBack (state f m queues s) i t has reply notice (state f m' (set queues i q') s)
-gives_back f m m' queues i p q' s t has reply notice at stored told after =
+    IsReturned (state f m queues s) i t has reply notice (state f m' (set queues i q') s)
+gives_back f m m' queues i p q' s t has reply notice at stored reported after =
     let both : Some has.queue ≡ Some p = sym has.there ∙ at in
     let same : has.queue ≡ p = cc in
     let taken : IsTaken m p has.fetched t = subst (λ (o : Queue). IsTaken m o has.fetched t) same has.taken in record {
@@ -153,7 +153,7 @@ gives_back f m m' queues i p q' s t has reply notice at stored told after =
           ∙ ap (λ (l : List Queue). state f (returned m has.queue t.head (room_of has.fetched) reply) l s)
           (ap (set queues i) (after ∙ ap advanced (sym same))
           ∙ sym (changed_at-set queues i (λ _. advanced has.queue) (advanced has.queue)));
-      told = told taken ∙ ap (wants_notice m') (sym same);
+      reported = reported taken ∙ ap (wants_notice m') (sym same);
     }
 
 -- so it is, whatever chain was taken, by what a device is made of
@@ -162,18 +162,19 @@ pub gives_back_parts : {F : Type 0} (f : Fixed) (m m' : Memory) (queues : List Q
     record { queues = queues; options = s.0; files = s.1; limit = f.limit; page_size = f.page_size } ≡ d → slice_get queues i ≡ Some p →
     ((fetched : RequestAndRoom) → IsTaken m p fetched t → m' ≡ returned m p t.head (room_of fetched) reply) →
     ((fetched : RequestAndRoom) → IsTaken m p fetched t → notice ≡ wants_notice m' p) → q' ≡ advanced p →
-    (has : IsTakenFrom m d.queues i t) → GoesBack (state_of m d) i t has reply notice (state f m' (set queues i q') s)
-gives_back_parts {F} f m m' queues i p q' s t d reply notice is at stored told after =
+    (has : IsTakenFrom m d.queues i t) → IsReturned (state_of m d) i t has reply notice (state f m' (set queues i q') s)
+gives_back_parts {F} f m m' queues i p q' s t d reply notice is at stored reported after =
     subst (λ (e : DeviceParts F). (has : IsTakenFrom m e.queues i t) →
-    GoesBack (state_of m e) i t has reply notice (state f m' (set queues i q') s)) is
-    (λ has. gives_back f m m' queues i p q' s t has reply notice at (stored has.fetched) (told has.fetched) after)
+    IsReturned (state_of m e) i t has reply notice (state f m' (set queues i q') s)) is
+    (λ has. gives_back f m m' queues i p q' s t has reply notice at (stored has.fetched) (reported has.fetched) after)
 
-goes_back : {F : Type 0} (may : May F) (s after : State F) (i : ℕ) (q : Queue) (head : ℕ) (fetched : RequestAndRoom) (calls : Calls) (o : ℕ)
+is_returned : {F : Type 0} (may : May F) (s after : State F) (i : ℕ) (q : Queue) (head : ℕ) (fetched : RequestAndRoom) (calls : Calls)
+    (o : ℕ)
     (g : F) (x : Exchange) (notice : Bool) →
     ServesChain may s.page_size (s.options, s.files) head fetched calls x (o, g) →
     after ≡ after_return s i q head (room_of fetched) x.reply o g → notice ≡ wants_notice after.memory q →
     Exchanges may s i q (Offers head fetched) calls x notice after
-goes_back {F} may s after i q head (CannotFetch why) calls o g x notice served is told =
+is_returned {F} may s after i q head (CannotFetch why) calls o g x notice served is reported =
     let files : after.files ≡ s.files = ap (λ (y : State F). y.files) is ∙ ap (λ (p : ℕ × F). p.1) served.2 in record {
       no_call = served.1;
       files = files;
@@ -184,10 +185,10 @@ goes_back {F} may s after i q head (CannotFetch why) calls o g x notice served i
             ∙ ap (λ (p : ℕ × F). after_return s i q head [] x.reply p.0 p.1) served.2
             ∙ ap (λ (y : Exchange). after_return s i q head [] y.reply s.options s.files) served.0
             ∙ ap (λ (files : F). after_return s i q head [] [] s.options files) (sym files);
-        told = told;
+        reported = reported;
       };
     }
-goes_back {F} may s after i q head (IsRequest request room) calls o g x notice served is told =
+is_returned {F} may s after i q head (IsRequest request room) calls o g x notice served is reported =
     let files : after.files ≡ g = ap (λ (y : State F). y.files) is in
     let given = served.0 in record {
       given = given;
@@ -200,7 +201,7 @@ goes_back {F} may s after i q head (IsRequest request room) calls o g x notice s
             ∙ ap (λ (y : Exchange). after_return s i q head room y.reply o g) served.2
             ∙ ap (λ (n : ℕ). after_return s i q head room given.reply n g) served.3
             ∙ ap (λ (files : F). after_return s i q head room given.reply given.options files) (sym files);
-        told = told;
+        reported = reported;
       };
     }
 
@@ -208,13 +209,13 @@ goes_back {F} may s after i q head (IsRequest request room) calls o g x notice s
 pub step_by_phases : {F : Type 0} (may : May F) (s after : State F) (i : ℕ) (t : Taken) (has : HasTaken s.memory s.limit s.queues i t)
     (o : ℕ) (g : F) (x : Exchange) (notice : Bool) →
     (calls : Calls) × ServesChain may s.page_size (s.options, s.files) t.head has.fetched calls x (o, g) →
-    GoesBack (record s { options = o; files = g }) i t (taken_from has) x.reply notice after →
+    IsReturned (record s { options = o; files = g }) i t (taken_from has) x.reply notice after →
     (calls : Calls) × Step may s i calls (Exchanged x notice) after
 step_by_phases may s after i t has o g x notice served back = (
   served.0,
   on_queue may s i has.queue served.0 (Exchanged x notice) after has.there
       (subst (λ (offered : Offer). Exchanges may s i has.queue offered served.0 x notice after) (sym has.offered)
-      (goes_back may s after i has.queue t.head has.fetched served.0 o g x notice served.1 back.state back.told)),
+      (is_returned may s after i has.queue t.head has.fetched served.0 o g x notice served.1 back.state back.reported)),
 )
 
 -- so it is by what a device is made of, whose queues stayed as they were while it was served
@@ -225,13 +226,13 @@ pub exchanges :
     (IsTaken m p has.fetched t → m' ≡ returned m p t.head (room_of has.fetched) x.reply) →
     (IsTaken m p has.fetched t → notice ≡ wants_notice m' p) → q' ≡ advanced p →
     (calls : Calls) × Step may (state f m queues s) i calls (Exchanged x notice) (state f m' (set between i q') s')
-exchanges {F} may f m m' queues between i p q' s s' t has x notice kept at served stored told after =
-    let found : slice_get queues i ≡ Some p = ap (λ (l : List Queue). slice_get l i) (sym kept) ∙ at in
-    let back = gives_back f m m' queues i p q' s' t (taken_from has) x.reply notice found stored told after in
+exchanges {F} may f m m' queues between i p q' s s' t has x notice preserved at served stored reported after =
+    let found : slice_get queues i ≡ Some p = ap (λ (l : List Queue). slice_get l i) (sym preserved) ∙ at in
+    let back = gives_back f m m' queues i p q' s' t (taken_from has) x.reply notice found stored reported after in
     let done = step_by_phases may (state f m queues s) (state f m' (set queues i q') s') i t has s'.0 s'.1 x notice served back in (
       done.0,
       subst (λ (l : List Queue). Step may (state f m queues s) i done.0 (Exchanged x notice) (state f m' (set l i q') s'))
-          (sym kept) done.1,
+          (sym preserved) done.1,
     )
 
 -- a device that takes a chain, answers it and gives it back does a step
@@ -239,10 +240,10 @@ pub step_of_device : {F : Type 0} (may : May F) (m m' : Memory) (d mid after : D
     (has : HasTaken m d.limit d.queues i t) (x : Exchange) (notice : Bool) →
     (calls : Calls) × ServesChain may d.page_size (d.options, d.files) t.head has.fetched calls x (mid.options, mid.files) →
     mid ≡ record d { options = mid.options; files = mid.files } →
-    ((held : IsTakenFrom m mid.queues i t) → GoesBack (state_of m mid) i t held x.reply notice (state_of m' after)) →
+    ((held : IsTakenFrom m mid.queues i t) → IsReturned (state_of m mid) i t held x.reply notice (state_of m' after)) →
     (calls : Calls) × Step may (state_of m d) i calls
     (Exchanged x notice) (state_of m' after)
 step_of_device {F} may m m' d mid after i t has x notice served same back =
     step_by_phases may (state_of m d) (state_of m' after) i t has mid.options mid.files x notice served
     (subst (λ (e : DeviceParts F). (held : IsTakenFrom m e.queues i t) →
-    GoesBack (state_of m e) i t held x.reply notice (state_of m' after)) same back (taken_from has))
+    IsReturned (state_of m e) i t held x.reply notice (state_of m' after)) same back (taken_from has))

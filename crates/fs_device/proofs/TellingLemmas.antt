@@ -24,12 +24,12 @@ use Rattle.plain_machine.specs.Step.{State, Exchange, Calls, Idle, Refused, Exch
 use Rattle.plain_machine.specs.Run as run
 use Rattle.plain_machine.specs.Run.{Turn, Turns, Command, Answer, Effect, KickEnds, KickRun, Kicks, KickAnswer, Affects, ChangesTable}
 use Rattle.plain_machine.specs.Run.{HasEffect, Does, IsDecided, Performs}
-use Rattle.plain_machine.specs.Run.{RunTold, effect, insert, insert_block, is_known, some_overlap, reset}
-use Rattle.fs_device.specs.Telling.{calls_of, calls_told, IsMeant, IsServedBy, IsServed}
+use Rattle.plain_machine.specs.Run.{RunReported, effect, insert, insert_block, is_known, some_overlap, reset}
+use Rattle.fs_device.specs.Telling.{calls_of, calls_reported, IsMeant, IsServedBy, IsServed}
 
 -- what exchanges tell: their calls lead from one state of the file system to another
-abbrev Tells : {F : Type 0} → May F → F → Turns → F → Type 0
-Tells may before told after = FileRun may before (calls_of told) after × AllByRecursion IsServed told
+abbrev Reports : {F : Type 0} → May F → F → Turns → F → Type 0
+Reports may before reported after = FileRun may before (calls_of reported) after × AllByRecursion IsServed reported
 
 files_joined : {F : Type 0} (may : May F) (a b c : F) (xs ys : Calls) → FileRun may a xs b → FileRun may b ys c → FileRun may a (xs ++ ys) c
 files_joined may a b c [] ys front back = subst (λ x. FileRun may x ys c) front back
@@ -44,14 +44,14 @@ by_fault (Some e) t same is = subst (λ (f : Option Fault). IsServedBy f t) (sym
 abbrev turn : Exchange → Bool → Calls → Turn
 turn x notice calls = record { exchange = x; notice = notice; calls = calls }
 
-exchange_tells : {F : Type 0} (may : May F) (s : State F) (i : ℕ) (q : Queue) (o : Offer) (calls : Calls) (x : Exchange) (notice : Bool)
+exchange_reports : {F : Type 0} (may : May F) (s : State F) (i : ℕ) (q : Queue) (o : Offer) (calls : Calls) (x : Exchange) (notice : Bool)
     (after : State F) →
     Exchanges may s i q o calls x notice after → FileRun may s.files calls after.files × IsServed (turn x notice calls)
-exchange_tells may s i q (Offers head (CannotFetch fault)) calls x notice after r = (
+exchange_reports may s i q (Offers head (CannotFetch fault)) calls x notice after r = (
   subst (λ (l : Calls). FileRun may s.files l after.files) (sym r.no_call) r.files,
   subst (λ (f : Option Fault). IsServedBy f (turn x notice calls)) (sym (ap (λ (e : Exchange). e.fault) r.returns.exchange)) r.no_call,
 )
-exchange_tells may s i q (Offers head (IsRequest request room)) calls x notice after r =
+exchange_reports may s i q (Offers head (IsRequest request room)) calls x notice after r =
     let answers = map (λ (step : FileCall × FileAnswer). step.1) calls in
     let set = setting s.page_size s.options (length room) in
     let same_head : x.head ≡ head = ap (λ (e : Exchange). e.head) r.returns.exchange in
@@ -60,50 +60,50 @@ exchange_tells may s i q (Offers head (IsRequest request room)) calls x notice a
     ≡ map (λ (step : FileCall × FileAnswer). step.0) calls =
     ap (λ (bytes : List ℕ). (served set (meaning s.options bytes (length room)) answers).calls) same
     ∙ ap (λ (g : ServedMessage). g.calls) (sym r.serves.gives) ∙ r.serves.asks in
-    let told : x ≡ served_exchange head request (served set (meaning s.options request (length room)) answers) =
+    let reported : x ≡ served_exchange head request (served set (meaning s.options request (length room)) answers) =
     r.returns.exchange ∙ ap (λ (g : ServedMessage). served_exchange head request g) r.serves.gives in
     let is : x ≡ served_exchange x.head x.request (served set (meaning s.options x.request (length room)) answers) =
     subst (λ (n : ℕ). x ≡ served_exchange n x.request (served set (meaning s.options x.request (length room)) answers)) (sym same_head)
     (subst (λ (bytes : List ℕ). x ≡ served_exchange head bytes (served set (meaning s.options bytes (length room)) answers))
-    (sym same) told) in
+    (sym same) reported) in
     (r.serves.run, by_fault r.given.fault (turn x notice calls) (ap (λ (e : Exchange). e.fault) r.returns.exchange) (set, own, is))
-exchange_tells may s i q taking.Idle calls x notice after r = absurd r
-exchange_tells may s i q (Refuses e) calls x notice after r = absurd r
+exchange_reports may s i q taking.Idle calls x notice after r = absurd r
+exchange_reports may s i q (Refuses e) calls x notice after r = absurd r
 
-step_tells :
+step_reports :
     {F : Type 0} (may : May F) (s : State F) (i : ℕ) (o : Option Queue) (calls : Calls) (x : Exchange) (notice : Bool) (after : State F) →
     StepOf may s i o calls (Exchanged x notice) after → FileRun may s.files calls after.files × IsServed (turn x notice calls)
-step_tells may s i None calls x notice after t = absurd (cc)
-step_tells may s i (Some q) calls x notice after t = exchange_tells may s i q _ calls x notice after t
+step_reports may s i None calls x notice after t = absurd (cc)
+step_reports may s i (Some q) calls x notice after t = exchange_reports may s i q _ calls x notice after t
 
 -- what an idle step, a refusal and the end of a kick don't change: the memory and the files
-abbrev kept_of : {F : Type 0} → State F → Memory × F
-kept_of s = (s.memory, s.files)
+abbrev preserved_of : {F : Type 0} → State F → Memory × F
+preserved_of s = (s.memory, s.files)
 
 idle_leaves : {F : Type 0} (may : May F) (s : State F) (i : ℕ) (o : Option Queue) (calls : Calls) (after : State F) →
-    StepOf may s i o calls Idle after → kept_of after ≡ kept_of s
-idle_leaves may s i None calls after t = ap kept_of t.1.same
-idle_leaves may s i (Some q) calls after t = ap kept_of t.1.same
+    StepOf may s i o calls Idle after → preserved_of after ≡ preserved_of s
+idle_leaves may s i None calls after t = ap preserved_of t.1.same
+idle_leaves may s i (Some q) calls after t = ap preserved_of t.1.same
 
 refused_leaves : {F : Type 0} (may : May F) (s : State F) (i : ℕ) (o : Option Queue) (calls : Calls) (e : DeviceError) (after : State F) →
-    StepOf may s i o calls (Refused e) after → kept_of after ≡ kept_of s
-refused_leaves may s i None calls e after t = ap kept_of t.1.same
+    StepOf may s i o calls (Refused e) after → preserved_of after ≡ preserved_of s
+refused_leaves may s i None calls e after t = ap preserved_of t.1.same
 refused_leaves may s i (Some q) calls device.NoSuchQueue after t = absurd t
-refused_leaves may s i (Some q) calls (device.Queue stop.OutOfMemory) after t = ap kept_of t.1.same
-refused_leaves may s i (Some q) calls (device.Queue stop.Stopped) after t = ap kept_of t.2
-refused_leaves may s i (Some q) calls (device.Queue stop.AvailIndexUnreachable) after t = ap kept_of t.2
-refused_leaves may s i (Some q) calls (device.Queue stop.AvailTooFar) after t = ap kept_of t.2
-refused_leaves may s i (Some q) calls (device.Queue stop.RingEntryUnreachable) after t = ap kept_of t.2
-refused_leaves may s i (Some q) calls (device.Queue stop.HeadOutOfTable) after t = ap kept_of t.2
-refused_leaves may s i (Some q) calls (device.Queue stop.UsedUnreachable) after t = ap kept_of t.2
-refused_leaves may s i (Some q) calls (device.Queue stop.AvailFlagsUnreachable) after t = ap kept_of t.2
-refused_leaves may s i (Some q) calls (device.Queue stop.DescriptorUnreachable) after t = ap kept_of t.2
+refused_leaves may s i (Some q) calls (device.Queue stop.OutOfMemory) after t = ap preserved_of t.1.same
+refused_leaves may s i (Some q) calls (device.Queue stop.Stopped) after t = ap preserved_of t.2
+refused_leaves may s i (Some q) calls (device.Queue stop.AvailIndexUnreachable) after t = ap preserved_of t.2
+refused_leaves may s i (Some q) calls (device.Queue stop.AvailTooFar) after t = ap preserved_of t.2
+refused_leaves may s i (Some q) calls (device.Queue stop.RingEntryUnreachable) after t = ap preserved_of t.2
+refused_leaves may s i (Some q) calls (device.Queue stop.HeadOutOfTable) after t = ap preserved_of t.2
+refused_leaves may s i (Some q) calls (device.Queue stop.UsedUnreachable) after t = ap preserved_of t.2
+refused_leaves may s i (Some q) calls (device.Queue stop.AvailFlagsUnreachable) after t = ap preserved_of t.2
+refused_leaves may s i (Some q) calls (device.Queue stop.DescriptorUnreachable) after t = ap preserved_of t.2
 
 -- ---- kicks
 
 end_leaves : {F : Type 0} (may : May F) (s : State F) (i most : ℕ) (refused : Option DeviceError) (after : State F) →
-    KickEnds may s i most refused after → kept_of after ≡ kept_of s
-end_leaves may s i zero None after same = ap kept_of same
+    KickEnds may s i most refused after → preserved_of after ≡ preserved_of s
+end_leaves may s i zero None after same = ap preserved_of same
 end_leaves may s i zero (Some e) after t = absurd t
 end_leaves may s i (suc most) None after t = idle_leaves may s i (slice_get s.queues i) [] after t
 end_leaves may s i (suc most) (Some e) after t = refused_leaves may s i (slice_get s.queues i) [] e after t
@@ -118,21 +118,22 @@ pub end_keeps : {F : Type 0} (may : May F) (s : State F) (i most : ℕ) (refused
     KickEnds may s i most refused after → after.memory ≡ s.memory
 end_keeps may s i most refused after t = ap (λ k. k.0) (end_leaves may s i most refused after t)
 
-kick_tells : {F : Type 0} (may : May F) (s : State F) (i most : ℕ) (told : Turns) (refused : Option DeviceError) (after : State F) →
-    KickRun may s i most told refused after → Tells may s.files told after.files
+kick_reports : {F : Type 0} (may : May F) (s : State F) (i most : ℕ) (reported : Turns) (refused : Option DeviceError) (after : State F) →
+    KickRun may s i most reported refused after → Reports may s.files reported after.files
 unfolding KickRun
-kick_tells may s i most [] refused after t = (end_stays may s i most refused after t, tt)
-kick_tells may s i zero (x ∷ told) refused after t = absurd t
-kick_tells may s i (suc most) (x ∷ told) refused after (mid, step, rest) =
-    let own = step_tells may s i (slice_get s.queues i) x.calls x.exchange x.notice mid step in
-    let others = kick_tells may mid i most told refused after rest in
-    (files_joined may s.files mid.files after.files x.calls (calls_of told) own.0 others.0, (own.1, others.1))
+kick_reports may s i most [] refused after t = (end_stays may s i most refused after t, tt)
+kick_reports may s i zero (x ∷ reported) refused after t = absurd t
+kick_reports may s i (suc most) (x ∷ reported) refused after (mid, step, rest) =
+    let own = step_reports may s i (slice_get s.queues i) x.calls x.exchange x.notice mid step in
+    let others = kick_reports may mid i most reported refused after rest in
+    (files_joined may s.files mid.files after.files x.calls (calls_of reported) own.0 others.0, (own.1, others.1))
 
-kicks_tell : {F : Type 0} (may : May F) (s : State F) (i most : ℕ) (o : Option Queue) (told : Turns) (k : KickAnswer) (after : State F) →
-    Kicks may s i most o told k after →
-    Tells may s.files told after.files
-kicks_tell may s i most None told k after t = subst (λ (l : Turns). Tells may s.files l after.files) (sym t.1) (ap (λ s. s.files) t.0, tt)
-kicks_tell may s i most (Some q) told k after t = kick_tells may s i most told k.refused after t.0
+kicks_tell : {F : Type 0} (may : May F) (s : State F) (i most : ℕ) (o : Option Queue) (reported : Turns) (k : KickAnswer) (after : State F)
+    → Kicks may s i most o reported k after →
+    Reports may s.files reported after.files
+kicks_tell may s i most None reported k after t =
+    subst (λ (l : Turns). Reports may s.files l after.files) (sym t.1) (ap (λ s. s.files) t.0, tt)
+kicks_tell may s i most (Some q) reported k after t = kick_reports may s i most reported k.refused after t.0
 
 -- ---- the other commands ask nothing
 
@@ -203,66 +204,69 @@ affect_stays s (run.ResetQueue queue size desc avail used) answer after t =
 affect_stays s run.Image answer after t = by_effect s run.Image answer after t
 affect_stays s run.Harvest answer after t = by_effect s run.Harvest answer after t
 
-effect_tells : {F : Type 0} (may : May F) (s : State F) (command : Command) (told : Turns) (answer : Answer) (after : State F) →
-    HasEffect s command told answer after →
-    Tells may s.files told after.files
-effect_tells may s command [] answer after t = (affect_stays s command answer after t, tt)
-effect_tells may s command (x ∷ told) answer after t = absurd t
+effect_reports : {F : Type 0} (may : May F) (s : State F) (command : Command) (reported : Turns) (answer : Answer) (after : State F) →
+    HasEffect s command reported answer after →
+    Reports may s.files reported after.files
+effect_reports may s command [] answer after t = (affect_stays s command answer after t, tt)
+effect_reports may s command (x ∷ reported) answer after t = absurd t
 
 -- ---- runs
 
-does_tell : {F : Type 0} (may : May F) (s : State F) (command : Command) (told : Turns) (answer : Answer) (after : State F) →
-    Does may s command told answer after → Tells may s.files told after.files
-does_tell may s (run.Kick i most) told (run.Served k) after t = kicks_tell may s i most (slice_get s.queues i) told k after t
-does_tell may s (run.Kick i most) told run.Done after t = absurd t
-does_tell may s (run.Kick i most) told (run.Bytes bytes) after t = absurd t
-does_tell may s (run.Kick i most) told (run.NewBlockIs number) after t = absurd t
-does_tell may s (run.Kick i most) told (run.Copied host) after t = absurd t
-does_tell may s (run.Kick i most) told (run.Pages pages) after t = absurd t
-does_tell may s (run.Kick i most) told (run.IsRefused refusal) after t = absurd t
-does_tell may s (run.GuestRead a n) told answer after t = effect_tells may s (run.GuestRead a n) told answer after t
-does_tell may s (run.GuestWrite a bs) told answer after t = effect_tells may s (run.GuestWrite a bs) told answer after t
-does_tell may s (run.NewBlock n) told answer after t = effect_tells may s (run.NewBlock n) told answer after t
-does_tell may s (run.InsertRegion base block) told answer after t = effect_tells may s (run.InsertRegion base block) told answer after t
-does_tell may s (run.RemoveRegion base size) told answer after t = effect_tells may s (run.RemoveRegion base size) told answer after t
-does_tell may s (run.SetLayout layout) told answer after t = effect_tells may s (run.SetLayout layout) told answer after t
-does_tell may s (run.Map iova target n perm) told answer after t = effect_tells may s (run.Map iova target n perm) told answer after t
-does_tell may s (run.Unmap iova n) told answer after t = effect_tells may s (run.Unmap iova n) told answer after t
-does_tell may s run.UnmapAll told answer after t = effect_tells may s run.UnmapAll told answer after t
-does_tell may s (run.SetIommu on) told answer after t = effect_tells may s (run.SetIommu on) told answer after t
-does_tell may s (run.ResetQueue queue size desc avail used) told answer after t =
-    effect_tells may s (run.ResetQueue queue size desc avail used) told answer after t
-does_tell may s run.Image told answer after t = effect_tells may s run.Image told answer after t
-does_tell may s run.Harvest told answer after t = effect_tells may s run.Harvest told answer after t
+does_tell : {F : Type 0} (may : May F) (s : State F) (command : Command) (reported : Turns) (answer : Answer) (after : State F) →
+    Does may s command reported answer after → Reports may s.files reported after.files
+does_tell may s (run.Kick i most) reported (run.Served k) after t = kicks_tell may s i most (slice_get s.queues i) reported k after t
+does_tell may s (run.Kick i most) reported run.Done after t = absurd t
+does_tell may s (run.Kick i most) reported (run.Bytes bytes) after t = absurd t
+does_tell may s (run.Kick i most) reported (run.NewBlockIs number) after t = absurd t
+does_tell may s (run.Kick i most) reported (run.Copied host) after t = absurd t
+does_tell may s (run.Kick i most) reported (run.Pages pages) after t = absurd t
+does_tell may s (run.Kick i most) reported (run.IsRefused refusal) after t = absurd t
+does_tell may s (run.GuestRead a n) reported answer after t = effect_reports may s (run.GuestRead a n) reported answer after t
+does_tell may s (run.GuestWrite a bs) reported answer after t = effect_reports may s (run.GuestWrite a bs) reported answer after t
+does_tell may s (run.NewBlock n) reported answer after t = effect_reports may s (run.NewBlock n) reported answer after t
+does_tell may s (run.InsertRegion base block) reported answer after t =
+    effect_reports may s (run.InsertRegion base block) reported answer after t
+does_tell may s (run.RemoveRegion base size) reported answer after t =
+    effect_reports may s (run.RemoveRegion base size) reported answer after t
+does_tell may s (run.SetLayout layout) reported answer after t = effect_reports may s (run.SetLayout layout) reported answer after t
+does_tell may s (run.Map iova target n perm) reported answer after t =
+    effect_reports may s (run.Map iova target n perm) reported answer after t
+does_tell may s (run.Unmap iova n) reported answer after t = effect_reports may s (run.Unmap iova n) reported answer after t
+does_tell may s run.UnmapAll reported answer after t = effect_reports may s run.UnmapAll reported answer after t
+does_tell may s (run.SetIommu on) reported answer after t = effect_reports may s (run.SetIommu on) reported answer after t
+does_tell may s (run.ResetQueue queue size desc avail used) reported answer after t =
+    effect_reports may s (run.ResetQueue queue size desc avail used) reported answer after t
+does_tell may s run.Image reported answer after t = effect_reports may s run.Image reported answer after t
+does_tell may s run.Harvest reported answer after t = effect_reports may s run.Harvest reported answer after t
 
-performs_tell : {F : Type 0} (may : May F) (s : State F) (command : Command) (told : Turns) (answer : Answer) (after : State F) →
-    Performs may s command told answer after → Tells may s.files told after.files
+performs_tell : {F : Type 0} (may : May F) (s : State F) (command : Command) (reported : Turns) (answer : Answer) (after : State F) →
+    Performs may s command reported answer after → Reports may s.files reported after.files
 performs_tell may s command [] (run.IsRefused why.OutOfMemory) after t = (ap (λ s. s.files) t.1, tt)
-performs_tell may s command (x ∷ told) (run.IsRefused why.OutOfMemory) after t = absurd t
-performs_tell may s command told (run.IsRefused why.NoPlace) after t = does_tell may s command told _ after t
-performs_tell may s command told (run.IsRefused why.EmptyBlock) after t = does_tell may s command told _ after t
-performs_tell may s command told (run.IsRefused why.UnknownBlock) after t = does_tell may s command told _ after t
-performs_tell may s command told (run.IsRefused why.BadRegion) after t = does_tell may s command told _ after t
-performs_tell may s command told (run.IsRefused why.Overlap) after t = does_tell may s command told _ after t
-performs_tell may s command told (run.IsRefused why.NoRegion) after t = does_tell may s command told _ after t
-performs_tell may s command told (run.IsRefused why.BadMapping) after t = does_tell may s command told _ after t
-performs_tell may s command told (run.IsRefused why.NoSuchQueue) after t = does_tell may s command told _ after t
-performs_tell may s command told run.Done after t = does_tell may s command told _ after t
-performs_tell may s command told (run.Bytes bytes) after t = does_tell may s command told _ after t
-performs_tell may s command told (run.NewBlockIs number) after t = does_tell may s command told _ after t
-performs_tell may s command told (run.Served k) after t = does_tell may s command told _ after t
-performs_tell may s command told (run.Copied host) after t = does_tell may s command told _ after t
-performs_tell may s command told (run.Pages pages) after t = does_tell may s command told _ after t
+performs_tell may s command (x ∷ reported) (run.IsRefused why.OutOfMemory) after t = absurd t
+performs_tell may s command reported (run.IsRefused why.NoPlace) after t = does_tell may s command reported _ after t
+performs_tell may s command reported (run.IsRefused why.EmptyBlock) after t = does_tell may s command reported _ after t
+performs_tell may s command reported (run.IsRefused why.UnknownBlock) after t = does_tell may s command reported _ after t
+performs_tell may s command reported (run.IsRefused why.BadRegion) after t = does_tell may s command reported _ after t
+performs_tell may s command reported (run.IsRefused why.Overlap) after t = does_tell may s command reported _ after t
+performs_tell may s command reported (run.IsRefused why.NoRegion) after t = does_tell may s command reported _ after t
+performs_tell may s command reported (run.IsRefused why.BadMapping) after t = does_tell may s command reported _ after t
+performs_tell may s command reported (run.IsRefused why.NoSuchQueue) after t = does_tell may s command reported _ after t
+performs_tell may s command reported run.Done after t = does_tell may s command reported _ after t
+performs_tell may s command reported (run.Bytes bytes) after t = does_tell may s command reported _ after t
+performs_tell may s command reported (run.NewBlockIs number) after t = does_tell may s command reported _ after t
+performs_tell may s command reported (run.Served k) after t = does_tell may s command reported _ after t
+performs_tell may s command reported (run.Copied host) after t = does_tell may s command reported _ after t
+performs_tell may s command reported (run.Pages pages) after t = does_tell may s command reported _ after t
 
 -- a run tells its calls
-pub run_tells : {F : Type 0} (may : May F) (s : State F) (events : List (Command × Answer)) (tolds : List Turns) (after : State F) →
-    RunTold may s events tolds after →
-    FileRun may s.files (calls_told tolds) after.files × AllByRecursion (AllByRecursion IsServed) tolds
-unfolding RunTold
-run_tells may s [] [] after t = (ap (λ s. s.files) t, tt)
-run_tells may s [] (told ∷ tolds) after t = absurd t
-run_tells may s (e ∷ es) [] after t = absurd t
-run_tells may s (e ∷ es) (told ∷ tolds) after (mid, performs, rest) =
-    let own = performs_tell may s e.0 told e.1 mid performs in
-    let others = run_tells may mid es tolds after rest in
-    (files_joined may s.files mid.files after.files (calls_of told) (calls_told tolds) own.0 others.0, (own.1, others.1))
+pub run_reports : {F : Type 0} (may : May F) (s : State F) (events : List (Command × Answer)) (all_reported : List Turns) (after : State F)
+    → RunReported may s events all_reported after →
+    FileRun may s.files (calls_reported all_reported) after.files × AllByRecursion (AllByRecursion IsServed) all_reported
+unfolding RunReported
+run_reports may s [] [] after t = (ap (λ s. s.files) t, tt)
+run_reports may s [] (reported ∷ all_reported) after t = absurd t
+run_reports may s (e ∷ es) [] after t = absurd t
+run_reports may s (e ∷ es) (reported ∷ all_reported) after (mid, performs, rest) =
+    let own = performs_tell may s e.0 reported e.1 mid performs in
+    let others = run_reports may mid es all_reported after rest in
+    (files_joined may s.files mid.files after.files (calls_of reported) (calls_reported all_reported) own.0 others.0, (own.1, others.1))

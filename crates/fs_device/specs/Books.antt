@@ -11,7 +11,7 @@ use Rattle.server_replies.specs.Entries.{entry_len}
 use Rattle.virtiofsd_fuse.specs.Grammar.{Meaning, Asks, One, meaning}
 use Rattle.virtiofsd_fuse.specs.Serving.{May}
 use Rattle.plain_machine.specs.Step.{State}
-use Rattle.plain_machine.specs.Run.{Turn, Turns, Command, Answer, RunTold}
+use Rattle.plain_machine.specs.Run.{Turn, Turns, Command, Answer, RunReported}
 
 -- ---- the file system's calls and answers
 
@@ -112,22 +112,24 @@ accepted n t = if length t.calls == 0 then 0 else forgets_meant n (meaning 0 t.e
 
 -- the sum of an amount over all exchanges of a run
 abbrev pub over : (Turn → ℕ) → List Turns → ℕ
-over amount tolds = sum_by (λ told. sum_by amount told) tolds
+over amount all_reported = sum_by (λ reported. sum_by amount reported) all_reported
 
 -- the accounts of a node balance: answered less sent is written less accepted
 abbrev pub IsBalanced : (node : ℕ) → List Turns → Type 0
-IsBalanced n tolds =
-    over (answered n) tolds + over (accepted n) tolds ≡ over (written n) tolds + over (sent n) tolds
+IsBalanced n all_reported =
+    over (answered n) all_reported + over (accepted n) all_reported ≡ over (written n) all_reported + over
+    (sent n) all_reported
 
 -- theorem: each run from any state balances for each node but 0, which means no node
 abbrev pub Balances : {F : Type 0} → May F → Type 0
 Balances {F} may =
-    (s after : State F) (events : List (Command × Answer)) (tolds : List Turns) (n : ℕ) →
+    (s after : State F) (events : List (Command × Answer)) (all_reported : List Turns) (n : ℕ) →
     n ≢ 0 →
-    RunTold may s events tolds after →
-    IsBalanced n tolds
+    RunReported may s events all_reported after →
+    IsBalanced n all_reported
 
 -- a run that balances for each node but 0
 abbrev pub BalancedRun : {F : Type 0} → May F → State F → List (Command × Answer) → State F → Type 0
 BalancedRun may s events after =
-    (tolds : List Turns) × RunTold may s events tolds after × ((n : ℕ) → n ≢ 0 → IsBalanced n tolds)
+    (all_reported : List Turns) × RunReported may s events all_reported after
+    × ((n : ℕ) → n ≢ 0 → IsBalanced n all_reported)

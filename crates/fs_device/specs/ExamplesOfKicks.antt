@@ -25,7 +25,7 @@ use Rattle.plain_machine.specs.declared.fault.Fault.TheVariants as fault
 use Rattle.plain_machine.specs.declared.refusal.Refusal.TheVariants as why
 use Rattle.plain_machine.specs.Step.{State, Exchange, Exchanged, Step, after_return}
 use Rattle.plain_machine.specs.Run as run
-use Rattle.plain_machine.specs.Run.{Turn, Affects, Run, RunTold, KickRun}
+use Rattle.plain_machine.specs.Run.{Turn, Affects, Run, RunReported, KickRun}
 use Rattle.plain_machine.specs.Run.{command_takes_memory, effect}
 use Rattle.fs_device.specs.Books.{answered, sent, written, accepted, nodes_listed}
 use Rattle.plain_machine.specs.Examples.{blank, queue, put, descriptor_bytes, request, with_one_request}
@@ -42,7 +42,7 @@ unknown_turn = record { exchange = unknown_exchange; notice = true; calls = [] }
 kick_serves_one : Run may (device with_one_request queue)
     ((run.Kick 0 9, run.Served (record { exchanges = (unknown_exchange, true) ∷ []; refused = None })) ∷ [])
     (after_reply with_one_request queue)
-unfolding RunTold KickRun offer place addresses stored_all path found
+unfolding RunReported KickRun offer place addresses stored_all path found
 kick_serves_one = (
   (unknown_turn ∷ []) ∷ [],
   (
@@ -56,7 +56,7 @@ kick_serves_one = (
 kick_of_none : Run may (device with_one_request queue)
     ((run.Kick 0 0, run.Served (record { exchanges = []; refused = None })) ∷ [])
     (device with_one_request queue)
-unfolding RunTold KickRun
+unfolding RunReported KickRun
 kick_of_none = ([] ∷ [], (device with_one_request queue, (refl, refl), refl))
 
 -- a refusal is listed, and stops the queue; the next kick lists that it is stopped
@@ -73,7 +73,7 @@ kick_stops : Run may (device far queue)
       run.Served (record { exchanges = []; refused = Some (device_error.Queue queue_error.Stopped) }),
     ) ∷ [])
     (device far (with_stop queue))
-unfolding RunTold KickRun offer place addresses stored_all path found
+unfolding RunReported KickRun offer place addresses stored_all path found
 kick_stops = (
   [] ∷ [] ∷ [],
   (
@@ -97,7 +97,7 @@ decides_no_kick = refl
 kick_of_missing : Run may (device with_one_request queue)
     ((run.Kick 1 0, run.Served (record { exchanges = []; refused = Some device_error.NoSuchQueue })) ∷ [])
     (device with_one_request queue)
-unfolding RunTold
+unfolding RunReported
 kick_of_missing = ([] ∷ [], (device with_one_request queue, (refl, refl, refl), refl))
 
 -- a kick may be refused because an allocation fails: its chain stays available, and the next kick
@@ -106,7 +106,7 @@ kick_lacks_memory : Run may (device with_one_request queue)
     ((run.Kick 0 9, run.IsRefused why.OutOfMemory)
     ∷ (run.Kick 0 1, run.Served (record { exchanges = (unknown_exchange, true) ∷ []; refused = None })) ∷ [])
     (after_reply with_one_request queue)
-unfolding RunTold KickRun
+unfolding RunReported KickRun
 kick_lacks_memory = (
   [] ∷ (unknown_turn ∷ []) ∷ [],
   (
@@ -134,13 +134,13 @@ unfolding offer place addresses stored_all path found meaning record_parser mean
 first_of_two = record {
   given = record { calls = []; options = 0; reply = unknown_reply; fault = None };
   serves = record { gives = refl; asks = refl; run = refl };
-  returns = record { exchange = refl; state = refl; told = refl };
+  returns = record { exchange = refl; state = refl; reported = refl };
 }
 
 kick_of_one : Run may (device two_wait queue)
     ((run.Kick 0 1, run.Served (record { exchanges = (unknown_exchange, true) ∷ []; refused = None })) ∷ [])
     (after_reply two_wait queue)
-unfolding RunTold KickRun
+unfolding RunReported KickRun
 kick_of_one = (
   (unknown_turn ∷ []) ∷ [],
   (after_reply two_wait queue, ((after_reply two_wait queue, first_of_two, refl), refl), refl),
@@ -160,7 +160,7 @@ unfolding offer place addresses stored_all path found meaning record_parser mean
 first_before_refusal = record {
   given = record { calls = []; options = 0; reply = unknown_reply; fault = None };
   serves = record { gives = refl; asks = refl; run = refl };
-  returns = record { exchange = refl; state = refl; told = refl };
+  returns = record { exchange = refl; state = refl; reported = refl };
 }
 
 kick_stops_after_one : Run may (device no_such_head queue)
@@ -171,7 +171,7 @@ kick_stops_after_one : Run may (device no_such_head queue)
         refused = Some (device_error.Queue queue_error.HeadOutOfTable);
       }),
     ) ∷ []) stopped_after_one
-unfolding RunTold KickRun offer place addresses stored_all path found
+unfolding RunReported KickRun offer place addresses stored_all path found
 kick_stops_after_one = (
   (unknown_turn ∷ []) ∷ [],
   (
@@ -231,14 +231,14 @@ kick_calls_the_files : Run counts (with_count 4)
         refused = None;
       }),
     ) ∷ []) forgotten
-unfolding RunTold KickRun offer place addresses stored_all path found meaning record_parser meant row
+unfolding RunReported KickRun offer place addresses stored_all path found meaning record_parser meant row
 kick_calls_the_files =
     let step : Step counts (with_count 4) 0 ((files.Forget nobody 5 3, files.Done) ∷ [])
     (Exchanged (record { head = 0; request = forget; reply = []; fault = None }) true) forgotten =
     record {
       given = record { calls = files.Forget nobody 5 3 ∷ []; options = 0; reply = []; fault = None };
       serves = record { gives = refl; asks = refl; run = (7, refl, refl, refl) };
-      returns = record { exchange = refl; state = refl; told = refl };
+      returns = record { exchange = refl; state = refl; reported = refl };
     } in
     ((forgets_turn ∷ []) ∷ [], (forgotten, ((forgotten, step, refl), refl), refl))
 
@@ -268,9 +268,9 @@ lookup_turn =
       calls = [];
     }
 
-reply_tells_of_one : written 5 lookup_turn ≡ 1
+reply_reports_of_one : written 5 lookup_turn ≡ 1
 unfolding lookup_turn
-reply_tells_of_one = refl
+reply_reports_of_one = refl
 
 -- a reply to READDIRPLUS with node 5, whose name has one letter, and with `.`, which has no node
 listing_turn : Turn
@@ -286,9 +286,9 @@ listing_turn = record {
   calls = [];
 }
 
-list_tells_of_one : written 5 listing_turn ≡ 1
+list_reports_of_one : written 5 listing_turn ≡ 1
 unfolding listing_turn nodes_listed
-list_tells_of_one = refl
+list_reports_of_one = refl
 
 -- the accounts of node 2 over one exchange: answered, sent, written, accepted
 abbrev accounts : Turn → List ℕ
@@ -344,7 +344,8 @@ entry_forgotten = after_return short_of_room 0 queue 0 (addresses 0x2000 143) []
 kick_gives_an_entry_back : Run finds short_of_room
     ((run.Kick 0 1, run.Served (record { exchanges = (unheard_exchange, true) ∷ []; refused = None })) ∷ [])
     entry_forgotten
-unfolding RunTold KickRun offer place addresses stored_all path found meaning record_parser meant row counted
+unfolding RunReported KickRun offer place addresses stored_all path found meaning record_parser meant row
+    counted
     last_name reply_bytes fields.field_bytes
 kick_gives_an_entry_back =
     let step : Step finds short_of_room 0 unheard_turn.calls (Exchanged unheard_exchange true)
@@ -357,7 +358,7 @@ kick_gives_an_entry_back =
         fault = Some EncodeMessage;
       };
       serves = record { gives = refl; asks = refl; run = (1, refl, (refl, refl), (0, refl, refl, refl)) };
-      returns = record { exchange = refl; state = refl; told = refl };
+      returns = record { exchange = refl; state = refl; reported = refl };
     } in
     ((unheard_turn ∷ []) ∷ [], (entry_forgotten, ((entry_forgotten, step, refl), refl), refl))
 

@@ -3,7 +3,7 @@ use Rattle.std.specs.Prelude.{◌≡◌, ℕ, ◌+◌, Bool, true, false, List, 
 use Rattle.std.specs.Prelude.{Option, Some, None}
 use Rattle.std.specs.Int.{w32, to_le_bytes}
 use Rattle.vm_iotlb.specs.declared.permissions.Permissions.TheVariants.{ReadWrite}
-use Rattle.vm_iotlb.specs.Ranges.{table_kept}
+use Rattle.vm_iotlb.specs.Ranges.{table_held}
 use Rattle.vm_memory_core.specs.Host.{Host, new_block}
 use Rattle.vm_memory.specs.Layout.{place}
 use Rattle.vm_memory.specs.Memory.{Memory, memory_behind, stored_all}
@@ -15,14 +15,14 @@ use Rattle.plain_machine.specs.MarkedPages.{block_mark, io_mark}
 -- ---- the length in a header
 
 -- an error is only its header, of 16 bytes
-tells_length_of_error : header_length (error_bytes 1 38) ≡ 16 ∷ 0 ∷ 0 ∷ 0 ∷ []
+reports_length_of_error : header_length (error_bytes 1 38) ≡ 16 ∷ 0 ∷ 0 ∷ 0 ∷ []
 unfolding error_bytes fields.field_bytes
-tells_length_of_error = refl
+reports_length_of_error = refl
 
 -- with three bytes behind it, the header has the length 19
-tells_length_of_data : header_length (reply_bytes 1 (7 ∷ 8 ∷ 9 ∷ [])) ≡ 19 ∷ 0 ∷ 0 ∷ 0 ∷ []
+reports_length_of_data : header_length (reply_bytes 1 (7 ∷ 8 ∷ 9 ∷ [])) ≡ 19 ∷ 0 ∷ 0 ∷ 0 ∷ []
 unfolding reply_bytes fields.field_bytes
-tells_length_of_data = refl
+reports_length_of_data = refl
 
 -- ---- pages
 
@@ -51,17 +51,17 @@ marks_page_of_place = refl
 
 -- with the IOMMU on, a write marks the page of the address in the set, not that of its place
 marks_page_of_address : marks_after true 0x1ff8 ≡ Some false ∷ Some false ∷ Some false ∷ Some true ∷ None ∷ []
-unfolding place stored_all table_kept
+unfolding place stored_all table_held
 marks_page_of_address = refl
 
 -- a page past the end of the set isn't marked
 marks_none_past_the_set :
     marks_after true 0x2000 ≡ Some false ∷ Some false ∷ Some false ∷ Some false ∷ None ∷ []
-unfolding place stored_all table_kept
+unfolding place stored_all table_held
 marks_none_past_the_set = refl
 
 -- an address that isn't mapped: nothing is written, and nothing is marked
 marks_none_without_a_place :
     marks_after true 0x1000 ≡ Some false ∷ Some false ∷ Some false ∷ Some false ∷ None ∷ []
-unfolding place stored_all table_kept
+unfolding place stored_all table_held
 marks_none_without_a_place = refl

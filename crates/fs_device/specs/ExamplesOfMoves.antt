@@ -8,7 +8,7 @@ use Rattle.plain_machine.specs.Harvested.{block_pages, host_pages}
 use Rattle.fs_device.specs.Applying.{first_refused, pages_put}
 use Rattle.plain_machine.specs.Step.{State}
 use Rattle.plain_machine.specs.Run as run
-use Rattle.plain_machine.specs.Run.{Command, Answer, RunTold, effect}
+use Rattle.plain_machine.specs.Run.{Command, Answer, RunReported, effect}
 use Rattle.plain_machine.specs.Examples.{queue, Nothing, may, device}
 use Rattle.fs_device.specs.Moving.{RunsFromImage, page_mark, pages_answered}
 use Rattle.fs_device.specs.Migrating.{IsMoved}
@@ -42,7 +42,7 @@ events =
 
 -- the run meets the theorem's conditions
 moves : RunsFromImage may (of_eight old_bytes true) copy events (of_eight new_bytes false)
-unfolding RunTold effect place addresses stored_all block_pages host_pages
+unfolding RunReported effect place addresses stored_all block_pages host_pages
 moves = record {
   off = refl;
   marks = (refl, tt);
@@ -79,7 +79,7 @@ image_is_the_host = refl
 -- on here in the same way
 is_moved : IsMoved may (of_eight old_bytes true) ((run.GuestWrite 5 (70 ∷ 80 ∷ []), run.Done) ∷ [])
     (of_eight new_bytes false)
-unfolding RunTold effect place addresses stored_all block_pages host_pages pages_put
+unfolding RunReported effect place addresses stored_all block_pages host_pages pages_put
 is_moved = record {
   copy = copy;
   last = record { block = 0; offset = 0; bytes = new_bytes } ∷ [];
@@ -99,7 +99,7 @@ is_moved = record {
   };
   over = refl;
   same = refl;
-  goes_on = λ later tolds end ran. (
+  carries_on = λ later all_reported end ran. (
     of_eight old_bytes false,
     refl,
     (of_eight new_bytes true, refl, (of_eight new_bytes false, refl, ran)),

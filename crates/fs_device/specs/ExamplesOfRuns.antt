@@ -8,7 +8,7 @@ use Rattle.vm_iotlb.specs.declared.permissions.Permissions.{Permissions}
 use Rattle.vm_iotlb.specs.declared.permissions.Permissions.TheVariants.{ReadWrite, Write}
 use Rattle.vm_iotlb.specs.declared.range.IotlbRange.{IotlbRange}
 use Rattle.vm_iotlb.specs.Table.{is_within, unmapped}
-use Rattle.vm_iotlb.specs.Ranges.{mapping_in, table_kept}
+use Rattle.vm_iotlb.specs.Ranges.{mapping_in, table_held}
 use Rattle.vm_memory_core.specs.Host.{new_block, cleared}
 use Rattle.vm_memory.specs.Layout.{Region, place}
 use Rattle.vm_memory.specs.Memory.{Memory, memory_behind, memory_of, addresses, reach, stored_all}
@@ -26,7 +26,7 @@ use Rattle.plain_machine.specs.declared.refusal.Refusal.TheVariants as why
 use Rattle.plain_machine.specs.Step.{State, Exchanged, Step}
 use Rattle.plain_machine.specs.Harvested.{block_pages, host_pages, harvested}
 use Rattle.plain_machine.specs.Run as run
-use Rattle.plain_machine.specs.Run.{Command, Answer, Affects, Run, RunTold, KickRun}
+use Rattle.plain_machine.specs.Run.{Command, Answer, Affects, Run, RunReported, KickRun}
 use Rattle.plain_machine.specs.Run.{command_takes_memory, effect, with_ranges}
 use Rattle.fs_device.specs.Marks.{SameButMarks, SameEvents}
 use Rattle.plain_machine.specs.Examples.{queue, put, descriptor_bytes, request, with_one_request}
@@ -187,7 +187,7 @@ kick_without_memory : Run may nowhere
           (record { exchanges = []; refused = Some (device_error.Queue queue_error.AvailIndexUnreachable) }),
     ) ∷ [])
     (record nowhere { queues = with_stop queue ∷ [] })
-unfolding RunTold KickRun effect offer place addresses stored_all
+unfolding RunReported KickRun effect offer place addresses stored_all
 kick_without_memory =
     ([] ∷ [], (record nowhere { queues = with_stop queue ∷ [] }, ((refl, refl, refl), refl), refl))
 
@@ -218,7 +218,7 @@ abbrev maps_badly : Command → Type 0
 maps_badly command = Affects behind command (run.IsRefused why.BadMapping) behind
 
 maps_sixteen : leaves [] (run.Map 0x1000 8 16 ReadWrite) sixteen
-unfolding table_kept
+unfolding table_held
 maps_sixteen = (refl, (sixteen, ((omega arith, omega arith, omega arith), tt, tt), (λ a. refl), refl))
 
 -- no address is among 0 addresses
@@ -227,7 +227,7 @@ within_none start a = grind (arith, nat_tests)
 
 -- a mapping of no address at the very end of the addresses
 maps_none : leaves [] (run.Map (2 ^ 64 - 1) 0 0 ReadWrite) []
-unfolding table_kept
+unfolding table_held
 maps_none = (refl, ([], tt, (λ a. rw (within_none (2 ^ 64 - 1) a) refl), refl))
 
 maps_nothing_past_it : maps_badly (run.Map (2 ^ 64 - 1) 0 1 ReadWrite)
@@ -237,9 +237,9 @@ maps_to_nothing_past_it : maps_badly (run.Map 0 (2 ^ 64 - 1) 1 ReadWrite)
 maps_to_nothing_past_it = refl
 
 unmaps_sixteen : leaves sixteen (run.Unmap 0x1000 16) []
-unfolding table_kept
+unfolding table_held
 unmaps_sixteen =
-    let none : (a : ℕ) → None ≡ unmapped 0x1000 16 (table_kept sixteen) a =
+    let none : (a : ℕ) → None ≡ unmapped 0x1000 16 (table_held sixteen) a =
     λ a. elim (is_within 0x1000 16 a) as (λ b. None ≡ (if b then None
     else if b then Some (mapping_in (mapped_to 0x1000 0x1010 8 ReadWrite) a)
     else None)) [ true ↦ refl | false ↦ refl ] in
@@ -249,7 +249,7 @@ unmaps_nothing_past_the_end : maps_badly (run.Unmap (2 ^ 64 - 1) 1)
 unmaps_nothing_past_the_end = refl
 
 unmaps_all : leaves sixteen run.UnmapAll []
-unfolding table_kept
+unfolding table_held
 unmaps_all = (refl, ([], tt, (λ a. refl), refl))
 
 -- a removal of mappings allocates only if it leaves addresses behind it that are mapped in one piece
@@ -258,7 +258,7 @@ unmaps_all = (refl, ([], tt, (λ a. refl), refl))
 unmapping_takes : map (command_takes_memory (with_ranges behind sixteen))
     (run.Unmap 0x1000 16 ∷ run.Unmap 0x1008 8 ∷ run.Unmap 0x1008 0 ∷ run.Unmap 0x2000 8 ∷ run.Unmap 0x1000 8
     ∷ run.Unmap 0x1004 8 ∷ []) ≡ false ∷ false ∷ false ∷ false ∷ true ∷ true ∷ []
-unfolding table_kept
+unfolding table_held
 unmapping_takes = refl
 
 -- a mapping allocates only if a new run of addresses begins. None begins for the sixteen as they are,
@@ -268,7 +268,7 @@ mapping_takes : map (command_takes_memory (with_ranges behind sixteen)) (run.Map
     ∷ run.Map 0x1000 0 16 Write ∷ run.Map 0x1004 12 4 ReadWrite ∷ run.Map 0x1010 24 8 ReadWrite
     ∷ run.Map 0x1004 0 4 ReadWrite ∷ run.Map 0x2000 0 8 ReadWrite ∷ [])
     ≡ false ∷ false ∷ false ∷ false ∷ true ∷ true ∷ []
-unfolding table_kept
+unfolding table_held
 mapping_takes = refl
 
 -- the table is used from now on; the guest's own accesses still use physical addresses
@@ -285,17 +285,17 @@ unfolding effect
 turns_off = refl
 
 reaches_what_is_mapped : reach (turned_on sixteen).memory Write 0x1000 16 ≡ true
-unfolding effect table_kept place addresses
+unfolding effect table_held place addresses
 reaches_what_is_mapped = refl
 
 reaches_no_more : reach (turned_on sixteen).memory Write 0x1000 17 ≡ false
-unfolding effect table_kept place addresses
+unfolding effect table_held place addresses
 reaches_no_more = refl
 
-guest_goes_by_physical_addresses :
+guest_proceeds_by_physical_addresses :
     answers (turned_on sixteen) guest_writes (run.GuestRead 4 4) ≡ Some (run.Bytes (0 ∷ 7 ∷ 8 ∷ 0 ∷ []))
 unfolding effect place addresses stored_all
-guest_goes_by_physical_addresses = refl
+guest_proceeds_by_physical_addresses = refl
 
 -- a device whose queue isn't in the table stops the queue
 kick_without_mapping : Run may (turned_on [])
@@ -305,7 +305,7 @@ kick_without_mapping : Run may (turned_on [])
           (record { exchanges = []; refused = Some (device_error.Queue queue_error.AvailIndexUnreachable) }),
     ) ∷ [])
     (record (turned_on []) { queues = with_stop queue ∷ [] })
-unfolding RunTold KickRun effect offer table_kept place addresses
+unfolding RunReported KickRun effect offer table_held place addresses
 kick_without_mapping =
     ([] ∷ [], (record (turned_on []) { queues = with_stop queue ∷ [] }, ((refl, refl, refl), refl), refl))
 
@@ -332,7 +332,7 @@ unfolding offer place addresses stored_all path found meaning record_parser mean
 serves_across = record {
   given = record { calls = []; options = 0; reply = unknown_reply; fault = None };
   serves = record { gives = refl; asks = refl; run = refl };
-  returns = record { exchange = refl; state = refl; told = refl };
+  returns = record { exchange = refl; state = refl; reported = refl };
 }
 
 -- the offsets of the harvested pages, each in its block

@@ -4,7 +4,7 @@ use Rattle.vm_memory_core.specs.Host.{Host, unmarked}
 use Rattle.virtiofsd_fuse.specs.Serving.{May}
 use Rattle.plain_machine.specs.Step.{State}
 use Rattle.plain_machine.specs.Run.{Command, Answer, Done, Bytes, NewBlockIs, Served, Copied, Pages}
-use Rattle.plain_machine.specs.Run.{IsRefused, Turns, RunTold, with_host}
+use Rattle.plain_machine.specs.Run.{IsRefused, Turns, RunReported, with_host}
 
 -- as many pages, with no mark set
 abbrev pub none_marked : List Bool → List Bool
@@ -48,10 +48,10 @@ SameEvents (event ∷ events) (other ∷ others) =
 -- differ only in marks
 abbrev pub MarksDoNotMatter : {F : Type 0} → May F → Type 0
 MarksDoNotMatter {F} may =
-    (a b after : State F) (events : List (Command × Answer)) (tolds : List Turns) →
+    (a b after : State F) (events : List (Command × Answer)) (all_reported : List Turns) →
     SameButMarks a b →
-    RunTold may a events tolds after →
+    RunReported may a events all_reported after →
     (others : List (Command × Answer)) × (end : State F)
     × SameEvents events others
-    × RunTold may b others tolds end
+    × RunReported may b others all_reported end
     × SameButMarks after end

@@ -7,7 +7,7 @@ use Rattle.vm_memory_core.specs.Host.{Host}
 use Rattle.virtiofsd_fuse.specs.Serving.{May}
 use Rattle.fs_device.specs.declared.command.Answer as said
 use Rattle.plain_machine.specs.Step.{State}
-use Rattle.plain_machine.specs.Run.{Command, Image, Harvest, Answer, Copied, Pages, Turns, Run, RunTold}
+use Rattle.plain_machine.specs.Run.{Command, Image, Harvest, Answer, Copied, Pages, Turns, Run, RunReported}
 use Rattle.plain_machine.specs.Run.{with_host}
 use Rattle.fs_device.specs.CommandView.{answer_of}
 use Rattle.fs_device.specs.Moving.{RunsFromImage, pages_answered, pages_of_answer}
@@ -26,9 +26,9 @@ until_harvest events last = events ++ (Harvest, Pages last) ∷ []
 abbrev pub CouldRunHere : {F : Type 0} → May F → State F → List (Command × Answer) → (before : List Turns) →
     (there : State F) → Type 0
 CouldRunHere {F} may s events before there =
-    (later : List (Command × Answer)) (tolds : List Turns) (end : State F) →
-    RunTold may there later tolds end →
-    RunTold may s (events ++ later) (before ++ tolds) end
+    (later : List (Command × Answer)) (all_reported : List Turns) (end : State F) →
+    RunReported may there later all_reported end →
+    RunReported may s (events ++ later) (before ++ all_reported) end
 
 -- a machine is moved by a run here from an image to a last harvest. The machine there is the one here
 -- over the copy, with all harvested pages applied in order; it equals the one here, marks and all; and
@@ -41,7 +41,7 @@ pub record IsMoved {F : Type 0} (may : May F) (s : State F) (events : List (Comm
   pub from : RunsFromImage may s copy (until_harvest events last) here
   pub over : there ≡ with_host here (pages_put copy (pages_answered (until_harvest events last)))
   pub same : there ≡ here
-  pub goes_on : CouldRunHere may s ((Image, Copied copy) ∷ until_harvest events last) from.run.0 there
+  pub carries_on : CouldRunHere may s ((Image, Copied copy) ∷ until_harvest events last) from.run.0 there
 
 -- no command was done: an image was made or refused, and nothing else
 abbrev pub StaysAtOnce : {F : Type 0} → May F → State F → (answers : List Answer) → State F → Type 0

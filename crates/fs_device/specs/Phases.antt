@@ -119,8 +119,8 @@ ServesBytes may page_size old t room bytes x new =
 
 -- a taken chain is returned to queue i with a reply in its reply buffer, and the driver is notified or
 -- not (VIRTIO 1.2, 2.7.8 and 2.7.7)
-pub record GoesBack {F : Type 0} (before : State F) (i : ℕ) (t : Taken) (has : IsTakenFrom before.memory
+pub record IsReturned {F : Type 0} (before : State F) (i : ℕ) (t : Taken) (has : IsTakenFrom before.memory
     before.queues i t) (reply : List ℕ) (notice : Bool) (after : State F) : Type 0 where
   pub state :
       after ≡ after_return before i has.queue t.head (room_of has.fetched) reply before.options before.files
-  pub told : notice ≡ wants_notice after.memory has.queue
+  pub reported : notice ≡ wants_notice after.memory has.queue

@@ -7,8 +7,8 @@ use Rattle.plain_machine.specs.Step.{State, Exchange, StepEnd, Idle, Refused, Ex
 
 -- an exchange by its head, the lengths of its request and reply in bytes, its fault, and whether the
 -- driver is notified (VIRTIO 1.2, 2.7.7 and 2.7.8)
-abbrev pub told_exchange : Exchange → (notice : Bool) → Returned
-told_exchange x notice =
+abbrev pub reported_exchange : Exchange → (notice : Bool) → Returned
+reported_exchange x notice =
     record {
       head = x.head;
       request_len = length x.request;
@@ -18,13 +18,14 @@ told_exchange x notice =
     }
 
 -- the end of a step: no chain is available, a chain was exchanged, or it is refused
-abbrev pub told : StepEnd → Result (Option Returned) DeviceError
-told Idle = Ok None
-told (Exchanged x notice) = Ok (Some (told_exchange x notice))
-told (Refused e) = Err e
+abbrev pub reported : StepEnd → Result (Option Returned) DeviceError
+reported Idle = Ok None
+reported (Exchanged x notice) = Ok (Some (reported_exchange x notice))
+reported (Refused e) = Err e
 
 -- a step on queue i may have this result, with some calls, and leave this state
-abbrev pub StepTold :
+abbrev pub StepReported :
     {F : Type 0} → May F → State F → ℕ → Result (Option Returned) DeviceError → State F → Type 0
-StepTold may before i result after =
-    (calls : Calls) × (outcome : StepEnd) × Step may before i calls outcome after × (result ≡ told outcome)
+StepReported may before i result after =
+    (calls : Calls) × (outcome : StepEnd) × Step may before i calls outcome after
+    × (result ≡ reported outcome)

@@ -8,15 +8,15 @@ use Rattle.virtiofsd_fuse.specs.Serving.{May, Setting, served}
 use Rattle.plain_machine.specs.declared.fault.Fault.{Fault}
 use Rattle.plain_machine.specs.declared.fault.Fault.TheVariants as fault
 use Rattle.plain_machine.specs.Step.{State, Calls, served_exchange, calls_alone, answers_alone}
-use Rattle.plain_machine.specs.Run.{Turn, Turns, Command, Answer, RunTold}
+use Rattle.plain_machine.specs.Run.{Turn, Turns, Command, Answer, RunReported}
 
 -- the calls of a kick, in their order
 abbrev pub calls_of : Turns → Calls
-calls_of told = flat_map (λ t. t.calls) told
+calls_of reported = flat_map (λ t. t.calls) reported
 
 -- the calls of a run, in their order
-abbrev pub calls_told : List Turns → Calls
-calls_told tolds = flat_map calls_of tolds
+abbrev pub calls_reported : List Turns → Calls
+calls_reported all_reported = flat_map calls_of all_reported
 
 -- in some setting the request means these calls, each determined by the answers before it, and this
 -- exchange
@@ -39,8 +39,9 @@ IsServed t = IsServedBy t.exchange.fault t
 
 -- theorem: all calls of a run are a run of the file system from its first state to its last, and each
 -- exchange follows from its request's meaning in some setting
-abbrev pub CallsAreTold : {F : Type 0} → May F → Type 0
-CallsAreTold {F} may =
-    (s after : State F) (events : List (Command × Answer)) (tolds : List Turns) →
-    RunTold may s events tolds after →
-    FileRun may s.files (calls_told tolds) after.files × AllByRecursion (AllByRecursion IsServed) tolds
+abbrev pub CallsAreReported : {F : Type 0} → May F → Type 0
+CallsAreReported {F} may =
+    (s after : State F) (events : List (Command × Answer)) (all_reported : List Turns) →
+    RunReported may s events all_reported after →
+    FileRun may s.files (calls_reported all_reported) after.files
+    × AllByRecursion (AllByRecursion IsServed) all_reported

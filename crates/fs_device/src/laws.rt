@@ -8,8 +8,8 @@ ghost use Rattle.plain_machine.specs.MarkedPages.{CommandsMark, StepsMark, Write
 ghost use Rattle.fs_device.specs.Moving.{CanMoveAgain, HasItsMarks, ImageCatchesUp, MovedIsLast};
 ghost use Rattle.fs_device.specs.Moving.{PagesHavePlaces, StaleIsMarked};
 ghost use Rattle.plain_machine.specs.StepBy.{StepByIsStep, StepIsStepBy, StoresOnlyThere};
-ghost use Rattle.fs_device.specs.Telling.{CallsAreTold};
-ghost use Rattle.plain_machine.specs.UsedLength.{LengthsAreTold};
+ghost use Rattle.fs_device.specs.Telling.{CallsAreReported};
+ghost use Rattle.plain_machine.specs.UsedLength.{LengthsAreReported};
 
 use fuse_fs::FileSystem;
 use vm_memory_core::{HostMemory, PageBitmap};
@@ -40,9 +40,9 @@ pub fn law_steps_by_loads<F: FileSystem>()
 
 /// All file calls of a run, in their order, are a run of the file system from its first state to its
 /// last. Each exchange has the calls and the reply that its request means in some setting (options,
-/// page size, reply buffer), as `RunTold` says.
+/// page size, reply buffer), as `RunReported` says.
 pub fn law_calls<F: FileSystem>()
-    ensures { CallsAreTold F.may }
+    ensures { CallsAreReported F.may }
 {}
 
 /// Marks change nothing else. States that differ only in marks allow the same runs, with the same
@@ -56,7 +56,7 @@ pub fn law_marks<F: FileSystem>()
 /// (linux/fuse.h, `fuse_out_header.len`) and the number of reply bytes written. If it is 0, only the
 /// used element and the used index are written.
 pub fn law_used_length<F: FileSystem>()
-    ensures { LengthsAreTold F.may }
+    ensures { LengthsAreReported F.may }
 {}
 
 /// The pages, of 4096 bytes, that a write marks, and no others. With the IOMMU off, it marks the page

@@ -7,10 +7,10 @@ ghost use Rattle.vm_memory_core.specs.Host.{changed_at, lengths, shape};
 ghost use Rattle.vm_memory.specs.Memory.{Memory};
 ghost use Rattle.fs_queue.specs.Queue.{Queue};
 ghost use Rattle.fs_queue.specs.Returning.{advanced};
-ghost use Rattle.fs_queue.specs.ReturningView.{put_back, tells_by};
+ghost use Rattle.fs_queue.specs.ReturningView.{put_back, notifies_by};
 ghost use Rattle.fs_queue.specs.Windows.{HasItsWindows, IsEmpty, TakenLiesIn, room_places};
 ghost use Rattle.fs_device.specs.DeviceView.{exchange_of, state_of};
-ghost use Rattle.fs_device.specs.Phases.{GoesBack, IfTaken, IsEmptyUnlessDeviceTook, IsTakenFrom};
+ghost use Rattle.fs_device.specs.Phases.{IsReturned, IfTaken, IsEmptyUnlessDeviceTook, IsTakenFrom};
 ghost use Rattle.fs_device.specs.Phases.{MayLackToAnswer, ServesBytes, ServesTaken, TakesOrEnds, TakesFrom};
 
 use crate::answer_by_copy::serve;
@@ -128,11 +128,11 @@ impl<F: FileSystem> Device<F> {
         ensures returns { (m : Memory) (has : IsTakenFrom m self.old.queues queue taken.old)
             → m.host ≡ H.host host.old
             →
-            GoesBack (state_of m self.old) queue taken.old has reply.now result
+            IsReturned (state_of m self.old) queue taken.old has reply.now result
             (state_of (record m { host = H.host host.new }) self.new) }
         ensures puts { (q : Queue) → slice_get self.old.queues queue ≡ Some q →
             H.host host.new ≡ put_back (H.host host.old) q taken.old reply.now (length reply.now) }
-        ensures tells { result ≡ tells_by (H.host host.new) taken.old }
+        ensures reports { result ≡ notifies_by (H.host host.new) taken.old }
         ensures empty { IsEmpty taken.new }
         ensures count { length self.new.queues ≡ length self.old.queues }
         ensures queues { self.new ≡ record self.old { queues = changed_at self.old.queues queue advanced } }

@@ -4,7 +4,7 @@ ghost use Rattle.std.specs.Prelude.{◌≡◌, ◌≤◌, ◌^◌, ℕ, List, Is
 ghost use Rattle.std.specs.Io.KnownBytes.{Consumes};
 ghost use Rattle.fs_record.specs.Record.{HasKnownBits, IsRecordFor, IsSavable};
 ghost use Rattle.fs_record.specs.Restoring.{RefusesRecord, LeavesSource};
-ghost use Rattle.fs_record.specs.Streams.{GoesOut};
+ghost use Rattle.fs_record.specs.Streams.{Leaves};
 ghost use Rattle.server_replies.specs.PageSizes.{is_page_size};
 ghost use Rattle.fs_device.specs.DevicePartsView.{device_bytes};
 
@@ -29,7 +29,7 @@ impl<F: FileSystem> Device<F> {
     /// of a guest's page and the limit. WriteFault if the sink returns an error or takes no byte: it
     /// then has only a part of the record.
     pub fn save<S: RecordSink>(&self, sink: &mut S) -> Result<(), WriteFault>
-        ensures goes_out { GoesOut (device_bytes self.now) (S.sent sink.old) (S.failed sink.old) result
+        ensures leaves { Leaves (device_bytes self.now) (S.sent sink.old) (S.failed sink.old) result
             (S.sent sink.new) (S.failed sink.new) }
         ensures savable { OnOk result (IsSavable self.now.options self.now.queues) }
     {

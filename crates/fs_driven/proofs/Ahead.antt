@@ -11,15 +11,15 @@ use Rattle.fs_regions.specs.declared.walk.QueueWalk.{QueueWalk}
 use Rattle.fs_chain.specs.Ahead.{PopsAhead, WalksAhead}
 use Rattle.fs_driven.specs.Ahead.{AddsAhead, PopsAheadBy}
 use Rattle.fs_chain.specs.Events.{event_fault, event_miss}
-use Rattle.fs_chain.specs.Holds.{BeginsAPop, ContinuesAPop, HoldsPop, IsQueue, Machine, Pop, PopGoesOn, PopIs, PopsBy}
-use Rattle.fs_chain.specs.Loads.{GoesSo, whole}
-use Rattle.fs_chain.specs.Walks.{BeginsUnless, BeginsWhere, GoesOnUnless, LacksEvents, WalksFrom}
+use Rattle.fs_chain.specs.Holds.{BeginsAPop, ContinuesAPop, HoldsPop, IsQueue, Machine, Pop, PopContinues, PopIs, PopsBy}
+use Rattle.fs_chain.specs.Loads.{ProceedsSo, whole}
+use Rattle.fs_chain.specs.Walks.{BeginsUnless, BeginsWhere, ContinuesUnless, LacksEvents, WalksFrom}
 use Rattle.fs_chain.specs.Pops.{AddsSo, WantsBytes}
 use Rattle.fs_chain.specs.declared.chain_handle.ChainHandle.{ChainHandle}
-use Rattle.fs_chain.specs.declared.loads.LoadOutcome as went
-use Rattle.fs_chain.specs.declared.loads.LoadOutcome.TheVariants as wents
+use Rattle.fs_chain.specs.declared.loads.LoadOutcome as outcome
+use Rattle.fs_chain.specs.declared.loads.LoadOutcome.TheVariants as outcomes
 use Rattle.fs_chain.specs.declared.popping.PopOutcome as walked
-use Rattle.fs_chain.specs.declared.popping.PopOutcome.TheVariants as says
+use Rattle.fs_chain.specs.declared.popping.PopOutcome.TheVariants as shows
 use Rattle.fs_chain.specs.declared.queue.QueueState.{QueueState}
 use Rattle.fs_chain.specs.declared.state.ChainState as state
 use Rattle.fs_chain.specs.declared.state.ChainState.TheVariants as at
@@ -28,94 +28,95 @@ use Rattle.fs_chain.proofs.HoldsPopped.{pops}
 
 -- each call leaves the regions as they were
 lack_regions : (e : QueueError) (miss : Option (IovaRange × Permissions)) (old new : ChainHandle) (q q' : QueueState)
-    (told : walked.PopOutcome) → LacksEvents e miss old new q q' told → new.regions ≡ old.regions
-lack_regions e None old new q q' told h = h.1.0.0.0
-lack_regions e (Some miss) old new q q' told h = h.1.0.0.0
+    (reported : walked.PopOutcome) → LacksEvents e miss old new q q' reported → new.regions ≡ old.regions
+lack_regions e None old new q q' reported h = h.1.0.0.0
+lack_regions e (Some miss) old new q q' reported h = h.1.0.0.0
 
-where_regions : (fault : Option QueueError) (old new : ChainHandle) (q q' : QueueState) (told : walked.PopOutcome)
-    → BeginsWhere fault old new q q' told → new.regions ≡ old.regions
-where_regions None old new q q' told h = h.1.4.0
-where_regions (Some e) old new q q' told h = lack_regions e (event_miss (places_in old.regions) q) old new q q' told h
+where_regions : (fault : Option QueueError) (old new : ChainHandle) (q q' : QueueState) (reported : walked.PopOutcome)
+    → BeginsWhere fault old new q q' reported → new.regions ≡ old.regions
+where_regions None old new q q' reported h = h.1.4.0
+where_regions (Some e) old new q q' reported h = lack_regions e (event_miss (places_in old.regions) q) old new q q' reported h
 
-begin_regions : (stopped : Option QueueError) (old new : ChainHandle) (q q' : QueueState) (told : walked.PopOutcome)
-    → BeginsUnless stopped old new q q' told → new.regions ≡ old.regions
-begin_regions None old new q q' told h = where_regions (event_fault (places_in old.regions) q) old new q q' told h
-begin_regions (Some why) old new q q' told h = h.1.0.0
+begin_regions : (stopped : Option QueueError) (old new : ChainHandle) (q q' : QueueState) (reported : walked.PopOutcome)
+    → BeginsUnless stopped old new q q' reported → new.regions ≡ old.regions
+begin_regions None old new q q' reported h = where_regions (event_fault (places_in old.regions) q) old new q q' reported h
+begin_regions (Some why) old new q q' reported h = h.1.0.0
 
 on_regions : (stopped : Option QueueError) (course : Course) (pop_id : PopId) (walk : QueueWalk) (bs : List ℕ) (old new : ChainHandle)
-    (q q' : QueueState) (told : walked.PopOutcome) → GoesOnUnless stopped course pop_id walk bs old new q q' told
+    (q q' : QueueState) (reported : walked.PopOutcome) → ContinuesUnless stopped course pop_id walk bs old new q q' reported
     → new.regions ≡ old.regions
-on_regions None course pop_id walk bs old new q q' told h = h.1.4.0
-on_regions (Some why) course pop_id walk bs old new q q' told h = h.1.0.0
+on_regions None course pop_id walk bs old new q q' reported h = h.1.4.0
+on_regions (Some why) course pop_id walk bs old new q q' reported h = h.1.0.0
 
-from_regions : (st : state.ChainState) (bs : List ℕ) (old new : ChainHandle) (q q' : QueueState) (told : walked.PopOutcome)
-    → WalksFrom st bs old new q q' told → new.regions ≡ old.regions
-from_regions at.Free bs old new q q' told h = begin_regions q.stopped old new q q' told h
-from_regions (at.Walking course pop_id walk) bs old new q q' told h =
-    on_regions q.stopped course pop_id walk bs old new q q' told h
-from_regions st bs old new q q' told h = absurd h
+from_regions : (st : state.ChainState) (bs : List ℕ) (old new : ChainHandle) (q q' : QueueState) (reported : walked.PopOutcome)
+    → WalksFrom st bs old new q q' reported → new.regions ≡ old.regions
+from_regions at.Free bs old new q q' reported h = begin_regions q.stopped old new q q' reported h
+from_regions (at.Walking course pop_id walk) bs old new q q' reported h =
+    on_regions q.stopped course pop_id walk bs old new q q' reported h
+from_regions st bs old new q q' reported h = absurd h
 
-goes_regions : (old new : ChainHandle) (q q' : QueueState) (bs : List ℕ) (told : went.LoadOutcome) → GoesSo old q bs told new q'
+proceeds_regions : (old new : ChainHandle) (q q' : QueueState) (bs : List ℕ) (reported : outcome.LoadOutcome)
+    → ProceedsSo old q bs reported new q'
     → new.regions ≡ old.regions
-goes_regions old new q q' bs wents.Part h = h.3.0.0
-goes_regions old new q q' bs (wents.On told) h = from_regions old.state (whole old bs) old new q q' told h.4
+proceeds_regions old new q q' bs outcomes.Part h = h.3.0.0
+proceeds_regions old new q q' bs (outcomes.On reported) h = from_regions old.state (whole old bs) old new q q' reported h.4
 
-ahead_regions : (taken : List AheadBytes) (old new : ChainHandle) (q q' : QueueState) (told : went.LoadOutcome)
-    → WalksAhead taken old new q q' told → new.regions ≡ old.regions
-ahead_regions [] old new q q' told h = goes_regions old new q q' [] told h.1
-ahead_regions (l ∷ taken) old new q q' told (w, k, earlier, walks, wants, is, long, goes) =
-    goes_regions w new k q' l.bytes told goes ∙ ahead_regions taken old w q k earlier walks
+ahead_regions : (taken : List AheadBytes) (old new : ChainHandle) (q q' : QueueState) (reported : outcome.LoadOutcome)
+    → WalksAhead taken old new q q' reported → new.regions ≡ old.regions
+ahead_regions [] old new q q' reported h = proceeds_regions old new q q' [] reported h.1
+ahead_regions (l ∷ taken) old new q q' reported (w, k, earlier, walks, wants, is, long, proceeds) =
+    proceeds_regions w new k q' l.bytes reported proceeds ∙ ahead_regions taken old w q k earlier walks
 
 -- what such a pop is, also after a part of a load
-abbrev AheadIs : (s : Machine) (i : ℕ) (q q' : QueueState) (p : Pop) (new : ChainHandle) → went.LoadOutcome → Type 0
-AheadIs s i q q' p new wents.Part = HoldsPop s.limit p new × (q' ≡ q)
-AheadIs s i q q' p new (wents.On told) = PopIs s i q q' p new told
+abbrev AheadIs : (s : Machine) (i : ℕ) (q q' : QueueState) (p : Pop) (new : ChainHandle) → outcome.LoadOutcome → Type 0
+AheadIs s i q q' p new outcomes.Part = HoldsPop s.limit p new × (q' ≡ q)
+AheadIs s i q q' p new (outcomes.On reported) = PopIs s i q q' p new reported
 
-held : (s : Machine) (i : ℕ) (q q' : QueueState) (p : Pop) (new : ChainHandle) (told : went.LoadOutcome) → WantsBytes told
-    → AheadIs s i q q' p new told → HoldsPop s.limit p new × (q' ≡ q)
-held s i q q' p new wents.Part wants h = h
-held s i q q' p new (wents.On (says.Load n)) wants h = h
-held s i q q' p new (wents.On told) wants h = absurd wants
+held : (s : Machine) (i : ℕ) (q q' : QueueState) (p : Pop) (new : ChainHandle) (reported : outcome.LoadOutcome) → WantsBytes reported
+    → AheadIs s i q q' p new reported → HoldsPop s.limit p new × (q' ≡ q)
+held s i q q' p new outcomes.Part wants h = h
+held s i q q' p new (outcomes.On (shows.Load n)) wants h = h
+held s i q q' p new (outcomes.On reported) wants h = absurd wants
 
-begins_is : (old new : ChainHandle) (q q' : QueueState) (told : went.LoadOutcome) → BeginsAPop old new q q' told
+begins_is : (old new : ChainHandle) (q q' : QueueState) (reported : outcome.LoadOutcome) → BeginsAPop old new q q' reported
     → (s : Machine) (i : ℕ) → IsQueue s i q → s.places ≡ places_in old.regions → s.limit ≡ old.limit → s.limit ≤ 2 ^ 31
-    → AheadIs s i q q' (record { loaded = nothing; event_index = q.event_index }) new told
+    → AheadIs s i q q' (record { loaded = nothing; event_index = q.event_index }) new reported
 unfolding BeginsAPop
-begins_is old new q q' wents.Part begins s i queue places limit small = absurd begins
-begins_is old new q q' (wents.On told) begins s i queue places limit small = begins s i queue places limit small
+begins_is old new q q' outcomes.Part begins s i queue places limit small = absurd begins
+begins_is old new q q' (outcomes.On reported) begins s i queue places limit small = begins s i queue places limit small
 
-goes_on_is : (s : Machine) (i : ℕ) (q q' : QueueState) (l : Loaded) (e : Bool) (old new : ChainHandle) (bytes : List ℕ)
-    (told : went.LoadOutcome) → PopGoesOn s i q q' (record { loaded = l; event_index = e }) old new bytes told
-    → (loaded : Loaded) × (q.stopped ≡ None → AddsSo old.state told new.descriptors.items l (whole old bytes) loaded)
-    × AheadIs s i q q' (record { loaded = loaded; event_index = e }) new told
-goes_on_is s i q q' l e old new bytes wents.Part h = (l, (λ goes. refl), h)
-goes_on_is s i q q' l e old new bytes (wents.On told) h = (h.0, h.1, h.2)
+carries_on_is : (s : Machine) (i : ℕ) (q q' : QueueState) (l : Loaded) (e : Bool) (old new : ChainHandle) (bytes : List ℕ)
+    (reported : outcome.LoadOutcome) → PopContinues s i q q' (record { loaded = l; event_index = e }) old new bytes reported
+    → (loaded : Loaded) × (q.stopped ≡ None → AddsSo old.state reported new.descriptors.items l (whole old bytes) loaded)
+    × AheadIs s i q q' (record { loaded = loaded; event_index = e }) new reported
+carries_on_is s i q q' l e old new bytes outcomes.Part h = (l, (λ proceeds. refl), h)
+carries_on_is s i q q' l e old new bytes (outcomes.On reported) h = (h.0, h.1, h.2)
 
-steps_ahead : (taken : List AheadBytes) (old new : ChainHandle) (q q' : QueueState) (told : went.LoadOutcome)
-    → (walks : WalksAhead taken old new q q' told) → (s : Machine) (i : ℕ) → IsQueue s i q → s.places ≡ places_in old.regions
+steps_ahead : (taken : List AheadBytes) (old new : ChainHandle) (q q' : QueueState) (reported : outcome.LoadOutcome)
+    → (walks : WalksAhead taken old new q q' reported) → (s : Machine) (i : ℕ) → IsQueue s i q → s.places ≡ places_in old.regions
     → s.limit ≡ old.limit → s.limit ≤ 2 ^ 31
-    → (loaded : Loaded) × AddsAhead taken old new q q' told walks loaded
-    × AheadIs s i q q' (record { loaded = loaded; event_index = q.event_index }) new told
+    → (loaded : Loaded) × AddsAhead taken old new q q' reported walks loaded
+    × AheadIs s i q q' (record { loaded = loaded; event_index = q.event_index }) new reported
 unfolding ContinuesAPop
-steps_ahead [] old new q q' told (free, goes) s i queue places limit small =
-    let begins : BeginsAPop old new q q' told =
-    subst (λ (st : state.ChainState). PopsBy st old new q q' [] told) free (pops old new q q' [] told goes) in
-    (nothing, refl, begins_is old new q q' told begins s i queue places limit small)
-steps_ahead (l ∷ taken) old new q q' told (w, k, earlier, walks, wants, is, long, goes) s i queue places limit small =
+steps_ahead [] old new q q' reported (free, proceeds) s i queue places limit small =
+    let begins : BeginsAPop old new q q' reported =
+    subst (λ (st : state.ChainState). PopsBy st old new q q' [] reported) free (pops old new q q' [] reported proceeds) in
+    (nothing, refl, begins_is old new q q' reported begins s i queue places limit small)
+steps_ahead (l ∷ taken) old new q q' reported (w, k, earlier, walks, wants, is, long, proceeds) s i queue places limit small =
     let before = steps_ahead taken old w q k earlier walks s i queue places limit small in
     let p : Pop = record { loaded = before.0; event_index = q.event_index } in
     let have = held s i q k p w earlier wants before.2 in
-    let by : ContinuesAPop w new k q' l.bytes told =
-    subst (λ (st : state.ChainState). PopsBy st w new k q' l.bytes told) have.0.state (pops w new k q' l.bytes told goes) in
+    let by : ContinuesAPop w new k q' l.bytes reported =
+    subst (λ (st : state.ChainState). PopsBy st w new k q' l.bytes reported) have.0.state (pops w new k q' l.bytes reported proceeds) in
     let here : IsQueue s i k = subst (λ (x : QueueState). IsQueue s i x) (sym have.1) queue in
     let same : s.places ≡ places_in w.regions = places ∙ ap places_in (sym (ahead_regions taken old w q k earlier walks)) in
     let index : p.event_index ≡ k.event_index = ap (λ (x : QueueState). x.event_index) (sym have.1) in
-    let next = goes_on_is s i k q' before.0 q.event_index w new l.bytes told (by s i p have.0 here same index small) in
-    let P : QueueState → Type 0 = λ x. AheadIs s i x q' (record { loaded = next.0; event_index = q.event_index }) new told in
+    let next = carries_on_is s i k q' before.0 q.event_index w new l.bytes reported (by s i p have.0 here same index small) in
+    let P : QueueState → Type 0 = λ x. AheadIs s i x q' (record { loaded = next.0; event_index = q.event_index }) new reported in
     (next.0, (before.0, before.1, next.1), subst P have.1 next.2)
 
-pub pops_ahead : (ahead : List AheadBytes) (old new : ChainHandle) (q q' : QueueState) (told : walked.PopOutcome)
-    (pop : PopsAhead ahead old new q q' (wents.On told)) → PopsAheadBy ahead old new q q' told pop
+pub pops_ahead : (ahead : List AheadBytes) (old new : ChainHandle) (q q' : QueueState) (reported : walked.PopOutcome)
+    (pop : PopsAhead ahead old new q q' (outcomes.On reported)) → PopsAheadBy ahead old new q q' reported pop
 unfolding PopsAheadBy
-pops_ahead ahead old new q q' told pop = λ s i queue places limit small.
-    steps_ahead (last_first pop.first []) old new q q' (wents.On told) pop.walks s i queue places limit small
+pops_ahead ahead old new q q' reported pop = λ s i queue places limit small.
+    steps_ahead (last_first pop.first []) old new q q' (outcomes.On reported) pop.walks s i queue places limit small

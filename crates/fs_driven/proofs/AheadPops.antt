@@ -8,16 +8,16 @@ use Rattle.fs_chain.specs.declared.error.ChainError.TheVariants.{WrongOrder}
 use Rattle.fs_chain.specs.Ahead.{PopsAhead, WalksAhead, ahead_error}
 use Rattle.fs_driven.specs.Ahead.{PopsAheadBy}
 use Rattle.fs_driven.proofs.Ahead.{pops_ahead}
-use Rattle.fs_chain.specs.Loads.{GoesSo, whole}
+use Rattle.fs_chain.specs.Loads.{ProceedsSo, whole}
 use Rattle.fs_chain.specs.Orders.{load_len}
 use Rattle.fs_chain.specs.Walks.{WalksFrom}
 use Rattle.fs_regions.specs.Ahead.{AheadBytes, last_first, loads_ahead}
 use Rattle.fs_regions.specs.declared.ahead.LoadAhead.{LoadAhead}
-use Rattle.fs_chain.specs.declared.loads.LoadOutcome as went
-use Rattle.fs_chain.specs.declared.loads.LoadOutcome.TheVariants as wents
+use Rattle.fs_chain.specs.declared.loads.LoadOutcome as outcome
+use Rattle.fs_chain.specs.declared.loads.LoadOutcome.TheVariants as outcomes
 use Rattle.fs_chain.specs.declared.popping.PopOutcome as walked
 use Rattle.fs_driven.specs.Desks.{desk}
-use Rattle.fs_driven.specs.Told.{DrivesOne, Tells, turn}
+use Rattle.fs_driven.specs.Reported.{DrivesOne, Reports, turn}
 use Rattle.fs_chain.specs.Orders.{is_out}
 use Rattle.fs_chain.specs.declared.chain_handle.ChainHandle.{ChainHandle}
 use Rattle.fs_driven.specs.declared.commands.Command.TheVariants as does
@@ -28,32 +28,32 @@ use Rattle.fs_chain.specs.declared.state.ChainState.TheVariants as at
 use Rattle.fs_driven.proofs.Calls.{no_error, refuses, same_held}
 use Rattle.fs_driven.proofs.Pops.{Popping, begun_keeps, gone_keeps, no_part, part_keeps, popped}
 
-goes_at : (old new : ChainHandle) (q q' : QueueState) (bytes : List ℕ) (told : went.LoadOutcome)
-    (st : state.ChainState) → old.state ≡ st → GoesSo old q bytes told new q' → Popping old new q q'
-goes_at old new q q' bytes wents.Part (at.Walking course pop_id walk) is goes =
-    part_keeps old new q q' bytes course pop_id walk is goes
-goes_at old new q q' bytes (wents.On told) at.Free is goes =
-    begun_keeps old new q q' told q.stopped is
-    (subst (λ (st : state.ChainState). WalksFrom st (whole old bytes) old new q q' told) is goes.4)
-goes_at old new q q' bytes (wents.On told) (at.Walking course pop_id walk) is goes =
-    gone_keeps old new q q' (whole old bytes) told course pop_id walk q.stopped
-    (subst (λ (st : state.ChainState). WalksFrom st (whole old bytes) old new q q' told) is goes.4)
-goes_at old new q q' bytes wents.Part at.Free is goes = absurd (no_part old bytes goes.1 (ap load_len is))
-goes_at old new q q' bytes wents.Part (at.Taken o) is goes = absurd (no_part old bytes goes.1 (ap load_len is))
-goes_at old new q q' bytes (wents.On told) (at.Taken o) is goes =
-    absurd (subst (λ (st : state.ChainState). WalksFrom st (whole old bytes) old new q q' told) is goes.4)
-goes_at old new q q' bytes wents.Part (at.Waits o w) is goes = absurd (no_part old bytes goes.1 (ap load_len is))
-goes_at old new q q' bytes (wents.On told) (at.Waits o w) is goes =
-    absurd (subst (λ (st : state.ChainState). WalksFrom st (whole old bytes) old new q q' told) is goes.4)
-goes_at old new q q' bytes wents.Part (at.Lists o l) is goes = absurd (no_part old bytes goes.1 (ap load_len is))
-goes_at old new q q' bytes (wents.On told) (at.Lists o l) is goes =
-    absurd (subst (λ (st : state.ChainState). WalksFrom st (whole old bytes) old new q q' told) is goes.4)
-goes_at old new q q' bytes wents.Part (at.HasReply o kept) is goes = absurd (no_part old bytes goes.1 (ap load_len is))
-goes_at old new q q' bytes (wents.On told) (at.HasReply o kept) is goes =
-    absurd (subst (λ (st : state.ChainState). WalksFrom st (whole old bytes) old new q q' told) is goes.4)
-goes_at old new q q' bytes wents.Part (at.Pushing o) is goes = absurd (no_part old bytes goes.1 (ap load_len is))
-goes_at old new q q' bytes (wents.On told) (at.Pushing o) is goes =
-    absurd (subst (λ (st : state.ChainState). WalksFrom st (whole old bytes) old new q q' told) is goes.4)
+proceeds_at : (old new : ChainHandle) (q q' : QueueState) (bytes : List ℕ) (reported : outcome.LoadOutcome)
+    (st : state.ChainState) → old.state ≡ st → ProceedsSo old q bytes reported new q' → Popping old new q q'
+proceeds_at old new q q' bytes outcomes.Part (at.Walking course pop_id walk) is proceeds =
+    part_keeps old new q q' bytes course pop_id walk is proceeds
+proceeds_at old new q q' bytes (outcomes.On reported) at.Free is proceeds =
+    begun_keeps old new q q' reported q.stopped is
+    (subst (λ (st : state.ChainState). WalksFrom st (whole old bytes) old new q q' reported) is proceeds.4)
+proceeds_at old new q q' bytes (outcomes.On reported) (at.Walking course pop_id walk) is proceeds =
+    gone_keeps old new q q' (whole old bytes) reported course pop_id walk q.stopped
+    (subst (λ (st : state.ChainState). WalksFrom st (whole old bytes) old new q q' reported) is proceeds.4)
+proceeds_at old new q q' bytes outcomes.Part at.Free is proceeds = absurd (no_part old bytes proceeds.1 (ap load_len is))
+proceeds_at old new q q' bytes outcomes.Part (at.Taken o) is proceeds = absurd (no_part old bytes proceeds.1 (ap load_len is))
+proceeds_at old new q q' bytes (outcomes.On reported) (at.Taken o) is proceeds =
+    absurd (subst (λ (st : state.ChainState). WalksFrom st (whole old bytes) old new q q' reported) is proceeds.4)
+proceeds_at old new q q' bytes outcomes.Part (at.Waits o w) is proceeds = absurd (no_part old bytes proceeds.1 (ap load_len is))
+proceeds_at old new q q' bytes (outcomes.On reported) (at.Waits o w) is proceeds =
+    absurd (subst (λ (st : state.ChainState). WalksFrom st (whole old bytes) old new q q' reported) is proceeds.4)
+proceeds_at old new q q' bytes outcomes.Part (at.Lists o l) is proceeds = absurd (no_part old bytes proceeds.1 (ap load_len is))
+proceeds_at old new q q' bytes (outcomes.On reported) (at.Lists o l) is proceeds =
+    absurd (subst (λ (st : state.ChainState). WalksFrom st (whole old bytes) old new q q' reported) is proceeds.4)
+proceeds_at old new q q' bytes outcomes.Part (at.HasReply o preserved) is proceeds = absurd (no_part old bytes proceeds.1 (ap load_len is))
+proceeds_at old new q q' bytes (outcomes.On reported) (at.HasReply o preserved) is proceeds =
+    absurd (subst (λ (st : state.ChainState). WalksFrom st (whole old bytes) old new q q' reported) is proceeds.4)
+proceeds_at old new q q' bytes outcomes.Part (at.Pushing o) is proceeds = absurd (no_part old bytes proceeds.1 (ap load_len is))
+proceeds_at old new q q' bytes (outcomes.On reported) (at.Pushing o) is proceeds =
+    absurd (subst (λ (st : state.ChainState). WalksFrom st (whole old bytes) old new q q' reported) is proceeds.4)
 
 two_pops : (one two three : ChainHandle) (q q' q'' : QueueState) → Popping one two q q' →
     Popping two three q' q'' → Popping one three q q''
@@ -64,28 +64,28 @@ two_pops one two three q q' q'' first later =
       quiet = later.quiet;
     }
 
-ahead_keeps : (taken : List AheadBytes) (old new : ChainHandle) (q q' : QueueState) (told : went.LoadOutcome)
-    → WalksAhead taken old new q q' told → Popping old new q q'
-ahead_keeps [] old new q q' told walks = goes_at old new q q' [] told old.state refl walks.1
-ahead_keeps (l ∷ taken) old new q q' told (w, k, earlier, walks, wants, is, long, goes) =
+ahead_keeps : (taken : List AheadBytes) (old new : ChainHandle) (q q' : QueueState) (reported : outcome.LoadOutcome)
+    → WalksAhead taken old new q q' reported → Popping old new q q'
+ahead_keeps [] old new q q' reported walks = proceeds_at old new q q' [] reported old.state refl walks.1
+ahead_keeps (l ∷ taken) old new q q' reported (w, k, earlier, walks, wants, is, long, proceeds) =
     two_pops old w new q k q' (ahead_keeps taken old w q k earlier walks)
-    (goes_at w new k q' l.bytes told w.state refl goes)
+    (proceeds_at w new k q' l.bytes reported w.state refl proceeds)
 
 ahead_drives : (page_size : ℕ) (old new : ChainHandle) (q q' : QueueState) (ahead : Bor (List LoadAhead))
-    (bytes : Bor (List ℕ)) (told : walked.PopOutcome) → old.state ≡ at.Free → Popping old new q q'
-    → (pop : PopsAhead (loads_ahead ahead.now bytes.now) old new q q' (wents.On told))
-    → DrivesOne page_size old new q q' (does.PopAhead ahead bytes) (gives.PoppedAhead (Ok told))
+    (bytes : Bor (List ℕ)) (reported : walked.PopOutcome) → old.state ≡ at.Free → Popping old new q q'
+    → (pop : PopsAhead (loads_ahead ahead.now bytes.now) old new q q' (outcomes.On reported))
+    → DrivesOne page_size old new q q' (does.PopAhead ahead bytes) (gives.PoppedAhead (Ok reported))
 unfolding DrivesOne PopsAheadBy
-ahead_drives page_size old new q q' ahead bytes told free same pop ws k there u s i os pops push all =
+ahead_drives page_size old new q q' ahead bytes reported free same pop ws k there u s i os pops push all =
     let was = all.fits k old there in
-    let by = pops_ahead (loads_ahead ahead.now bytes.now) old new q q' told pop s i all.queue was.0 was.1
+    let by = pops_ahead (loads_ahead ahead.now bytes.now) old new q q' reported pop s i all.queue was.0 was.1
     all.small in
     popped s i page_size k q q' ws os pops push old new
-    (record { loaded = by.0; event_index = q.event_index }) told
-    (λ es d. Tells (turn i page_size k (desk s ws q os pops push) d old new) (does.PopAhead ahead bytes) u
-    (gives.PoppedAhead (Ok told)) es)
+    (record { loaded = by.0; event_index = q.event_index }) reported
+    (λ es d. Reports (turn i page_size k (desk s ws q os pops push) d old new) (does.PopAhead ahead bytes) u
+    (gives.PoppedAhead (Ok reported)) es)
     all there (ap is_out free) same refl
-    (λ after os' loads' es tells. (pop, by.0, by.1, tells))
+    (λ after os' loads' es reports. (pop, by.0, by.1, reports))
     by.2
 
 may_begin : (st : state.ChainState) (q : QueueState) → ahead_error st q ≡ None → st ≡ at.Free
@@ -94,7 +94,7 @@ may_begin (at.Walking course pop_id walk) q is = absurd (no_error WrongOrder is)
 may_begin (at.Taken out) q is = absurd (no_error WrongOrder is)
 may_begin (at.Waits out w) q is = absurd (no_error WrongOrder is)
 may_begin (at.Lists out l) q is = absurd (no_error WrongOrder is)
-may_begin (at.HasReply out kept) q is = absurd (no_error WrongOrder is)
+may_begin (at.HasReply out preserved) q is = absurd (no_error WrongOrder is)
 may_begin (at.Pushing out) q is = absurd (no_error WrongOrder is)
 
 pub ahead_result : (old new : ChainHandle) (q q' : QueueState) (ahead : Bor (List LoadAhead))
@@ -102,11 +102,11 @@ pub ahead_result : (old new : ChainHandle) (q q' : QueueState) (ahead : Bor (Lis
     → IfErr result (λ e. ahead_error old.state q ≡ Some e)
     → OnOk result (ahead_error old.state q ≡ None)
     → OnErr result ((new ≡ old) × (q' ≡ q))
-    → IfOk result (λ told. PopsAhead (loads_ahead ahead.now bytes.now) old new q q' (wents.On told))
+    → IfOk result (λ reported. PopsAhead (loads_ahead ahead.now bytes.now) old new q q' (outcomes.On reported))
     → (page_size : ℕ) → DrivesOne page_size old new q q' (does.PopAhead ahead bytes) (gives.PoppedAhead result)
-ahead_result old new q q' ahead bytes (Ok told) err ok same by page_size =
-    ahead_drives page_size old new q q' ahead bytes told (may_begin old.state q ok)
-    (ahead_keeps (last_first by.first []) old new q q' (wents.On told) by.walks) by
+ahead_result old new q q' ahead bytes (Ok reported) err ok same by page_size =
+    ahead_drives page_size old new q q' ahead bytes reported (may_begin old.state q ok)
+    (ahead_keeps (last_first by.first []) old new q q' (outcomes.On reported) by.walks) by
 ahead_result old new q q' ahead bytes (Err e) err ok same by page_size =
     subst (λ (r : QueueState). DrivesOne page_size old new q r (does.PopAhead ahead bytes)
     (gives.PoppedAhead (Err e))) (sym same.1)

@@ -12,7 +12,7 @@ use Rattle.fuse_values.specs.declared.answer.FileAnswer as made_answer
 use Rattle.fuse_values.specs.declared.answer.FileAnswer.TheVariants as value
 use Rattle.virtiofsd_fuse.specs.Serving.{setting}
 use Rattle.plain_machine.specs.Step.{Calls, calls_alone}
-use Rattle.server_phases.specs.Answering.{TellsBytes, forget_calls}
+use Rattle.server_phases.specs.Answering.{ReportsBytes, forget_calls}
 use Rattle.fuse_fs.specs.Calls.{Done, FileAnswer, FileCall, Forget}
 use Rattle.server_phases.specs.declared.session.Session.{Session}
 use Rattle.live_machine.specs.Several.{LiveQueue}
@@ -24,9 +24,9 @@ use Rattle.live_machine.specs.Live.{asked_chain}
 use Rattle.live_machine.specs.Live.{Happens, room_of, serving}
 use Rattle.fs_chain.specs.Answers.{CanBeGiven, IfWaits, IsGiven, IsNotTaken, IsWaiting}
 use Rattle.fs_driven.specs.Desks.{Begun, Desk, Driven, IsReady, Leads, desk, own, with_pop}
-use Rattle.fs_driven.specs.Told.{DrivesOne, Tells, Unseen, data_of, forgetting}
-use Rattle.fs_driven.specs.Told.{turn}
-use Rattle.fs_driven.specs.Kept.{KeepsMemory}
+use Rattle.fs_driven.specs.Reported.{DrivesOne, Reports, Unseen, data_of, forgetting}
+use Rattle.fs_driven.specs.Reported.{turn}
+use Rattle.fs_driven.specs.Preserved.{KeepsMemory}
 use Rattle.fs_chain.specs.Holds.{Answers, ForgettingIs, HoldsChain, served_so}
 use Rattle.fs_chain.specs.Holds.{IsHeldIn}
 use Rattle.fs_chain.specs.Holds.{Machine, Pop}
@@ -63,7 +63,7 @@ waits_asked page_size c p at.Free session is held = absurd is
 waits_asked page_size c p (at.Walking course pop_id walk) session is held = absurd is
 waits_asked page_size c p (at.Taken out) session is held = absurd is
 waits_asked page_size c p (at.Lists out l) session is held = absurd is
-waits_asked page_size c p (at.HasReply out kept) session is held = absurd is
+waits_asked page_size c p (at.HasReply out preserved) session is held = absurd is
 waits_asked page_size c p (at.Pushing out) session is held = absurd is
 
 waits_out : (st : state.ChainState) → IsWaiting st → is_out st ≡ true
@@ -72,13 +72,13 @@ waits_out at.Free is = absurd is
 waits_out (at.Walking course pop_id walk) is = absurd is
 waits_out (at.Taken out) is = absurd is
 waits_out (at.Lists out l) is = absurd is
-waits_out (at.HasReply out kept) is = absurd is
+waits_out (at.HasReply out preserved) is = absurd is
 waits_out (at.Pushing out) is = absurd is
 
 -- T tells of the answer's events
-abbrev AnsweredTells : QueueState → List ChainHandle → Option Begun → List LiveEvent →
+abbrev AnsweredReports : QueueState → List ChainHandle → Option Begun → List LiveEvent →
     (T : List LiveEvent → Desk → Type 0) → Type 0
-AnsweredTells q ws push es T =
+AnsweredReports q ws push es T =
     (after : Machine) (os : List Owned) (pops : ℕ → Pop) → T es (desk after ws q os pops push)
 
 -- once no call is pending
@@ -95,10 +95,10 @@ pub answered_all : (s : Machine) (i page_size k : ℕ) (q : QueueState) (ws : Li
     after.places ≡ s.places
     → after.queues ≡ s.queues → after.chains ≡ chains_of ob ++ asked_chain c request options calls ∷ chains_of
     oh
-    → AnsweredTells q (with_handle ws k new) push es T
+    → AnsweredReports q (with_handle ws k new) push es T
     → Leads s i page_size q (with_handle ws k new) T
 answered_all s i page_size k q ws ob oh pops push old new c request options calls after es T all there queue
-    same holds quiet done run page limit places queues chains tells =
+    same holds quiet done run page limit places queues chains reports =
     let c' : InFlightChain = asked_chain c request options calls in
     let ready : IsReady page_size k q push c' new.state =
     subst (λ (n : ℕ). IsReady n k q push c' new.state) all.page
@@ -122,7 +122,7 @@ answered_all s i page_size k q ws ob oh pops push old new c request options call
       run,
       keeps s after i page_size q q ws ob oh k old new c c' (pops k) pops push push all there
           moves chains holds (queue, ready),
-      tells after (ob ++ own k c' ∷ oh) (with_pop pops k (pops k)),
+      reports after (ob ++ own k c' ∷ oh) (with_pop pops k (pops k)),
     )
 
 -- a FORGET that is owed is answered next
@@ -142,17 +142,17 @@ answered_by : (s : Machine) (i page_size k : ℕ) (q : QueueState) (ws : List Ch
     → ForgettingIs (after_answer s (chains_of ob) (chains_of oh) c request options ((call, x) ∷ []) tt)
     (chains_of ob) (chains_of oh)
     (asked_chain c request options ((call, x) ∷ [])) request options ((call, x) ∷ []) new owed
-    → AnsweredTells q (with_handle ws k new) push
+    → AnsweredReports q (with_handle ws k new) push
     (ReceivesAnswer c call x ∷ forgetting (asked_chain c request options ((call, x) ∷ [])) owed) T
     → Leads s i page_size q (with_handle ws k new) T
 answered_by s i page_size k q ws ob oh pops push old new c request options call x None T all there queue same
-    happens holds quiet calls forgets tells =
+    happens holds quiet calls forgets reports =
     let after = after_answer s (chains_of ob) (chains_of oh) c request options ((call, x) ∷ []) tt in
     answered_all s i page_size k q ws ob oh pops push old new c request options ((call, x) ∷ []) after
     (ReceivesAnswer c call x ∷ []) T all there queue
-    same holds quiet calls (after, happens, refl) refl refl refl refl refl tells
+    same holds quiet calls (after, happens, refl) refl refl refl refl refl reports
 answered_by s i page_size k q ws ob oh pops push old new c request options call x (Some node) T all there queue
-    same happens holds quiet calls forgets tells =
+    same happens holds quiet calls forgets reports =
     let after = after_answer s (chains_of ob) (chains_of oh) c request options ((call, x) ∷ []) tt in
     let forget : FileCall = Forget node.0 node.1 1 in
     let both : Calls = (call, x) ∷ (forget, Done) ∷ [] in
@@ -161,45 +161,45 @@ answered_by s i page_size k q ws ob oh pops push old new c request options call 
     answered_all s i page_size k q ws ob oh pops push old new c request options both end
     (ReceivesAnswer c call x ∷ ReceivesAnswer c' forget Done ∷ []) T
     all there queue same forgets.1 quiet forgets.2 (after, happens, (end, forgets.0, refl)) refl refl refl refl
-    refl tells
+    refl reports
 
 -- the data of an answer
-data_told : (a : made_answer.FileAnswer) (u : Unseen) → TellsBytes (data_of a u) a
-data_told (value.Bytes len) u = sym (length_exactly len u.bytes)
-data_told (value.Failed errno) u = refl
-data_told value.Done u = refl
-data_told (value.HasEntry entry) u = refl
-data_told (value.HasAttr attr timeout) u = refl
-data_told (value.Opened handle options) u = refl
-data_told (value.Created entry handle options) u = refl
-data_told (value.Count n) u = refl
-data_told (value.Stats stats) u = refl
-data_told (value.Wrote n) u = refl
-data_told (value.Offset offset) u = refl
-data_told (value.Wants options) u = refl
+data_reported : (a : made_answer.FileAnswer) (u : Unseen) → ReportsBytes (data_of a u) a
+data_reported (value.Bytes len) u = sym (length_exactly len u.bytes)
+data_reported (value.Failed errno) u = refl
+data_reported value.Done u = refl
+data_reported (value.HasEntry entry) u = refl
+data_reported (value.HasAttr attr timeout) u = refl
+data_reported (value.Opened handle options) u = refl
+data_reported (value.Created entry handle options) u = refl
+data_reported (value.Count n) u = refl
+data_reported (value.Stats stats) u = refl
+data_reported (value.Wrote n) u = refl
+data_reported (value.Offset offset) u = refl
+data_reported (value.Wants options) u = refl
 
 abbrev GivenSo : (old new : ChainHandle) → made_answer.FileAnswer → Replied → Type 0
-GivenSo old new a told =
+GivenSo old new a reported =
     IfWaits old.state (λ out w. IsGiven (setting old.session.page_size old.session.options.0 w.room) w a out
-    new.session.options.0 told new.state)
+    new.session.options.0 reported new.state)
 
 answer_drives : (page_size : ℕ) (old new : ChainHandle) (q : QueueState) (serial : ℕ)
-    (a : made_answer.FileAnswer) (told : Replied)
-    → IsWaiting old.state → GivenSo old new a told → Answers old new a told → KeepsMemory old new
-    → DrivesOne page_size old new q q (does.Answer serial a) (gives.Answered (Ok told))
+    (a : made_answer.FileAnswer) (reported : Replied)
+    → IsWaiting old.state → GivenSo old new a reported → Answers old new a reported → KeepsMemory old new
+    → DrivesOne page_size old new q q (does.Answer serial a) (gives.Answered (Ok reported))
 unfolding DrivesOne Answers
-answer_drives page_size old new q serial a told waits given answers same ws k there u s i os pops push all =
+answer_drives page_size old new q serial a reported waits given answers same ws k there u s i os pops push all =
     let own_one = all.outs k old there (waits_out old.state waits) in
     let c = own_one.0 in
     let has = has_own s i page_size q ws os k old c pops push all there own_one.1 in
     let asked = waits_asked s.page_size c c.phase old.state old.session waits has.holds in
     let bytes : List ℕ = data_of a u in
     let an = answers s (chains_of has.ob) (chains_of has.oh) c asked.0 bytes asked.1 has.chains asked.2
-    has.holds (data_told a u) in
+    has.holds (data_reported a u) in
     answered_by s i page_size k q ws has.ob has.oh pops push old new c asked.0 asked.1 an.0 (answer_of bytes a)
-    told.forget
-    (λ es d. Tells (turn i page_size k (desk s ws q os pops push) d old new) (does.Answer serial a) u
-    (gives.Answered (Ok told)) es)
+    reported.forget
+    (λ es d. Reports (turn i page_size k (desk s ws q os pops push) d old new) (does.Answer serial a) u
+    (gives.Answered (Ok reported)) es)
     has.driven there
     (all.mine k old c there own_one.1).0 same an.1.0 an.1.1
     (replied_no_push (served_so s.page_size asked.1 asked.0
@@ -212,15 +212,15 @@ answer_drives page_size old new q serial a told waits given answers same ws k th
 
 pub answer_result : (old new : ChainHandle) (q : QueueState) (serial : ℕ) (a : made_answer.FileAnswer)
     (result : Result Replied ChainError)
-    → IfOk result (λ told. GivenSo old new a told)
+    → IfOk result (λ reported. GivenSo old new a reported)
     → OnOk result (IsWaiting old.state × IfWaits old.state (λ out w. CanBeGiven w a))
     → IfErr result (λ e. IsNotTaken old serial a e)
     → OnErr result (new ≡ old)
     → IsAllBut old new
-    → IfOk result (λ told. Answers old new a told)
+    → IfOk result (λ reported. Answers old new a reported)
     → (page_size : ℕ) → DrivesOne page_size old new q q (does.Answer serial a) (gives.Answered result)
-answer_result old new q serial a (Ok told) given taken err same stay step page_size =
-    answer_drives page_size old new q serial a told taken.0 given step (stay.0, stay.1)
+answer_result old new q serial a (Ok reported) given taken err same stay step page_size =
+    answer_drives page_size old new q serial a reported taken.0 given step (stay.0, stay.1)
 answer_result old new q serial a (Err e) given taken err same stay step page_size =
     refuses page_size old new q (does.Answer serial a) (gives.Answered (Err e)) (same_held old new same)
     (λ i k d d' u is. (refl, err))

@@ -15,7 +15,7 @@ use Rattle.fs_chain.specs.declared.state.ChainState as state
 use Rattle.fs_chain.specs.declared.state.ChainState.TheVariants as at
 use Rattle.fs_driven.specs.Begins.{IsNew, RunsFromNew}
 use Rattle.fs_driven.specs.Desks.{BeginsDriven, no_pop}
-use Rattle.fs_driven.specs.Told.{Called, Drives}
+use Rattle.fs_driven.specs.Reported.{Called, Drives}
 use Rattle.fs_driven.proofs.Calls.{no_error}
 use Rattle.fs_driven.proofs.Handles.{not_free}
 

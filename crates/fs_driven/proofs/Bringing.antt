@@ -16,7 +16,7 @@ use Rattle.server_phases.specs.Gathering.{Holds}
 use Rattle.server_phases.specs.declared.session.Session.{Session}
 use Rattle.fs_chain.specs.Holds.{IsDecodedIn}
 use Rattle.fs_chain.specs.HoldsListings.{AddsEntry, HoldsListing}
-use Rattle.fs_chain.specs.Listings.{Adds, AddsTo, adding_error, list_error, told_added}
+use Rattle.fs_chain.specs.Listings.{Adds, AddsTo, adding_error, list_error, reported_added}
 use Rattle.fs_chain.specs.Orders.{is_listing}
 use Rattle.fs_chain.specs.Serials.{UnlessRefused, serial_error}
 use Rattle.fs_chain.specs.Walks.{IsAllButPlace}
@@ -28,7 +28,7 @@ use Rattle.fs_chain.specs.declared.state.ChainState as state
 use Rattle.fs_chain.specs.declared.state.ChainState.TheVariants as at
 use Rattle.fs_driven.specs.Adding.{BringsAll, BringsNothing, BringsOne, BringsSo, CameTo, HasNumber, IsGathering}
 use Rattle.fs_driven.specs.Entries.{added_as, all_brought, brought_of, listed_as, refused_by}
-use Rattle.fs_driven.specs.Kept.{IsSameHeld}
+use Rattle.fs_driven.specs.Preserved.{IsSameHeld}
 use Rattle.fs_driven.specs.declared.entries.ListedEntry.{ListedEntry}
 use Rattle.fs_driven.proofs.Calls.{no_error}
 use Rattle.fs_driven.proofs.Decoding.{items_same}
@@ -37,54 +37,54 @@ use Rattle.fs_driven.proofs.Decoding.{items_same}
 
 -- by what `add` ensures
 pub brings_plain : (old new : ChainHandle) (serial : ℕ) (list list' : List ℕ) (e : ListedEntry) (name : List ℕ)
-    (told : Result Added ChainError)
+    (reported : Result Added ChainError)
     → e.node ≡ None
-    → UnlessRefused {A = Added} (adding_error old serial (length list)) told ((new ≡ old) × (list' ≡ list))
+    → UnlessRefused {A = Added} (adding_error old serial (length list)) reported ((new ≡ old) × (list' ≡ list))
     (AddsTo old.state new.state list list' (listed_as e name, no_node (listed_as e name))
-    (λ l. added_plain l (length list) (length name)) told)
+    (λ l. added_plain l (length list) (length name)) reported)
     → IsAllButPlace old new
-    → IfOk told (λ why. AddsEntry old new list list' (listed_as e name, no_node (listed_as e name)) why)
-    → BringsOne old new serial list list' e name told
-brings_plain old new serial list list' e name told is so stays step =
+    → IfOk reported (λ why. AddsEntry old new list list' (listed_as e name, no_node (listed_as e name)) why)
+    → BringsOne old new serial list list' e name reported
+brings_plain old new serial list list' e name reported is so stays step =
     let small : 0 < 2 ^ 64 = omega arith in
-    let plain : BringsOne old new serial list list' (record e { node = None }) name told =
+    let plain : BringsOne old new serial list list' (record e { node = None }) name reported =
     record { step = step; so = so; stays = stays; number = small } in
-    subst (λ (o : Option (Entry ℕ)). BringsOne old new serial list list' (record e { node = o }) name told) (sym is)
+    subst (λ (o : Option (Entry ℕ)). BringsOne old new serial list list' (record e { node = o }) name reported) (sym is)
     plain
 
 -- by what `add_with_node` ensures
 pub brings_found : (old new : ChainHandle) (serial : ℕ) (list list' : List ℕ) (e : ListedEntry) (name : List ℕ)
-    (given node : Entry ℕ) (told : Result Added ChainError)
+    (given node : Entry ℕ) (reported : Result Added ChainError)
     → e.node ≡ Some given
     → node ≡ given
     → node.inode < 2 ^ 64
-    → UnlessRefused {A = Added} (adding_error old serial (length list)) told ((new ≡ old) × (list' ≡ list))
+    → UnlessRefused {A = Added} (adding_error old serial (length list)) reported ((new ≡ old) × (list' ≡ list))
     (AddsTo old.state new.state list list' (listed_as e name, node)
-    (λ l. added_found l (length list) (length name)) told)
+    (λ l. added_found l (length list) (length name)) reported)
     → IsAllButPlace old new
-    → IfOk told (λ why. AddsEntry old new list list' (listed_as e name, node) why)
-    → BringsOne old new serial list list' e name told
-brings_found old new serial list list' e name given node told is same number so stays step =
-    let found : BringsOne old new serial list list' (record e { node = Some node }) name told =
+    → IfOk reported (λ why. AddsEntry old new list list' (listed_as e name, node) why)
+    → BringsOne old new serial list list' e name reported
+brings_found old new serial list list' e name given node reported is same number so stays step =
+    let found : BringsOne old new serial list list' (record e { node = Some node }) name reported =
     record { step = step; so = so; stays = stays; number = number } in
-    subst (λ (o : Option (Entry ℕ)). BringsOne old new serial list list' (record e { node = o }) name told)
+    subst (λ (o : Option (Entry ℕ)). BringsOne old new serial list list' (record e { node = o }) name reported)
     (ap (λ (n : Entry ℕ). Some n) same ∙ sym is) found
 
 abbrev IsIn : Result Added ChainError → Type 0
-IsIn (Ok told) = Unit {0}
+IsIn (Ok reported) = Unit {0}
 IsIn (Err e) = ⊥
 
-not_in_error : (told : Added) (e : ChainError) → Ok told ≡ Err e → ⊥
-not_in_error told e is = subst (λ (r : Result Added ChainError). IsIn r) is tt
+not_in_error : (reported : Added) (e : ChainError) → Ok reported ≡ Err e → ⊥
+not_in_error reported e is = subst (λ (r : Result Added ChainError). IsIn r) is tt
 
 -- an entry that was looked at
-looked_at : (old new : ChainHandle) (serial : ℕ) (list list' : List ℕ) (e : ListedEntry) (name : List ℕ) (told : Added)
-    → BringsSo old new serial list list' e name (Ok told)
+looked_at : (old new : ChainHandle) (serial : ℕ) (list list' : List ℕ) (e : ListedEntry) (name : List ℕ) (reported : Added)
+    → BringsSo old new serial list list' e name (Ok reported)
     → (adding_error old serial (length list) ≡ None)
     × AddsTo old.state new.state list list' (brought_of e name)
-    (λ l. added_as e.node l (length list) (length name)) (Ok told)
-looked_at old new serial list list' e name told (inl refused) = absurd (not_in_error told refused.0 refused.2)
-looked_at old new serial list list' e name told (inr is) = is
+    (λ l. added_as e.node l (length list) (length name)) (Ok reported)
+looked_at old new serial list list' e name reported (inl refused) = absurd (not_in_error reported refused.0 refused.2)
+looked_at old new serial list list' e name reported (inr is) = is
 
 -- only a listing takes it, and it gathers on
 abbrev GathersOn : (st new : state.ChainState) → (mine serial : ℕ) → Type 0
@@ -92,34 +92,34 @@ GathersOn st new mine serial =
     (is_listing st ≡ true) × (is_listing new ≡ true) × (serial_error new mine serial ≡ serial_error st mine serial)
 
 gathers_on : (st new : state.ChainState) (mine serial : ℕ) (list list' : List ℕ) (e : Brought)
-    (outcome : Listing → Result (Unit {0}) NotAdded) (told : Added)
-    → AddsTo st new list list' e outcome (Ok told) → GathersOn st new mine serial
-gathers_on (at.Lists out l) new mine serial list list' e outcome told adds = (
+    (outcome : Listing → Result (Unit {0}) NotAdded) (reported : Added)
+    → AddsTo st new list list' e outcome (Ok reported) → GathersOn st new mine serial
+gathers_on (at.Lists out l) new mine serial list list' e outcome reported adds = (
   refl,
   ap is_listing adds.1.1,
   ap (λ (s : state.ChainState). serial_error s mine serial) adds.1.1,
 )
-gathers_on (at.Waits out w) new mine serial list list' e outcome told adds = absurd (not_in_error told _ adds.0)
-gathers_on at.Free new mine serial list list' e outcome told adds = absurd (not_in_error told _ adds.0)
-gathers_on (at.Walking course pop_id walk) new mine serial list list' e outcome told adds =
-    absurd (not_in_error told _ adds.0)
-gathers_on (at.Taken out) new mine serial list list' e outcome told adds = absurd (not_in_error told _ adds.0)
-gathers_on (at.HasReply out kept) new mine serial list list' e outcome told adds =
-    absurd (not_in_error told _ adds.0)
-gathers_on (at.Pushing out) new mine serial list list' e outcome told adds = absurd (not_in_error told _ adds.0)
+gathers_on (at.Waits out w) new mine serial list list' e outcome reported adds = absurd (not_in_error reported _ adds.0)
+gathers_on at.Free new mine serial list list' e outcome reported adds = absurd (not_in_error reported _ adds.0)
+gathers_on (at.Walking course pop_id walk) new mine serial list list' e outcome reported adds =
+    absurd (not_in_error reported _ adds.0)
+gathers_on (at.Taken out) new mine serial list list' e outcome reported adds = absurd (not_in_error reported _ adds.0)
+gathers_on (at.HasReply out preserved) new mine serial list list' e outcome reported adds =
+    absurd (not_in_error reported _ adds.0)
+gathers_on (at.Pushing out) new mine serial list list' e outcome reported adds = absurd (not_in_error reported _ adds.0)
 
 first_none : (a b : Option ChainError) → option_or a b ≡ None → a ≡ None
 first_none None b is = refl
 first_none (Some x) b is = absurd (no_error x is)
 
 -- the listing gathers on, and it did
-brings_on : (old new : ChainHandle) (serial : ℕ) (list list' : List ℕ) (e : ListedEntry) (name : List ℕ) (told : Added)
-    → BringsOne old new serial list list' e name (Ok told)
+brings_on : (old new : ChainHandle) (serial : ℕ) (list list' : List ℕ) (e : ListedEntry) (name : List ℕ) (reported : Added)
+    → BringsOne old new serial list list' e name (Ok reported)
     → IsGathering new serial × (is_listing old.state ≡ true)
-brings_on old new serial list list' e name told one =
-    let looked = looked_at old new serial list list' e name told one.so in
+brings_on old new serial list list' e name reported one =
+    let looked = looked_at old new serial list list' e name reported one.so in
     let on = gathers_on old.state new.state new.serial serial list list' (brought_of e name)
-    (λ l. added_as e.node l (length list) (length name)) told looked.1 in
+    (λ l. added_as e.node l (length list) (length name)) reported looked.1 in
     let was : serial_error old.state old.serial serial ≡ None =
     first_none (serial_error old.state old.serial serial) (list_error old.state old.list_len (length list)) looked.0
     in
@@ -136,7 +136,7 @@ brought_none w serial list names = record {
   step = λ page_size c es held numbers.
       subst (λ (l : List Brought). CameTo page_size c l [] list (Ok added.In) w) (sym (append-nil es))
       (held, numbers, refl);
-  kept = (refl, refl);
+  preserved = (refl, refl);
   moved = inr (refl, refl, refl);
 }
 
@@ -148,15 +148,15 @@ brings_none w serial list names (e ∷ entries) none = absurd (omega (arith, non
 -- ---- one that is added, and more
 
 gathers_more : (page_size : ℕ) (c : InFlightChain) (es left : List Brought) (e : Brought) (more : List Brought)
-    (list : List ℕ) (told : Result Added ChainError) (w : ChainHandle)
-    → CameTo page_size c ((es ++ e ∷ []) ++ more) left list told w
-    → CameTo page_size c (es ++ e ∷ more) left list told w
-gathers_more page_size c es left e more list told w came =
-    subst (λ (l : List Brought). CameTo page_size c l left list told w) (append_assoc es (e ∷ []) more) came
+    (list : List ℕ) (reported : Result Added ChainError) (w : ChainHandle)
+    → CameTo page_size c ((es ++ e ∷ []) ++ more) left list reported w
+    → CameTo page_size c (es ++ e ∷ more) left list reported w
+gathers_more page_size c es left e more list reported w came =
+    subst (λ (l : List Brought). CameTo page_size c l left list reported w) (append_assoc es (e ∷ []) more) came
 
 more_moved : (old new : ChainHandle) (serial : ℕ) (list list' : List ℕ) (entries : List ListedEntry) (names : List ℕ)
-    (n : ℕ) (told : Result Added ChainError)
-    → IsGathering old serial → BringsNothing old new serial list list' entries names n told → IsGathering new serial
+    (n : ℕ) (reported : Result Added ChainError)
+    → IsGathering old serial → BringsNothing old new serial list list' entries names n reported → IsGathering new serial
 more_moved old new serial list list' [] names n (Ok added.In) is nothing =
     subst (λ (w : ChainHandle). IsGathering w serial) (sym nothing.1) is
 more_moved old new serial list list' (e ∷ entries) names n (Err x) is nothing = (
@@ -169,30 +169,30 @@ more_moved old new serial list list' [] names n (Ok added.Full) is nothing = abs
 more_moved old new serial list list' [] names n (Ok added.NoRoom) is nothing = absurd nothing
 more_moved old new serial list list' [] names n (Ok added.TooLong) is nothing = absurd nothing
 more_moved old new serial list list' [] names n (Err x) is nothing = absurd nothing
-more_moved old new serial list list' (e ∷ entries) names n (Ok told) is nothing = absurd nothing
+more_moved old new serial list list' (e ∷ entries) names n (Ok reported) is nothing = absurd nothing
 
-not_first : (n : ℕ) (told : Result Added ChainError) → refused_by (suc n) told ≡ None
-not_first n (Ok told) = refl
+not_first : (n : ℕ) (reported : Result Added ChainError) → refused_by (suc n) reported ≡ None
+not_first n (Ok reported) = refl
 not_first n (Err x) =
     let isnt : (suc n == 0) ≡ false = ne_eqb (suc n) 0 (λ is. absurd (omega (arith, is))) in
     ap (λ (b : Bool). if b then Some x else None) isnt
 
 one_more : (old mid new : ChainHandle) (serial : ℕ) (list middle list' : List ℕ) (e : ListedEntry)
-    (entries : List ListedEntry) (names : List ℕ) (n : ℕ) (told : Result Added ChainError)
+    (entries : List ListedEntry) (names : List ℕ) (n : ℕ) (reported : Result Added ChainError)
     → BringsOne old mid serial list middle e (take e.name_len names) (Ok added.In)
-    → BringsAll mid new serial middle list' entries (drop e.name_len names) n told
-    → BringsAll old new serial list list' (e ∷ entries) names (suc n) told
+    → BringsAll mid new serial middle list' entries (drop e.name_len names) n reported
+    → BringsAll old new serial list list' (e ∷ entries) names (suc n) reported
 unfolding AddsEntry
-one_more old mid new serial list middle list' e entries names n told one more =
+one_more old mid new serial list middle list' e entries names n reported one more =
     record {
       few = omega (arith, more.few);
       step = λ page_size c es held numbers.
           gathers_more page_size c es (drop n (all_brought entries others)) first
-          (take n (all_brought entries others)) list' told new
+          (take n (all_brought entries others)) list' reported new
           (more.step page_size c (es ++ first ∷ []) (one.step page_size c es [] held)
           (all_both HasNumber es (first ∷ []) numbers (one.number, tt)));
-      kept = (more.kept.0 ∙ one.stays.0.0, more.kept.1 ∙ one.stays.0.1);
-      moved = inl (by_moved more.moved, on.1, not_first n told);
+      preserved = (more.preserved.0 ∙ one.stays.0.0, more.preserved.1 ∙ one.stays.0.1);
+      moved = inl (by_moved more.moved, on.1, not_first n reported);
     }
   where
     others : List ℕ
@@ -204,39 +204,39 @@ one_more old mid new serial list middle list' e entries names n told one more =
     on : IsGathering mid serial × (is_listing old.state ≡ true)
     on = brings_on old mid serial list middle e (take e.name_len names) added.In one
 
-    by_moved : (IsGathering new serial × (is_listing mid.state ≡ true) × (refused_by n told ≡ None))
-        ⊎ BringsNothing mid new serial middle list' entries others n told
+    by_moved : (IsGathering new serial × (is_listing mid.state ≡ true) × (refused_by n reported ≡ None))
+        ⊎ BringsNothing mid new serial middle list' entries others n reported
         → IsGathering new serial
     by_moved (inl is) = is.0
-    by_moved (inr nothing) = more_moved mid new serial middle list' entries others n told on.0 nothing
+    by_moved (inr nothing) = more_moved mid new serial middle list' entries others n reported on.0 nothing
 
 pub brings_more : (old mid new : ChainHandle) (serial : ℕ) (list middle list' : List ℕ)
     (entries : List ListedEntry) (e : ListedEntry) (more : List ListedEntry) (names name others : List ℕ)
-    (one_told : Result Added ChainError) (n : ℕ) (told : Result Added ChainError)
+    (one_reported : Result Added ChainError) (n : ℕ) (reported : Result Added ChainError)
     → entries ≡ e ∷ more
     → name ≡ take e.name_len names
     → others ≡ drop e.name_len names
-    → BringsOne old mid serial list middle e name one_told
-    → one_told ≡ Ok added.In
-    → BringsAll mid new serial middle list' more others n told
-    → BringsAll old new serial list list' entries names (n + 1) told
-brings_more old mid new serial list middle list' entries e more names name others one_told n told are first rest one is
+    → BringsOne old mid serial list middle e name one_reported
+    → one_reported ≡ Ok added.In
+    → BringsAll mid new serial middle list' more others n reported
+    → BringsAll old new serial list list' entries names (n + 1) reported
+brings_more old mid new serial list middle list' entries e more names name others one_reported n reported are first rest one is
     all =
     let next : suc n ≡ n + 1 = omega arith in
-    let whole : BringsAll old new serial list list' (e ∷ more) names (suc n) told =
-    one_more old mid new serial list middle list' e more names n told
+    let whole : BringsAll old new serial list list' (e ∷ more) names (suc n) reported =
+    one_more old mid new serial list middle list' e more names n reported
     (subst (λ (l : List ℕ). BringsOne old mid serial list middle e l (Ok added.In)) first
     (subst (λ (r : Result Added ChainError). BringsOne old mid serial list middle e name r) is one))
-    (subst (λ (l : List ℕ). BringsAll mid new serial middle list' more l n told) rest all) in
-    subst (λ (l : List ListedEntry). BringsAll old new serial list list' l names (n + 1) told) (sym are)
-    (subst (λ (m : ℕ). BringsAll old new serial list list' (e ∷ more) names m told) next whole)
+    (subst (λ (l : List ℕ). BringsAll mid new serial middle list' more l n reported) rest all) in
+    subst (λ (l : List ListedEntry). BringsAll old new serial list list' l names (n + 1) reported) (sym are)
+    (subst (λ (m : ℕ). BringsAll old new serial list list' (e ∷ more) names m reported) next whole)
 
 -- ---- one that isn't
 
-not_more : (page_size : ℕ) (c : InFlightChain) (es left : List Brought) (list : List ℕ) (told : Result Added ChainError)
-    (w : ChainHandle) → CameTo page_size c es left list told w → CameTo page_size c (es ++ []) left list told w
-not_more page_size c es left list told w came =
-    subst (λ (l : List Brought). CameTo page_size c l left list told w) (sym (append-nil es)) came
+not_more : (page_size : ℕ) (c : InFlightChain) (es left : List Brought) (list : List ℕ) (reported : Result Added ChainError)
+    (w : ChainHandle) → CameTo page_size c es left list reported w → CameTo page_size c (es ++ []) left list reported w
+not_more page_size c es left list reported w came =
+    subst (λ (l : List Brought). CameTo page_size c l left list reported w) (sym (append-nil es)) came
 
 left_out : (old new : ChainHandle) (serial : ℕ) (list list' : List ℕ) (e : ListedEntry) (name : List ℕ)
     (more : List Brought) (why : Added) → (why ≡ added.In → ⊥)
@@ -271,7 +271,7 @@ by_left old new serial list list' e entries names why isnt one =
           not_more page_size c es (all_brought (e ∷ entries) names) list' (Ok why) new
           (left_out old new serial list list' e (take e.name_len names) (all_brought entries (drop e.name_len names))
           why isnt one page_size c es held numbers);
-      kept = (one.stays.0.0, one.stays.0.1);
+      preserved = (one.stays.0.0, one.stays.0.1);
       moved = inl (on.0, on.1, refl);
     }
 
@@ -284,10 +284,10 @@ unmoved : (st new : state.ChainState) (list list' : List ℕ) (e : Brought)
     → (new ≡ st) × (list' ≡ list)
 unmoved (at.Lists out l) new list list' e outcome x adds = by_outcome (outcome l) adds.0 adds.1.2
   where
-    by_outcome : (r : Result (Unit {0}) NotAdded) → Err x ≡ told_added r → Adds l adds.1.0 list list' e r
+    by_outcome : (r : Result (Unit {0}) NotAdded) → Err x ≡ reported_added r → Adds l adds.1.0 list list' e r
         → (new ≡ at.Lists out l) × (list' ≡ list)
-    by_outcome (Ok done) told is = absurd (not_in_error added.In x (sym told))
-    by_outcome (Err why) told is = (
+    by_outcome (Ok done) reported is = absurd (not_in_error added.In x (sym reported))
+    by_outcome (Err why) reported is = (
       adds.1.1 ∙ ap (λ (k : Listing). at.Lists out k) (is.same why refl).0,
       (is.same why refl).1,
     )
@@ -295,7 +295,7 @@ unmoved (at.Waits out w) new list list' e outcome x adds = (adds.1, adds.2)
 unmoved at.Free new list list' e outcome x adds = (adds.1, adds.2)
 unmoved (at.Walking course pop_id walk) new list list' e outcome x adds = (adds.1, adds.2)
 unmoved (at.Taken out) new list list' e outcome x adds = (adds.1, adds.2)
-unmoved (at.HasReply out kept) new list list' e outcome x adds = (adds.1, adds.2)
+unmoved (at.HasReply out preserved) new list list' e outcome x adds = (adds.1, adds.2)
 unmoved (at.Pushing out) new list list' e outcome x adds = (adds.1, adds.2)
 
 refused_same : (old new : ChainHandle) (serial : ℕ) (list list' : List ℕ) (e : ListedEntry) (name : List ℕ) (x : ChainError)
@@ -338,22 +338,22 @@ by_error old new serial list list' e entries names x one =
       step = λ page_size c es held numbers.
           not_more page_size c es (all_brought (e ∷ entries) names) list' (Err x) new
           (held_still page_size c es list list' old new held_same same.1 held, numbers);
-      kept = (one.stays.0.0, one.stays.0.1);
+      preserved = (one.stays.0.0, one.stays.0.1);
       moved = inr (refl, held_same, one.stays.0.2, same.1, one.so);
     }
 
-pub ok_is : (told : Result Added ChainError) (a b : Added) → told ≡ Ok a → a ≡ b → told ≡ Ok b
-ok_is told a b is same = is ∙ ap (λ (x : Added). Ok x) same
+pub ok_is : (reported : Result Added ChainError) (a b : Added) → reported ≡ Ok a → a ≡ b → reported ≡ Ok b
+ok_is reported a b is same = is ∙ ap (λ (x : Added). Ok x) same
 
 -- the result isn't that of an entry that is added
 abbrev pub IsNotIn : Result Added ChainError → Type 0
 IsNotIn (Ok added.In) = ⊥
-IsNotIn told = Unit {0}
+IsNotIn reported = Unit {0}
 
 brought_not : (old new : ChainHandle) (serial : ℕ) (list list' : List ℕ) (e : ListedEntry)
-    (more : List ListedEntry) (names : List ℕ) (told : Result Added ChainError) → IsNotIn told
-    → BringsOne old new serial list list' e (take e.name_len names) told
-    → BringsAll old new serial list list' (e ∷ more) names 0 told
+    (more : List ListedEntry) (names : List ℕ) (reported : Result Added ChainError) → IsNotIn reported
+    → BringsOne old new serial list list' e (take e.name_len names) reported
+    → BringsAll old new serial list list' (e ∷ more) names 0 reported
 brought_not old new serial list list' e more names (Ok added.In) isnt one = absurd isnt
 brought_not old new serial list list' e more names (Ok added.Full) isnt one =
     by_left old new serial list list' e more names added.Full
@@ -367,15 +367,15 @@ brought_not old new serial list list' e more names (Ok added.TooLong) isnt one =
 brought_not old new serial list list' e more names (Err x) isnt one = by_error old new serial list list' e more names x one
 
 pub brings_not : (old new : ChainHandle) (serial : ℕ) (list list' : List ℕ) (entries : List ListedEntry)
-    (e : ListedEntry) (more : List ListedEntry) (names name : List ℕ) (one_told told : Result Added ChainError)
+    (e : ListedEntry) (more : List ListedEntry) (names name : List ℕ) (one_reported reported : Result Added ChainError)
     → entries ≡ e ∷ more
     → name ≡ take e.name_len names
-    → BringsOne old new serial list list' e name one_told
-    → one_told ≡ told
-    → IsNotIn told
-    → BringsAll old new serial list list' entries names 0 told
-brings_not old new serial list list' entries e more names name one_told told are first one is isnt =
-    subst (λ (l : List ListedEntry). BringsAll old new serial list list' l names 0 told) (sym are)
-    (brought_not old new serial list list' e more names told isnt
-    (subst (λ (l : List ℕ). BringsOne old new serial list list' e l told) first
+    → BringsOne old new serial list list' e name one_reported
+    → one_reported ≡ reported
+    → IsNotIn reported
+    → BringsAll old new serial list list' entries names 0 reported
+brings_not old new serial list list' entries e more names name one_reported reported are first one is isnt =
+    subst (λ (l : List ListedEntry). BringsAll old new serial list list' l names 0 reported) (sym are)
+    (brought_not old new serial list list' e more names reported isnt
+    (subst (λ (l : List ℕ). BringsOne old new serial list list' e l reported) first
     (subst (λ (r : Result Added ChainError). BringsOne old new serial list list' e name r) is one)))

@@ -20,9 +20,9 @@ use Rattle.live_machine.specs.Live.{room_of, serving}
 use Rattle.fuse_values.specs.declared.call.FileCall as made_call
 use Rattle.fs_chain.specs.Decoding.{KeepsCall, KeepsReply}
 use Rattle.fs_driven.specs.Desks.{Begun, Desk, Driven, FitsRun, IsReady, Leads, MayPop, desk, own, with_pop}
-use Rattle.fs_driven.specs.Told.{DrivesOne, Tells, Unseen, exactly}
-use Rattle.fs_driven.specs.Told.{turn}
-use Rattle.fs_driven.specs.Kept.{IsSameHeld, KeepsMemory}
+use Rattle.fs_driven.specs.Reported.{DrivesOne, Reports, Unseen, exactly}
+use Rattle.fs_driven.specs.Reported.{turn}
+use Rattle.fs_driven.specs.Preserved.{IsSameHeld, KeepsMemory}
 use Rattle.fs_chain.specs.Holds.{HoldsChain, IsRepliedWith}
 use Rattle.fs_chain.specs.Holds.{HoldsPop, IsHeldIn, IsOutAs, IsQueue}
 use Rattle.fs_chain.specs.Holds.{Machine, Pop}
@@ -81,7 +81,7 @@ may_same limit event_index p old new at.Free same may = tt
 may_same limit event_index p old new (at.Taken out) same may = tt
 may_same limit event_index p old new (at.Waits out w) same may = tt
 may_same limit event_index p old new (at.Lists out l) same may = tt
-may_same limit event_index p old new (at.HasReply out kept) same may = tt
+may_same limit event_index p old new (at.HasReply out preserved) same may = tt
 may_same limit event_index p old new (at.Pushing out) same may = tt
 
 fits_same : (places : Memory) (limit : ℕ) (event_index : Bool) (p : Pop) (old new : ChainHandle) → IsSameHeld old new
@@ -100,7 +100,7 @@ may_out limit event_index p w at.Free out = tt
 may_out limit event_index p w (at.Taken o) out = tt
 may_out limit event_index p w (at.Waits o k) out = tt
 may_out limit event_index p w (at.Lists o l) out = tt
-may_out limit event_index p w (at.HasReply o kept) out = tt
+may_out limit event_index p w (at.HasReply o preserved) out = tt
 may_out limit event_index p w (at.Pushing o) out = tt
 
 pub fits_out : (places : Memory) (limit : ℕ) (event_index : Bool) (p r : Pop) (old new : ChainHandle) →
@@ -127,16 +127,16 @@ stays_put s i page_size k q q' p push new there event same pushing still fits =
     }
 
 -- T tells of no events, whatever the handles hold
-abbrev pub TellsNone : Machine → QueueState → List ChainHandle → Option Begun →
+abbrev pub ReportsNone : Machine → QueueState → List ChainHandle → Option Begun →
     (T : List LiveEvent → Desk → Type 0) → Type 0
-TellsNone s q ws push T = (os : List Owned) (pops : ℕ → Pop) → T [] (desk s ws q os pops push)
+ReportsNone s q ws push T = (os : List Owned) (pops : ℕ → Pop) → T [] (desk s ws q os pops push)
 
 pub stays : (s : Machine) (i page_size k : ℕ) (q : QueueState) (ws : List ChainHandle) (os : List Owned)
     (pops : ℕ → Pop) (push : Option Begun) (old new : ChainHandle) (T : List LiveEvent → Desk → Type 0)
     → Driven s i page_size q ws os pops push → slice_get ws k ≡ Some old → IsSameHeld old new
-    → TellsNone s q (with_handle ws k new) push T
+    → ReportsNone s q (with_handle ws k new) push T
     → Leads s i page_size q (with_handle ws k new) T
-stays s i page_size k q ws os pops push old new T all there same tells = by_out (is_out old.state) refl
+stays s i page_size k q ws os pops push old new T all there same reports = by_out (is_out old.state) refl
   where
     moves : Moves s s i page_size k q q (pops k) push push new
     moves =
@@ -160,7 +160,7 @@ stays s i page_size k q ws os pops push old new T all there same tells = by_out 
           refl,
           keeps s s i page_size q q ws has.ob has.oh k old new c c (pops k) pops push push has.driven there
               moves has.chains holds (mine.0, ready),
-          tells (has.ob ++ own k c ∷ has.oh) (with_pop pops k (pops k)),
+          reports (has.ob ++ own k c ∷ has.oh) (with_pop pops k (pops k)),
         )
     by_out false free = (
       [],
@@ -171,7 +171,7 @@ stays s i page_size k q ws os pops push old new T all there same tells = by_out 
       refl,
       idles s s i page_size q q ws os k old new (pops k) pops push push all there moves refl free
           (ap is_out same.0 ∙ free),
-      tells os (with_pop pops k (pops k)),
+      reports os (with_pop pops k (pops k)),
     )
 
 -- a call that is refused, or not made
@@ -179,14 +179,14 @@ pub refuses : (page_size : ℕ) (old new : ChainHandle) (q : QueueState) (comman
     (returned : Returned)
     → IsSameHeld old new
     → ((i k : ℕ) (d d' : Desk) (u : Unseen) → d.queue ≡ q →
-    Tells (turn i page_size k d d' old new) command u returned [])
+    Reports (turn i page_size k d d' old new) command u returned [])
     → DrivesOne page_size old new q q command returned
 unfolding DrivesOne
-refuses page_size old new q command returned same tells ws k there u s i os pops push all =
+refuses page_size old new q command returned same reports ws k there u s i os pops push all =
     stays s i page_size k q ws os pops push old new
-    (λ es d. Tells (turn i page_size k (desk s ws q os pops push) d old new) command u returned es) all there
+    (λ es d. Reports (turn i page_size k (desk s ws q os pops push) d old new) command u returned es) all there
     same
-    (λ after loads'. tells i k (desk s ws q os pops push) (desk s (with_handle ws k new) q after loads' push) u
+    (λ after loads'. reports i k (desk s ws q os pops push) (desk s (with_handle ws k new) q after loads' push) u
     refl)
 
 pub same_held : (old new : ChainHandle) → new ≡ old → IsSameHeld old new
@@ -230,7 +230,7 @@ fetched_ready page_size n k q push c p st session is held =
     by_state : (page_size n : ℕ) (c : InFlightChain) (st : state.ChainState) (session : Session) →
         IsHeldIn n c Fetched st session
         → IsReady page_size k q push c st
-    by_state page_size n c (at.HasReply out kept) session held = absurd held
+    by_state page_size n c (at.HasReply out preserved) session held = absurd held
     by_state page_size n c (at.Pushing out) session held = absurd held
     by_state page_size n c at.Free session held = tt
     by_state page_size n c (at.Walking course pop_id walk) session held = tt
@@ -247,7 +247,7 @@ HasNoPush _ = Unit {0}
 call_no_push : (s : Setting) (m : Meaning) (bytes : List ℕ) (made : made_call.FileCall) (out : InFlight)
     (st : state.ChainState) → KeepsCall s m bytes made out st → HasNoPush st
 call_no_push s m bytes made out (at.Pushing o) keeps = absurd keeps
-call_no_push s m bytes made out (at.HasReply o kept) keeps = tt
+call_no_push s m bytes made out (at.HasReply o preserved) keeps = tt
 call_no_push s m bytes made out at.Free keeps = tt
 call_no_push s m bytes made out (at.Walking course pop_id walk) keeps = tt
 call_no_push s m bytes made out (at.Taken o) keeps = tt
@@ -257,7 +257,7 @@ call_no_push s m bytes made out (at.Lists o l) keeps = tt
 pub reply_no_push : (s : Setting) (m : Meaning) (bytes : List ℕ) (out : InFlight) (st : state.ChainState) →
     KeepsReply s m bytes out st → HasNoPush st
 reply_no_push s m bytes out (at.Pushing o) keeps = absurd keeps
-reply_no_push s m bytes out (at.HasReply o kept) keeps = tt
+reply_no_push s m bytes out (at.HasReply o preserved) keeps = tt
 reply_no_push s m bytes out at.Free keeps = tt
 reply_no_push s m bytes out (at.Walking course pop_id walk) keeps = tt
 reply_no_push s m bytes out (at.Taken o) keeps = tt
@@ -266,7 +266,7 @@ reply_no_push s m bytes out (at.Lists o l) keeps = tt
 
 pub replied_no_push : (reply bytes : List ℕ) (st : state.ChainState) → IsRepliedWith reply bytes st → HasNoPush st
 replied_no_push reply bytes (at.Pushing o) is = absurd is
-replied_no_push reply bytes (at.HasReply o kept) is = tt
+replied_no_push reply bytes (at.HasReply o preserved) is = tt
 replied_no_push reply bytes at.Free is = tt
 replied_no_push reply bytes (at.Walking course pop_id walk) is = tt
 replied_no_push reply bytes (at.Taken o) is = tt
@@ -279,7 +279,7 @@ pub done_ready : (page_size k : ℕ) (q : QueueState) (push : Option Begun) (c :
     → (serving page_size options options request (room_of (asked_chain c request options calls))
     calls).calls ≡ calls_alone calls
     → HasNoPush st → IsReady page_size k q push (asked_chain c request options calls) st
-done_ready page_size k q push c request options calls (at.HasReply out kept) done quiet = (
+done_ready page_size k q push c request options calls (at.HasReply out preserved) done quiet = (
   served_exchange c.head request
       (serving page_size options options request (room_of (asked_chain c request options calls)) calls),
   (done, refl),
@@ -294,7 +294,7 @@ done_ready page_size k q push c request options calls (at.Lists out l) done quie
 pub call_waits : (page_size k : ℕ) (q : QueueState) (push : Option Begun) (c : InFlightChain) (s : Setting)
     (m : Meaning) (bytes : List ℕ) (made : made_call.FileCall) (out : InFlight) (st : state.ChainState)
     → KeepsCall s m bytes made out st → IsReady page_size k q push c st
-call_waits page_size k q push c s m bytes made out (at.HasReply o kept) keeps = absurd keeps
+call_waits page_size k q push c s m bytes made out (at.HasReply o preserved) keeps = absurd keeps
 call_waits page_size k q push c s m bytes made out (at.Pushing o) keeps = absurd keeps
 call_waits page_size k q push c s m bytes made out at.Free keeps = tt
 call_waits page_size k q push c s m bytes made out (at.Walking course pop_id walk) keeps = tt
@@ -326,7 +326,7 @@ pub still : (s : Machine) (i page_size k : ℕ) (q q' : QueueState) (ws : List C
     → HoldsPop s.limit p new × (q' ≡ q)
     → T [] (desk s (with_handle ws k new) q' os (with_pop pops k p) push)
     → Leads s i page_size q' (with_handle ws k new) T
-still s i page_size k q q' ws os pops push old new p T all there free same event is tells =
+still s i page_size k q q' ws os pops push old new p T all there free same event is reports =
     let was = all.fits k old there in
     let may : MayPop s.limit q.event_index p new new.state =
     subst (λ (st : state.ChainState). MayPop s.limit q.event_index p new st) (sym is.0.state)
@@ -344,5 +344,5 @@ still s i page_size k q q' ws os pops push old new p T all there free same event
           (λ head len. ap (λ (r : QueueState). stores_after_reply (returning (live_of r)) head len) is.1)
           (ap (λ (r : QueueState). r.pushing) is.1) all.still
           (was.0 ∙ ap places_in (sym same.0), was.1 ∙ sym same.1, may)) refl free (ap is_out is.0.state),
-      tells,
+      reports,
     )

@@ -21,11 +21,11 @@ use Rattle.live_machine.specs.Live.{SetsOptions}
 use Rattle.live_machine.specs.Live.{after_decoding}
 use Rattle.live_machine.specs.Live.{asked_chain}
 use Rattle.live_machine.specs.Live.{Happens, room_of_phase, serving}
-use Rattle.fs_chain.specs.Decoding.{IfUndecoded, TellsMeaning, wanted_after, wanted_by}
+use Rattle.fs_chain.specs.Decoding.{IfUndecoded, ReportsMeaning, wanted_after, wanted_by}
 use Rattle.fs_driven.specs.Desks.{Begun, Desk, Driven, FitsRun, In, IsReady, Leads, desk, own, with_pop}
-use Rattle.fs_driven.specs.Told.{DrivesOne, Tells, Unseen, asked_len_of, exactly}
-use Rattle.fs_driven.specs.Told.{request_of, setting_of, turn}
-use Rattle.fs_driven.specs.Kept.{KeepsMemory}
+use Rattle.fs_driven.specs.Reported.{DrivesOne, Reports, Unseen, asked_len_of, exactly}
+use Rattle.fs_driven.specs.Reported.{request_of, setting_of, turn}
+use Rattle.fs_driven.specs.Preserved.{KeepsMemory}
 use Rattle.fs_chain.specs.Holds.{Decodes, DecodingIs, HoldsChain}
 use Rattle.fs_chain.specs.Holds.{Machine, Pop}
 use Rattle.fs_chain.specs.Holds.{any_files, calls_decoded}
@@ -44,7 +44,7 @@ use Rattle.live_machine.proofs.Moved.{joined}
 use Rattle.fs_driven.proofs.Handles.{Moves, has_own, held_out, here, keeps, others_same}
 use Rattle.fs_chain.proofs.Together.{chains_of}
 use Rattle.fs_driven.proofs.Calls.{taken_out}
-use Rattle.fs_driven.proofs.Calls.{HasNoPush, TellsNone, call_waits, done_ready, fetched_ready}
+use Rattle.fs_driven.proofs.Calls.{HasNoPush, ReportsNone, call_waits, done_ready, fetched_ready}
 use Rattle.fs_driven.proofs.Calls.{fits_out, length_exactly, no_error, refuses, reply_no_push}
 use Rattle.fs_driven.proofs.Calls.{same_held, stays_put}
 
@@ -59,38 +59,38 @@ sets_run s o = by_test (o == s.options) refl
     by_test true is = ap (λ (n : ℕ). record s { options = n }) (eqb-true o s.options is)
     by_test false is = (record s { options = o }, record { state = refl }, refl)
 
-decoding : (options now : ℕ) (c : InFlightChain) (request : List ℕ) (told : Decoded) → List LiveEvent
-decoding options now c request told =
-    setting_of options now ++ DecodesRequest c request (calls_decoded (drop 80 request) told) ∷ []
+decoding : (options now : ℕ) (c : InFlightChain) (request : List ℕ) (reported : Decoded) → List LiveEvent
+decoding options now c request reported =
+    setting_of options now ++ DecodesRequest c request (calls_decoded (drop 80 request) reported) ∷ []
 
 -- T tells of the events of a decoding
-abbrev DecodedTells : Machine → QueueState → List ChainHandle → ℕ → Option Begun → InFlightChain →
+abbrev DecodedReports : Machine → QueueState → List ChainHandle → ℕ → Option Begun → InFlightChain →
     (request : List ℕ) → (options : ℕ) → Decoded → (T : List LiveEvent → Desk → Type 0) → Type 0
-DecodedTells s q ws k push c request options told T =
+DecodedReports s q ws k push c request options reported T =
     (after : Machine) (os : List Owned) (pops : ℕ → Pop) →
     In (own k (asked_chain c request options [])) os →
-    T (setting_of options s.options ++ DecodesRequest c request (calls_decoded (drop 80 request) told) ∷ [])
+    T (setting_of options s.options ++ DecodesRequest c request (calls_decoded (drop 80 request) reported) ∷ [])
     (desk after ws q os pops push)
 
 decoded_so : (s : Machine) (i page_size k : ℕ) (q : QueueState) (ws : List ChainHandle) (ob oh : List Owned)
     (pops : ℕ → Pop) (push : Option Begun) (old new : ChainHandle) (c : InFlightChain) (request : List ℕ)
-    (options : ℕ) (told : Decoded) (T : List LiveEvent → Desk → Type 0)
+    (options : ℕ) (reported : Decoded) (T : List LiveEvent → Desk → Type 0)
     → Driven s i page_size q ws (ob ++ own k c ∷ oh) pops push → slice_get ws k ≡ Some old → c.queue ≡ i →
     KeepsMemory old new
     → FitsRun s.places s.limit q.event_index (pops k) old
     → Happens any_files (record s { options = options })
-    (DecodesRequest c request (calls_decoded (drop 80 request) told))
+    (DecodesRequest c request (calls_decoded (drop 80 request) reported))
     (after_decoding (record s { options = options }) (chains_of ob) (chains_of oh) c request)
     × HoldsChain s.page_size (asked_chain c request options []) new
     → IsReady page_size k q push (asked_chain c request options []) new.state
-    → DecodedTells s q (with_handle ws k new) k push c request options told T
+    → DecodedReports s q (with_handle ws k new) k push c request options reported T
     → Leads s i page_size q (with_handle ws k new) T
-decoded_so s i page_size k q ws ob oh pops push old new c request options told T all there queue same fits goes
-    ready tells =
+decoded_so s i page_size k q ws ob oh pops push old new c request options reported T all there queue same fits proceeds
+    ready reports =
     let mid : Machine = record s { options = options } in
     let after : Machine = after_decoding mid (chains_of ob) (chains_of oh) c request in
     let c' = asked_chain c request options [] in
-    let e : LiveEvent = DecodesRequest c request (calls_decoded (drop 80 request) told) in
+    let e : LiveEvent = DecodesRequest c request (calls_decoded (drop 80 request) reported) in
     let moves : Moves s after i page_size k q q (pops k) push push new = record {
       page = refl;
       limit = refl;
@@ -98,7 +98,7 @@ decoded_so s i page_size k q ws ob oh pops push old new c request options told T
       queue = all.queue;
       event = refl;
       fits = fits_out s.places s.limit q.event_index (pops k) (pops k) old new same
-          (held_out s.page_size c' c'.phase new.state new.session goes.1) fits;
+          (held_out s.page_size c' c'.phase new.state new.session proceeds.1) fits;
       others = others_same page_size k q q push (λ head len. refl);
       still = all.still;
     } in (
@@ -108,10 +108,10 @@ decoded_so s i page_size k q ws ob oh pops push old new c request options told T
       with_pop pops k (pops k),
       push,
       joined any_files s mid after (setting_of options s.options) (e ∷ []) (sets_run s options)
-          (after, goes.0, refl),
-      keeps s after i page_size q q ws ob oh k old new c c' (pops k) pops push push all there moves refl goes.1
+          (after, proceeds.0, refl),
+      keeps s after i page_size q q ws ob oh k old new c c' (pops k) pops push push all there moves refl proceeds.1
           (queue, ready),
-      tells after (ob ++ own k c' ∷ oh) (with_pop pops k (pops k)) (here ob oh (own k c')),
+      reports after (ob ++ own k c' ∷ oh) (with_pop pops k (pops k)) (here ob oh (own k c')),
     )
 
 -- a decoding that needs more bytes
@@ -124,10 +124,10 @@ decodes_more : (s : Machine) (i page_size k : ℕ) (q : QueueState) (ws : List C
     → FitsRun s.places s.limit q.event_index (pops k) old
     → HoldsChain s.page_size c new
     → s.chains ≡ chains_of ob ++ c ∷ chains_of oh
-    → TellsNone s q (with_handle ws k new) push T
+    → ReportsNone s q (with_handle ws k new) push T
     → Leads s i page_size q (with_handle ws k new) T
 decodes_more s i page_size k q ws ob oh pops push old new c T all there queue fresh same fits holds chains
-    tells =
+    reports =
     let moves : Moves s s i page_size k q q (pops k) push push new =
     stays_put s i page_size k q q (pops k) push new all.queue refl (λ head len. refl) refl all.still
     (fits_out s.places s.limit q.event_index (pops k) (pops k) old new same
@@ -140,59 +140,59 @@ decodes_more s i page_size k q ws ob oh pops push old new c T all there queue fr
       refl,
       keeps s s i page_size q q ws ob oh k old new c c (pops k) pops push push all there moves chains holds
           (queue, fetched_ready page_size s.page_size k q push c c.phase new.state new.session fresh holds),
-      tells (ob ++ own k c ∷ oh) (with_pop pops k (pops k)),
+      reports (ob ++ own k c ∷ oh) (with_pop pops k (pops k)),
     )
 
 -- what a decoding's result is owed, by the result
-abbrev DecodingTells : Machine → QueueState → List ChainHandle → ℕ → Option Begun → InFlightChain →
+abbrev DecodingReports : Machine → QueueState → List ChainHandle → ℕ → Option Begun → InFlightChain →
     (request : List ℕ) → (options : ℕ) → Decoded → (T : List LiveEvent → Desk → Type 0) → Type 0
-DecodingTells s q ws k push c request options (asks.More n) T = TellsNone s q ws push T
-DecodingTells s q ws k push c request options told T =
-    DecodedTells s q ws k push c request options told T
+DecodingReports s q ws k push c request options (asks.More n) T = ReportsNone s q ws push T
+DecodingReports s q ws k push c request options reported T =
+    DecodedReports s q ws k push c request options reported T
 
 decoded_by : (s : Machine) (i page_size k : ℕ) (q : QueueState) (ws : List ChainHandle) (ob oh : List Owned)
     (pops : ℕ → Pop) (push : Option Begun) (old new : ChainHandle) (c : InFlightChain) (request : List ℕ)
-    (options : ℕ) (told : Decoded) (st : Setting) (m : Meaning) (bytes : List ℕ) (out : InFlight)
+    (options : ℕ) (reported : Decoded) (st : Setting) (m : Meaning) (bytes : List ℕ) (out : InFlight)
     (T : List LiveEvent → Desk → Type 0)
     → Driven s i page_size q ws (ob ++ own k c ∷ oh) pops push → slice_get ws k ≡ Some old → c.queue ≡ i →
     c.phase ≡ Fetched →
     KeepsMemory old new
     → FitsRun s.places s.limit q.event_index (pops k) old
-    → DecodingIs (record s { options = options }) (chains_of ob) (chains_of oh) c request new told
+    → DecodingIs (record s { options = options }) (chains_of ob) (chains_of oh) c request new reported
     → s.chains ≡ chains_of ob ++ c ∷ chains_of oh
-    → TellsMeaning st m bytes out told new.state
-    → DecodingTells s q (with_handle ws k new) k push c request options told T
+    → ReportsMeaning st m bytes out reported new.state
+    → DecodingReports s q (with_handle ws k new) k push c request options reported T
     → Leads s i page_size q (with_handle ws k new) T
 decoded_by s i page_size k q ws ob oh pops push old new c request options (asks.More n) st m bytes out T all
-    there queue fresh same fits holds chains means tells =
+    there queue fresh same fits holds chains means reports =
     decodes_more s i page_size k q ws ob oh pops push old new c T all there queue fresh same fits holds chains
-    tells
+    reports
 decoded_by s i page_size k q ws ob oh pops push old new c request options (asks.Call made) st m bytes out T all
-    there queue fresh same fits goes chains means tells =
+    there queue fresh same fits proceeds chains means reports =
     decoded_so s i page_size k q ws ob oh pops push old new c request options (asks.Call made) T all there
-    queue same fits goes
+    queue same fits proceeds
     (call_waits page_size k q push (asked_chain c request options []) st m bytes made out new.state means)
-    tells
+    reports
 decoded_by s i page_size k q ws ob oh pops push old new c request options asks.Nothing st m bytes out T all
-    there queue fresh same fits goes chains means tells =
+    there queue fresh same fits proceeds chains means reports =
     decoded_so s i page_size k q ws ob oh pops push old new c request options asks.Nothing T all there queue
-    same fits goes
+    same fits proceeds
     (subst (λ (n : ℕ). IsReady n k q push (asked_chain c request options []) new.state) all.page
     (done_ready s.page_size k q push c request options [] new.state
-    (sym (goes.0.tells ∙ ap (λ (r : List ℕ). (serving s.page_size options options request r []).calls)
+    (sym (proceeds.0.reports ∙ ap (λ (r : List ℕ). (serving s.page_size options options request r []).calls)
     (ap (λ (p : Phase). room_of_phase p c.descriptors) fresh)))
     (reply_no_push st m bytes out new.state means)))
-    tells
+    reports
 decoded_by s i page_size k q ws ob oh pops push old new c request options (asks.Fault e) st m bytes out T all
-    there queue fresh same fits goes chains means tells =
+    there queue fresh same fits proceeds chains means reports =
     decoded_so s i page_size k q ws ob oh pops push old new c request options (asks.Fault e) T all there queue
-    same fits goes
+    same fits proceeds
     (subst (λ (n : ℕ). IsReady n k q push (asked_chain c request options []) new.state) all.page
     (done_ready s.page_size k q push c request options [] new.state
-    (sym (goes.0.tells ∙ ap (λ (r : List ℕ). (serving s.page_size options options request r []).calls)
+    (sym (proceeds.0.reports ∙ ap (λ (r : List ℕ). (serving s.page_size options options request r []).calls)
     (ap (λ (p : Phase). room_of_phase p c.descriptors) fresh)))
     (subst (λ (x : state.ChainState). HasNoPush x) (sym means.0) tt)))
-    tells
+    reports
 
 -- the whole request
 length_request : (front : List ℕ) (u : Unseen) (len : ℕ) → length front ≤ len →
@@ -224,47 +224,47 @@ may_decode at.Free len is = absurd (no_error WrongOrder is)
 may_decode (at.Walking course pop_id walk) len is = absurd (no_error WrongOrder is)
 may_decode (at.Waits out w) len is = absurd (no_error WrongOrder is)
 may_decode (at.Lists out l) len is = absurd (no_error WrongOrder is)
-may_decode (at.HasReply out kept) len is = absurd (no_error WrongOrder is)
+may_decode (at.HasReply out preserved) len is = absurd (no_error WrongOrder is)
 may_decode (at.Pushing out) len is = absurd (no_error WrongOrder is)
 
-abbrev pub TellsWhole : Session → (front : List ℕ) → Decoded → (new : ChainHandle) → InFlight → Type 0
-TellsWhole session front told new out =
+abbrev pub ReportsWhole : Session → (front : List ℕ) → Decoded → (new : ChainHandle) → InFlight → Type 0
+ReportsWhole session front reported new out =
     (whole : List ℕ) → out.request_len ≡ length whole → IsRequestFront front whole →
-    TellsMeaning (setting session.page_size session.options.0 out.room_len)
-    (meaning session.options.0 whole out.room_len) (drop 80 whole) out told new.state
+    ReportsMeaning (setting session.page_size session.options.0 out.room_len)
+    (meaning session.options.0 whole out.room_len) (drop 80 whole) out reported new.state
 
-abbrev TellsRequest : Session → (request : List ℕ) → Decoded → (new : ChainHandle) → InFlight → Type 0
-TellsRequest session request told new out =
-    TellsMeaning (setting session.page_size session.options.0 out.room_len)
-    (meaning session.options.0 request out.room_len) (drop 80 request) out told new.state
+abbrev ReportsRequest : Session → (request : List ℕ) → Decoded → (new : ChainHandle) → InFlight → Type 0
+ReportsRequest session request reported new out =
+    ReportsMeaning (setting session.page_size session.options.0 out.room_len)
+    (meaning session.options.0 request out.room_len) (drop 80 request) out reported new.state
 
-decode_tells : (s : Machine) (i page_size k : ℕ) (q : QueueState) (ws ws' : List ChainHandle) (os : List Owned)
+decode_reports : (s : Machine) (i page_size k : ℕ) (q : QueueState) (ws ws' : List ChainHandle) (os : List Owned)
     (pops : ℕ → Pop) (push : Option Begun) (old new : ChainHandle) (c : InFlightChain) (session : Session)
-    (front : Bor (List ℕ)) (u : Unseen) (told : Decoded)
-    → In (own k c) os → wanted_by told ≡ wanted_after front.now (asked_len_of old.state)
+    (front : Bor (List ℕ)) (u : Unseen) (reported : Decoded)
+    → In (own k c) os → wanted_by reported ≡ wanted_after front.now (asked_len_of old.state)
     → IfUndecoded old.state
-    (TellsRequest session (request_of front.now u (asked_len_of old.state)) told new)
-    → DecodingTells s q ws' k push c (request_of front.now u (asked_len_of old.state)) session.options.0 told
-    (λ es d. Tells (turn i page_size k (desk s ws q os pops push) d old new) (does.Decode session front) u
-    (gives.Decoded (Ok told)) es)
-decode_tells s i page_size k q ws ws' os pops push old new c session front u (asks.More n) mine wanted means =
+    (ReportsRequest session (request_of front.now u (asked_len_of old.state)) reported new)
+    → DecodingReports s q ws' k push c (request_of front.now u (asked_len_of old.state)) session.options.0 reported
+    (λ es d. Reports (turn i page_size k (desk s ws q os pops push) d old new) (does.Decode session front) u
+    (gives.Decoded (Ok reported)) es)
+decode_reports s i page_size k q ws ws' os pops push old new c session front u (asks.More n) mine wanted means =
     λ after loads'. (wanted, means, refl)
-decode_tells s i page_size k q ws ws' os pops push old new c session front u (asks.Call made) mine wanted
+decode_reports s i page_size k q ws ws' os pops push old new c session front u (asks.Call made) mine wanted
     means = λ after os' loads' is. (wanted, means, (c, mine, refl, is))
-decode_tells s i page_size k q ws ws' os pops push old new c session front u asks.Nothing mine wanted means =
+decode_reports s i page_size k q ws ws' os pops push old new c session front u asks.Nothing mine wanted means =
     λ after os' loads' is. (wanted, means, (c, mine, refl, is))
-decode_tells s i page_size k q ws ws' os pops push old new c session front u (asks.Fault e) mine wanted means =
+decode_reports s i page_size k q ws ws' os pops push old new c session front u (asks.Fault e) mine wanted means =
     λ after os' loads' is. (wanted, means, (c, mine, refl, is))
 
 decode_taken : (old new : ChainHandle) (q : QueueState) (session : Session) (front : Bor (List ℕ))
-    (told : Decoded) (out : InFlight) → old.state ≡ at.Taken out → length front.now ≤ out.request_len
-    → TellsWhole session front.now told new out
-    → wanted_by told ≡ wanted_after front.now out.request_len
+    (reported : Decoded) (out : InFlight) → old.state ≡ at.Taken out → length front.now ≤ out.request_len
+    → ReportsWhole session front.now reported new out
+    → wanted_by reported ≡ wanted_after front.now out.request_len
     → KeepsMemory old new
-    → Decodes old new session front.now told
-    → DrivesOne session.page_size old new q q (does.Decode session front) (gives.Decoded (Ok told))
+    → Decodes old new session front.now reported
+    → DrivesOne session.page_size old new q q (does.Decode session front) (gives.Decoded (Ok reported))
 unfolding DrivesOne Decodes
-decode_taken old new q session front told out is fits means wanted same decodes ws k there u s i os pops push
+decode_taken old new q session front reported out is fits means wanted same decodes ws k there u s i os pops push
     all =
     let own_one = all.outs k old there (ap is_out is) in
     let c = own_one.0 in
@@ -281,36 +281,36 @@ decode_taken old new q session front told out is fits means wanted same decodes 
     front_first front.now (exactly (n - length front.now) u.bytes) in
     let d = decodes (record s { options = options }) (chains_of has.ob) (chains_of has.oh) c request
     has.chains has.holds (sym all.page, refl) whole starts in
-    let so : TellsRequest session request told new out = means request (sym len) starts in
-    let so_if : IfUndecoded old.state (TellsRequest session request told new) =
-    subst (λ (st : state.ChainState). IfUndecoded st (TellsRequest session request told new)) (sym is) so in
-    let wanted_if : wanted_by told ≡ wanted_after front.now n =
+    let so : ReportsRequest session request reported new out = means request (sym len) starts in
+    let so_if : IfUndecoded old.state (ReportsRequest session request reported new) =
+    subst (λ (st : state.ChainState). IfUndecoded st (ReportsRequest session request reported new)) (sym is) so in
+    let wanted_if : wanted_by reported ≡ wanted_after front.now n =
     wanted ∙ ap (λ (m : ℕ). wanted_after front.now m) (sym len_is) in
-    decoded_by s i session.page_size k q ws has.ob has.oh pops push old new c request options told
+    decoded_by s i session.page_size k q ws has.ob has.oh pops push old new c request options reported
     (setting session.page_size options out.room_len)
     (meaning options request out.room_len) (drop 80 request) out
-    (λ es d. Tells (turn i session.page_size k (desk s ws q os pops push) d old new)
-    (does.Decode session front) u (gives.Decoded (Ok told)) es)
+    (λ es d. Reports (turn i session.page_size k (desk s ws q os pops push) d old new)
+    (does.Decode session front) u (gives.Decoded (Ok reported)) es)
     has.driven there (all.mine k old c there own_one.1).0 o.0 same (all.fits k old there) d has.chains so
-    (decode_tells s i session.page_size k q ws (with_handle ws k new) os pops push old new c session front u
-    told own_one.1 wanted_if so_if)
+    (decode_reports s i session.page_size k q ws (with_handle ws k new) os pops push old new c session front u
+    reported own_one.1 wanted_if so_if)
 
 decode_at : (old new : ChainHandle) (q : QueueState) (session : Session) (front : Bor (List ℕ))
-    (told : Decoded) (st : state.ChainState) → old.state ≡ st → DecodesAt st (length front.now)
-    → IfUndecoded st (TellsWhole session front.now told new)
-    → IfUndecoded st (λ out. wanted_by told ≡ wanted_after front.now out.request_len)
+    (reported : Decoded) (st : state.ChainState) → old.state ≡ st → DecodesAt st (length front.now)
+    → IfUndecoded st (ReportsWhole session front.now reported new)
+    → IfUndecoded st (λ out. wanted_by reported ≡ wanted_after front.now out.request_len)
     → KeepsMemory old new
-    → Decodes old new session front.now told
-    → DrivesOne session.page_size old new q q (does.Decode session front) (gives.Decoded (Ok told))
-decode_at old new q session front told (at.Taken out) is fits means wanted same decodes =
-    decode_taken old new q session front told out is fits means wanted same decodes
-decode_at old new q session front told at.Free is fits means wanted same decodes = absurd fits
-decode_at old new q session front told (at.Walking course pop_id walk) is fits means wanted same decodes =
+    → Decodes old new session front.now reported
+    → DrivesOne session.page_size old new q q (does.Decode session front) (gives.Decoded (Ok reported))
+decode_at old new q session front reported (at.Taken out) is fits means wanted same decodes =
+    decode_taken old new q session front reported out is fits means wanted same decodes
+decode_at old new q session front reported at.Free is fits means wanted same decodes = absurd fits
+decode_at old new q session front reported (at.Walking course pop_id walk) is fits means wanted same decodes =
     absurd fits
-decode_at old new q session front told (at.Waits out w) is fits means wanted same decodes = absurd fits
-decode_at old new q session front told (at.Lists out l) is fits means wanted same decodes = absurd fits
-decode_at old new q session front told (at.HasReply out kept) is fits means wanted same decodes = absurd fits
-decode_at old new q session front told (at.Pushing out) is fits means wanted same decodes = absurd fits
+decode_at old new q session front reported (at.Waits out w) is fits means wanted same decodes = absurd fits
+decode_at old new q session front reported (at.Lists out l) is fits means wanted same decodes = absurd fits
+decode_at old new q session front reported (at.HasReply out preserved) is fits means wanted same decodes = absurd fits
+decode_at old new q session front reported (at.Pushing out) is fits means wanted same decodes = absurd fits
 
 -- ---- by what the call ensures
 
@@ -322,19 +322,19 @@ pub decode_result : (old new : ChainHandle) (q : QueueState) (session : Session)
     (result : Result Decoded ChainError)
     → IfErr result (λ e. ask_error old.state (length front.now) ≡ Some e)
     → OnOk result (ask_error old.state (length front.now) ≡ None)
-    → IfOk result (λ told. IfUndecoded old.state (TellsWhole session front.now told new))
+    → IfOk result (λ reported. IfUndecoded old.state (ReportsWhole session front.now reported new))
     → IfOk result
-    (λ told. IfUndecoded old.state (λ out. wanted_by told ≡ wanted_after front.now out.request_len))
+    (λ reported. IfUndecoded old.state (λ out. wanted_by reported ≡ wanted_after front.now out.request_len))
     → IsAllBut old new × (new.descriptors ≡ old.descriptors) × (new.part ≡ old.part)
     → OnErr result ((new.state ≡ old.state) × (new.session ≡ old.session))
-    → IfOk result (λ told. Decodes old new session front.now told)
+    → IfOk result (λ reported. Decodes old new session front.now reported)
     → (page_size : ℕ) → session.page_size ≡ page_size
     → DrivesOne page_size old new q q (does.Decode session front) (gives.Decoded result)
-decode_result old new q session front (Ok told) err ok tells wanted same stay step page_size page =
-    subst (λ (n : ℕ). DrivesOne n old new q q (does.Decode session front) (gives.Decoded (Ok told))) page
-    (decode_at old new q session front told old.state refl (may_decode old.state (length front.now) ok) tells
+decode_result old new q session front (Ok reported) err ok reports wanted same stay step page_size page =
+    subst (λ (n : ℕ). DrivesOne n old new q q (does.Decode session front) (gives.Decoded (Ok reported))) page
+    (decode_at old new q session front reported old.state refl (may_decode old.state (length front.now) ok) reports
     wanted (same.0.0, same.0.1) step)
-decode_result old new q session front (Err e) err ok tells wanted same stay step page_size page =
+decode_result old new q session front (Err e) err ok reports wanted same stay step page_size page =
     refuses page_size old new q (does.Decode session front) (gives.Decoded (Err e))
     (stay.0, stay.1, same.0.0, same.0.1, items_same old new same.1) (λ i k d d' u is. (refl, err))
 

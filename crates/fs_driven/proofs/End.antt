@@ -2,7 +2,7 @@
 use Rattle.std.proofs.Common.{inl, inr, ◌≤◌, ℕ, List, length}
 use Rattle.fs_chain.specs.declared.chain_handle.ChainHandle.{ChainHandle}
 use Rattle.fs_chain.specs.declared.queue.QueueState.{QueueState}
-use Rattle.fs_driven.specs.Told.{Drives, calls_of}
+use Rattle.fs_driven.specs.Reported.{Drives, calls_of}
 use Rattle.fs_driven.specs.declared.commands.Command.{Command}
 use Rattle.fs_driven.specs.declared.commands.Returned.{Returned}
 use Rattle.fs_driven.proofs.Lists.{SoFar, all_so_far}

@@ -21,9 +21,9 @@ use Rattle.live_machine.specs.Live.{after_push}
 use Rattle.live_machine.specs.Live.{GivesUpChain, after_giving_up}
 use Rattle.fs_driven.specs.Desks.{Begun, FitsRun, IsReady, IsUnderWay, Leads, MayPop, desk, own}
 use Rattle.fs_driven.specs.Desks.{no_pop, with_pop}
-use Rattle.fs_driven.specs.Told.{DrivesOne, GiveUpTells, Tells, Unseen, asked_len_of, exactly, replied_to}
-use Rattle.fs_driven.specs.Told.{turn}
-use Rattle.fs_driven.specs.Kept.{KeepsMemory}
+use Rattle.fs_driven.specs.Reported.{DrivesOne, GiveUpReports, Reports, Unseen, asked_len_of, exactly, replied_to}
+use Rattle.fs_driven.specs.Reported.{turn}
+use Rattle.fs_driven.specs.Preserved.{KeepsMemory}
 use Rattle.live_machine.specs.Live.{Abandoned, Asked, Fetched, IsUnreplied, Own, Phase, PoppedFaulty}
 use Rattle.live_machine.specs.Live.{RepliesOwnBytes, after_own, own_exchange}
 use Rattle.server_phases.specs.declared.session.Session.{Session}
@@ -52,10 +52,10 @@ use Rattle.fs_driven.proofs.Calls.{fits_out, length_exactly, no_error, refuses, 
 -- ---- push and pushed
 
 ready_reply : (page_size k : ℕ) (q : QueueState) (push : Option Begun) (c : InFlightChain)
-    (st : state.ChainState) (out : InFlight) (kept : ChainReply)
-    → st ≡ at.HasReply out kept →
+    (st : state.ChainState) (out : InFlight) (preserved : ChainReply)
+    → st ≡ at.HasReply out preserved →
     IsReady page_size k q push c st → (x : Exchange) × PushedWith page_size c c.phase x
-ready_reply page_size k q push c st out kept is ready =
+ready_reply page_size k q push c st out preserved is ready =
     subst (λ (s : state.ChainState). IsReady page_size k q push c s) is ready
 
 ready_pushing : (page_size k : ℕ) (q : QueueState) (push : Option Begun) (c : InFlightChain)
@@ -68,11 +68,11 @@ ready_pushing page_size k q push c st out is ready =
 
 -- a push that isn't refused
 abbrev pub HasFree : state.ChainState → QueueState → Type 0
-HasFree (at.HasReply out kept) q = q.pushing ≡ false
+HasFree (at.HasReply out preserved) q = q.pushing ≡ false
 HasFree _ q = ⊥
 
 may_push : (st : state.ChainState) (q : QueueState) (len : ℕ) → return_error st q len ≡ None → HasFree st q
-may_push (at.HasReply out kept) q len is = by_flight (is_in_flight_of q out) is
+may_push (at.HasReply out preserved) q len is = by_flight (is_in_flight_of q out) is
   where
     by_pushing : (b : Bool) (rest : Option ChainError) →
         (if b then Some error.Pushing else rest) ≡ None → b ≡ false
@@ -81,10 +81,10 @@ may_push (at.HasReply out kept) q len is = by_flight (is_in_flight_of q out) is
 
     by_flight : (b : Bool) → (if not b then Some OtherQueue
         else if q.pushing then Some error.Pushing
-        else if nat_lt len (front_len kept) then Some ShortBuffer
+        else if nat_lt len (front_len preserved) then Some ShortBuffer
         else None) ≡ None → q.pushing ≡ false
     by_flight true none =
-        by_pushing q.pushing (if nat_lt len (front_len kept) then Some ShortBuffer else None) none
+        by_pushing q.pushing (if nat_lt len (front_len preserved) then Some ShortBuffer else None) none
     by_flight false none = absurd (no_error OtherQueue none)
 may_push at.Free q len is = absurd (no_error WrongOrder is)
 may_push (at.Walking course pop_id walk) q len is = absurd (no_error WrongOrder is)
@@ -102,24 +102,24 @@ PushedSo q s front out reply =
     PushesBy q out reply s × (behind : List ℕ) × (front ≡ front_of reply ++ behind)
 
 push_drives : (page_size : ℕ) (old new : ChainHandle) (q q' : QueueState) (front : List ℕ)
-    (stores : PushStores) (out : InFlight) (kept : ChainReply)
-    → old.state ≡ at.HasReply out kept → q.pushing ≡ false
+    (stores : PushStores) (out : InFlight) (preserved : ChainReply)
+    → old.state ≡ at.HasReply out preserved → q.pushing ≡ false
     → return_error old.state q (length front) ≡ None
-    → PushedSo q stores front out kept
+    → PushedSo q stores front out preserved
     → new ≡ record old { state = at.Pushing out } → q' ≡ record q { pushing = true }
     → Pushes old new q front stores
     → DrivesOne page_size old new q q' does.Push (gives.Began (Ok stores) front)
 unfolding DrivesOne Pushes
-push_drives page_size old new q q' front stores out kept is idle ok so made pushing pushes ws k there u s i os
+push_drives page_size old new q q' front stores out preserved is idle ok so made pushing pushes ws k there u s i os
     pops push all =
     let own_one = all.outs k old there (ap is_out is) in
     let c = own_one.0 in
     let has = has_own s i page_size q ws os k old c pops push all there own_one.1 in
     let mine = all.mine k old c there own_one.1 in
-    let x = ready_reply page_size k q push c old.state out kept is mine.1 in
-    let goes : PushedWith s.page_size c c.phase x.0 =
+    let x = ready_reply page_size k q push c old.state out preserved is mine.1 in
+    let proceeds : PushedWith s.page_size c c.phase x.0 =
     subst (λ (n : ℕ). PushedWith n c c.phase x.0) (sym all.page) x.1 in
-    let p = pushes s.page_size c x.0 has.holds goes in
+    let p = pushes s.page_size c x.0 has.holds proceeds in
     let state_is : new.state ≡ at.Pushing out = ap (λ (w : ChainHandle). w.state) made in
     let same : KeepsMemory old new =
     (ap (λ (w : ChainHandle). w.regions) made, ap (λ (w : ChainHandle). w.limit) made) in
@@ -183,11 +183,11 @@ end_drives page_size old new q q' seen notice out is free gave ends ws k there u
     let has = has_own s i page_size q ws os k old c pops push all there own_one.1 in
     let mine = all.mine k old c there own_one.1 in
     let x = ready_pushing page_size k q push c old.state out is mine.1 in
-    let goes : PushedWith s.page_size c c.phase x.0 =
+    let proceeds : PushedWith s.page_size c c.phase x.0 =
     subst (λ (n : ℕ). PushedWith n c c.phase x.0) (sym all.page) x.1 in
     let under = under_way k q c x.0 push x.2 in
     let queue : IsQueue s c.queue q = subst (λ (n : ℕ). IsQueue s n q) (sym mine.0) all.queue in
-    let e = ends s (chains_of has.ob) (chains_of has.oh) c x.0 u.last has.chains queue has.holds goes in
+    let e = ends s (chains_of has.ob) (chains_of has.oh) c x.0 u.last has.chains queue has.holds proceeds in
     let after : Machine = after_push s (chains_of has.ob) (chains_of has.oh) c (live_of q) in
     let state_is : new.state ≡ at.Free = ap (λ (w : ChainHandle). w.state) free in
     let was = all.fits k old there in
@@ -255,7 +255,7 @@ give_up_drives page_size old new q q' clear free left gives_up ws k there u s i 
     state_is = ap (λ (w : ChainHandle). w.state) free
 
     by_out : (b : Bool) → is_out old.state ≡ b → Leads s i page_size q' (with_handle ws k new)
-        (λ es d. Tells (turn i page_size k (desk s ws q os pops push) d old new) does.GiveUp u
+        (λ es d. Reports (turn i page_size k (desk s ws q os pops push) d old new) does.GiveUp u
         (gives.GaveUp (Ok tt)) es)
     by_out false none =
         let same : q' ≡ q = left ∙ left_by q (is_out old.state) false none in
@@ -276,7 +276,7 @@ give_up_drives page_size old new q q' clear free left gives_up ws k there u s i 
               (ap is_out state_is),
           (
             clear,
-            subst (λ (b : Bool). GiveUpTells (turn i page_size k (desk s ws q os pops push)
+            subst (λ (b : Bool). GiveUpReports (turn i page_size k (desk s ws q os pops push)
                 (desk s (with_handle ws k new) q' os (with_pop pops k no_pop) push) old new) b []) (sym none) refl,
           ),
         )
@@ -310,7 +310,7 @@ give_up_drives page_size old new q q' clear free left gives_up ws k there u s i 
               moves refl (ap is_out state_is),
           (
             clear,
-            subst (λ (b : Bool). GiveUpTells (turn i page_size k (desk s ws q os pops push)
+            subst (λ (b : Bool). GiveUpReports (turn i page_size k (desk s ws q os pops push)
                 (desk after (with_handle ws k new) q' (has.ob ++ has.oh) (with_pop pops k no_pop) push) old new) b
                 (GivesUpChain c ∷ [])) (sym some) (c, own_one.1, refl),
           ),
@@ -319,10 +319,10 @@ give_up_drives page_size old new q q' clear free left gives_up ws k there u s i 
 -- ---- reply
 
 own_ready : (page_size k : ℕ) (q : QueueState) (push : Option Begun) (c : InFlightChain)
-    (request reply : List ℕ) (st : state.ChainState) (out : InFlight) (kept : ChainReply)
-    → st ≡ at.HasReply out kept
+    (request reply : List ℕ) (st : state.ChainState) (out : InFlight) (preserved : ChainReply)
+    → st ≡ at.HasReply out preserved
     → IsReady page_size k q push (record c { phase = Own request reply }) st
-own_ready page_size k q push c request reply st out kept is =
+own_ready page_size k q push c request reply st out preserved is =
     subst (λ (s : state.ChainState). IsReady page_size k q push (record c { phase = Own request reply }) s)
     (sym is) (own_exchange c.head request reply, refl)
 
@@ -336,7 +336,7 @@ unreplied_by c Fetched (at.Waits out w) session page_size u is held = absurd hel
 unreplied_by c Fetched (at.Lists out l) session page_size u is held = absurd held
 unreplied_by c Fetched at.Free session page_size u is held = absurd is
 unreplied_by c Fetched (at.Walking course pop_id walk) session page_size u is held = absurd is
-unreplied_by c Fetched (at.HasReply out kept) session page_size u is held = absurd is
+unreplied_by c Fetched (at.HasReply out preserved) session page_size u is held = absurd is
 unreplied_by c Fetched (at.Pushing out) session page_size u is held = absurd is
 unreplied_by c (Asked request options calls) st session page_size u is held = refl
 unreplied_by c (PoppedFaulty why) (at.Taken out) session page_size u is held = absurd held
@@ -344,14 +344,14 @@ unreplied_by c (PoppedFaulty why) (at.Waits out w) session page_size u is held =
 unreplied_by c (PoppedFaulty why) (at.Lists out l) session page_size u is held = absurd held
 unreplied_by c (PoppedFaulty why) at.Free session page_size u is held = absurd is
 unreplied_by c (PoppedFaulty why) (at.Walking course pop_id walk) session page_size u is held = absurd is
-unreplied_by c (PoppedFaulty why) (at.HasReply out kept) session page_size u is held = absurd is
+unreplied_by c (PoppedFaulty why) (at.HasReply out preserved) session page_size u is held = absurd is
 unreplied_by c (PoppedFaulty why) (at.Pushing out) session page_size u is held = absurd is
 unreplied_by c (Own request reply) (at.Taken out) session page_size u is held = absurd held
 unreplied_by c (Own request reply) (at.Waits out w) session page_size u is held = absurd held
 unreplied_by c (Own request reply) (at.Lists out l) session page_size u is held = absurd held
 unreplied_by c (Own request reply) at.Free session page_size u is held = absurd is
 unreplied_by c (Own request reply) (at.Walking course pop_id walk) session page_size u is held = absurd is
-unreplied_by c (Own request reply) (at.HasReply out kept) session page_size u is held = absurd is
+unreplied_by c (Own request reply) (at.HasReply out preserved) session page_size u is held = absurd is
 unreplied_by c (Own request reply) (at.Pushing out) session page_size u is held = absurd is
 unreplied_by c (Abandoned fault) st session page_size u is held = absurd held
 
@@ -361,7 +361,7 @@ without_out (at.Waits out w) is = refl
 without_out (at.Lists out l) is = refl
 without_out at.Free is = absurd is
 without_out (at.Walking course pop_id walk) is = absurd is
-without_out (at.HasReply out kept) is = absurd is
+without_out (at.HasReply out preserved) is = absurd is
 without_out (at.Pushing out) is = absurd is
 
 reply_drives : (page_size : ℕ) (old new : ChainHandle) (q : QueueState) (serial len : ℕ) (out : InFlight)
@@ -431,7 +431,7 @@ reply_at old new q serial len (at.Lists out l) is clear made step page_size =
 reply_at old new q serial len at.Free is clear made step page_size = absurd (no_error WrongOrder clear)
 reply_at old new q serial len (at.Walking course pop_id walk) is clear made step page_size =
     absurd (no_error WrongOrder clear)
-reply_at old new q serial len (at.HasReply out kept) is clear made step page_size =
+reply_at old new q serial len (at.HasReply out preserved) is clear made step page_size =
     absurd (no_error WrongOrder clear)
 reply_at old new q serial len (at.Pushing out) is clear made step page_size =
     absurd (no_error WrongOrder clear)
@@ -476,10 +476,10 @@ push_at : (old new : ChainHandle) (q q' : QueueState) (front front' : List ℕ) 
     → IfHasReply st (λ out reply. front' ≡ put_front reply front)
     → Pushes old new q front' s
     → (page_size : ℕ) → DrivesOne page_size old new q q' does.Push (gives.Began (Ok s) front')
-push_at old new q q' front front' s (at.HasReply out kept) is free len ok made pushing by put step page_size =
-    push_drives page_size old new q q' front' s out kept is free
+push_at old new q q' front front' s (at.HasReply out preserved) is free len ok made pushing by put step page_size =
+    push_drives page_size old new q q' front' s out preserved is free
     (subst (λ (n : ℕ). return_error old.state q n ≡ None) (sym len) ok)
-    (by, drop (front_len kept) front, put) made pushing step
+    (by, drop (front_len preserved) front, put) made pushing step
 push_at old new q q' front front' s at.Free is free len ok made pushing by put step page_size = absurd free
 push_at old new q q' front front' s (at.Walking course pop_id walk) is free len ok made pushing by put step
     page_size = absurd free
@@ -529,7 +529,7 @@ may_end (at.Walking course pop_id walk) q is = absurd (no_error WrongOrder is)
 may_end (at.Taken out) q is = absurd (no_error WrongOrder is)
 may_end (at.Waits out w) q is = absurd (no_error WrongOrder is)
 may_end (at.Lists out l) q is = absurd (no_error WrongOrder is)
-may_end (at.HasReply out kept) q is = absurd (no_error WrongOrder is)
+may_end (at.HasReply out preserved) q is = absurd (no_error WrongOrder is)
 
 end_at : (old new : ChainHandle) (q q' : QueueState) (seen : List ℕ) (notice : Bool) (st : state.ChainState)
     → old.state ≡ st → IsBegun st → new ≡ freed old → q' ≡ gave q → EndsPush old q q' seen notice
@@ -542,7 +542,7 @@ end_at old new q q' seen notice (at.Walking course pop_id walk) is begun free gi
 end_at old new q q' seen notice (at.Taken out) is begun free gives_it step page_size = absurd begun
 end_at old new q q' seen notice (at.Waits out w) is begun free gives_it step page_size = absurd begun
 end_at old new q q' seen notice (at.Lists out l) is begun free gives_it step page_size = absurd begun
-end_at old new q q' seen notice (at.HasReply out kept) is begun free gives_it step page_size = absurd begun
+end_at old new q q' seen notice (at.HasReply out preserved) is begun free gives_it step page_size = absurd begun
 
 pub pushed_result : (old new : ChainHandle) (q q' : QueueState) (seen : List ℕ)
     (result : Result Bool ChainError)

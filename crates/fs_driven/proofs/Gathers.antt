@@ -24,8 +24,8 @@ use Rattle.fs_chain.specs.declared.state.ChainState.TheVariants as at
 use Rattle.fs_driven.specs.Adding.{BringsAll, BringsNothing, BringsSo, CameTo, EndsSo, EndsUnless, IsGathering}
 use Rattle.fs_driven.specs.Desks.{Begun, Driven, Leads, desk}
 use Rattle.fs_driven.specs.Entries.{IsOfLast, all_brought, answers_of, ending_of, errno_after, refused_by}
-use Rattle.fs_driven.specs.Kept.{IsSameHeld, KeepsMemory}
-use Rattle.fs_driven.specs.Told.{DrivesOne, GatherTells, RefusesEntries, turn}
+use Rattle.fs_driven.specs.Preserved.{IsSameHeld, KeepsMemory}
+use Rattle.fs_driven.specs.Reported.{DrivesOne, GatherReports, RefusesEntries, turn}
 use Rattle.fs_driven.specs.declared.commands.Command.TheVariants as does
 use Rattle.fs_driven.specs.declared.commands.Returned.TheVariants as gives
 use Rattle.fs_driven.specs.declared.entries.ListedEntry.{ListedEntry}
@@ -45,7 +45,7 @@ listing_is at.Free is = absurd (not_free false is refl)
 listing_is (at.Walking course pop_id walk) is = absurd (not_free false is refl)
 listing_is (at.Taken out) is = absurd (not_free false is refl)
 listing_is (at.Waits out w) is = absurd (not_free false is refl)
-listing_is (at.HasReply out kept) is = absurd (not_free false is refl)
+listing_is (at.HasReply out preserved) is = absurd (not_free false is refl)
 listing_is (at.Pushing out) is = absurd (not_free false is refl)
 
 ends_well : (P : Listing → ListingReply → Type 0) (why : Option ChainError) (Same : Type 0) (st new : state.ChainState) (len : ℕ)
@@ -74,7 +74,7 @@ not_refused P old new serial e is (inr ends) = by_state old.state is.0 ends.1
     by_state (at.Walking course pop_id walk) is ends = not_free false is refl
     by_state (at.Taken out) is ends = not_free false is refl
     by_state (at.Waits out w) is ends = not_free false is refl
-    by_state (at.HasReply out kept) is ends = not_free false is refl
+    by_state (at.HasReply out preserved) is ends = not_free false is refl
     by_state (at.Pushing out) is ends = not_free false is refl
 
 can_end : (errno : Option ℕ) (old new : ChainHandle) (serial : ℕ) (e : ChainError) → IsGathering old serial
@@ -87,17 +87,17 @@ same_when_refused : (errno : Option ℕ) (old new : ChainHandle) (serial : ℕ) 
 same_when_refused None old new serial e ends = ends.1
 same_when_refused (Some errno) old new serial e ends = ends.1
 
-kept_to_end : (errno : Option ℕ) (old new : ChainHandle) (serial : ℕ) (told : Result ℕ ChainError)
-    → EndsSo errno old new serial told → KeepsMemory old new
-kept_to_end None old new serial told ends = (ends.2.0.0, ends.2.0.1)
-kept_to_end (Some errno) old new serial told ends = (ends.2.0.0, ends.2.0.1)
+preserved_to_end : (errno : Option ℕ) (old new : ChainHandle) (serial : ℕ) (reported : Result ℕ ChainError)
+    → EndsSo errno old new serial reported → KeepsMemory old new
+preserved_to_end None old new serial reported ends = (ends.2.0.0, ends.2.0.1)
+preserved_to_end (Some errno) old new serial reported ends = (ends.2.0.0, ends.2.0.1)
 
 was_before : (old mid : ChainHandle) (serial : ℕ) (list list' : List ℕ) (entries : List ListedEntry) (names : List ℕ) (n : ℕ)
-    (told : Result Added ChainError)
-    → (IsGathering mid serial × (is_listing old.state ≡ true) × (refused_by n told ≡ None))
-    ⊎ BringsNothing old mid serial list list' entries names n told
+    (reported : Result Added ChainError)
+    → (IsGathering mid serial × (is_listing old.state ≡ true) × (refused_by n reported ≡ None))
+    ⊎ BringsNothing old mid serial list list' entries names n reported
     → is_listing mid.state ≡ true → is_listing old.state ≡ true
-was_before old mid serial list list' entries names n told (inl is) lists = is.1
+was_before old mid serial list list' entries names n reported (inl is) lists = is.1
 was_before old mid serial list list' [] names n (Ok added.In) (inr nothing) lists =
     ap (λ (w : ChainHandle). is_listing w.state) (sym nothing.1) ∙ lists
 was_before old mid serial list list' (e ∷ entries) names n (Err x) (inr nothing) lists =
@@ -111,8 +111,8 @@ was_before old mid serial list list' (e ∷ entries) names n (Ok why) (inr nothi
 -- ---- a listing that ended
 
 of_last : (page_size : ℕ) (c : InFlightChain) (es left : List Brought) (list : List ℕ)
-    (told : Result Added ChainError) (w : ChainHandle)
-    → CameTo page_size c es left list told w → IsOfLast told left
+    (reported : Result Added ChainError) (w : ChainHandle)
+    → CameTo page_size c es left list reported w → IsOfLast reported left
 of_last page_size c es left list (Ok added.In) w came = came.2
 of_last page_size c es [] list (Ok added.Full) w came = absurd came
 of_last page_size c es [] list (Ok added.NoRoom) w came = absurd came
@@ -125,20 +125,20 @@ of_last page_size c es (e ∷ left) list (Err x) w came = tt
 
 gathered_drives : (page_size : ℕ) (old mid new : ChainHandle) (q : QueueState) (serial : ℕ)
     (before list : List ℕ) (entries : List ListedEntry) (names : List ℕ) (failure : Option ℕ) (n len : ℕ)
-    (told : Result Added ChainError)
-    → BringsAll old mid serial before list entries names n told
-    → EndsSo (errno_after told failure) mid new serial (Ok len)
+    (reported : Result Added ChainError)
+    → BringsAll old mid serial before list entries names n reported
+    → EndsSo (errno_after reported failure) mid new serial (Ok len)
     → (ws : List ChainHandle) (k : ℕ) → slice_get ws k ≡ Some old
     → (s : Machine) (i : ℕ) (os : List Owned) (pops : ℕ → Pop) (push : Option Begun)
     → Driven s i page_size q ws os pops push
     → Leads s i page_size q (with_handle ws k new)
-    (λ es d. GatherTells (turn i page_size k (desk s ws q os pops push) d old new) serial entries names failure n told
+    (λ es d. GatherReports (turn i page_size k (desk s ws q os pops push) d old new) serial entries names failure n reported
     (Ok len) list es)
-gathered_drives page_size old mid new q serial before list entries names failure n len told all_in ends ws k there s i os
+gathered_drives page_size old mid new q serial before list entries names failure n len reported all_in ends ws k there s i os
     pops push all =
-    let mid_was = ended_listing (errno_after told failure) mid new serial len ends in
+    let mid_was = ended_listing (errno_after reported failure) mid new serial len ends in
     let was = listing_is old.state
-    (was_before old mid serial before list entries names n told all_in.moved (ap is_listing mid_was.2)) in
+    (was_before old mid serial before list entries names n reported all_in.moved (ap is_listing mid_was.2)) in
     let own_one = all.outs k old there (ap is_out was.2) in
     let c = own_one.0 in
     let has = has_own s i page_size q ws os k old c pops push all there own_one.1 in
@@ -146,30 +146,30 @@ gathered_drives page_size old mid new q serial before list entries names failure
     let first = begins_listing s.page_size c old was.0 was.1 before was.2 has.holds in
     let left : List Brought = drop n (all_brought entries names) in
     let came = all_in.step s.page_size c [] first tt in
-    let r = came_to_end s (chains_of has.ob) (chains_of has.oh) c (take n (all_brought entries names)) left told failure
+    let r = came_to_end s (chains_of has.ob) (chains_of has.oh) c (take n (all_brought entries names)) left reported failure
     list mid new serial len has.chains came ends in
     let h = r.h in
     let calls = listing_calls (readdir_call h.asked) h.asked.with_nodes (take n (all_brought entries names))
-    (ending_of told left failure) in
+    (ending_of reported left failure) in
     let after : Machine = record s { chains = r.run.0; options = r.run.1; files = tt } in
-    let kept = kept_to_end (errno_after told failure) mid new serial (Ok len) ends in
+    let preserved = preserved_to_end (errno_after reported failure) mid new serial (Ok len) ends in
     answered_all s i page_size k q ws has.ob has.oh pops push old new c h.request h.options calls after
     (answers_of c h.request h.options [] calls)
-    (λ es d. GatherTells (turn i page_size k (desk s ws q os pops push) d old new) serial entries names failure n told
+    (λ es d. GatherReports (turn i page_size k (desk s ws q os pops push) d old new) serial entries names failure n reported
     (Ok len) list es)
-    has.driven there mine.0 (kept.0 ∙ all_in.kept.0, kept.1 ∙ all_in.kept.1) r.listed.holds
-    (no_push new.state h.out r.listed.kept r.listed.state) r.listed.none_pending
+    has.driven there mine.0 (preserved.0 ∙ all_in.preserved.0, preserved.1 ∙ all_in.preserved.1) r.listed.holds
+    (no_push new.state h.out r.listed.preserved r.listed.state) r.listed.none_pending
     r.run.2 refl refl refl refl r.run.3
     (λ after' os' pops'. (
       all_in.few,
-      of_last s.page_size c (take n (all_brought entries names)) left list told mid came,
+      of_last s.page_size c (take n (all_brought entries names)) left list reported mid came,
       c,
       h.request,
       h.options,
       h.out,
       h.unique,
       h.asked,
-      r.listed.kept,
+      r.listed.preserved,
       own_one.1,
       h.phase,
       h.means,
@@ -183,63 +183,64 @@ abbrev error_in : ChainError → Result ℕ ChainError → ChainError
 error_in x (Ok n) = x
 error_in x (Err e) = e
 
-nothing_told : (old mid : ChainHandle) (serial : ℕ) (before list : List ℕ) (entries : List ListedEntry) (names : List ℕ)
-    (failure : Option ℕ) (n : ℕ) (told : Result Added ChainError) (new : ChainHandle) (e : ChainError)
-    → BringsNothing old mid serial before list entries names n told
-    → EndsUnless (refused_by n told) (errno_after told failure) mid new serial (Err e)
-    → (n ≡ 0) × IsSameHeld old new × RefusesEntries old new serial list entries names failure told e
-nothing_told old mid serial before list [] names failure n (Ok added.In) new e nothing ends =
+nothing_reported : (old mid : ChainHandle) (serial : ℕ) (before list : List ℕ) (entries : List ListedEntry) (names : List ℕ)
+    (failure : Option ℕ) (n : ℕ) (reported : Result Added ChainError) (new : ChainHandle) (e : ChainError)
+    → BringsNothing old mid serial before list entries names n reported
+    → EndsUnless (refused_by n reported) (errno_after reported failure) mid new serial (Err e)
+    → (n ≡ 0) × IsSameHeld old new × RefusesEntries old new serial list entries names failure reported e
+nothing_reported old mid serial before list [] names failure n (Ok added.In) new e nothing ends =
     let same : EndsSo failure old new serial (Err e) =
     subst (λ (w : ChainHandle). EndsSo failure w new serial (Err e)) nothing.1 ends in
     (nothing.0, same_held old new (same_when_refused failure old new serial e same), same)
-nothing_told old mid serial before list (entry ∷ entries) names failure n (Err x) new e nothing ends =
+nothing_reported old mid serial before list (entry ∷ entries) names failure n (Err x) new e nothing ends =
     let refused : refused_by n (Err x) ≡ Some x =
     ap (λ (m : ℕ). refused_by m (Err x)) nothing.0 in
     let is : EndsUnless (Some x) (errno_after (Err x) failure) mid new serial (Err e) =
     subst (λ (w : Option ChainError). EndsUnless w (errno_after (Err x) failure) mid new serial (Err e)) refused ends
     in
     let error : x ≡ e = sym (ap (error_in x) is.0) in
-    let told_x : BringsSo old mid serial list list entry (take entry.name_len names) (Err x) =
+    let reported_x : BringsSo old mid serial list list entry (take entry.name_len names) (Err x) =
     subst (λ (l : List ℕ). BringsSo old mid serial l list entry (take entry.name_len names) (Err x)) (sym nothing.3) nothing.4 in
-    let told_e : BringsSo old mid serial list list entry (take entry.name_len names) (Err e) =
-    subst (λ (y : ChainError). BringsSo old mid serial list list entry (take entry.name_len names) (Err y)) error told_x in (
+    let reported_e : BringsSo old mid serial list list entry (take entry.name_len names) (Err e) =
+    subst (λ (y : ChainError). BringsSo old mid serial list list entry (take entry.name_len names) (Err y)) error reported_x in (
       nothing.0,
       subst (λ (w : ChainHandle). IsSameHeld old w) (sym is.1) nothing.1,
       (
         ap (λ (y : ChainError). Err y) error,
-        subst (λ (w : ChainHandle). BringsSo old w serial list list entry (take entry.name_len names) (Err e)) (sym is.1) told_e,
+        subst (λ (w : ChainHandle). BringsSo old w serial list list entry (take entry.name_len names) (Err e)) (sym is.1) reported_e,
       ),
     )
-nothing_told old mid serial before list [] names failure n (Ok added.Full) new e nothing ends = absurd nothing
-nothing_told old mid serial before list [] names failure n (Ok added.NoRoom) new e nothing ends = absurd nothing
-nothing_told old mid serial before list [] names failure n (Ok added.TooLong) new e nothing ends = absurd nothing
-nothing_told old mid serial before list [] names failure n (Err x) new e nothing ends = absurd nothing
-nothing_told old mid serial before list (entry ∷ entries) names failure n (Ok why) new e nothing ends = absurd nothing
+nothing_reported old mid serial before list [] names failure n (Ok added.Full) new e nothing ends = absurd nothing
+nothing_reported old mid serial before list [] names failure n (Ok added.NoRoom) new e nothing ends = absurd nothing
+nothing_reported old mid serial before list [] names failure n (Ok added.TooLong) new e nothing ends = absurd nothing
+nothing_reported old mid serial before list [] names failure n (Err x) new e nothing ends = absurd nothing
+nothing_reported old mid serial before list (entry ∷ entries) names failure n (Ok why) new e nothing ends = absurd nothing
 
 never_refused : (old mid : ChainHandle) (serial : ℕ) (list list' : List ℕ) (entries : List ListedEntry) (names : List ℕ)
-    (failure : Option ℕ) (n : ℕ) (told : Result Added ChainError) (new : ChainHandle) (e : ChainError)
-    → BringsAll old mid serial list list' entries names n told
-    → EndsUnless (refused_by n told) (errno_after told failure) mid new serial (Err e)
-    → BringsNothing old mid serial list list' entries names n told
-never_refused old mid serial list list' entries names failure n told new e all_in ends = by_moved all_in.moved
+    (failure : Option ℕ) (n : ℕ) (reported : Result Added ChainError) (new : ChainHandle) (e : ChainError)
+    → BringsAll old mid serial list list' entries names n reported
+    → EndsUnless (refused_by n reported) (errno_after reported failure) mid new serial (Err e)
+    → BringsNothing old mid serial list list' entries names n reported
+never_refused old mid serial list list' entries names failure n reported new e all_in ends = by_moved all_in.moved
   where
-    by_moved : (IsGathering mid serial × (is_listing old.state ≡ true) × (refused_by n told ≡ None))
-        ⊎ BringsNothing old mid serial list list' entries names n told
-        → BringsNothing old mid serial list list' entries names n told
+    by_moved : (IsGathering mid serial × (is_listing old.state ≡ true) × (refused_by n reported ≡ None))
+        ⊎ BringsNothing old mid serial list list' entries names n reported
+        → BringsNothing old mid serial list list' entries names n reported
     by_moved (inr nothing) = nothing
     by_moved (inl is) =
-        absurd (can_end (errno_after told failure) mid new serial e is.0
-        (subst (λ (w : Option ChainError). EndsUnless w (errno_after told failure) mid new serial (Err e)) is.2 ends))
+        absurd (can_end (errno_after reported failure) mid new serial e is.0
+        (subst (λ (w : Option ChainError). EndsUnless w (errno_after reported failure) mid new serial (Err e)) is.2 ends))
 
 refused_drives : (old mid new : ChainHandle) (q : QueueState) (serial : ℕ) (before list : List ℕ)
-    (entries : Bor (List ListedEntry)) (names : Bor (List ℕ)) (failure : Option ℕ) (n : ℕ) (told : Result Added ChainError) (e : ChainError)
-    → BringsNothing old mid serial before list entries.now names.now n told
-    → EndsUnless (refused_by n told) (errno_after told failure) mid new serial (Err e)
+    (entries : Bor (List ListedEntry)) (names : Bor (List ℕ)) (failure : Option ℕ) (n : ℕ) (reported : Result Added ChainError)
+    (e : ChainError)
+    → BringsNothing old mid serial before list entries.now names.now n reported
+    → EndsUnless (refused_by n reported) (errno_after reported failure) mid new serial (Err e)
     → (page_size : ℕ)
-    → DrivesOne page_size old new q q (does.Gather serial entries names failure) (gives.Gathered n told (Err e) list)
-refused_drives old mid new q serial before list entries names failure n told e nothing ends page_size =
-    let r = nothing_told old mid serial before list entries.now names.now failure n told new e nothing ends in
-    refuses page_size old new q (does.Gather serial entries names failure) (gives.Gathered n told (Err e) list) r.1
+    → DrivesOne page_size old new q q (does.Gather serial entries names failure) (gives.Gathered n reported (Err e) list)
+refused_drives old mid new q serial before list entries names failure n reported e nothing ends page_size =
+    let r = nothing_reported old mid serial before list entries.now names.now failure n reported new e nothing ends in
+    refuses page_size old new q (does.Gather serial entries names failure) (gives.Gathered n reported (Err e) list) r.1
     (λ i k d d' u is. (refl, r.0, r.1, r.2))
 
 -- ---- by what the calls ensure
@@ -251,12 +252,12 @@ ends_not why found errno w serial e same is =
     subst (λ (x : Option ChainError). EndsUnless x errno w w serial (Err e)) (sym is ∙ same) (refl, refl)
 
 pub ends_on : (why found : Option ChainError) (errno by : Option ℕ) (old new : ChainHandle) (serial : ℕ)
-    (told : Result ℕ ChainError)
-    → found ≡ why → found ≡ None → by ≡ errno → EndsSo by old new serial told
-    → EndsUnless why errno old new serial told
-ends_on why found errno by old new serial told same is errno_is ends =
-    subst (λ (x : Option ChainError). EndsUnless x errno old new serial told) (sym is ∙ same)
-    (subst (λ (n : Option ℕ). EndsSo n old new serial told) errno_is ends)
+    (reported : Result ℕ ChainError)
+    → found ≡ why → found ≡ None → by ≡ errno → EndsSo by old new serial reported
+    → EndsUnless why errno old new serial reported
+ends_on why found errno by old new serial reported same is errno_is ends =
+    subst (λ (x : Option ChainError). EndsUnless x errno old new serial reported) (sym is ∙ same)
+    (subst (λ (n : Option ℕ). EndsSo n old new serial reported) errno_is ends)
 
 ends_unless : (why : Option ChainError) (errno : Option ℕ) (mid new : ChainHandle) (serial len : ℕ)
     → EndsUnless why errno mid new serial (Ok len) → EndsSo errno mid new serial (Ok len)
@@ -264,19 +265,19 @@ ends_unless None errno mid new serial len ends = ends
 ends_unless (Some x) errno mid new serial len ends = absurd (not_err len x ends.0)
 
 pub gathered : (old mid new : ChainHandle) (q : QueueState) (serial : ℕ) (before list : List ℕ)
-    (entries : Bor (List ListedEntry)) (names : Bor (List ℕ)) (failure : Option ℕ) (n : ℕ) (told : Result Added ChainError)
+    (entries : Bor (List ListedEntry)) (names : Bor (List ℕ)) (failure : Option ℕ) (n : ℕ) (reported : Result Added ChainError)
     (ended : Result ℕ ChainError)
-    → BringsAll old mid serial before list entries.now names.now n told
-    → EndsUnless (refused_by n told) (errno_after told failure) mid new serial ended
+    → BringsAll old mid serial before list entries.now names.now n reported
+    → EndsUnless (refused_by n reported) (errno_after reported failure) mid new serial ended
     → (page_size : ℕ)
-    → DrivesOne page_size old new q q (does.Gather serial entries names failure) (gives.Gathered n told ended list)
+    → DrivesOne page_size old new q q (does.Gather serial entries names failure) (gives.Gathered n reported ended list)
 unfolding DrivesOne
-gathered old mid new q serial before list entries names failure n told (Ok len) all_in ends page_size ws k there u s i os pops
+gathered old mid new q serial before list entries names failure n reported (Ok len) all_in ends page_size ws k there u s i os pops
     push all =
-    gathered_drives page_size old mid new q serial before list entries.now names.now failure n len told all_in
-    (ends_unless (refused_by n told) (errno_after told failure) mid new serial len ends) ws k there s i os pops push all
-gathered old mid new q serial before list entries names failure n told (Err e) all_in ends page_size ws k there u s i os pops
+    gathered_drives page_size old mid new q serial before list entries.now names.now failure n len reported all_in
+    (ends_unless (refused_by n reported) (errno_after reported failure) mid new serial len ends) ws k there s i os pops push all
+gathered old mid new q serial before list entries names failure n reported (Err e) all_in ends page_size ws k there u s i os pops
     push all =
-    refused_drives old mid new q serial before list entries names failure n told e
-    (never_refused old mid serial before list entries.now names.now failure n told new e all_in ends) ends page_size ws k
+    refused_drives old mid new q serial before list entries names failure n reported e
+    (never_refused old mid serial before list entries.now names.now failure n reported new e all_in ends) ends page_size ws k
     there u s i os pops push all

@@ -18,7 +18,7 @@ use Rattle.fs_chain.specs.Holds.{HoldsChain, IsHeldIn, IsQueue, Machine, Pop, an
 use Rattle.fs_chain.specs.Orders.{is_out}
 use Rattle.fs_driven.specs.Desks.{Begun, Desk, Driven, FitsRun, In, IsLost, IsReady, IsUnderWay, desk, lost, own}
 use Rattle.fs_driven.specs.Desks.{with_pop}
-use Rattle.fs_driven.specs.Told.{Called, Drives, TellsAll, Unseen, seen_of}
+use Rattle.fs_driven.specs.Reported.{Called, Drives, ReportsAll, Unseen, seen_of}
 use Rattle.fs_chain.specs.Together.{HasNone, IsHeldBy, IsNot, Owned, with_handle}
 use Rattle.fs_chain.specs.declared.chain_handle.ChainHandle.{ChainHandle}
 use Rattle.fs_chain.specs.declared.queue.QueueState.{QueueState}
@@ -125,7 +125,7 @@ ready_on : (page_size k : ℕ) (q q' : QueueState) (push : Option Begun) (c : In
     IsReady page_size k q' push c st
 ready_on page_size k q q' push c (at.Pushing out) same is =
     (is.0, is.1, under_way_on k q q' c is.0 push same is.2)
-ready_on page_size k q q' push c (at.HasReply out kept) same is = is
+ready_on page_size k q q' push c (at.HasReply out preserved) same is = is
 ready_on page_size k q q' push c at.Free same is = tt
 ready_on page_size k q q' push c (at.Walking course pop_id walk) same is = tt
 ready_on page_size k q q' push c (at.Taken out) same is = tt
@@ -151,7 +151,7 @@ others_none page_size k q q' push push' only j c st apart is = by_state st is
 
     by_state : (st : state.ChainState) → IsReady page_size j q push c st → IsReady page_size j q' push' c st
     by_state (at.Pushing out) is = absurd (not_theirs is.0 push only is.2)
-    by_state (at.HasReply out kept) is = is
+    by_state (at.HasReply out preserved) is = is
     by_state at.Free is = tt
     by_state (at.Walking course pop_id walk) is = tt
     by_state (at.Taken out) is = tt
@@ -362,27 +362,27 @@ parted (z ∷ zs) (c ∷ calls) more is =
       later = r.later;
     }
 
-tells_both : (i page_size : ℕ) (d mid end : Desk) (xs ys : List Seen) (es later : List LiveEvent)
-    → TellsAll i page_size d xs es mid → TellsAll i page_size mid ys later end
-    → TellsAll i page_size d (xs ++ ys) (es ++ later) end
-tells_both i page_size d mid end [] ys es later first more =
-    subst (λ (k : Desk). TellsAll i page_size k ys (es ++ later) end) first.1
-    (subst (λ (l : List LiveEvent). TellsAll i page_size mid ys (l ++ later) end) (sym first.0) more)
-tells_both i page_size d mid end (x ∷ xs) ys es later first more = (
+reports_both : (i page_size : ℕ) (d mid end : Desk) (xs ys : List Seen) (es later : List LiveEvent)
+    → ReportsAll i page_size d xs es mid → ReportsAll i page_size mid ys later end
+    → ReportsAll i page_size d (xs ++ ys) (es ++ later) end
+reports_both i page_size d mid end [] ys es later first more =
+    subst (λ (k : Desk). ReportsAll i page_size k ys (es ++ later) end) first.1
+    (subst (λ (l : List LiveEvent). ReportsAll i page_size mid ys (l ++ later) end) (sym first.0) more)
+reports_both i page_size d mid end (x ∷ xs) ys es later first more = (
   first.0,
   first.1 ++ later,
   first.2,
   ap (λ (l : List LiveEvent). l ++ later) first.3 ∙ append_assoc first.0 first.1 later,
   first.4,
-  tells_both i page_size first.2 mid end xs ys first.1 later first.5 more,
+  reports_both i page_size first.2 mid end xs ys first.1 later first.5 more,
 )
 
-pub goes_on : (page_size : ℕ) (one two three : List ChainHandle) (q q' q'' : QueueState)
+pub carries_on : (page_size : ℕ) (one two three : List ChainHandle) (q q' q'' : QueueState)
     (calls more : List Called) → Drives page_size one two q q' calls
     →
     Drives page_size two three q' q'' more → Drives page_size one three q q'' (calls ++ more)
 unfolding Drives
-goes_on page_size one two three q q' q'' calls more first later zs is s i os pops push all =
+carries_on page_size one two three q q' q'' calls more first later zs is s i os pops push all =
     let p = parted zs calls more is in
     let a = first p.front p.first s i os pops push all in
     let b = later p.behind p.later a.1 i a.2 a.3 a.4 a.6 in
@@ -396,8 +396,8 @@ goes_on page_size one two three q q' q'' calls more first later zs is s i os pop
       b.4,
       joined any_files s a.1 b.1 a.0 b.0 a.5 b.5,
       b.6,
-      subst (λ (l : List Seen). TellsAll i page_size d l (a.0 ++ b.0) end) (sym p.all)
-          (tells_both i page_size d mid end p.front p.behind a.0 b.0 a.7 b.7),
+      subst (λ (l : List Seen). ReportsAll i page_size d l (a.0 ++ b.0) end) (sym p.all)
+          (reports_both i page_size d mid end p.front p.behind a.0 b.0 a.7 b.7),
     )
 
 -- ---- a handle without a chain
@@ -418,7 +418,7 @@ held_out page_size c (Abandoned fault) (at.Walking course pop_id walk) session h
 held_out page_size c p (at.Taken out) session held = refl
 held_out page_size c p (at.Waits out w) session held = refl
 held_out page_size c p (at.Lists out l) session held = refl
-held_out page_size c p (at.HasReply out kept) session held = refl
+held_out page_size c p (at.HasReply out preserved) session held = refl
 held_out page_size c p (at.Pushing out) session held = refl
 
 -- what a handle has is its chain of the run

@@ -295,10 +295,10 @@ fails_so s before behind c es list w new serial len errno e others why h out num
     }
 
 pub came_to_end : (s : Machine) (before behind : List InFlightChain) (c : InFlightChain) (es left : List Brought)
-    (told : Result Added ChainError) (failure : Option ℕ) (list : List ℕ) (w new : ChainHandle) (serial len : ℕ)
-    → s.chains ≡ before ++ c ∷ behind → CameTo s.page_size c es left list told w
-    → EndsSo (errno_after told failure) w new serial (Ok len)
-    → ListedSo s before behind c es (ending_of told left failure) list w new len
+    (reported : Result Added ChainError) (failure : Option ℕ) (list : List ℕ) (w new : ChainHandle) (serial len : ℕ)
+    → s.chains ≡ before ++ c ∷ behind → CameTo s.page_size c es left list reported w
+    → EndsSo (errno_after reported failure) w new serial (Ok len)
+    → ListedSo s before behind c es (ending_of reported left failure) list w new len
 unfolding at_calls EndsListing
 came_to_end s before behind c es left (Ok added.In) None list w new serial len out came ends =
     let h = came.0 in

@@ -26,8 +26,8 @@ use Rattle.fs_chain.specs.declared.state.InFlight.{InFlight}
 use Rattle.fs_driven.specs.declared.commands.Command.TheVariants as does
 use Rattle.fs_driven.specs.declared.commands.Returned.TheVariants as gives
 use Rattle.fs_driven.specs.Desks.{Begun, Driven, Leads, desk}
-use Rattle.fs_driven.specs.Kept.{KeepsMemory}
-use Rattle.fs_driven.specs.Told.{DrivesOne, TellsListing, turn}
+use Rattle.fs_driven.specs.Preserved.{KeepsMemory}
+use Rattle.fs_driven.specs.Reported.{DrivesOne, ReportsListing, turn}
 use Rattle.fs_chain.proofs.HoldsListed.{begins_listing, reads_directory}
 use Rattle.fs_chain.proofs.Together.{chains_of}
 use Rattle.fs_driven.proofs.Handles.{has_own}
@@ -54,7 +54,7 @@ was_listing P (at.Waits out w) new len is = absurd (not_err len _ is.0)
 was_listing P at.Free new len is = absurd (not_err len _ is.0)
 was_listing P (at.Walking course pop_id walk) new len is = absurd (not_err len _ is.0)
 was_listing P (at.Taken out) new len is = absurd (not_err len _ is.0)
-was_listing P (at.HasReply out kept) new len is = absurd (not_err len _ is.0)
+was_listing P (at.HasReply out preserved) new len is = absurd (not_err len _ is.0)
 was_listing P (at.Pushing out) new len is = absurd (not_err len _ is.0)
 
 -- the handle gathers the same listing once its directory was read
@@ -88,8 +88,8 @@ has_read page_size c w answer h = record {
   phase = refl;
 }
 
-pub no_push : (st : state.ChainState) (out : InFlight) (kept : ChainReply) → st ≡ at.HasReply out kept → HasNoPush st
-no_push st out kept is = subst (λ (x : state.ChainState). HasNoPush x) (sym is) tt
+pub no_push : (st : state.ChainState) (out : InFlight) (preserved : ChainReply) → st ≡ at.HasReply out preserved → HasNoPush st
+no_push st out preserved is = subst (λ (x : state.ChainState). HasNoPush x) (sym is) tt
 
 -- the listing of a run whose handle was told that its directory has this answer
 abbrev HasRead : (new : ChainHandle) → FileAnswer → (len : ℕ) → (old : ChainHandle) → Type 0
@@ -108,8 +108,8 @@ listing_drives : (page_size : ℕ) (old new : ChainHandle) (q : QueueState) (ser
     → (s : Machine) (i : ℕ) (os : List Owned) (pops : ℕ → Pop) (push : Option Begun)
     → Driven s i page_size q ws os pops push
     → Leads s i page_size q (with_handle ws k new)
-    (λ es d. TellsListing (turn i page_size k (desk s ws q os pops push) d old new) serial answer P (Ok len) es)
-listing_drives page_size old new q serial answer P len was same suited listed told ws k there s i os pops push
+    (λ es d. ReportsListing (turn i page_size k (desk s ws q os pops push) d old new) serial answer P (Ok len) es)
+listing_drives page_size old new q serial answer P len was same suited listed reported ws k there s i os pops push
     all =
     let own_one = all.outs k old there (ap is_out was.2) in
     let c = own_one.0 in
@@ -124,10 +124,10 @@ listing_drives page_size old new q serial answer P len was same suited listed to
     let after : Machine = after_answer s (chains_of has.ob) (chains_of has.oh) c h.request h.options calls tt in
     answered_all s i page_size k q ws has.ob has.oh pops push old new c h.request h.options calls after
     (ReceivesAnswer c call answer ∷ [])
-    (λ es d. TellsListing (turn i page_size k (desk s ws q os pops push) d old new) serial answer P (Ok len) es)
-    has.driven there mine.0 same r.holds (no_push new.state h.out r.kept r.state) r.none_pending
+    (λ es d. ReportsListing (turn i page_size k (desk s ws q os pops push) d old new) serial answer P (Ok len) es)
+    has.driven there mine.0 same r.holds (no_push new.state h.out r.preserved r.state) r.none_pending
     (after, reads.0, refl) refl refl refl refl refl
-    (λ after' os' pops'. (c, call, h.request, h.options, own_one.1, h.phase, refl, told))
+    (λ after' os' pops'. (c, call, h.request, h.options, own_one.1, h.phase, refl, reported))
 
 -- ---- by what each call ensures
 
@@ -136,9 +136,9 @@ ended_not : (old new : ChainHandle) (q : QueueState) (serial : ℕ) (e : ChainEr
     (EndsByEntries old.state new.state (Err e))
     → new ≡ old
     → (page_size : ℕ) → DrivesOne page_size old new q q (does.EndListing serial) (gives.Listed (Err e))
-ended_not old new q serial e told same page_size =
+ended_not old new q serial e reported same page_size =
     refuses page_size old new q (does.EndListing serial) (gives.Listed (Err e)) (same_held old new same)
-    (λ i k d d' u is. (refl, told))
+    (λ i k d d' u is. (refl, reported))
 
 pub ended : (old new : ChainHandle) (q : QueueState) (serial : ℕ) (result : Result ℕ ChainError)
     → UnlessRefused (serial_error old.state old.serial serial) result (new ≡ old)
@@ -149,15 +149,15 @@ pub ended : (old new : ChainHandle) (q : QueueState) (serial : ℕ) (result : Re
     → IfOk result (λ len. EndsListing old new len)
     → (page_size : ℕ) → DrivesOne page_size old new q q (does.EndListing serial) (gives.Listed result)
 unfolding DrivesOne EndsListing has_read
-ended old new q serial (Ok len) told ends same stays step page_size ws k there u s i os pops push all =
+ended old new q serial (Ok len) reported ends same stays step page_size ws k there u s i os pops push all =
     listing_drives page_size old new q serial (Entries []) (λ r. EndsByEntries old.state new.state r) len
     (was_listing _ old.state new.state len ends) (stays.0.0, stays.0.1)
     (λ page c h. refl)
     (λ page c h. step page (asked_chain c h.request h.options (read_calls (readdir_call h.asked) (Entries []))) []
     EndsThere (read_calls (readdir_call h.asked) (Entries [])) [] (has_read page c old (Entries []) h) tt refl)
     ends ws k there s i os pops push all
-ended old new q serial (Err e) told ends same stays step page_size ws k there u s i os pops push all =
-    ended_not old new q serial e told same page_size ws k there u s i os pops push all
+ended old new q serial (Err e) reported ends same stays step page_size ws k there u s i os pops push all =
+    ended_not old new q serial e reported same page_size ws k there u s i os pops push all
 
 -- an error's number
 pub errno_suits : (errno : ℕ) → 1 ≤ errno → errno ≤ 4095 → IsTrue (nat_lt 0 errno && nat_lt errno 4096)
@@ -176,9 +176,9 @@ failed_not : (old new : ChainHandle) (q : QueueState) (serial errno : ℕ) (e : 
     (EndsByError errno old.state new.state (Err e))
     → new ≡ old
     → (page_size : ℕ) → DrivesOne page_size old new q q (does.FailListing serial errno) (gives.Listed (Err e))
-failed_not old new q serial errno e told same page_size =
+failed_not old new q serial errno e reported same page_size =
     refuses page_size old new q (does.FailListing serial errno) (gives.Listed (Err e)) (same_held old new same)
-    (λ i k d d' u is. (refl, told))
+    (λ i k d d' u is. (refl, reported))
 
 pub failed : (old new : ChainHandle) (q : QueueState) (serial errno : ℕ) (result : Result ℕ ChainError)
     → 1 ≤ errno → errno ≤ 4095
@@ -190,7 +190,7 @@ pub failed : (old new : ChainHandle) (q : QueueState) (serial errno : ℕ) (resu
     → IfOk result (λ len. FailsListing errno old new len)
     → (page_size : ℕ) → DrivesOne page_size old new q q (does.FailListing serial errno) (gives.Listed result)
 unfolding DrivesOne FailsListing has_read
-failed old new q serial errno (Ok len) low high told ends same stays step page_size ws k there u s i os pops push
+failed old new q serial errno (Ok len) low high reported ends same stays step page_size ws k there u s i os pops push
     all =
     listing_drives page_size old new q serial (Failed errno) (λ r. EndsByError errno old.state new.state r) len
     (was_listing _ old.state new.state len ends) (stays.0.0, stays.0.1)
@@ -199,6 +199,6 @@ failed old new q serial errno (Ok len) low high told ends same stays step page_s
     (Unreadable errno) (read_calls (readdir_call h.asked) (Failed errno)) [] (has_read page c old (Failed errno) h)
     refl (unread (readdir_call h.asked) h.asked.with_nodes errno))
     ends ws k there s i os pops push all
-failed old new q serial errno (Err e) low high told ends same stays step page_size ws k there u s i os pops push
+failed old new q serial errno (Err e) low high reported ends same stays step page_size ws k there u s i os pops push
     all =
-    failed_not old new q serial errno e told same page_size ws k there u s i os pops push all
+    failed_not old new q serial errno e reported same page_size ws k there u s i os pops push all

@@ -5,11 +5,11 @@ use Rattle.std.proofs.Common.{length, slice_get, refl}
 use Rattle.std.proofs.Common.{subst, sym, ap, ◌∙◌, append-nil}
 use Rattle.std.specs.Prelude.{slice_set, take, drop}
 use Rattle.fs_chain.specs.Orders.{is_out}
-use Rattle.fs_driven.proofs.Handles.{Seen, goes_on, none_some, not_free, same_first, same_rest}
+use Rattle.fs_driven.proofs.Handles.{Seen, carries_on, none_some, not_free, same_first, same_rest}
 use Rattle.fs_driven.proofs.Pops.{idle_may}
 use Rattle.vm_memory_core.specs.Host.{changed_at}
 use Rattle.fs_driven.specs.Desks.{BeginsDriven, Desk, Leads, desk, no_pop}
-use Rattle.fs_driven.specs.Told.{Called, Drives, DrivesOne, TellsAll, Unseen, call_of, calls_of, seen_of}
+use Rattle.fs_driven.specs.Reported.{Called, Drives, DrivesOne, ReportsAll, Unseen, call_of, calls_of, seen_of}
 use Rattle.fs_chain.specs.Together.{with_handle}
 use Rattle.fs_chain.specs.declared.chain_handle.ChainHandle.{ChainHandle}
 use Rattle.fs_driven.specs.declared.commands.Command.{Command}
@@ -41,7 +41,7 @@ at_place page_size ws k w new q q' command returned there one zs is s i os pops 
     let a = one ws k there z.0 s i os pops push all in
     let d : Desk = desk s ws q os pops push in
     let end : Desk = desk a.1 (with_handle ws k new) q' a.2 a.3 a.4 in
-    subst (λ (l : List ChainHandle). Leads s i page_size q' l (λ es e. TellsAll i page_size d zs es e))
+    subst (λ (l : List ChainHandle). Leads s i page_size q' l (λ es e. ReportsAll i page_size d zs es e))
     (sym (set_changed ws k new)) (
       a.0,
       a.1,
@@ -50,7 +50,7 @@ at_place page_size ws k w new q q' command returned there one zs is s i os pops 
       a.4,
       a.5,
       a.6,
-      subst (λ (l : List Seen). TellsAll i page_size d l a.0 end) (sym z.1)
+      subst (λ (l : List Seen). ReportsAll i page_size d l a.0 end) (sym z.1)
           (a.0, [], end, sym (append-nil a.0), inl (w, new, there, refl, a.7), (refl, refl)),
     )
 
@@ -74,7 +74,7 @@ no_place page_size ws k q command past zs is s i os pops push all =
       push,
       refl,
       all,
-      subst (λ (l : List Seen). TellsAll i page_size d l [] d) (sym z.1)
+      subst (λ (l : List Seen). ReportsAll i page_size d l [] d) (sym z.1)
           ([], [], d, refl, inr (inl (nowhere ws k past, refl, refl, refl)), (refl, refl)),
     )
 
@@ -85,7 +85,7 @@ at_none page_size ws q zs is s i os pops push all =
     ([], s, os, pops, push, refl, all, by_list zs is)
   where
     by_list : (l : List Seen) → seen_of l ≡ [] →
-        TellsAll i page_size (desk s ws q os pops push) l [] (desk s ws q os pops push)
+        ReportsAll i page_size (desk s ws q os pops push) l [] (desk s ws q os pops push)
     by_list [] none = (refl, refl)
     by_list (z ∷ l) none = absurd (none_some z.0 (seen_of l) (sym none))
 
@@ -158,7 +158,7 @@ more_so_far page_size ws0 ws ws' q0 q q' ks before now rs n k x y r so in_ks in_
     let more : SoFar page_size ws0 ws' q0 q' ks before (slice_set now n y) (slice_set rs n r) (suc n) = record {
       drives = subst (λ (l : List Called). Drives page_size ws0 ws' q0 q' l)
           (sym (one_more ks before now rs n k x r in_ks in_now in_rs is_k is_x so.left so.whole))
-          (goes_on page_size ws0 ws ws' q0 q q' (calls_of (take n ks) (take n before) (take n rs))
+          (carries_on page_size ws0 ws ws' q0 q q' (calls_of (take n ks) (take n before) (take n rs))
           (call_of k x r ∷ []) so.drives one);
       left = left_then before now n y so.left so.whole;
       whole = set_length now n y ∙ so.whole;

@@ -18,7 +18,7 @@ use Rattle.fs_chain.specs.declared.state.ChainState.TheVariants as at
 use Rattle.fs_driven.specs.declared.commands.Command.TheVariants as does
 use Rattle.fs_driven.specs.declared.commands.Returned.TheVariants as gives
 use Rattle.fs_driven.specs.Desks.{Begun, Driven, FitsRun, In, IsLost, Leads, MayPop, desk, lost, no_pop, own, with_pop}
-use Rattle.fs_driven.specs.Told.{AbandonTells, DrivesOne, Tells, turn}
+use Rattle.fs_driven.specs.Reported.{AbandonReports, DrivesOne, Reports, turn}
 use Rattle.fs_chain.proofs.Together.{chains_of}
 use Rattle.fs_driven.proofs.Handles.{Moves, among, has_own, here, idles, leaves, not_lost, others_same, put}
 use Rattle.fs_driven.proofs.Calls.{stays_put}
@@ -113,7 +113,7 @@ unfolding DrivesOne AbandonsChain
 abandoned old new q freed abandons page_size ws k there u s i os pops push all = by_out (is_out old.state) refl
   where
     by_out : (b : Bool) → is_out old.state ≡ b → Leads s i page_size q (with_handle ws k new)
-        (λ es d. Tells (turn i page_size k (desk s ws q os pops push) d old new) does.Abandon u gives.Abandoned es)
+        (λ es d. Reports (turn i page_size k (desk s ws q os pops push) d old new) does.Abandon u gives.Abandoned es)
     by_out false none = (
       [],
       s,
@@ -127,7 +127,7 @@ abandoned old new q freed abandons page_size ws k there u s i os pops push all =
           (ap is_out freed.0.3),
       (
         freed,
-        subst (λ (b : Bool). AbandonTells (turn i page_size k (desk s ws q os pops push)
+        subst (λ (b : Bool). AbandonReports (turn i page_size k (desk s ws q os pops push)
             (desk s (with_handle ws k new) q os (with_pop pops k no_pop) push) old new) b []) (sym none) refl,
       ),
     )
@@ -154,7 +154,7 @@ abandoned old new q freed abandons page_size ws k there u s i os pops push all =
               (mine.0, fault_of_phase c.phase, refl),
           (
             freed,
-            subst (λ (b : Bool). AbandonTells (turn i page_size k (desk s ws q os pops push)
+            subst (λ (b : Bool). AbandonReports (turn i page_size k (desk s ws q os pops push)
                 (desk after (with_handle ws k new) q (has.ob ++ lost c' ∷ has.oh) (with_pop pops k no_pop) push)
                 old new) b (Abandons c ∷ [])) (sym some)
                 (c, own_one.1, refl, here has.ob has.oh (lost c')),

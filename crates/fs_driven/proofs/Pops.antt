@@ -13,10 +13,10 @@ use Rattle.std.proofs.lemmas.Bool.{eq-eqb}
 use Rattle.vm_iotlb.specs.declared.iova.IovaRange.{IovaRange}
 use Rattle.vm_iotlb.specs.declared.permissions.Permissions.{Permissions}
 use Rattle.fs_queue.specs.declared.fault.QueueError.{QueueError}
-use Rattle.fs_chain.specs.Loads.{GoesSo, IsSame, RefusesWalk, came, whole}
+use Rattle.fs_chain.specs.Loads.{ProceedsSo, IsSame, RefusesWalk, came, whole}
 use Rattle.fs_chain.specs.Orders.{load_len}
-use Rattle.fs_chain.specs.Walks.{BeginsUnless, BeginsWhere, GoesOnUnless, KeepsStep, LacksEvents, WalksFrom, course_of}
-use Rattle.fs_chain.specs.Walks.{queue_after, state_after, told_of}
+use Rattle.fs_chain.specs.Walks.{BeginsUnless, BeginsWhere, ContinuesUnless, KeepsStep, LacksEvents, WalksFrom, course_of}
+use Rattle.fs_chain.specs.Walks.{queue_after, state_after, reported_of}
 use Rattle.fs_chain.specs.Queues.{pop_id_of}
 use Rattle.fs_queue.specs.Chain.{Descriptor}
 use Rattle.fs_chain.specs.Pops.{AddsSo}
@@ -35,10 +35,10 @@ use Rattle.live_machine.specs.Several as several
 use Rattle.live_machine.specs.Live.{EndsPop, RefusesPop, after_pop, new_chain, phase_by, with_live}
 use Rattle.live_machine.proofs.Queues.{same_some, there_same}
 use Rattle.fs_chain.specs.Holds.{BeginsAPop, ContinuesAPop, EndsBy, HasPopped, PopIs, PopsBy, RefusedBy}
-use Rattle.fs_chain.specs.declared.loads.LoadOutcome as went
-use Rattle.fs_chain.specs.declared.loads.LoadOutcome.TheVariants as wents
+use Rattle.fs_chain.specs.declared.loads.LoadOutcome as outcome
+use Rattle.fs_chain.specs.declared.loads.LoadOutcome.TheVariants as outcomes
 use Rattle.fs_chain.specs.declared.popping.PopOutcome as walked
-use Rattle.fs_chain.specs.declared.popping.PopOutcome.TheVariants as says
+use Rattle.fs_chain.specs.declared.popping.PopOutcome.TheVariants as shows
 use Rattle.fs_chain.specs.declared.state.PopId.{PopId}
 use Rattle.vm_memory.specs.Memory.{Memory}
 use Rattle.fs_regions.specs.Places.{places_in}
@@ -49,8 +49,8 @@ use Rattle.live_machine.specs.Live.{Phase}
 use Rattle.live_machine.specs.Live.{PushedWith}
 use Rattle.live_machine.specs.Live.{Happens}
 use Rattle.fs_driven.specs.Desks.{Begun, Desk, Driven, FitsRun, IsReady, Leads, MayPop, desk, no_pop, own, with_pop}
-use Rattle.fs_driven.specs.Told.{DrivesOne, IsLoadedBy, PopTells, Tells, Turn, turn}
-use Rattle.fs_driven.specs.Kept.{KeepsMemory}
+use Rattle.fs_driven.specs.Reported.{DrivesOne, IsLoadedBy, PopReports, Reports, Turn, turn}
+use Rattle.fs_driven.specs.Preserved.{KeepsMemory}
 use Rattle.fs_chain.specs.Holds.{IsHeldIn, IsQueue}
 use Rattle.fs_chain.specs.Holds.{Machine, Pop}
 use Rattle.fs_chain.specs.Holds.{any_files, live_of}
@@ -110,7 +110,7 @@ popped_ready : (page_size n k : ℕ) (q : QueueState) (push : Option Begun) (c :
     IsReady page_size k q push c st
 popped_ready page_size n k q push c None st session is quiet held =
     fetched_ready page_size n k q push c c.phase st session is held
-popped_ready page_size n k q push c (Some why) (at.HasReply out kept) session is quiet held =
+popped_ready page_size n k q push c (Some why) (at.HasReply out preserved) session is quiet held =
     (faulty c.head why, subst (λ (p : Phase). PushedWith page_size c p (faulty c.head why)) (sym is) refl)
 popped_ready page_size n k q push c (Some why) (at.Pushing out) session is quiet held = absurd quiet
 popped_ready page_size n k q push c (Some why) at.Free session is quiet held = tt
@@ -126,9 +126,9 @@ pub record Popping (old new : ChainHandle) (q q' : QueueState) : Type 0 where
   pub quiet : HasNoPush new.state
 
 -- T tells of a pop's events
-abbrev PoppedTells : QueueState → List ChainHandle → Option Begun → List LiveEvent →
+abbrev PoppedReports : QueueState → List ChainHandle → Option Begun → List LiveEvent →
     (T : List LiveEvent → Desk → Type 0) → Type 0
-PoppedTells q' ws push es T =
+PoppedReports q' ws push es T =
     (after : Machine) (os : List Owned) (pops : ℕ → Pop) → T es (desk after ws q' os pops push)
 
 still_of : (q q' : QueueState) (push : Option Begun) → q'.pushing ≡ q.pushing →
@@ -145,15 +145,15 @@ ended : (s : Machine) (i page_size k : ℕ) (q q' : QueueState) (ws : List Chain
     (after_pop s i (live_of q) loaded new.descriptors.items came)
     → IsQueue (after_pop s i (live_of q) loaded new.descriptors.items came) i q'
     → HasPopped s i (live_of q) loaded came new
-    → PoppedTells q' (with_handle ws k new) push (EndsPop i loaded new.descriptors.items came ∷ []) T
+    → PoppedReports q' (with_handle ws k new) push (EndsPop i loaded new.descriptors.items came ∷ []) T
     → Leads s i page_size q' (with_handle ws k new) T
 ended s i page_size k q q' ws os pops push old new loaded (step.Load walk) T all there free same happens queue
-    has tells =
+    has reports =
     absurd happens.ends
 ended s i page_size k q q' ws os pops push old new loaded (step.Missing range access) T all there free same
-    happens queue has tells = absurd happens.ends
+    happens queue has reports = absurd happens.ends
 ended s i page_size k q q' ws os pops push old new loaded step.Idle T all there free same happens queue has
-    tells =
+    reports =
     let now : live_of q' ≡ live_of q = sym (same_some (live_of q) (live_of q') (sym all.queue ∙ queue)) in (
       EndsPop i loaded new.descriptors.items step.Idle ∷ [],
       s,
@@ -168,10 +168,10 @@ ended s i page_size k q q' ws os pops push old new loaded step.Idle T all there 
           (fits_free s.places s.limit q.event_index (pops k) no_pop old new same.memory has
           (all.fits k old there)))
           refl free (ap is_out has),
-      tells s os (with_pop pops k no_pop),
+      reports s os (with_pop pops k no_pop),
     )
 ended s i page_size k q q' ws os pops push old new loaded (step.Refused e) T all there free same happens queue
-    has tells =
+    has reports =
     let after : Machine = after_pop s i (live_of q) loaded new.descriptors.items (step.Refused e) in
     let v : LiveQueue = record (live_of q) { queue = after_refusal (live_of q).queue e } in
     let now : live_of q' ≡ v = queue_now s i q q' v all.queue queue in
@@ -194,10 +194,10 @@ ended s i page_size k q q' ws os pops push old new loaded (step.Refused e) T all
       (after, happens, refl),
       idles s after i page_size q q' ws os k old new no_pop pops push push all there moves refl free
           (ap is_out has),
-      tells after os (with_pop pops k no_pop),
+      reports after os (with_pop pops k no_pop),
     )
 ended s i page_size k q q' ws os pops push old new loaded (step.Chain head fault) T all there free same happens
-    queue has tells =
+    queue has reports =
     let after : Machine = after_pop s i (live_of q) loaded new.descriptors.items (step.Chain head fault) in
     let c : InFlightChain = new_chain s i (live_of q) loaded new.descriptors.items head fault in
     let v : LiveQueue = several.took (live_of q) in
@@ -221,18 +221,18 @@ ended s i page_size k q q' ws os pops push old new loaded (step.Chain head fault
       (after, happens, refl),
       joins s after i page_size q q' ws os k old new c no_pop pops push push all there moves refl free has
           (refl, popped_ready page_size s.page_size k q' push c fault new.state new.session refl same.quiet has),
-      tells after (os ++ own k c ∷ []) (with_pop pops k no_pop),
+      reports after (os ++ own k c ∷ []) (with_pop pops k no_pop),
     )
 
 refused : (s : Machine) (i page_size k : ℕ) (q q' : QueueState) (ws : List ChainHandle) (os : List Owned)
-    (pops : ℕ → Pop) (push : Option Begun) (old new : ChainHandle) (told : walked.PopOutcome)
+    (pops : ℕ → Pop) (push : Option Begun) (old new : ChainHandle) (reported : walked.PopOutcome)
     (T : List LiveEvent → Desk → Type 0)
     → Driven s i page_size q ws os pops push → slice_get ws k ≡ Some old → is_out old.state ≡ false →
     Popping old new q q'
-    → (r : RefusedBy s i q q' new told)
-    → PoppedTells q' (with_handle ws k new) push (RefusesPop i r.error ∷ []) T
+    → (r : RefusedBy s i q q' new reported)
+    → PoppedReports q' (with_handle ws k new) push (RefusesPop i r.error ∷ []) T
     → Leads s i page_size q' (with_handle ws k new) T
-refused s i page_size k q q' ws os pops push old new told T all there free same r tells =
+refused s i page_size k q q' ws os pops push old new reported T all there free same r reports =
     let h = r.happens in
     let v : LiveQueue = record (h.w) { queue = after_refusal h.w.queue r.error } in
     let w_is : h.w ≡ live_of q = same_some h.w (live_of q) (sym h.there ∙ all.queue) in
@@ -260,77 +260,77 @@ refused s i page_size k q q' ws os pops push old new told T all there free same 
       (r.after, h, sym h.state),
       idles s after i page_size q q' ws os k old new no_pop pops push push all there moves refl free
           (ap is_out r.free),
-      tells after os (with_pop pops k no_pop),
+      reports after os (with_pop pops k no_pop),
     )
 
 -- the event of a pop that ended by itself is told by its result
 ends_tell : (t : Turn) (s after : Machine) (q : LiveQueue) (loaded : Loaded) (came : comes.CourseStep)
-    (told : walked.PopOutcome) → told ≡ told_of t.now.descriptors.items came
+    (reported : walked.PopOutcome) → reported ≡ reported_of t.now.descriptors.items came
     → EndsPopIn s t.queue q loaded t.now.descriptors.items came after
-    → PopTells t loaded told (EndsPop t.queue loaded t.now.descriptors.items came ∷ [])
-ends_tell t s after q loaded (step.Load walk) told is ends = absurd ends
-ends_tell t s after q loaded (step.Missing range access) told is ends = absurd ends
-ends_tell t s after q loaded step.Idle told is ends =
-    subst (λ (x : walked.PopOutcome). PopTells t loaded x
+    → PopReports t loaded reported (EndsPop t.queue loaded t.now.descriptors.items came ∷ [])
+ends_tell t s after q loaded (step.Load walk) reported is ends = absurd ends
+ends_tell t s after q loaded (step.Missing range access) reported is ends = absurd ends
+ends_tell t s after q loaded step.Idle reported is ends =
+    subst (λ (x : walked.PopOutcome). PopReports t loaded x
     (EndsPop t.queue loaded t.now.descriptors.items step.Idle ∷ [])) (sym is) refl
-ends_tell t s after q loaded (step.Refused e) told is ends =
-    subst (λ (x : walked.PopOutcome). PopTells t loaded x
+ends_tell t s after q loaded (step.Refused e) reported is ends =
+    subst (λ (x : walked.PopOutcome). PopReports t loaded x
     (EndsPop t.queue loaded t.now.descriptors.items (step.Refused e) ∷ [])) (sym is) (inl refl)
-ends_tell t s after q loaded (step.Chain head None) told is ends =
-    subst (λ (x : walked.PopOutcome). PopTells t loaded x
+ends_tell t s after q loaded (step.Chain head None) reported is ends =
+    subst (λ (x : walked.PopOutcome). PopReports t loaded x
     (EndsPop t.queue loaded t.now.descriptors.items (step.Chain head None) ∷ [])) (sym is) (refl, refl, refl)
-ends_tell t s after q loaded (step.Chain head (Some fault)) told is ends =
-    subst (λ (x : walked.PopOutcome). PopTells t loaded x
+ends_tell t s after q loaded (step.Chain head (Some fault)) reported is ends =
+    subst (λ (x : walked.PopOutcome). PopReports t loaded x
     (EndsPop t.queue loaded t.now.descriptors.items (step.Chain head (Some fault)) ∷ [])) (sym is) refl
 
 -- T tells of what a pop tells
 abbrev GivesPop : (i page_size k : ℕ) → Desk → QueueState → (old new : ChainHandle) → Loaded →
     walked.PopOutcome → (T : List LiveEvent → Desk → Type 0) → Type 0
-GivesPop i page_size k d q' old new loaded told T =
+GivesPop i page_size k d q' old new loaded reported T =
     (after : Machine) (os : List Owned) (pops : ℕ → Pop) (es : List LiveEvent) →
-    PopTells (turn i page_size k d (desk after (with_handle d.handles k new) q' os pops d.push) old new) loaded
-    told es →
+    PopReports (turn i page_size k d (desk after (with_handle d.handles k new) q' os pops d.push) old new) loaded
+    reported es →
     T es (desk after (with_handle d.handles k new) q' os pops d.push)
 
 ends_or_refused : (s : Machine) (i page_size k : ℕ) (q q' : QueueState) (ws : List ChainHandle)
     (os : List Owned) (pops : ℕ → Pop) (push : Option Begun) (old new : ChainHandle) (loaded : Loaded)
-    (told : walked.PopOutcome) (T : List LiveEvent → Desk → Type 0)
+    (reported : walked.PopOutcome) (T : List LiveEvent → Desk → Type 0)
     → Driven s i page_size q ws os pops push → slice_get ws k ≡ Some old → is_out old.state ≡ false →
     Popping old new q q'
-    → GivesPop i page_size k (desk s ws q os pops push) q' old new loaded told T
-    → EndsBy s i q q' loaded new told ⊎ RefusedBy s i q q' new told
+    → GivesPop i page_size k (desk s ws q os pops push) q' old new loaded reported T
+    → EndsBy s i q q' loaded new reported ⊎ RefusedBy s i q q' new reported
     → Leads s i page_size q' (with_handle ws k new) T
-ends_or_refused s i page_size k q q' ws os pops push old new loaded told T all there free same give (inl e) =
+ends_or_refused s i page_size k q q' ws os pops push old new loaded reported T all there free same give (inl e) =
     ended s i page_size k q q' ws os pops push old new loaded e.came T all there free same e.happens e.queue
     e.has
     (λ after os' loads'. give after os' loads' (EndsPop i loaded new.descriptors.items e.came ∷ [])
     (ends_tell (turn i page_size k (desk s ws q os pops push)
     (desk after (with_handle ws k new) q' os' loads' push) old new) s
-    (after_pop s i (live_of q) loaded new.descriptors.items e.came) e.happens.w loaded e.came told e.told_is
+    (after_pop s i (live_of q) loaded new.descriptors.items e.came) e.happens.w loaded e.came reported e.reported_is
     e.happens.ends))
-ends_or_refused s i page_size k q q' ws os pops push old new loaded told T all there free same give (inr r) =
-    refused s i page_size k q q' ws os pops push old new told T all there free same r
+ends_or_refused s i page_size k q q' ws os pops push old new loaded reported T all there free same give (inr r) =
+    refused s i page_size k q q' ws os pops push old new reported T all there free same r
     (λ after os' loads'. give after os' loads' (RefusesPop i r.error ∷ [])
-    (subst (λ (x : walked.PopOutcome). PopTells (turn i page_size k (desk s ws q os pops push)
+    (subst (λ (x : walked.PopOutcome). PopReports (turn i page_size k (desk s ws q os pops push)
     (desk after (with_handle ws k new) q' os' loads' push) old new) loaded x (RefusesPop i r.error ∷ []))
-    (sym r.told_is) (inr refl)))
+    (sym r.reported_is) (inr refl)))
 
 with_pop_same : (pops : ℕ → Pop) (k : ℕ) (p : Pop) → with_pop pops k p k ≡ p
 with_pop_same pops k p = ap (λ (b : Bool). if b then p else pops k) (eq-eqb k k refl)
 
 pub popped : (s : Machine) (i page_size k : ℕ) (q q' : QueueState) (ws : List ChainHandle) (os : List Owned)
-    (pops : ℕ → Pop) (push : Option Begun) (old new : ChainHandle) (p : Pop) (told : walked.PopOutcome)
+    (pops : ℕ → Pop) (push : Option Begun) (old new : ChainHandle) (p : Pop) (reported : walked.PopOutcome)
     (T : List LiveEvent → Desk → Type 0)
     → Driven s i page_size q ws os pops push → slice_get ws k ≡ Some old → is_out old.state ≡ false →
     Popping old new q q'
     → p.event_index ≡ q.event_index
-    → GivesPop i page_size k (desk s ws q os pops push) q' old new p.loaded told T
-    → PopIs s i q q' p new told
+    → GivesPop i page_size k (desk s ws q os pops push) q' old new p.loaded reported T
+    → PopIs s i q q' p new reported
     → Leads s i page_size q' (with_handle ws k new) T
-popped s i page_size k q q' ws os pops push old new p (says.Load n) T all there free same event give is =
+popped s i page_size k q q' ws os pops push old new p (shows.Load n) T all there free same event give is =
     still s i page_size k q q' ws os pops push old new p T all there free same.memory event is
     (give s os (with_pop pops k p) [] (refl, ap (λ (x : Pop). x.loaded) (with_pop_same pops k p)))
-popped s i page_size k q q' ws os pops push old new p (says.Missing range access) T all there free same event
+popped s i page_size k q q' ws os pops push old new p (shows.Missing range access) T all there free same event
     give is =
     let was = all.fits k old there in (
       [],
@@ -349,84 +349,84 @@ popped s i page_size k q q' ws os pops push old new p (says.Missing range access
           (ap is_out is.0),
       give s os (with_pop pops k no_pop) [] refl,
     )
-popped s i page_size k q q' ws os pops push old new p says.Idle T all there free same event give is =
-    ends_or_refused s i page_size k q q' ws os pops push old new p.loaded says.Idle T all there free same give
+popped s i page_size k q q' ws os pops push old new p shows.Idle T all there free same event give is =
+    ends_or_refused s i page_size k q q' ws os pops push old new p.loaded shows.Idle T all there free same give
     is
-popped s i page_size k q q' ws os pops push old new p (says.Refused x) T all there free same event give is =
-    ends_or_refused s i page_size k q q' ws os pops push old new p.loaded (says.Refused x) T all there free
+popped s i page_size k q q' ws os pops push old new p (shows.Refused x) T all there free same event give is =
+    ends_or_refused s i page_size k q q' ws os pops push old new p.loaded (shows.Refused x) T all there free
     same give is
-popped s i page_size k q q' ws os pops push old new p (says.Chain head n m) T all there free same event give
+popped s i page_size k q q' ws os pops push old new p (shows.Chain head n m) T all there free same event give
     is =
-    ends_or_refused s i page_size k q q' ws os pops push old new p.loaded (says.Chain head n m) T all there
+    ends_or_refused s i page_size k q q' ws os pops push old new p.loaded (shows.Chain head n m) T all there
     free same give is
-popped s i page_size k q q' ws os pops push old new p (says.Faulty head why) T all there free same event give
+popped s i page_size k q q' ws os pops push old new p (shows.Faulty head why) T all there free same event give
     is =
-    ends_or_refused s i page_size k q q' ws os pops push old new p.loaded (says.Faulty head why) T all there
+    ends_or_refused s i page_size k q q' ws os pops push old new p.loaded (shows.Faulty head why) T all there
     free same give is
 
-abbrev PopTold : (page_size : ℕ) → (old new : ChainHandle) → (q q' : QueueState) → Bor (List ℕ) →
-    went.LoadOutcome → Type 0
-PopTold page_size old new q q' bytes told =
-    DrivesOne page_size old new q q' (does.Pop bytes) (gives.Popped (Ok told))
+abbrev PopReported : (page_size : ℕ) → (old new : ChainHandle) → (q q' : QueueState) → Bor (List ℕ) →
+    outcome.LoadOutcome → Type 0
+PopReported page_size old new q q' bytes reported =
+    DrivesOne page_size old new q q' (does.Pop bytes) (gives.Popped (Ok reported))
 
 begins : (page_size : ℕ) (old new : ChainHandle) (q q' : QueueState) (bytes : Bor (List ℕ))
-    (told : went.LoadOutcome) → old.state ≡ at.Free
-    → GoesSo old q bytes.now told new q'
-    → BeginsAPop old new q q' told → Popping old new q q' → PopTold page_size old new q q' bytes told
+    (reported : outcome.LoadOutcome) → old.state ≡ at.Free
+    → ProceedsSo old q bytes.now reported new q'
+    → BeginsAPop old new q q' reported → Popping old new q q' → PopReported page_size old new q q' bytes reported
 unfolding DrivesOne BeginsAPop
-begins page_size old new q q' bytes wents.Part free goes begin same ws k there u s i os pops push all =
+begins page_size old new q q' bytes outcomes.Part free proceeds begin same ws k there u s i os pops push all =
     absurd begin
-begins page_size old new q q' bytes (wents.On told) free goes begin same ws k there u s i os pops push all =
+begins page_size old new q q' bytes (outcomes.On reported) free proceeds begin same ws k there u s i os pops push all =
     let was = all.fits k old there in
     let loads : (after : Desk) → IsLoadedBy old.state
-    (turn i page_size k (desk s ws q os pops push) after old new) bytes.now told nothing =
+    (turn i page_size k (desk s ws q os pops push) after old new) bytes.now reported nothing =
     λ after. subst (λ (st : state.ChainState). IsLoadedBy st
-    (turn i page_size k (desk s ws q os pops push) after old new) bytes.now told nothing) (sym free) refl in
+    (turn i page_size k (desk s ws q os pops push) after old new) bytes.now reported nothing) (sym free) refl in
     popped s i page_size k q q' ws os pops push old new
-    (record { loaded = nothing; event_index = q.event_index }) told
-    (λ es d. Tells (turn i page_size k (desk s ws q os pops push) d old new) (does.Pop bytes) u
-    (gives.Popped (Ok (wents.On told))) es)
+    (record { loaded = nothing; event_index = q.event_index }) reported
+    (λ es d. Reports (turn i page_size k (desk s ws q os pops push) d old new) (does.Pop bytes) u
+    (gives.Popped (Ok (outcomes.On reported))) es)
     all there (ap is_out free) same refl
-    (λ after os' loads' es tells.
-    (goes, nothing, loads (desk after (with_handle ws k new) q' os' loads' push), tells))
+    (λ after os' loads' es reports.
+    (proceeds, nothing, loads (desk after (with_handle ws k new) q' os' loads' push), reports))
     (begin s i all.queue was.0 was.1 all.small)
 
 continues : (page_size : ℕ) (old new : ChainHandle) (q q' : QueueState) (bytes : Bor (List ℕ))
-    (told : went.LoadOutcome) (course : Course) (pop_id : PopId) (walk : QueueWalk) →
+    (reported : outcome.LoadOutcome) (course : Course) (pop_id : PopId) (walk : QueueWalk) →
     old.state ≡ at.Walking course pop_id walk
-    → GoesSo old q bytes.now told new q'
-    → ContinuesAPop old new q q' bytes.now told → Popping old new q q' →
-    PopTold page_size old new q q' bytes told
+    → ProceedsSo old q bytes.now reported new q'
+    → ContinuesAPop old new q q' bytes.now reported → Popping old new q q' →
+    PopReported page_size old new q q' bytes reported
 unfolding DrivesOne ContinuesAPop
-continues page_size old new q q' bytes wents.Part course pop_id walk is goes go same ws k there u s i os pops
+continues page_size old new q q' bytes outcomes.Part course pop_id walk is proceeds go same ws k there u s i os pops
     push all =
     let was = all.fits k old there in
     let may = subst (λ (st : state.ChainState). MayPop s.limit q.event_index (pops k) old st) is was.2 in
     still s i page_size k q q' ws os pops push old new (pops k)
-    (λ es d. Tells (turn i page_size k (desk s ws q os pops push) d old new) (does.Pop bytes) u
-    (gives.Popped (Ok wents.Part)) es)
+    (λ es d. Reports (turn i page_size k (desk s ws q os pops push) d old new) (does.Pop bytes) u
+    (gives.Popped (Ok outcomes.Part)) es)
     all there (ap is_out is) same.memory may.1
     (go s i (pops k) may.0 all.queue was.0 may.1 all.small)
-    (refl, goes)
-continues page_size old new q q' bytes (wents.On told) course pop_id walk is goes go same ws k there u s i os
+    (refl, proceeds)
+continues page_size old new q q' bytes (outcomes.On reported) course pop_id walk is proceeds go same ws k there u s i os
     pops push all =
     let was = all.fits k old there in
     let may = subst (λ (st : state.ChainState). MayPop s.limit q.event_index (pops k) old st) is was.2 in
     let on = go s i (pops k) may.0 all.queue was.0 may.1 all.small in
-    let adds : q.stopped ≡ None → AddsSo (at.Walking course pop_id walk) (wents.On told) new.descriptors.items
+    let adds : q.stopped ≡ None → AddsSo (at.Walking course pop_id walk) (outcomes.On reported) new.descriptors.items
     (pops k).loaded (whole old bytes.now) on.0 =
-    λ goes_on. subst (λ (st : state.ChainState). AddsSo st (wents.On told) new.descriptors.items
-    (pops k).loaded (whole old bytes.now) on.0) is (on.1 goes_on) in
+    λ carries_on. subst (λ (st : state.ChainState). AddsSo st (outcomes.On reported) new.descriptors.items
+    (pops k).loaded (whole old bytes.now) on.0) is (on.1 carries_on) in
     let loads : (after : Desk) → IsLoadedBy old.state
-    (turn i page_size k (desk s ws q os pops push) after old new) bytes.now told on.0 =
+    (turn i page_size k (desk s ws q os pops push) after old new) bytes.now reported on.0 =
     λ after. subst (λ (st : state.ChainState). IsLoadedBy st
-    (turn i page_size k (desk s ws q os pops push) after old new) bytes.now told on.0) (sym is) adds in
-    popped s i page_size k q q' ws os pops push old new (record (pops k) { loaded = on.0 }) told
-    (λ es d. Tells (turn i page_size k (desk s ws q os pops push) d old new) (does.Pop bytes) u
-    (gives.Popped (Ok (wents.On told))) es)
+    (turn i page_size k (desk s ws q os pops push) after old new) bytes.now reported on.0) (sym is) adds in
+    popped s i page_size k q q' ws os pops push old new (record (pops k) { loaded = on.0 }) reported
+    (λ es d. Reports (turn i page_size k (desk s ws q os pops push) d old new) (does.Pop bytes) u
+    (gives.Popped (Ok (outcomes.On reported))) es)
     all there (ap is_out is) same may.1
-    (λ after os' loads' es tells.
-    (goes, on.0, loads (desk after (with_handle ws k new) q' os' loads' push), tells))
+    (λ after os' loads' es reports.
+    (proceeds, on.0, loads (desk after (with_handle ws k new) q' os' loads' push), reports))
     on.2
 
 -- ---- what a pop keeps
@@ -448,14 +448,14 @@ step_pushing q (step.Refused e) = refl
 step_pushing q (step.Chain head fault) = refl
 step_pushing q (step.Missing range access) = refl
 
-kept_step : (course : Course) (pop_id : PopId) (came : comes.CourseStep) (old new : ChainHandle)
-    (q q' : QueueState) (told : walked.PopOutcome) → KeepsStep course pop_id came old new q q' told →
+preserved_step : (course : Course) (pop_id : PopId) (came : comes.CourseStep) (old new : ChainHandle)
+    (q q' : QueueState) (reported : walked.PopOutcome) → KeepsStep course pop_id came old new q q' reported →
     Popping old new q q'
-kept_step course pop_id came old new q q' told kept =
+preserved_step course pop_id came old new q q' reported preserved =
     record {
-      memory = (kept.4.0, kept.4.1);
-      pushing = ap (λ (r : QueueState). r.pushing) kept.2 ∙ step_pushing q came;
-      quiet = subst (λ (st : state.ChainState). HasNoPush st) (sym kept.1)
+      memory = (preserved.4.0, preserved.4.1);
+      pushing = ap (λ (r : QueueState). r.pushing) preserved.2 ∙ step_pushing q came;
+      quiet = subst (λ (st : state.ChainState). HasNoPush st) (sym preserved.1)
           (step_quiet course pop_id new.descriptors.items came);
     }
 
@@ -463,121 +463,121 @@ kept_step course pop_id came old new q q' told kept =
 free_quiet : (new : ChainHandle) → new.state ≡ at.Free → HasNoPush new.state
 free_quiet new is = subst (λ (st : state.ChainState). HasNoPush st) (sym is) tt
 
-pub begun_keeps : (old new : ChainHandle) (q q' : QueueState) (told : walked.PopOutcome)
+pub begun_keeps : (old new : ChainHandle) (q q' : QueueState) (reported : walked.PopOutcome)
     (stopped : Option QueueError) → old.state ≡ at.Free →
-    BeginsUnless stopped old new q q' told
+    BeginsUnless stopped old new q q' reported
     → Popping old new q q'
-begun_keeps old new q q' told (Some why) free by =
+begun_keeps old new q q' reported (Some why) free by =
     record {
       memory = (by.1.0.0, by.1.0.1);
       pushing = ap (λ (r : QueueState). r.pushing) by.2;
       quiet = free_quiet new (by.1.3 ∙ free);
     }
-begun_keeps old new q q' told None free by =
-    by_fault old new q q' told (event_fault (places_in old.regions) q) free by
+begun_keeps old new q q' reported None free by =
+    by_fault old new q q' reported (event_fault (places_in old.regions) q) free by
   where
-    by_miss : (old new : ChainHandle) (q q' : QueueState) (told : walked.PopOutcome) (e : QueueError)
+    by_miss : (old new : ChainHandle) (q q' : QueueState) (reported : walked.PopOutcome) (e : QueueError)
         (miss : Option (IovaRange × Permissions)) → old.state ≡ at.Free
-        → LacksEvents e miss old new q q' told → Popping old new q q'
-    by_miss old new q q' told e (Some miss) free by =
+        → LacksEvents e miss old new q q' reported → Popping old new q q'
+    by_miss old new q q' reported e (Some miss) free by =
         record {
           memory = (by.1.0.0.0, by.1.0.0.1);
           pushing = ap (λ (r : QueueState). r.pushing) by.2;
           quiet = free_quiet new (by.1.0.3 ∙ free);
         }
-    by_miss old new q q' told e None free by =
+    by_miss old new q q' reported e None free by =
         record {
           memory = (by.1.0.0.0, by.1.0.0.1);
           pushing = ap (λ (r : QueueState). r.pushing) by.2;
           quiet = free_quiet new (by.1.0.3 ∙ free);
         }
 
-    by_fault : (old new : ChainHandle) (q q' : QueueState) (told : walked.PopOutcome)
+    by_fault : (old new : ChainHandle) (q q' : QueueState) (reported : walked.PopOutcome)
         (fault : Option QueueError) → old.state ≡ at.Free →
-        BeginsWhere fault old new q q' told
+        BeginsWhere fault old new q q' reported
         → Popping old new q q'
-    by_fault old new q q' told (Some e) free by =
-        by_miss old new q q' told e (event_miss (places_in old.regions) q) free by
-    by_fault old new q q' told None free by =
-        kept_step (course_of q old.limit) (pop_id_of old.regions q) by.0 old new q q' told by.1
+    by_fault old new q q' reported (Some e) free by =
+        by_miss old new q q' reported e (event_miss (places_in old.regions) q) free by
+    by_fault old new q q' reported None free by =
+        preserved_step (course_of q old.limit) (pop_id_of old.regions q) by.0 old new q q' reported by.1
 
-pub gone_keeps : (old new : ChainHandle) (q q' : QueueState) (bytes : List ℕ) (told : walked.PopOutcome)
+pub gone_keeps : (old new : ChainHandle) (q q' : QueueState) (bytes : List ℕ) (reported : walked.PopOutcome)
     (course : Course) (pop_id : PopId) (walk : QueueWalk) (stopped : Option QueueError) →
-    GoesOnUnless stopped course pop_id walk bytes old new q q' told → Popping old new q q'
-gone_keeps old new q q' bytes told course pop_id walk (Some why) by =
+    ContinuesUnless stopped course pop_id walk bytes old new q q' reported → Popping old new q q'
+gone_keeps old new q q' bytes reported course pop_id walk (Some why) by =
     record {
       memory = (by.1.0.0, by.1.0.1);
       pushing = ap (λ (r : QueueState). r.pushing) by.2;
       quiet = free_quiet new by.1.3;
     }
-gone_keeps old new q q' bytes told course pop_id walk None by =
-    kept_step course pop_id by.0 old new q q' told by.1
+gone_keeps old new q q' bytes reported course pop_id walk None by =
+    preserved_step course pop_id by.0 old new q q' reported by.1
 
 pub no_part : (old : ChainHandle) (bytes : List ℕ) → came old + length bytes < load_len old.state →
     load_len old.state ≡ 0 → ⊥
 no_part old bytes less zero_is = omega arith
 
 pub part_keeps : (old new : ChainHandle) (q q' : QueueState) (bytes : List ℕ) (course : Course) (pop_id : PopId)
-    (walk : QueueWalk) → old.state ≡ at.Walking course pop_id walk → GoesSo old q bytes wents.Part new q' →
+    (walk : QueueWalk) → old.state ≡ at.Walking course pop_id walk → ProceedsSo old q bytes outcomes.Part new q' →
     Popping old new q q'
-part_keeps old new q q' bytes course pop_id walk is goes =
+part_keeps old new q q' bytes course pop_id walk is proceeds =
     record {
-      memory = (goes.3.0.0, goes.3.0.1);
-      pushing = ap (λ (r : QueueState). r.pushing) goes.5;
-      quiet = subst (λ (st : state.ChainState). HasNoPush st) (sym (goes.3.3 ∙ is)) tt;
+      memory = (proceeds.3.0.0, proceeds.3.0.1);
+      pushing = ap (λ (r : QueueState). r.pushing) proceeds.5;
+      quiet = subst (λ (st : state.ChainState). HasNoPush st) (sym (proceeds.3.3 ∙ is)) tt;
     }
 
 pop_at : (page_size : ℕ) (old new : ChainHandle) (q q' : QueueState) (bytes : Bor (List ℕ))
-    (told : went.LoadOutcome) (st : state.ChainState) →
+    (reported : outcome.LoadOutcome) (st : state.ChainState) →
     old.state ≡ st
-    → GoesSo old q bytes.now told new q' → PopsBy st old new q q' bytes.now told →
-    PopTold page_size old new q q' bytes told
-pop_at page_size old new q q' bytes wents.Part at.Free is goes by =
-    absurd (no_part old bytes.now goes.1 (ap load_len is))
-pop_at page_size old new q q' bytes (wents.On told) at.Free is goes by =
-    let on = subst (λ (st : state.ChainState). WalksFrom st (whole old bytes.now) old new q q' told) is goes.4
+    → ProceedsSo old q bytes.now reported new q' → PopsBy st old new q q' bytes.now reported →
+    PopReported page_size old new q q' bytes reported
+pop_at page_size old new q q' bytes outcomes.Part at.Free is proceeds by =
+    absurd (no_part old bytes.now proceeds.1 (ap load_len is))
+pop_at page_size old new q q' bytes (outcomes.On reported) at.Free is proceeds by =
+    let on = subst (λ (st : state.ChainState). WalksFrom st (whole old bytes.now) old new q q' reported) is proceeds.4
     in
-    begins page_size old new q q' bytes (wents.On told) is goes by
-    (begun_keeps old new q q' told q.stopped is on)
-pop_at page_size old new q q' bytes wents.Part (at.Walking course pop_id walk) is goes by =
-    continues page_size old new q q' bytes wents.Part course pop_id walk is goes by
-    (part_keeps old new q q' bytes.now course pop_id walk is goes)
-pop_at page_size old new q q' bytes (wents.On told) (at.Walking course pop_id walk) is goes by =
-    let on = subst (λ (st : state.ChainState). WalksFrom st (whole old bytes.now) old new q q' told) is goes.4
+    begins page_size old new q q' bytes (outcomes.On reported) is proceeds by
+    (begun_keeps old new q q' reported q.stopped is on)
+pop_at page_size old new q q' bytes outcomes.Part (at.Walking course pop_id walk) is proceeds by =
+    continues page_size old new q q' bytes outcomes.Part course pop_id walk is proceeds by
+    (part_keeps old new q q' bytes.now course pop_id walk is proceeds)
+pop_at page_size old new q q' bytes (outcomes.On reported) (at.Walking course pop_id walk) is proceeds by =
+    let on = subst (λ (st : state.ChainState). WalksFrom st (whole old bytes.now) old new q q' reported) is proceeds.4
     in
-    continues page_size old new q q' bytes (wents.On told) course pop_id walk is goes by
-    (gone_keeps old new q q' (whole old bytes.now) told course pop_id walk q.stopped on)
-pop_at page_size old new q q' bytes (wents.On told) (at.Taken o) is goes by =
-    absurd (subst (λ (st : state.ChainState). WalksFrom st (whole old bytes.now) old new q q' told) is goes.4)
-pop_at page_size old new q q' bytes wents.Part (at.Taken o) is goes by =
-    absurd (no_part old bytes.now goes.1 (ap load_len is))
-pop_at page_size old new q q' bytes (wents.On told) (at.Waits o w) is goes by =
-    absurd (subst (λ (st : state.ChainState). WalksFrom st (whole old bytes.now) old new q q' told) is goes.4)
-pop_at page_size old new q q' bytes wents.Part (at.Waits o w) is goes by =
-    absurd (no_part old bytes.now goes.1 (ap load_len is))
-pop_at page_size old new q q' bytes (wents.On told) (at.Lists o l) is goes by =
-    absurd (subst (λ (st : state.ChainState). WalksFrom st (whole old bytes.now) old new q q' told) is goes.4)
-pop_at page_size old new q q' bytes wents.Part (at.Lists o l) is goes by =
-    absurd (no_part old bytes.now goes.1 (ap load_len is))
-pop_at page_size old new q q' bytes (wents.On told) (at.HasReply o kept) is goes by =
-    absurd (subst (λ (st : state.ChainState). WalksFrom st (whole old bytes.now) old new q q' told) is goes.4)
-pop_at page_size old new q q' bytes wents.Part (at.HasReply o kept) is goes by =
-    absurd (no_part old bytes.now goes.1 (ap load_len is))
-pop_at page_size old new q q' bytes (wents.On told) (at.Pushing o) is goes by =
-    absurd (subst (λ (st : state.ChainState). WalksFrom st (whole old bytes.now) old new q q' told) is goes.4)
-pop_at page_size old new q q' bytes wents.Part (at.Pushing o) is goes by =
-    absurd (no_part old bytes.now goes.1 (ap load_len is))
+    continues page_size old new q q' bytes (outcomes.On reported) course pop_id walk is proceeds by
+    (gone_keeps old new q q' (whole old bytes.now) reported course pop_id walk q.stopped on)
+pop_at page_size old new q q' bytes (outcomes.On reported) (at.Taken o) is proceeds by =
+    absurd (subst (λ (st : state.ChainState). WalksFrom st (whole old bytes.now) old new q q' reported) is proceeds.4)
+pop_at page_size old new q q' bytes outcomes.Part (at.Taken o) is proceeds by =
+    absurd (no_part old bytes.now proceeds.1 (ap load_len is))
+pop_at page_size old new q q' bytes (outcomes.On reported) (at.Waits o w) is proceeds by =
+    absurd (subst (λ (st : state.ChainState). WalksFrom st (whole old bytes.now) old new q q' reported) is proceeds.4)
+pop_at page_size old new q q' bytes outcomes.Part (at.Waits o w) is proceeds by =
+    absurd (no_part old bytes.now proceeds.1 (ap load_len is))
+pop_at page_size old new q q' bytes (outcomes.On reported) (at.Lists o l) is proceeds by =
+    absurd (subst (λ (st : state.ChainState). WalksFrom st (whole old bytes.now) old new q q' reported) is proceeds.4)
+pop_at page_size old new q q' bytes outcomes.Part (at.Lists o l) is proceeds by =
+    absurd (no_part old bytes.now proceeds.1 (ap load_len is))
+pop_at page_size old new q q' bytes (outcomes.On reported) (at.HasReply o preserved) is proceeds by =
+    absurd (subst (λ (st : state.ChainState). WalksFrom st (whole old bytes.now) old new q q' reported) is proceeds.4)
+pop_at page_size old new q q' bytes outcomes.Part (at.HasReply o preserved) is proceeds by =
+    absurd (no_part old bytes.now proceeds.1 (ap load_len is))
+pop_at page_size old new q q' bytes (outcomes.On reported) (at.Pushing o) is proceeds by =
+    absurd (subst (λ (st : state.ChainState). WalksFrom st (whole old bytes.now) old new q q' reported) is proceeds.4)
+pop_at page_size old new q q' bytes outcomes.Part (at.Pushing o) is proceeds by =
+    absurd (no_part old bytes.now proceeds.1 (ap load_len is))
 
 pub pop_result : (old new : ChainHandle) (q q' : QueueState) (bytes : Bor (List ℕ))
-    (result : Result went.LoadOutcome ChainError)
-    → IfOk result (λ told. GoesSo old q bytes.now told new q')
+    (result : Result outcome.LoadOutcome ChainError)
+    → IfOk result (λ reported. ProceedsSo old q bytes.now reported new q')
     → IfErr result (RefusesWalk old q bytes.now)
     → OnErr result (IsSame old new × (q' ≡ q))
-    → IfOk result (λ told. PopsBy old.state old new q q' bytes.now told)
+    → IfOk result (λ reported. PopsBy old.state old new q q' bytes.now reported)
     → (page_size : ℕ) → DrivesOne page_size old new q q' (does.Pop bytes) (gives.Popped result)
-pop_result old new q q' bytes (Ok told) goes err same step page_size =
-    pop_at page_size old new q q' bytes told old.state refl goes step
-pop_result old new q q' bytes (Err e) goes err same step page_size =
+pop_result old new q q' bytes (Ok reported) proceeds err same step page_size =
+    pop_at page_size old new q q' bytes reported old.state refl proceeds step
+pop_result old new q q' bytes (Err e) proceeds err same step page_size =
     subst (λ (r : QueueState). DrivesOne page_size old new q r (does.Pop bytes) (gives.Popped (Err e)))
     (sym same.1)
     (refuses page_size old new q (does.Pop bytes) (gives.Popped (Err e))

@@ -22,7 +22,7 @@ use Rattle.fs_chain.specs.declared.queue.QueueState.{QueueState}
 use Rattle.fs_driven.specs.declared.commands.Command.TheVariants as does
 use Rattle.fs_driven.specs.declared.commands.Returned.TheVariants as gives
 use Rattle.fs_driven.specs.Desks.{Desk, FitsRun, In, IsLost, desk, lost}
-use Rattle.fs_driven.specs.Told.{Drives, DrivesOne, HasNoChain, MayReset, TellsAll, call_of, storing}
+use Rattle.fs_driven.specs.Reported.{Drives, DrivesOne, HasNoChain, MayReset, ReportsAll, call_of, storing}
 use Rattle.fs_driven.proofs.Handles.{Seen, held_out, not_free}
 use Rattle.fs_driven.proofs.Calls.{refuses, same_held}
 use Rattle.fs_driven.proofs.Lists.{single}
@@ -106,7 +106,7 @@ reset_done ws q q' layout position may is resets page_size k zs calls s i os pop
         left = λ c m. absurd m;
         still = λ pushing. refl;
       },
-      subst (λ (l : List Seen). TellsAll i page_size d l (ResetsQueue i (live_of q') ∷ []) end) (sym z.1)
+      subst (λ (l : List Seen). ReportsAll i page_size d l (ResetsQueue i (live_of q') ∷ []) end) (sym z.1)
           (ResetsQueue i (live_of q') ∷ [], [], end, refl, inr (inr (refl, may, is, refl, refl)), (refl, refl)),
     )
 
@@ -125,7 +125,7 @@ reset_not_done ws q layout position not page_size k zs calls s i os pops push al
       push,
       refl,
       all,
-      subst (λ (l : List Seen). TellsAll i page_size d l [] d) (sym z.1)
+      subst (λ (l : List Seen). ReportsAll i page_size d l [] d) (sym z.1)
           ([], [], d, refl, inr (inr (refl, refl, not)), (refl, refl)),
     )
 
@@ -154,7 +154,7 @@ stored ws q wanted store is stores page_size k zs calls s i os pops push all =
       push,
       by_store store (stores s i all.queue),
       all,
-      subst (λ (l : List Seen). TellsAll i page_size d l (storing i s.places store) d) (sym z.1) (
+      subst (λ (l : List Seen). ReportsAll i page_size d l (storing i s.places store) d) (sym z.1) (
         storing i s.places store,
         [],
         d,

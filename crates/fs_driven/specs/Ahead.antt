@@ -8,31 +8,31 @@ use Rattle.fs_chain.specs.Holds.{IsQueue, Machine, PopIs}
 use Rattle.fs_chain.specs.Loads.{whole}
 use Rattle.fs_chain.specs.Pops.{AddsSo}
 use Rattle.fs_chain.specs.declared.chain_handle.ChainHandle.{ChainHandle}
-use Rattle.fs_chain.specs.declared.loads.LoadOutcome as went
-use Rattle.fs_chain.specs.declared.loads.LoadOutcome.TheVariants as wents
+use Rattle.fs_chain.specs.declared.loads.LoadOutcome as outcome
+use Rattle.fs_chain.specs.declared.loads.LoadOutcome.TheVariants as outcomes
 use Rattle.fs_chain.specs.declared.popping.PopOutcome as walked
 use Rattle.fs_chain.specs.declared.queue.QueueState.{QueueState}
 
 -- the loads of such a pop: those of its calls, as long as its queue isn't stopped
 abbrev pub AddsAhead : (taken : List AheadBytes) (old new : ChainHandle) (before after : QueueState)
-    (told : went.LoadOutcome) → WalksAhead taken old new before after told → Loaded → Type 0
-AddsAhead [] old new before after told walks loaded = loaded ≡ nothing
-AddsAhead (l ∷ taken) old new before after told walks loaded =
+    (reported : outcome.LoadOutcome) → WalksAhead taken old new before after reported → Loaded → Type 0
+AddsAhead [] old new before after reported walks loaded = loaded ≡ nothing
+AddsAhead (l ∷ taken) old new before after reported walks loaded =
     (earlier : Loaded)
     × AddsAhead taken old walks.0 before walks.1 walks.2 walks.3 earlier
     × (walks.1.stopped ≡ None →
-    AddsSo walks.0.state told new.descriptors.items earlier (whole walks.0 l.bytes) loaded)
+    AddsSo walks.0.state reported new.descriptors.items earlier (whole walks.0 l.bytes) loaded)
 
 -- a pop that begins and goes on by loads ahead is one step at most, by the loads that it took of them: it
 -- asks for the next one, or misses addresses, or ends, or is refused
 unfoldable pub PopsAheadBy : (ahead : List AheadBytes) (old new : ChainHandle) (q q' : QueueState)
-    (told : walked.PopOutcome) → PopsAhead ahead old new q q' (wents.On told) → Type 0
-PopsAheadBy ahead old new q q' told pop =
+    (reported : walked.PopOutcome) → PopsAhead ahead old new q q' (outcomes.On reported) → Type 0
+PopsAheadBy ahead old new q q' reported pop =
     (s : Machine) (i : ℕ) →
     IsQueue s i q →
     s.places ≡ places_in old.regions →
     s.limit ≡ old.limit →
     s.limit ≤ 2 ^ 31 →
     (loaded : Loaded)
-    × AddsAhead (last_first pop.first []) old new q q' (wents.On told) pop.walks loaded
-    × PopIs s i q q' (record { loaded = loaded; event_index = q.event_index }) new told
+    × AddsAhead (last_first pop.first []) old new q q' (outcomes.On reported) pop.walks loaded
+    × PopIs s i q q' (record { loaded = loaded; event_index = q.event_index }) new reported

@@ -6,7 +6,7 @@ use Rattle.fs_chain.specs.declared.chain_handle.ChainHandle.{ChainHandle}
 use Rattle.fs_chain.specs.declared.queue.QueueState.{QueueState}
 use Rattle.fs_chain.specs.declared.state.ChainState.TheVariants as at
 use Rattle.fs_driven.specs.Desks.{Leads, desk, no_pop}
-use Rattle.fs_driven.specs.Told.{Called, TellsAll, Unseen, seen_of}
+use Rattle.fs_driven.specs.Reported.{Called, ReportsAll, Unseen, seen_of}
 
 -- a free handle over this memory, with this limit
 abbrev pub IsNew : Mapped → (limit : ℕ) → ChainHandle → Type 0
@@ -32,4 +32,4 @@ RunsFromNew page_size limit first second q q' ws calls =
     × IsNew first limit one
     × IsNew second limit other
     × Leads s i page_size q' ws
-    (λ es d. TellsAll i page_size (desk s (one ∷ other ∷ []) q [] (λ _. no_pop) None) zs es d)
+    (λ es d. ReportsAll i page_size (desk s (one ∷ other ∷ []) q [] (λ _. no_pop) None) zs es d)

@@ -58,7 +58,7 @@ IsUnderWay k q c x (Some b) = (b.handle ≡ k) × IsBegunBy q c x b
 -- a chain whose reply is known can be pushed: each of its calls was answered
 abbrev pub IsReady :
     (page_size k : ℕ) → QueueState → Option Begun → InFlightChain → state.ChainState → Type 0
-IsReady page_size k q push c (at.HasReply out kept) = (x : Exchange) × PushedWith page_size c c.phase x
+IsReady page_size k q push c (at.HasReply out preserved) = (x : Exchange) × PushedWith page_size c c.phase x
 IsReady page_size k q push c (at.Pushing out) =
     (x : Exchange) × PushedWith page_size c c.phase x × IsUnderWay k q c x push
 IsReady page_size k q push c _ = Unit {0}

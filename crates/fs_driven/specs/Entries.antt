@@ -42,7 +42,7 @@ added_as (Some node) l list_len name_len = added_found l list_len name_len
 
 -- a listing goes on, if its first entry is refused
 abbrev pub refused_by : (added : ℕ) → Result Added ChainError → Option ChainError
-refused_by added (Ok told) = None
+refused_by added (Ok reported) = None
 refused_by added (Err e) = if added == 0 then Some e else None
 
 -- the error with which a listing fails after this result, if it does. `failure`: that of its directory

@@ -3,5 +3,5 @@ pub mod Ahead
 pub mod Begins
 pub mod Desks
 pub mod Entries
-pub mod Kept
-pub mod Told
+pub mod Preserved
+pub mod Reported

@@ -2,7 +2,7 @@
 //! what they returned.
 
 ghost use Rattle.std.specs.Prelude.{◌≡◌, ◌∷◌, [], ℕ, Bool, All, true, false};
-ghost use Rattle.fs_driven.specs.Told.{Drives, DrivesOne, HasNoChain, MayReset, call_of, calls_of};
+ghost use Rattle.fs_driven.specs.Reported.{Drives, DrivesOne, HasNoChain, MayReset, call_of, calls_of};
 ghost use Rattle.fs_driven.specs.declared.commands.Command.TheVariants as does;
 ghost use Rattle.fs_driven.specs.declared.commands.Returned.TheVariants as gives;
 
@@ -444,8 +444,8 @@ fn perform<'a>(
     ensures step { Drives page_size handles.old handles.new queue.old queue.new
         (call_of k command.old returned.new ∷ []) }
 {
-    let told = drive(handles, k, queue, page_size, command);
-    let _old = mem::replace(returned, told);
+    let reported = drive(handles, k, queue, page_size, command);
+    let _old = mem::replace(returned, reported);
 }
 
 /// Performs commands one behind another, each for the handle in its place, and keeps what each returned: a

@@ -3,7 +3,7 @@
 ghost use Rattle.std.specs.Prelude.{◌≡◌, ◌<◌, ◌^◌, ℕ, drop, take};
 ghost use Rattle.fs_driven.specs.Adding.{BringsAll, BringsOne, EndsSo, EndsUnless};
 ghost use Rattle.fs_driven.specs.Entries.{errno_after, refused_by};
-ghost use Rattle.fs_driven.specs.Told.{DrivesOne};
+ghost use Rattle.fs_driven.specs.Reported.{DrivesOne};
 ghost use Rattle.fs_driven.specs.declared.commands.Command.TheVariants as does;
 ghost use Rattle.fs_driven.specs.declared.commands.Returned.TheVariants as gives;
 

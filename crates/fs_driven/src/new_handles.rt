@@ -3,7 +3,7 @@
 
 ghost use Rattle.std.specs.Prelude.{IfOk};
 ghost use Rattle.fs_driven.specs.Begins.{IsNew, RunsFromNew};
-ghost use Rattle.fs_driven.specs.Told.{calls_of};
+ghost use Rattle.fs_driven.specs.Reported.{calls_of};
 
 use crate::commands::{Command, Returned, drive_all};
 use crate::laws::law_driven;

@@ -2,7 +2,7 @@
 //! of the live machine is the contract of `drive_all`.
 
 ghost use Rattle.std.specs.Prelude.{◌∷◌, []};
-ghost use Rattle.fs_driven.specs.Told.{Drives, calls_of};
+ghost use Rattle.fs_driven.specs.Reported.{Drives, calls_of};
 ghost use Rattle.fs_driven.specs.declared.commands.Command.TheVariants as does;
 
 use crate::commands::{Command, Returned, drive_all};

@@ -73,11 +73,11 @@ read_piece s after chain first count unique node contents piece request reply as
     number same good)
 
 -- the entry that a look-up's reply tells
-pub told_entry : (bytes : List ℕ) (found : Option EntryOut) (entry : EntryOut) → found ≡ Some entry →
+pub reported_entry : (bytes : List ℕ) (found : Option EntryOut) (entry : EntryOut) → found ≡ Some entry →
     IfSome found (λ x. (bytes ≡ spelled (entry_out x)) × AllFit (entry_out x)) → IsEntryBytes bytes entry.nodeid
 unfolding IsEntryBytes
-told_entry bytes found entry is told =
-    let own = subst (λ (o : Option EntryOut). IfSome o (λ x. (bytes ≡ spelled (entry_out x)) × AllFit (entry_out x))) is told in
+reported_entry bytes found entry is reported =
+    let own = subst (λ (o : Option EntryOut). IfSome o (λ x. (bytes ≡ spelled (entry_out x)) × AllFit (entry_out x))) is reported in
     (entry, own.1, own.0, refl)
 
 -- the chain after one is one more

@@ -20,7 +20,7 @@ use Rattle.plain_machine.specs.declared.refusal.Refusal.{Refusal}
 use Rattle.plain_machine.specs.declared.refusal.Refusal.TheVariants.{NoPlace}
 use Rattle.plain_machine.specs.Step.{State, Exchanged, Step}
 use Rattle.plain_machine.specs.Run as run
-use Rattle.plain_machine.specs.Run.{Turn, Turns, Command, Answer, KickAnswer, Kicks, KickRun, Run, RunTold, Effect, IsDecided, effect}
+use Rattle.plain_machine.specs.Run.{Turn, Turns, Command, Answer, KickAnswer, Kicks, KickRun, Run, RunReported, Effect, IsDecided, effect}
 use Rattle.fuse_files.specs.Directory.{Directory, DirectoryAnswers}
 use Rattle.fs_example.specs.Reading.{read_reply, wanted}
 use Rattle.fs_example.specs.GuestGets.{laid_over, GetsFile, KickGivesFile, kick_and_look, GuestGetsTheFile}
@@ -29,7 +29,7 @@ use Rattle.fs_device.proofs.TellingLemmas.{end_keeps}
 use Rattle.fs_example.proofs.HoldLemmas.{HoldsItsBlocks, run_holds}
 use Rattle.fs_example.proofs.ReadLemmas.{step_reads, serves_each}
 use Rattle.std.proofs.lemmas.Bool.{and_parts}
-use Rattle.fs_device.specs.Telling.{calls_told}
+use Rattle.fs_device.specs.Telling.{calls_reported}
 use Rattle.fuse_fs.specs.Calls.{FileRun}
 
 -- ---- a run in two parts
@@ -37,14 +37,14 @@ use Rattle.fuse_fs.specs.Calls.{FileRun}
 abbrev Split : State Directory → (before behind : List (Command × Answer)) → State Directory → Type 0
 Split s before behind after = (found : State Directory) × Run DirectoryAnswers s before found × Run DirectoryAnswers found behind after
 
-split : (s after : State Directory) (before behind : List (Command × Answer)) (tolds : List Turns) →
-    RunTold DirectoryAnswers s (before ++ behind) tolds after → Split s before behind after
-unfolding RunTold
-split s after [] behind tolds t = (s, ([], refl), (tolds, t))
+split : (s after : State Directory) (before behind : List (Command × Answer)) (all_reported : List Turns) →
+    RunReported DirectoryAnswers s (before ++ behind) all_reported after → Split s before behind after
+unfolding RunReported
+split s after [] behind all_reported t = (s, ([], refl), (all_reported, t))
 split s after (e ∷ es) behind [] t = absurd t
-split s after (e ∷ es) behind (told ∷ tolds) (mid, performs, rest) =
-    let parts = split mid after es behind tolds rest in
-    (parts.0, (told ∷ parts.1.0, (mid, performs, parts.1.1)), parts.2)
+split s after (e ∷ es) behind (reported ∷ all_reported) (mid, performs, rest) =
+    let parts = split mid after es behind all_reported rest in
+    (parts.0, (reported ∷ parts.1.0, (mid, performs, parts.1.1)), parts.2)
 
 -- ---- a kick of one chain
 
@@ -53,14 +53,14 @@ abbrev OneExchange : State Directory → (i : ℕ) → State Directory → Type 
 OneExchange s i after = (t : Turn) × (mid : State Directory) × Step DirectoryAnswers s i t.calls (Exchanged t.exchange t.notice) mid
     × (after.memory ≡ mid.memory)
 
-one_turn : (s after : State Directory) (i most : ℕ) (q : Queue) (told : Turns) (k : KickAnswer) →
-    Kicks DirectoryAnswers s i most (Some q) told k after → length k.exchanges ≡ 1 → OneExchange s i after
+one_turn : (s after : State Directory) (i most : ℕ) (q : Queue) (reported : Turns) (k : KickAnswer) →
+    Kicks DirectoryAnswers s i most (Some q) reported k after → length k.exchanges ≡ 1 → OneExchange s i after
 unfolding KickRun
 one_turn s after i most q [] k (ran, shows) one = absurd (omega (arith, one, ap length shows))
-one_turn s after i zero q (t ∷ told) k (ran, shows) one = absurd ran
+one_turn s after i zero q (t ∷ reported) k (ran, shows) one = absurd ran
 one_turn s after i (suc most) q (t ∷ []) k ((mid, step, ends), shows) one =
     (t, mid, step, end_keeps DirectoryAnswers mid i most k.refused after ends)
-one_turn s after i (suc most) q (t ∷ u ∷ told) k (ran, shows) one = absurd (omega (arith, one, ap length shows))
+one_turn s after i (suc most) q (t ∷ u ∷ reported) k (ran, shows) one = absurd (omega (arith, one, ap length shows))
 
 -- ---- the guest's look
 
@@ -128,15 +128,16 @@ gets_file m room k a n unique file got is = (is, λ fits behind within. is ∙ f
 -- ---- a kick, and then a look
 
 kick_gives :
-    (s mid after : State Directory) (i most a n : ℕ) (kicked : KickAnswer) (got : List ℕ) (told : Turns) → HoldsItsBlocks s.memory →
-    Kicks DirectoryAnswers s i most (slice_get s.queues i) told kicked mid →
+    (s mid after : State Directory) (i most a n : ℕ) (kicked : KickAnswer) (got : List ℕ) (reported : Turns) → HoldsItsBlocks s.memory →
+    Kicks DirectoryAnswers s i most (slice_get s.queues i) reported kicked mid →
     IsDecided (effect mid (run.GuestRead a n)) (run.Bytes got) after → KickGivesFile s i kicked a n got
-kick_gives s mid after i most a n kicked got told held kicks look q head request room unique node size offset k f one there offered reads
+kick_gives s mid after i most a n kicked got reported held kicks look q head request room unique node size offset k f one there offered
+    reads
     file apart looks =
     let reply = read_reply (length room) unique (wanted f size offset) in
-    let ran : Kicks DirectoryAnswers s i most (Some q) told kicked mid =
-    subst (λ (o : Option Queue). Kicks DirectoryAnswers s i most o told kicked mid) there kicks in
-    let turn = one_turn s mid i most q told kicked ran one in
+    let ran : Kicks DirectoryAnswers s i most (Some q) reported kicked mid =
+    subst (λ (o : Option Queue). Kicks DirectoryAnswers s i most o reported kicked mid) there kicks in
+    let turn = one_turn s mid i most q reported kicked ran one in
     let stored = step_reads s turn.1 i turn.0.calls (Exchanged turn.0.exchange turn.0.notice) turn.2 q head request room unique node size
     offset f there offered reads file in
     let is : mid.memory ≡ returned s.memory q head room reply = turn.3 ∙ stored.1 in
@@ -152,29 +153,29 @@ kick_gives s mid after i most a n kicked got told held kicks look q head request
     held places apart looks)
 
 both_give : (s after : State Directory) (i most a n : ℕ) (kicked : KickAnswer) (got : List ℕ) (later : List (Command × Answer))
-    (tolds : List Turns) →
-    RunTold DirectoryAnswers s (kick_and_look i most kicked a n got ++ later) tolds after → HoldsItsBlocks s.memory →
+    (all_reported : List Turns) →
+    RunReported DirectoryAnswers s (kick_and_look i most kicked a n got ++ later) all_reported after → HoldsItsBlocks s.memory →
     KickGivesFile s i kicked a n got
-unfolding RunTold
+unfolding RunReported
 both_give s after i most a n kicked got later [] t held = absurd t
-both_give s after i most a n kicked got later (told ∷ []) (mid, kicks, rest) held = absurd rest
-both_give s after i most a n kicked got later (told ∷ [] ∷ tolds) (mid, kicks, (next, look, rest)) held =
-    kick_gives s mid next i most a n kicked got told held kicks look
-both_give s after i most a n kicked got later (told ∷ (t ∷ ts) ∷ tolds) (mid, kicks, (next, look, rest)) held = absurd look
+both_give s after i most a n kicked got later (reported ∷ []) (mid, kicks, rest) held = absurd rest
+both_give s after i most a n kicked got later (reported ∷ [] ∷ all_reported) (mid, kicks, (next, look, rest)) held =
+    kick_gives s mid next i most a n kicked got reported held kicks look
+both_give s after i most a n kicked got later (reported ∷ (t ∷ ts) ∷ all_reported) (mid, kicks, (next, look, rest)) held = absurd look
 
 -- ---- runs
 
-pub run_gives : (s after : State Directory) (events : List (Command × Answer)) (tolds : List Turns) →
-    RunTold DirectoryAnswers s events tolds after → HoldsItsBlocks s.memory →
-    ((end : State Directory) (part : List (Command × Answer)) (told : List Turns) → RunTold DirectoryAnswers s part told end →
-    FileRun DirectoryAnswers s.files (calls_told told) end.files) →
+pub run_gives : (s after : State Directory) (events : List (Command × Answer)) (all_reported : List Turns) →
+    RunReported DirectoryAnswers s events all_reported after → HoldsItsBlocks s.memory →
+    ((end : State Directory) (part : List (Command × Answer)) (reported : List Turns) → RunReported DirectoryAnswers s part reported end →
+    FileRun DirectoryAnswers s.files (calls_reported reported) end.files) →
     GuestGetsTheFile s events after
-run_gives s after events tolds ran held calls before later i most a n kicked got is =
+run_gives s after events all_reported ran held calls before later i most a n kicked got is =
     let behind = kick_and_look i most kicked a n got ++ later in
-    let cut : RunTold DirectoryAnswers s (before ++ behind) tolds after =
-    subst (λ (es : List (Command × Answer)). RunTold DirectoryAnswers s es tolds after) is ran in
-    let parts = split s after before behind tolds cut in
-    let same = (serves_each s.files (calls_told parts.1.0) parts.0.files (calls parts.0 before parts.1.0 parts.1.1)).1 in (
+    let cut : RunReported DirectoryAnswers s (before ++ behind) all_reported after =
+    subst (λ (es : List (Command × Answer)). RunReported DirectoryAnswers s es all_reported after) is ran in
+    let parts = split s after before behind all_reported cut in
+    let same = (serves_each s.files (calls_reported parts.1.0) parts.0.files (calls parts.0 before parts.1.0 parts.1.1)).1 in (
       parts.0,
       same,
       parts.1,

@@ -23,7 +23,7 @@ use Rattle.plain_machine.specs.declared.refusal.Refusal.TheVariants as why
 use Rattle.plain_machine.specs.Step.{State, Exchange, Calls, Exchanged, Exchanges, StepOf}
 use Rattle.plain_machine.specs.Run as run
 use Rattle.plain_machine.specs.Run.{Turns, Command, Answer, Effect, KickRun, Kicks, KickAnswer, Affects, ChangesTable, HasEffect, Does}
-use Rattle.plain_machine.specs.Run.{Performs, RunTold}
+use Rattle.plain_machine.specs.Run.{Performs, RunReported}
 use Rattle.plain_machine.specs.Run.{effect, IsDecided, insert, insert_block, is_known, has_len, some_overlap, reset}
 use Rattle.fs_device.proofs.TellingLemmas.{end_keeps}
 use Rattle.fs_device.proofs.LayoutLemmas.{held_grown, held_with, held_without, block_there}
@@ -75,20 +75,21 @@ step_holds may s i (Some q) calls x notice after t held = exchange_holds may s i
 
 -- ---- kicks
 
-kick_holds : {F : Type 0} (may : May F) (s : State F) (i most : ℕ) (told : Turns) (refused : Option DeviceError) (after : State F) →
-    KickRun may s i most told refused after → HoldsItsBlocks s.memory →
+kick_holds : {F : Type 0} (may : May F) (s : State F) (i most : ℕ) (reported : Turns) (refused : Option DeviceError) (after : State F) →
+    KickRun may s i most reported refused after → HoldsItsBlocks s.memory →
     HoldsItsBlocks after.memory
 unfolding KickRun
 kick_holds may s i most [] refused after t held = held_same s.memory after.memory (end_keeps may s i most refused after t) held
-kick_holds may s i zero (x ∷ told) refused after t held = absurd t
-kick_holds may s i (suc most) (x ∷ told) refused after (mid, step, rest) held =
-    kick_holds may mid i most told refused after rest (step_holds may s i (slice_get s.queues i) x.calls x.exchange x.notice mid step held)
+kick_holds may s i zero (x ∷ reported) refused after t held = absurd t
+kick_holds may s i (suc most) (x ∷ reported) refused after (mid, step, rest) held =
+    kick_holds may mid i most reported refused after rest (step_holds may s i (slice_get s.queues i) x.calls x.exchange x.notice mid step
+    held)
 
-kicks_hold : {F : Type 0} (may : May F) (s : State F) (i most : ℕ) (o : Option Queue) (told : Turns) (k : KickAnswer) (after : State F) →
-    Kicks may s i most o told k after → HoldsItsBlocks s.memory →
+kicks_hold : {F : Type 0} (may : May F) (s : State F) (i most : ℕ) (o : Option Queue) (reported : Turns) (k : KickAnswer) (after : State F)
+    → Kicks may s i most o reported k after → HoldsItsBlocks s.memory →
     HoldsItsBlocks after.memory
-kicks_hold may s i most None told k after t held = held_same s.memory after.memory (ap (λ s. s.memory) t.0) held
-kicks_hold may s i most (Some q) told k after t held = kick_holds may s i most told k.refused after t.0 held
+kicks_hold may s i most None reported k after t held = held_same s.memory after.memory (ap (λ s. s.memory) t.0) held
+kicks_hold may s i most (Some q) reported k after t held = kick_holds may s i most reported k.refused after t.0 held
 
 -- ---- the other commands
 
@@ -212,63 +213,67 @@ affect_holds s (run.ResetQueue queue size desc avail used) answer after t held =
 affect_holds s run.Image answer after t held = by_effect s run.Image answer after t held
 affect_holds s run.Harvest answer after t held = by_effect s run.Harvest answer after t held
 
-told_holds : {F : Type 0} (s : State F) (command : Command) (told : Turns) (answer : Answer) (after : State F) →
-    HasEffect s command told answer after → HoldsItsBlocks s.memory → HoldsItsBlocks after.memory
-told_holds s command [] answer after t held = affect_holds s command answer after t held
-told_holds s command (x ∷ told) answer after t held = absurd t
+reported_holds : {F : Type 0} (s : State F) (command : Command) (reported : Turns) (answer : Answer) (after : State F) →
+    HasEffect s command reported answer after → HoldsItsBlocks s.memory → HoldsItsBlocks after.memory
+reported_holds s command [] answer after t held = affect_holds s command answer after t held
+reported_holds s command (x ∷ reported) answer after t held = absurd t
 
 -- ---- runs
 
-does_hold : {F : Type 0} (may : May F) (s : State F) (command : Command) (told : Turns) (answer : Answer) (after : State F) →
-    Does may s command told answer after → HoldsItsBlocks s.memory → HoldsItsBlocks after.memory
-does_hold may s (run.Kick i most) told (run.Served k) after t held = kicks_hold may s i most (slice_get s.queues i) told k after t held
-does_hold may s (run.Kick i most) told run.Done after t held = absurd t
-does_hold may s (run.Kick i most) told (run.Bytes bytes) after t held = absurd t
-does_hold may s (run.Kick i most) told (run.NewBlockIs number) after t held = absurd t
-does_hold may s (run.Kick i most) told (run.Copied host) after t held = absurd t
-does_hold may s (run.Kick i most) told (run.Pages pages) after t held = absurd t
-does_hold may s (run.Kick i most) told (run.IsRefused refusal) after t held = absurd t
-does_hold may s (run.GuestRead a n) told answer after t held = told_holds s (run.GuestRead a n) told answer after t held
-does_hold may s (run.GuestWrite a bs) told answer after t held = told_holds s (run.GuestWrite a bs) told answer after t held
-does_hold may s (run.NewBlock n) told answer after t held = told_holds s (run.NewBlock n) told answer after t held
-does_hold may s (run.InsertRegion base block) told answer after t held = told_holds s (run.InsertRegion base block) told answer after t held
-does_hold may s (run.RemoveRegion base size) told answer after t held = told_holds s (run.RemoveRegion base size) told answer after t held
-does_hold may s (run.SetLayout layout) told answer after t held = told_holds s (run.SetLayout layout) told answer after t held
-does_hold may s (run.Map iova target n perm) told answer after t held = told_holds s (run.Map iova target n perm) told answer after t held
-does_hold may s (run.Unmap iova n) told answer after t held = told_holds s (run.Unmap iova n) told answer after t held
-does_hold may s run.UnmapAll told answer after t held = told_holds s run.UnmapAll told answer after t held
-does_hold may s (run.SetIommu on) told answer after t held = told_holds s (run.SetIommu on) told answer after t held
-does_hold may s (run.ResetQueue queue size desc avail used) told answer after t held =
-    told_holds s (run.ResetQueue queue size desc avail used) told answer after t held
-does_hold may s run.Image told answer after t held = told_holds s run.Image told answer after t held
-does_hold may s run.Harvest told answer after t held = told_holds s run.Harvest told answer after t held
+does_hold : {F : Type 0} (may : May F) (s : State F) (command : Command) (reported : Turns) (answer : Answer) (after : State F) →
+    Does may s command reported answer after → HoldsItsBlocks s.memory → HoldsItsBlocks after.memory
+does_hold may s (run.Kick i most) reported (run.Served k) after t held =
+    kicks_hold may s i most (slice_get s.queues i) reported k after t held
+does_hold may s (run.Kick i most) reported run.Done after t held = absurd t
+does_hold may s (run.Kick i most) reported (run.Bytes bytes) after t held = absurd t
+does_hold may s (run.Kick i most) reported (run.NewBlockIs number) after t held = absurd t
+does_hold may s (run.Kick i most) reported (run.Copied host) after t held = absurd t
+does_hold may s (run.Kick i most) reported (run.Pages pages) after t held = absurd t
+does_hold may s (run.Kick i most) reported (run.IsRefused refusal) after t held = absurd t
+does_hold may s (run.GuestRead a n) reported answer after t held = reported_holds s (run.GuestRead a n) reported answer after t held
+does_hold may s (run.GuestWrite a bs) reported answer after t held = reported_holds s (run.GuestWrite a bs) reported answer after t held
+does_hold may s (run.NewBlock n) reported answer after t held = reported_holds s (run.NewBlock n) reported answer after t held
+does_hold may s (run.InsertRegion base block) reported answer after t held =
+    reported_holds s (run.InsertRegion base block) reported answer after t held
+does_hold may s (run.RemoveRegion base size) reported answer after t held =
+    reported_holds s (run.RemoveRegion base size) reported answer after t held
+does_hold may s (run.SetLayout layout) reported answer after t held = reported_holds s (run.SetLayout layout) reported answer after t held
+does_hold may s (run.Map iova target n perm) reported answer after t held =
+    reported_holds s (run.Map iova target n perm) reported answer after t held
+does_hold may s (run.Unmap iova n) reported answer after t held = reported_holds s (run.Unmap iova n) reported answer after t held
+does_hold may s run.UnmapAll reported answer after t held = reported_holds s run.UnmapAll reported answer after t held
+does_hold may s (run.SetIommu on) reported answer after t held = reported_holds s (run.SetIommu on) reported answer after t held
+does_hold may s (run.ResetQueue queue size desc avail used) reported answer after t held =
+    reported_holds s (run.ResetQueue queue size desc avail used) reported answer after t held
+does_hold may s run.Image reported answer after t held = reported_holds s run.Image reported answer after t held
+does_hold may s run.Harvest reported answer after t held = reported_holds s run.Harvest reported answer after t held
 
-performs_hold : {F : Type 0} (may : May F) (s : State F) (command : Command) (told : Turns) (answer : Answer) (after : State F) →
-    Performs may s command told answer after → HoldsItsBlocks s.memory →
+performs_hold : {F : Type 0} (may : May F) (s : State F) (command : Command) (reported : Turns) (answer : Answer) (after : State F) →
+    Performs may s command reported answer after → HoldsItsBlocks s.memory →
     HoldsItsBlocks after.memory
 performs_hold may s command [] (run.IsRefused why.OutOfMemory) after t held = held_same s.memory after.memory (ap (λ s. s.memory) t.1) held
-performs_hold may s command (x ∷ told) (run.IsRefused why.OutOfMemory) after t held = absurd t
-performs_hold may s command told (run.IsRefused why.NoPlace) after t held = does_hold may s command told _ after t held
-performs_hold may s command told (run.IsRefused why.EmptyBlock) after t held = does_hold may s command told _ after t held
-performs_hold may s command told (run.IsRefused why.UnknownBlock) after t held = does_hold may s command told _ after t held
-performs_hold may s command told (run.IsRefused why.BadRegion) after t held = does_hold may s command told _ after t held
-performs_hold may s command told (run.IsRefused why.Overlap) after t held = does_hold may s command told _ after t held
-performs_hold may s command told (run.IsRefused why.NoRegion) after t held = does_hold may s command told _ after t held
-performs_hold may s command told (run.IsRefused why.BadMapping) after t held = does_hold may s command told _ after t held
-performs_hold may s command told (run.IsRefused why.NoSuchQueue) after t held = does_hold may s command told _ after t held
-performs_hold may s command told run.Done after t held = does_hold may s command told _ after t held
-performs_hold may s command told (run.Bytes bytes) after t held = does_hold may s command told _ after t held
-performs_hold may s command told (run.NewBlockIs number) after t held = does_hold may s command told _ after t held
-performs_hold may s command told (run.Served k) after t held = does_hold may s command told _ after t held
-performs_hold may s command told (run.Copied host) after t held = does_hold may s command told _ after t held
-performs_hold may s command told (run.Pages pages) after t held = does_hold may s command told _ after t held
+performs_hold may s command (x ∷ reported) (run.IsRefused why.OutOfMemory) after t held = absurd t
+performs_hold may s command reported (run.IsRefused why.NoPlace) after t held = does_hold may s command reported _ after t held
+performs_hold may s command reported (run.IsRefused why.EmptyBlock) after t held = does_hold may s command reported _ after t held
+performs_hold may s command reported (run.IsRefused why.UnknownBlock) after t held = does_hold may s command reported _ after t held
+performs_hold may s command reported (run.IsRefused why.BadRegion) after t held = does_hold may s command reported _ after t held
+performs_hold may s command reported (run.IsRefused why.Overlap) after t held = does_hold may s command reported _ after t held
+performs_hold may s command reported (run.IsRefused why.NoRegion) after t held = does_hold may s command reported _ after t held
+performs_hold may s command reported (run.IsRefused why.BadMapping) after t held = does_hold may s command reported _ after t held
+performs_hold may s command reported (run.IsRefused why.NoSuchQueue) after t held = does_hold may s command reported _ after t held
+performs_hold may s command reported run.Done after t held = does_hold may s command reported _ after t held
+performs_hold may s command reported (run.Bytes bytes) after t held = does_hold may s command reported _ after t held
+performs_hold may s command reported (run.NewBlockIs number) after t held = does_hold may s command reported _ after t held
+performs_hold may s command reported (run.Served k) after t held = does_hold may s command reported _ after t held
+performs_hold may s command reported (run.Copied host) after t held = does_hold may s command reported _ after t held
+performs_hold may s command reported (run.Pages pages) after t held = does_hold may s command reported _ after t held
 
 -- a run keeps it so
-pub run_holds : {F : Type 0} (may : May F) (s : State F) (events : List (Command × Answer)) (tolds : List Turns) (after : State F) →
-    RunTold may s events tolds after → HoldsItsBlocks s.memory → HoldsItsBlocks after.memory
-unfolding RunTold
+pub run_holds : {F : Type 0} (may : May F) (s : State F) (events : List (Command × Answer)) (all_reported : List Turns) (after : State F) →
+    RunReported may s events all_reported after → HoldsItsBlocks s.memory → HoldsItsBlocks after.memory
+unfolding RunReported
 run_holds may s [] [] after t held = held_same s.memory after.memory (ap (λ s. s.memory) t) held
-run_holds may s [] (told ∷ tolds) after t held = absurd t
+run_holds may s [] (reported ∷ all_reported) after t held = absurd t
 run_holds may s (e ∷ es) [] after t held = absurd t
-run_holds may s (e ∷ es) (told ∷ tolds) after (mid, performs, rest) held =
-    run_holds may mid es tolds after rest (performs_hold may s e.0 told e.1 mid performs held)
+run_holds may s (e ∷ es) (reported ∷ all_reported) after (mid, performs, rest) held =
+    run_holds may mid es all_reported after rest (performs_hold may s e.0 reported e.1 mid performs held)

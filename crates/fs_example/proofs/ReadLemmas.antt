@@ -20,8 +20,8 @@ use Rattle.plain_machine.specs.declared.fault.Fault.{Fault}
 use Rattle.plain_machine.specs.Step as step
 use Rattle.plain_machine.specs.Step.{State, Calls, Exchange, StepEnd, Idle, Refused, Exchanged, Step, StepOf, Exchanges, served_fault}
 use Rattle.plain_machine.specs.Step.{calls_alone, answers_alone}
-use Rattle.plain_machine.specs.Run.{Turn, Turns, Command, Answer, RunTold}
-use Rattle.fs_device.specs.Telling.{calls_of, calls_told, IsMeant, IsServedBy, IsServed}
+use Rattle.plain_machine.specs.Run.{Turn, Turns, Command, Answer, RunReported}
+use Rattle.fs_device.specs.Telling.{calls_of, calls_reported, IsMeant, IsServedBy, IsServed}
 use Rattle.fuse_files.specs.declared.owned_table.OwnedFile.{OwnedFile}
 use Rattle.fuse_files.specs.OwnedTable.{files_of}
 use Rattle.fuse_files.specs.declared.owned_table.OwnedTable.{OwnedTable}
@@ -218,23 +218,29 @@ turn_true fs t serves all unique node size offset f (who, handle, flags, owner, 
 -- ---- runs
 
 kick_true :
-    (fs : List OwnedFile) (told : Turns) → AllByRecursion IsServed told → Answered fs (calls_of told) → AllByRecursion (ReadsTrue fs) told
+    (fs : List OwnedFile) (reported : Turns) → AllByRecursion IsServed reported → Answered fs (calls_of reported)
+    → AllByRecursion (ReadsTrue fs) reported
 kick_true fs [] serves all = tt
-kick_true fs (t ∷ told) (own, serves) all =
-    (turn_true fs t own (front_of fs t.calls (calls_of told) all), kick_true fs told serves (back_of fs t.calls (calls_of told) all))
+kick_true fs (t ∷ reported) (own, serves) all = (
+  turn_true fs t own (front_of fs t.calls (calls_of reported) all),
+  kick_true fs reported serves
+      (back_of fs t.calls (calls_of reported) all),
+)
 
-all_true : (fs : List OwnedFile) (tolds : List Turns) → AllByRecursion (AllByRecursion IsServed) tolds → Answered fs (calls_told tolds) →
-    AllByRecursion (AllByRecursion (ReadsTrue fs)) tolds
+all_true : (fs : List OwnedFile) (all_reported : List Turns) → AllByRecursion (AllByRecursion IsServed) all_reported
+    → Answered fs (calls_reported all_reported) →
+    AllByRecursion (AllByRecursion (ReadsTrue fs)) all_reported
 all_true fs [] serves all = tt
-all_true fs (told ∷ tolds) (own, serves) all = (
-  kick_true fs told own (front_of fs (calls_of told) (calls_told tolds) all),
-  all_true fs tolds serves (back_of fs (calls_of told) (calls_told tolds) all),
+all_true fs (reported ∷ all_reported) (own, serves) all = (
+  kick_true fs reported own (front_of fs (calls_of reported) (calls_reported all_reported) all),
+  all_true fs all_reported serves (back_of fs (calls_of reported) (calls_reported all_reported) all),
 )
 
 pub run_reads :
-    (s after : State Directory) (events : List (Command × Answer)) (tolds : List Turns) → RunTold DirectoryAnswers s events tolds after →
-    FileRun DirectoryAnswers s.files (calls_told tolds) after.files × AllByRecursion (AllByRecursion IsServed) tolds →
+    (s after : State Directory) (events : List (Command × Answer)) (all_reported : List Turns)
+    → RunReported DirectoryAnswers s events all_reported after →
+    FileRun DirectoryAnswers s.files (calls_reported all_reported) after.files × AllByRecursion (AllByRecursion IsServed) all_reported →
     ReadingRun s events after
-run_reads s after events tolds ran tells =
-    let each = serves_each s.files (calls_told tolds) after.files tells.0 in
-    (tolds, ran, all_true (files_of s.files.0) tolds tells.1 each.0, each.1)
+run_reads s after events all_reported ran reports =
+    let each = serves_each s.files (calls_reported all_reported) after.files reports.0 in
+    (all_reported, ran, all_true (files_of s.files.0) all_reported reports.1 each.0, each.1)

@@ -104,9 +104,9 @@ with_tables h p x (Some a) e = rw e refl
 same_location : (m : Memory) (h : Host) → h.tables ≡ m.host.tables → location (over m h) Write ≡ location m Write
 same_location m h e = ap (λ (t : List (List IotlbRange)). location (over m (record h { tables = t })) Write) e
 
-kept : (m : Memory) (x : ℕ) (o : Option Place) → location (stored_at m x o) Write ≡ location m Write
-kept m x None = refl
-kept m x (Some p) = same_location m (put_byte m.host p x) (with_tables m.host p x p.io refl)
+preserved : (m : Memory) (x : ℕ) (o : Option Place) → location (stored_at m x o) Write ≡ location m Write
+preserved m x None = refl
+preserved m x (Some p) = same_location m (put_byte m.host p x) (with_tables m.host p x p.io refl)
 
 -- ---- one store
 
@@ -131,7 +131,7 @@ unfolding stored_all
 stays [] xs m f o e miss = refl
 stays (a ∷ as') [] m f o e miss = refl
 stays (a ∷ as') (x ∷ xs) m f o e miss =
-    stays as' xs (stored m (a, x)) f o (kept m x (location m Write a) ∙ e) miss.1
+    stays as' xs (stored m (a, x)) f o (preserved m x (location m Write a) ∙ e) miss.1
     ∙ store_keeps m x (location m Write a) o (subst (λ (g : Where). is_one_byte o (g a) ≡ false) (sym e) miss.0)
 
 -- what stands at some places
@@ -202,7 +202,7 @@ first_stands : (m : Memory) (x a : ℕ) (as' xs : List ℕ) (f : Where) → loca
     There m.host (option_map bare (f a)) →
     byte_behind (stored_all (stored m (a, x)) (zip as' xs)).host (option_map bare (f a)) ≡ Some x
 first_stands m x a as' xs f e miss there =
-    let next : location (stored m (a, x)) Write ≡ f = kept m x (location m Write a) ∙ e in
+    let next : location (stored m (a, x)) Write ≡ f = preserved m x (location m Write a) ∙ e in
     stays as' xs (stored m (a, x)) f (option_map bare (f a)) next miss
     ∙ subst (λ (g : Where). There m.host (option_map bare (g a)) → byte_behind (stored m (a, x)).host (option_map bare (g a)) ≡ Some x) e
     (store_stands m x (location m Write a)) there
@@ -223,7 +223,7 @@ module _ (f : Where) where
   stands_over (suc n) (a ∷ room) [] m e apart there = refl
   stands_over (suc n) (a ∷ room) (x ∷ reply) m e apart there =
       let m' = stored m (a, x) in
-      let next : location m' Write ≡ f = kept m x (location m Write a) ∙ e in
+      let next : location m' Write ≡ f = preserved m x (location m Write a) ∙ e in
       let behind = part_of_all (Misses f (a ∷ [])) 0 n (bare_at f room) (each_misses room f a apart.0) in
       let first = first_stands m x a room reply f e (misses_back room f a apart.0) there.0 in
       let more = stands_over n room reply m' next apart.1 (all_there (take n (bare_at f room)) m x a f e behind there.1) in
@@ -246,7 +246,7 @@ module _ (f : Where) where
   part_stands (suc k) n (a ∷ room) [] m e apart there = sym (over_nothing (seen m.host (take n (drop k (bare_at f room)))))
   part_stands (suc k) n (a ∷ room) (x ∷ reply) m e apart there =
       let m' = stored m (a, x) in
-      let next : location m' Write ≡ f = kept m x (location m Write a) ∙ e in
+      let next : location m' Write ≡ f = preserved m x (location m Write a) ∙ e in
       let behind = part_of_all (Misses f (a ∷ [])) k n (bare_at f room) (each_misses room f a apart.0) in
       part_stands k n room reply m' next apart.1 (all_there (take n (drop k (bare_at f room))) m x a f e behind there)
       ∙ ap (laid_over (drop k reply)) (same_behind m x a (take n (drop k (bare_at f room))) e behind)
@@ -323,9 +323,9 @@ last_missed :
 last_missed f [] xs ys all = tt
 last_missed f (o ∷ os) xs ys all = (all_last (λ a. is_one_byte o (f a) ≡ false) xs ys all.0, last_missed f os xs ys all.1)
 
-kept_layout : (m : Memory) (x : ℕ) (o : Option Place) → (stored_at m x o).layout ≡ m.layout
-kept_layout m x None = refl
-kept_layout m x (Some p) = refl
+preserved_layout : (m : Memory) (x : ℕ) (o : Option Place) → (stored_at m x o).layout ≡ m.layout
+preserved_layout m x None = refl
+preserved_layout m x (Some p) = refl
 
 pub all_keep :
     (ws : List (ℕ × ℕ)) (m : Memory) → (location (stored_all m ws) Write ≡ location m Write) × ((stored_all m ws).layout ≡ m.layout)
@@ -333,7 +333,7 @@ unfolding stored_all
 all_keep [] m = (refl, refl)
 all_keep (w ∷ ws) m =
     let more = all_keep ws (stored m w) in
-    (more.0 ∙ kept m w.1 (location m Write w.0), more.1 ∙ kept_layout m w.1 (location m Write w.0))
+    (more.0 ∙ preserved m w.1 (location m Write w.0), more.1 ∙ preserved_layout m w.1 (location m Write w.0))
 
 bytes_seen : (m : Memory) (as' : List ℕ) → map (byte (physical m)) as' ≡ seen m.host (map (place m.layout) as')
 bytes_seen m [] = refl

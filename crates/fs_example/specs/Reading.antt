@@ -12,7 +12,7 @@ use Rattle.server_segments.specs.declared.error.Error.TheVariants.{EncodeMessage
 use Rattle.server_replies.specs.Entries.{EIO}
 use Rattle.virtiofsd_fuse.specs.Grammar.{Meaning, IsFault, Asks, One, meaning, reply_bytes, error_bytes}
 use Rattle.plain_machine.specs.Step.{State, StepEnd, Idle, Refused, Exchanged, Calls, Step}
-use Rattle.plain_machine.specs.Run.{Turn, Turns, Command, Answer, RunTold}
+use Rattle.plain_machine.specs.Run.{Turn, Turns, Command, Answer, RunReported}
 use Rattle.fuse_files.specs.declared.owned_table.OwnedFile.{OwnedFile}
 use Rattle.fuse_files.specs.OwnedTable.{files_of}
 use Rattle.fuse_files.specs.Directory.{Directory, file_at, DirectoryAnswers}
@@ -76,5 +76,5 @@ ReadsTrue fs t =
 -- unchanged
 abbrev pub ReadingRun : State Directory → List (Command × Answer) → State Directory → Type 0
 ReadingRun s events after =
-    (tolds : List Turns) × RunTold DirectoryAnswers s events tolds after
-    × AllByRecursion (AllByRecursion (ReadsTrue (files_of s.files.0))) tolds × (after.files ≡ s.files)
+    (all_reported : List Turns) × RunReported DirectoryAnswers s events all_reported after
+    × AllByRecursion (AllByRecursion (ReadsTrue (files_of s.files.0))) all_reported × (after.files ≡ s.files)

@@ -108,12 +108,12 @@ impl Monitor {
             return Err(MonitorError::LongName);
         }
         let found = self.ask(&lookup(self.alloc, 1, 1, name)?)?;
-        let entry = EntryOut::from_slice(told(&found, 1)?).ok_or(MonitorError::NoReply)?;
+        let entry = EntryOut::from_slice(reported(&found, 1)?).ok_or(MonitorError::NoReply)?;
         let mut contents = Vec::new(self.alloc);
         for unique in 2..u64::MAX {
             let offset = contents.len() as u64;
             let reply = self.ask(&read(self.alloc, unique, entry.nodeid, 0, offset, PIECE)?)?;
-            let piece = told(&reply, unique)?;
+            let piece = reported(&reply, unique)?;
             if piece.is_empty() {
                 return Ok(contents);
             }
@@ -132,7 +132,7 @@ fn are_same(bytes: &[u8], others: &[u8]) -> bool
 
 // The bytes after the header of the reply to this request. `Failed` for an error, else `NoReply`.
 #[tactic(auto, using(crate::proofs::AskingLemmas::good_reply))]
-fn told(reply: &[u8], unique: u64) -> Result<&[u8], MonitorError>
+fn reported(reply: &[u8], unique: u64) -> Result<&[u8], MonitorError>
     ensures { IfOk result (λ bytes. reply.now ≡ reply_bytes unique bytes.now) }
 {
     match body(reply, unique) {

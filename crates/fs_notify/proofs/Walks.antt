@@ -20,7 +20,7 @@ use Rattle.fs_queue.specs.OfferLoads.{on_waits, available_by, with_loaded, witho
 use Rattle.fs_queue.specs.WalkingView.{at_position}
 use Rattle.fs_queue.specs.Taking as taking
 use Rattle.fs_queue.specs.Taking.{Offer, RequestAndRoom, offer_of}
-use Rattle.fs_queue.proofs.RingLemmas.{IsPair, entry_tells, index_lost, index_tells, pick}
+use Rattle.fs_queue.proofs.RingLemmas.{IsPair, entry_reports, index_lost, index_reports, pick}
 use Rattle.fs_queue.specs.Taking.{total_len, readable, writable, addresses_of, IsRequest, CannotFetch, Offers}
 use Rattle.fs_queue.specs.Chain.{Descriptor}
 use Rattle.fs_regions.specs.declared.step.CourseStep as comes
@@ -28,17 +28,17 @@ use Rattle.fs_regions.specs.declared.step.CourseStep.TheVariants as step
 use Rattle.fs_regions.specs.Places.{places_in}
 use Rattle.fs_regions.specs.Walks.{Loaded, IsCourseStep, OffersBy, queue_of}
 use Rattle.fs_chain.specs.declared.error.ChainError.TheVariants.{BadArgument, ChainInFlight}
-use Rattle.fs_chain.specs.declared.loads.LoadOutcome as went
-use Rattle.fs_chain.specs.declared.loads.LoadOutcome.TheVariants as wents
+use Rattle.fs_chain.specs.declared.loads.LoadOutcome as outcome
+use Rattle.fs_chain.specs.declared.loads.LoadOutcome.TheVariants as outcomes
 use Rattle.fs_chain.specs.declared.queue.QueueState.{QueueState}
 use Rattle.fs_chain.specs.declared.state.ChainState as state
 use Rattle.fs_chain.specs.declared.popping.PopOutcome as walked
-use Rattle.fs_chain.specs.declared.popping.PopOutcome.TheVariants as says
+use Rattle.fs_chain.specs.declared.popping.PopOutcome.TheVariants as shows
 use Rattle.fs_chain.specs.declared.chain_handle.ChainHandle.{ChainHandle}
 use Rattle.fs_chain.specs.Loads.{whole}
 use Rattle.fs_chain.specs.Orders.{begin_error, load_len, walk_error}
 use Rattle.fs_chain.specs.Queues.{may_take, took}
-use Rattle.fs_chain.specs.Walks.{course_of, queue_after, told_of}
+use Rattle.fs_chain.specs.Walks.{course_of, queue_after, reported_of}
 use Rattle.fs_chain.specs.Pops.{BeginsPopBy, LoadsOf, WalksBy}
 use Rattle.fs_chain.proofs.PopWalks.{came_is, faulty_is, walk_comes}
 use Rattle.notify.specs.Kicks.{ahead}
@@ -58,43 +58,43 @@ IsBy w taking.Idle = w ≡ Idle
 IsBy w (taking.Refuses e) = Unit {0}
 IsBy w (taking.Offers head fetched) = IsHead w
 
-abbrev Says : (Offer → Type 0) → Option Offer → Type 0
-Says P None = Unit {0}
-Says P (Some o) = P o
+abbrev Shows : (Offer → Type 0) → Option Offer → Type 0
+Shows P None = Unit {0}
+Shows P (Some o) = P o
 
-says_is : (P : Offer → Type 0) (x : Option Offer) (o : Offer) → x ≡ Some o → Says P x → P o
-says_is P x o is says = subst (Says P) is says
+shows_is : (P : Offer → Type 0) (x : Option Offer) (o : Offer) → x ≡ Some o → Shows P x → P o
+shows_is P x o is shows = subst (Shows P) is shows
 
-on_request : (P : Offer → Type 0) (bs : List ℕ) (o : Offer) → P o → Says P (without_request bs o)
+on_request : (P : Offer → Type 0) (bs : List ℕ) (o : Offer) → P o → Shows P (without_request bs o)
 on_request P [] o h = h
 on_request P (b ∷ bs) o h = tt
 
-on_chain : (P : Offer → Type 0) (ls : List Load) (bs : List ℕ) (o : Offer) → P o → Says P (without_chain ls bs o)
+on_chain : (P : Offer → Type 0) (ls : List Load) (bs : List ℕ) (o : Offer) → P o → Shows P (without_chain ls bs o)
 on_chain P [] bs o h = on_request P bs o h
 on_chain P (l ∷ ls) bs o h = tt
 
-by_fetch : (h head : ℕ) (x : Option RequestAndRoom) → Says (IsBy (Head h)) (option_map (taking.Offers head) x)
+by_fetch : (h head : ℕ) (x : Option RequestAndRoom) → Shows (IsBy (Head h)) (option_map (taking.Offers head) x)
 by_fetch h head None = tt
 by_fetch h head (Some x) = tt
 
-by_found : (m : Memory) (limit h head : ℕ) (bs : List ℕ) (f : Found) → Says (IsBy (Head h)) (with_loaded bs (offer_of m limit head f))
+by_found : (m : Memory) (limit h head : ℕ) (bs : List ℕ) (f : Found) → Shows (IsBy (Head h)) (with_loaded bs (offer_of m limit head f))
 by_found m limit h head bs (IsChain ds) = by_fetch h head _
 by_found m limit h head bs (HasFault fault) = by_fetch h head _
 by_found m limit h head bs StopsQueue = on_request (IsBy (Head h)) bs _ tt
 
 by_chain : (m : Memory) (limit h head : ℕ) (bs : List ℕ) (f : Option Found) →
-    Says (IsBy (Head h)) (option_and_then (λ f. with_loaded bs (offer_of m limit head f)) f)
+    Shows (IsBy (Head h)) (option_and_then (λ f. with_loaded bs (offer_of m limit head f)) f)
 by_chain m limit h head bs None = tt
 by_chain m limit h head bs (Some f) = by_found m limit h head bs f
 
 by_tests : (h : ℕ) (ls : List Load) (bs : List ℕ) (a b : Bool) (one two : Offer) (x : Option Offer) → IsBy (Head h) one → IsBy (Head h) two
-    → Says (IsBy (Head h)) x
-    → Says (IsBy (Head h)) (if a then without_chain ls bs one else if b then without_chain ls bs two else x)
-by_tests h ls bs true b one two x p q says = on_chain (IsBy (Head h)) ls bs one p
-by_tests h ls bs false true one two x p q says = on_chain (IsBy (Head h)) ls bs two q
-by_tests h ls bs false false one two x p q says = says
+    → Shows (IsBy (Head h)) x
+    → Shows (IsBy (Head h)) (if a then without_chain ls bs one else if b then without_chain ls bs two else x)
+by_tests h ls bs true b one two x p q shows = on_chain (IsBy (Head h)) ls bs one p
+by_tests h ls bs false true one two x p q shows = on_chain (IsBy (Head h)) ls bs two q
+by_tests h ls bs false false one two x p q shows = shows
 
-by_next : (m : Memory) (limit : ℕ) (q : Ring) (ls : List Load) (bs : List ℕ) (w : NextAvail) → Says (IsBy w) (on_waits m limit q ls bs w)
+by_next : (m : Memory) (limit : ℕ) (q : Ring) (ls : List Load) (bs : List ℕ) (w : NextAvail) → Shows (IsBy w) (on_waits m limit q ls bs w)
 by_next m limit q ls bs Idle = on_chain (IsBy Idle) ls bs taking.Idle refl
 by_next m limit q ls bs (Refused e) = on_chain (IsBy (Refused e)) ls bs (taking.Refuses e) tt
 by_next m limit q ls bs (Head head) =
@@ -106,7 +106,7 @@ by_waits : (m : Memory) (limit : ℕ) (q : Ring) (ls : List Load) (bs : List ℕ
     → option_and_then (on_waits m limit q ls bs) x ≡ Some o
     → (w : NextAvail) × (x ≡ Some w) × IsBy w o
 by_waits m limit q ls bs None o is = cc
-by_waits m limit q ls bs (Some w) o is = (w, refl, says_is (IsBy w) (on_waits m limit q ls bs w) o is (by_next m limit q ls bs w))
+by_waits m limit q ls bs (Some w) o is = (w, refl, shows_is (IsBy w) (on_waits m limit q ls bs w) o is (by_next m limit q ls bs w))
 
 -- ---- what waits by the index
 
@@ -119,20 +119,20 @@ WaitsBy (Refused e) n = Unit {0}
 some_ahead : (n : ℕ) → (n == 0) ≡ false → 0 < n
 some_ahead n is = grind (arith, nat_tests)
 
-ring_says : (n : ℕ) (z far whole : Bool) (entry : Option (List ℕ)) (both w : NextAvail) → (n == 0) ≡ z
+ring_shows : (n : ℕ) (z far whole : Bool) (entry : Option (List ℕ)) (both w : NextAvail) → (n == 0) ≡ z
     → (whole ≡ true → z ≡ false → far ≡ false → both ≡ Idle → ⊥)
     → (if not (asks_entry (pick true z far (Refused RingEntryUnreachable)))
     then without_entry entry (pick true z far (Refused RingEntryUnreachable))
     else if not whole then None else Some both) ≡ Some w → WaitsBy w n
-ring_says n true far whole entry both Idle is never e = eqb-true n 0 is
-ring_says n true far whole None both (Head h) is never e = cc
-ring_says n true far whole (Some bs) both (Head h) is never e = cc
-ring_says n false true whole None both Idle is never e = cc
-ring_says n false true whole (Some bs) both Idle is never e = cc
-ring_says n false far whole entry both (Head h) is never e = some_ahead n is
-ring_says n false false false entry both Idle is never e = cc
-ring_says n false false true entry both Idle is never e = absurd (never refl refl refl (cc))
-ring_says n z far whole entry both (Refused e) is never h = tt
+ring_shows n true far whole entry both Idle is never e = eqb-true n 0 is
+ring_shows n true far whole None both (Head h) is never e = cc
+ring_shows n true far whole (Some bs) both (Head h) is never e = cc
+ring_shows n false true whole None both Idle is never e = cc
+ring_shows n false true whole (Some bs) both Idle is never e = cc
+ring_shows n false far whole entry both (Head h) is never e = some_ahead n is
+ring_shows n false false false entry both Idle is never e = cc
+ring_shows n false false true entry both Idle is never e = absurd (never refl refl refl (cc))
+ring_shows n z far whole entry both (Refused e) is never h = tt
 
 entry_idle :
     (c far : Bool) (n : ℕ) → (if not c then Refused RingEntryUnreachable else if far then Refused HeadOutOfTable else Head n) ≡ Idle → ⊥
@@ -160,16 +160,16 @@ waits_some q bs entry w true is index_fits entry_fits e =
     let len = eqb-true (length bs) 2 is in
     let unfolded : available_by q (Some bs) entry
     ≡ (if not (asks_entry one) then without_entry entry one else if not (is_whole 2 entry) then None else Some both) = rw is refl in
-    let tells : one ≡ pick true (n == 0) (nat_lt q.size n) (Refused RingEntryUnreachable) =
-    index_tells q (Some bs) bs (from_le_bytes w16 bs) n refl len index_fits refl refl in
+    let reports : one ≡ pick true (n == 0) (nat_lt q.size n) (Refused RingEntryUnreachable) =
+    index_reports q (Some bs) bs (from_le_bytes w16 bs) n refl len index_fits refl refl in
     let never : is_whole 2 entry ≡ true → (n == 0) ≡ false → nat_lt q.size n ≡ false → both ≡ Idle → ⊥ = λ whole z far idle.
-    let asked : asks_entry one ≡ true = rw (tells, z, far) refl in
-    let says = entry_tells q bs entry len index_fits (pair_of (ring_entry_at q) entry entry_fits whole) asked in
+    let asked : asks_entry one ≡ true = rw (reports, z, far) refl in
+    let shows = entry_reports q bs entry len index_fits (pair_of (ring_entry_at q) entry entry_fits whole) asked in
     entry_idle (is_some entry) (nat_le q.size (number (holding (index_load q (Some bs) ∷ entry_load q entry ∷ [])) w16 (ring_entry_at q)))
-    (number (holding (index_load q (Some bs) ∷ entry_load q entry ∷ [])) w16 (ring_entry_at q)) (sym says ∙ idle) in
-    ring_says n (n == 0) (nat_lt q.size n) (is_whole 2 entry) entry both w refl never
+    (number (holding (index_load q (Some bs) ∷ entry_load q entry ∷ [])) w16 (ring_entry_at q)) (sym shows ∙ idle) in
+    ring_shows n (n == 0) (nat_lt q.size n) (is_whole 2 entry) entry both w refl never
     (subst (λ (v : NextAvail). (if not (asks_entry v) then without_entry entry v else if not (is_whole 2 entry) then None else Some both)
-    ≡ Some w) tells (sym unfolded ∙ e))
+    ≡ Some w) reports (sym unfolded ∙ e))
 
 -- ---- what is offered by the index
 
@@ -208,29 +208,29 @@ lost_entry None w (taking.Refuses e) is by offers = offers
 lost_entry (Some bs) w o is by offers = none_some w is
 
 -- the index that was loaded, and how far it is ahead
-abbrev IndexSays : (index : Option (List ℕ)) → (position : ℕ) → Offer → Type 0
-IndexSays index position o = (bs : List ℕ) × (index ≡ Some bs) × OffersAt o (ahead (from_le_bytes w16 bs) position)
+abbrev IndexShows : (index : Option (List ℕ)) → (position : ℕ) → Offer → Type 0
+IndexShows index position o = (bs : List ℕ) × (index ≡ Some bs) × OffersAt o (ahead (from_le_bytes w16 bs) position)
 
-index_says : (l : QueueLayout) (position : ℕ) (index entry : Option (List ℕ)) (w : NextAvail) (o : Offer)
+index_shows : (l : QueueLayout) (position : ℕ) (index entry : Option (List ℕ)) (w : NextAvail) (o : Offer)
     → available_by (at_position l position) index entry ≡ Some w → IsBy w o → IsNoRefusal o
-    → IndexSays index position o
-index_says l position None entry w o is by offers =
+    → IndexShows index position o
+index_shows l position None entry w o is by offers =
     let q = at_position l position in
     let unfolded : available_by q None entry ≡ without_entry entry (Refused AvailIndexUnreachable) = rw (index_lost q None refl) refl in
     absurd (lost_entry entry w o (sym unfolded ∙ is) by offers)
-index_says l position (Some bs) entry w o is by offers = (
+index_shows l position (Some bs) entry w o is by offers = (
   bs,
   refl,
   offers_at w o _ by (waits_some (at_position l position) bs entry w (length bs == 2) refl (begins l position) (ends l position) is),
 )
 
-offer_says : (m : Memory) (limit : ℕ) (l : QueueLayout) (position : ℕ) (loaded : Loaded) (request : List ℕ) (o : Offer)
+offer_shows : (m : Memory) (limit : ℕ) (l : QueueLayout) (position : ℕ) (loaded : Loaded) (request : List ℕ) (o : Offer)
     → OffersBy m limit (at_position l position) loaded request o → IsNoRefusal o
-    → IndexSays loaded.index position o
-offer_says m limit l position loaded request o by offers =
+    → IndexShows loaded.index position o
+offer_shows m limit l position loaded request o by offers =
     let q = at_position l position in
     let w = by_waits m limit q (loaded.entries ++ by.1) request (available_by q loaded.index loaded.entry) o by.3 in
-    index_says l position loaded.index loaded.entry w.0 o w.1 w.2 offers
+    index_shows l position loaded.index loaded.entry w.0 o w.1 w.2 offers
 
 -- ---- a walk
 
@@ -239,21 +239,21 @@ may_of false c none = cc
 may_of true false none = cc
 may_of true true none = refl
 
-first_may : (old new : ChainHandle) (before after : QueueState) (told : went.LoadOutcome) → BeginsPopBy old new before after told →
-    may_take before ≡ true
-first_may old new before after wents.Part by =
+first_may : (old new : ChainHandle) (before after : QueueState) (reported : outcome.LoadOutcome) → BeginsPopBy old new before after reported
+    → may_take before ≡ true
+first_may old new before after outcomes.Part by =
     let none : begin_error before (load_len old.state) ≡ None =
     subst (λ (s : state.ChainState). walk_error s before (load_len old.state) ≡ None) by.0 by.1.2 in
     may_of (load_len old.state == 0) (may_take before) none
-first_may old new before after (wents.On told) by =
+first_may old new before after (outcomes.On reported) by =
     let none : begin_error before (length (whole old [])) ≡ None =
     subst (λ (s : state.ChainState). walk_error s before (length (whole old [])) ≡ None) by.0 by.1.3 in
     may_of (length (whole old []) == 0) (may_take before) none
 
-walk_may : (given : List (List ℕ)) (old new : ChainHandle) (before after : QueueState) (told : went.LoadOutcome) →
-    WalksBy given old new before after told → may_take before ≡ true
-walk_may [] old new before after told by = first_may old new before after told by
-walk_may (bs ∷ given) old new before after told by = walk_may given old by.0 before by.1 by.2 by.3
+walk_may : (given : List (List ℕ)) (old new : ChainHandle) (before after : QueueState) (reported : outcome.LoadOutcome) →
+    WalksBy given old new before after reported → may_take before ≡ true
+walk_may [] old new before after reported by = first_may old new before after reported by
+walk_may (bs ∷ given) old new before after reported by = walk_may given old by.0 before by.1 by.2 by.3
 
 one_taken : (p r most : ℕ) → p < 2 ^ 16 → r < 2 ^ 16 → most < 2 ^ 16 → nat_lt ((p + (2 ^ 16 - r)) % 2 ^ 16) most ≡ true
     → (p + (2 ^ 16 - r)) % 2 ^ 16 + 1 ≡ ((p + 1) % 2 ^ 16 + (2 ^ 16 - r)) % 2 ^ 16
@@ -282,37 +282,39 @@ takes_so q after s index counted may some gone is walker known =
       subst (λ (k : QueueState). IsModelOf k (after_act (ways_of q) s TakesOne)) (sym gone) there,
     )
 
-abbrev TakesSo : (given : List (List ℕ)) (old new : ChainHandle) (before after : QueueState) (told : walked.PopOutcome)
-    (s : ThreadedQueue) → WalksBy given old new before after (wents.On told) → Type 0
-TakesSo given old new before after told s walks =
-    (loaded : Loaded) × LoadsOf given old new before after (wents.On told) walks loaded × (index : ℕ) × IsIndex loaded index
+abbrev TakesSo : (given : List (List ℕ)) (old new : ChainHandle) (before after : QueueState) (reported : walked.PopOutcome)
+    (s : ThreadedQueue) → WalksBy given old new before after (outcomes.On reported) → Type 0
+TakesSo given old new before after reported s walks =
+    (loaded : Loaded) × LoadsOf given old new before after (outcomes.On reported) walks loaded × (index : ℕ) × IsIndex loaded index
     × (s.known ≡ index → IsTrue (may_act (ways_of before) s TakesOne) × IsModelOf after (after_act (ways_of before) s TakesOne))
 
 -- by what was offered
-takes_by : (given : List (List ℕ)) (old new : ChainHandle) (before after : QueueState) (told : walked.PopOutcome) (s : ThreadedQueue)
-    (walks : WalksBy given old new before after (wents.On told)) (loaded : Loaded)
-    (head : ℕ) (fetched : RequestAndRoom) → LoadsOf given old new before after (wents.On told) walks loaded
-    → IndexSays loaded.index before.next_avail (Offers head fetched)
-    → HasU16Numbers before → after ≡ took before → IsModelOf before s → s.holder ≡ Walker → TakesSo given old new before after told s walks
-takes_by given old new before after told s walks loaded head fetched loads says counted gone is walker = (
+takes_by : (given : List (List ℕ)) (old new : ChainHandle) (before after : QueueState) (reported : walked.PopOutcome) (s : ThreadedQueue)
+    (walks : WalksBy given old new before after (outcomes.On reported)) (loaded : Loaded)
+    (head : ℕ) (fetched : RequestAndRoom) → LoadsOf given old new before after (outcomes.On reported) walks loaded
+    → IndexShows loaded.index before.next_avail (Offers head fetched)
+    → HasU16Numbers before → after ≡ took before → IsModelOf before s → s.holder ≡ Walker
+    → TakesSo given old new before after reported s walks
+takes_by given old new before after reported s walks loaded head fetched loads shows counted gone is walker = (
   loaded,
   loads,
-  from_le_bytes w16 says.0,
-  (says.0, says.1, refl),
+  from_le_bytes w16 shows.0,
+  (shows.0, shows.1, refl),
   λ known.
-      takes_so before after s (from_le_bytes w16 says.0) counted (walk_may given old new before after (wents.On told) walks) says.2 gone is
+      takes_so before after s (from_le_bytes w16 shows.0) counted (walk_may given old new before after (outcomes.On reported) walks) shows.2
+      gone is
       walker known,
 )
 
 pub takes : TakesByWalk
-takes given old new before after (says.Load n) s counted goes taken walks is walker = absurd taken
-takes given old new before after says.Idle s counted goes taken walks is walker = absurd taken
-takes given old new before after (says.Missing range access) s counted goes taken walks is walker = absurd taken
-takes given old new before after (says.Refused e) s counted goes taken walks is walker = absurd taken
-takes given old new before after (says.Chain head request_len room_len) s counted goes taken walks is walker =
+takes given old new before after (shows.Load n) s counted proceeds taken walks is walker = absurd taken
+takes given old new before after shows.Idle s counted proceeds taken walks is walker = absurd taken
+takes given old new before after (shows.Missing range access) s counted proceeds taken walks is walker = absurd taken
+takes given old new before after (shows.Refused e) s counted proceeds taken walks is walker = absurd taken
+takes given old new before after (shows.Chain head request_len room_len) s counted proceeds taken walks is walker =
     let m = places_in old.regions in
     let q = queue_of (course_of before old.limit) in
-    let all = walk_comes given old new before after (says.Chain head request_len room_len) goes tt walks in
+    let all = walk_comes given old new before after (shows.Chain head request_len room_len) proceeds tt walks in
     let came = (came_is new.descriptors.items all.2.0 head request_len room_len all.2.1.0).0 in
     let ds = new.descriptors.items in
     let comes_so : IsCourseStep m old.limit q all.0 ds (step.Chain head None) =
@@ -321,30 +323,30 @@ takes given old new before after (says.Chain head request_len room_len) s counte
     let n = total_len (readable ds) in
     let by = found.1 (replicate n 0) (length-replicate n 0) in
     let gone : after ≡ took before = all.2.1.2 ∙ ap (queue_after before) came in
-    takes_by given old new before after (says.Chain head request_len room_len) s walks all.0 head
+    takes_by given old new before after (shows.Chain head request_len room_len) s walks all.0 head
     (IsRequest (replicate n 0) (addresses_of (writable ds))) all.1
-    (offer_says m old.limit before.layout before.next_avail all.0 (replicate n 0)
+    (offer_shows m old.limit before.layout before.next_avail all.0 (replicate n 0)
     (Offers head (IsRequest (replicate n 0) (addresses_of (writable ds)))) by tt) counted gone is walker
-takes given old new before after (says.Faulty head fault) s counted goes taken walks is walker =
+takes given old new before after (shows.Faulty head fault) s counted proceeds taken walks is walker =
     let m = places_in old.regions in
     let q = queue_of (course_of before old.limit) in
-    let all = walk_comes given old new before after (says.Faulty head fault) goes tt walks in
+    let all = walk_comes given old new before after (shows.Faulty head fault) proceeds tt walks in
     let came = faulty_is new.descriptors.items all.2.0 head fault all.2.1.0 in
     let ds = new.descriptors.items in
     let comes_so : IsCourseStep m old.limit q all.0 ds (step.Chain head (Some fault)) =
     subst (λ (c : comes.CourseStep). IsCourseStep m old.limit q all.0 ds c) came all.2.2 in
     let found = comes_so.0 in
     let gone : after ≡ took before = all.2.1.2 ∙ ap (queue_after before) came in
-    takes_by given old new before after (says.Faulty head fault) s walks all.0 head (CannotFetch fault) all.1
-    (offer_says m old.limit before.layout before.next_avail all.0 [] (Offers head (CannotFetch fault)) found tt) counted gone is walker
+    takes_by given old new before after (shows.Faulty head fault) s walks all.0 head (CannotFetch fault) all.1
+    (offer_shows m old.limit before.layout before.next_avail all.0 [] (Offers head (CannotFetch fault)) found tt) counted gone is walker
 
 -- ---- none is found
 
 abbrev IsIdle : walked.PopOutcome → Type 0
-IsIdle says.Idle = Unit {0}
+IsIdle shows.Idle = Unit {0}
 IsIdle _ = ⊥
 
-idle_is : (ds : List Descriptor) (came : comes.CourseStep) → says.Idle ≡ told_of ds came → came ≡ step.Idle
+idle_is : (ds : List Descriptor) (came : comes.CourseStep) → shows.Idle ≡ reported_of ds came → came ≡ step.Idle
 idle_is ds (step.Load walk) e = absurd (subst IsIdle e tt)
 idle_is ds step.Idle e = refl
 idle_is ds (step.Missing range access) e = absurd (subst IsIdle e tt)
@@ -366,24 +368,24 @@ sleeps_so q s none is asker shown =
     (or_left (s.index == s.position) (nat_le q.max_in_flight s.out) (same_index s.index s.position none))
 
 pub finds_none : FindsNoneByWalk
-finds_none given old new before after s counted fits goes walks is asker shown =
+finds_none given old new before after s counted fits proceeds walks is asker shown =
     let m = places_in old.regions in
     let q = queue_of (course_of before old.limit) in
-    let all = walk_comes given old new before after says.Idle goes tt walks in
+    let all = walk_comes given old new before after shows.Idle proceeds tt walks in
     let came = idle_is new.descriptors.items all.2.0 all.2.1.0 in
     let ds = new.descriptors.items in
     let found : IsCourseStep m old.limit q all.0 ds step.Idle =
     subst (λ (c : comes.CourseStep). IsCourseStep m old.limit q all.0 ds c) came all.2.2 in
     let gone : after ≡ before = all.2.1.2 ∙ ap (queue_after before) came in
-    let says = offer_says m old.limit before.layout before.next_avail all.0 [] taking.Idle found tt in
-    let index = from_le_bytes w16 says.0 in (
+    let shows = offer_shows m old.limit before.layout before.next_avail all.0 [] taking.Idle found tt in
+    let index = from_le_bytes w16 shows.0 in (
       all.0,
       all.1,
       index,
-      (says.0, says.1, refl),
+      (shows.0, shows.1, refl),
       λ same.
           let none : s.index ≡ before.next_avail =
-          ahead_zero s.index before.next_avail fits counted.0 (ap (λ (i : ℕ). ahead i before.next_avail) same ∙ says.2) in (
+          ahead_zero s.index before.next_avail fits counted.0 (ap (λ (i : ℕ). ahead i before.next_avail) same ∙ shows.2) in (
             sleeps_so before s (none ∙ sym is.0) is asker shown,
             subst (λ (k : QueueState). IsModelOf k (after_act (ways_of before) s SleepsNow)) (sym gone) is,
           ),

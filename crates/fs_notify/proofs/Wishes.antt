@@ -6,7 +6,7 @@ use Rattle.fs_queue.specs.Returning.{Store}
 use Rattle.fs_chain.specs.declared.queue.QueueState.{QueueState}
 use Rattle.fs_chain.specs.Events.{avail_event_at, notification_store}
 use Rattle.notify.specs.Threads.{ThreadedQueue, Walker, walks, may_act, after_act, Wishes, WishIsThere}
-use Rattle.fs_notify.specs.Takers.{RearmsByStore, HasU16Numbers, IsModelOf, MutesBy, MutesByStore, SaysWish, ways_of, wish_at}
+use Rattle.fs_notify.specs.Takers.{RearmsByStore, HasU16Numbers, IsModelOf, MutesBy, MutesByStore, ShowsWish, ways_of, wish_at}
 
 abbrev AsksSo : QueueState → ThreadedQueue → Type 0
 AsksSo q s =
@@ -17,7 +17,7 @@ AsksSo q s =
     × (store.address ≡ wish_at q)
     × IsTrue (may_act (ways_of q) s Wishes)
     × IsTrue (may_act (ways_of q) asking WishIsThere)
-    × SaysWish q.event_index store.bytes asked.event asked.muted
+    × ShowsWish q.event_index store.bytes asked.event asked.muted
     × IsModelOf q asked
 
 rearms_so : (q : QueueState) (s : ThreadedQueue) (b : Bool) → q.event_index ≡ b → HasU16Numbers q → IsModelOf q s

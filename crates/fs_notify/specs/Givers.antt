@@ -13,13 +13,13 @@ use Rattle.fs_chain.specs.declared.queue.QueueState.{QueueState}
 use Rattle.fs_chain.specs.declared.pushing.PushStores.{PushStores}
 use Rattle.fs_chain.specs.declared.state.InFlight.{InFlight}
 use Rattle.fs_chain.specs.declared.state.ChainReply.{ChainReply}
-use Rattle.fs_chain.specs.Events.{tells_of}
+use Rattle.fs_chain.specs.Events.{notifies_of}
 use Rattle.fs_chain.specs.Queues.{at_return, gave}
 use Rattle.fs_chain.specs.Pushes.{PushesBy}
 use Rattle.notify.specs.Kicks.{Rules, right, NotifyState, Publishes, IndexArrives, ChecksWish, Runs, ahead}
 use Rattle.notify.specs.Kicks.{moved}
 use Rattle.notify.specs.Kicks.{must, after}
-use Rattle.fs_notify.specs.Takers.{SaysWish}
+use Rattle.fs_notify.specs.Takers.{ShowsWish}
 
 -- the rules that a device keeps when it returns chains to this queue
 abbrev pub rules_of : QueueState → Rules
@@ -46,8 +46,8 @@ ChecksBySeen =
     → from_le_bytes w16 seen < 2 ^ 16
     → u.published ≡ (gave q).next_used
     → u.unchecked ≡ 1
-    → SaysWish q.event_index seen u.event u.muted
-    → (after (rules_of q) u ChecksWish).owes ≡ (u.owes || tells_of q seen)
+    → ShowsWish q.event_index seen u.event u.muted
+    → (after (rules_of q) u ChecksWish).owes ≡ (u.owes || notifies_of q seen)
 
 -- the store of the used index, the barrier and the load, in this order, are a run of the model. The driver
 -- has made no more chains available than the queue has descriptors

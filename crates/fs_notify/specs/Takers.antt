@@ -10,13 +10,13 @@ use Rattle.fs_queue.specs.Queue.{has_bit}
 use Rattle.fs_queue.specs.Returning.{Store}
 use Rattle.fs_regions.specs.Walks.{Loaded}
 use Rattle.fs_chain.specs.declared.error.ChainError.TheVariants.{ChainInFlight}
-use Rattle.fs_chain.specs.declared.loads.LoadOutcome.TheVariants as wents
+use Rattle.fs_chain.specs.declared.loads.LoadOutcome.TheVariants as outcomes
 use Rattle.fs_chain.specs.declared.queue.QueueState.{QueueState}
 use Rattle.fs_chain.specs.declared.state.ChainState as state
 use Rattle.fs_chain.specs.declared.state.InFlight.{InFlight}
 use Rattle.fs_chain.specs.declared.state.ChainState.TheVariants as at
 use Rattle.fs_chain.specs.declared.popping.PopOutcome as walked
-use Rattle.fs_chain.specs.declared.popping.PopOutcome.TheVariants as says
+use Rattle.fs_chain.specs.declared.popping.PopOutcome.TheVariants as shows
 use Rattle.fs_chain.specs.declared.chain_handle.ChainHandle.{ChainHandle}
 use Rattle.fs_chain.specs.Events.{avail_event_at, notification_store}
 use Rattle.fs_chain.specs.Orders.{begin_error, end_error, give_up_error}
@@ -45,9 +45,9 @@ abbrev pub wish_at : QueueState → ℕ
 wish_at q = if q.event_index then avail_event_at q.layout else q.layout.used
 
 -- these two bytes at that address are the wish in the model's memory
-abbrev pub SaysWish : (event_index : Bool) → (bytes : List ℕ) → (event : ℕ) → (muted : Bool) → Type 0
-SaysWish true bytes event muted = from_le_bytes w16 bytes ≡ event
-SaysWish false bytes event muted = has_bit (from_le_bytes w16 bytes) 0 ≡ muted
+abbrev pub ShowsWish : (event_index : Bool) → (bytes : List ℕ) → (event : ℕ) → (muted : Bool) → Type 0
+ShowsWish true bytes event muted = from_le_bytes w16 bytes ≡ event
+ShowsWish false bytes event muted = has_bit (from_le_bytes w16 bytes) 0 ≡ muted
 
 -- the store that enables notifications is the wish for the next chain, once it has reached memory
 abbrev pub RearmsByStore : Type 0
@@ -63,7 +63,7 @@ RearmsByStore =
     × (store.address ≡ wish_at q)
     × IsTrue (may_act (ways_of q) s Wishes)
     × IsTrue (may_act (ways_of q) asking WishIsThere)
-    × SaysWish q.event_index store.bytes asked.event asked.muted
+    × ShowsWish q.event_index store.bytes asked.event asked.muted
     × IsModelOf q asked
 
 -- the store that disables notifications is the model's; with the event index there is none
@@ -72,7 +72,7 @@ MutesBy true q s store = store ≡ None
 MutesBy false q s None = ⊥
 MutesBy false q s (Some store) =
     let muted = after_act (ways_of q) s (Silences s.event) in
-    (store.address ≡ wish_at q) × SaysWish false store.bytes muted.event muted.muted × IsModelOf q muted
+    (store.address ≡ wish_at q) × ShowsWish false store.bytes muted.event muted.muted × IsModelOf q muted
 
 abbrev pub MutesByStore : Type 0
 MutesByStore =
@@ -86,8 +86,8 @@ MutesByStore =
 
 -- a pop returned a chain
 abbrev pub HasPopped : walked.PopOutcome → Type 0
-HasPopped (says.Chain head request_len room_len) = Unit {0}
-HasPopped (says.Faulty head fault) = Unit {0}
+HasPopped (shows.Chain head request_len room_len) = Unit {0}
+HasPopped (shows.Faulty head fault) = Unit {0}
 HasPopped _ = ⊥
 
 -- the available index that a pop was given
@@ -99,15 +99,15 @@ IsIndex loaded index = (bytes : List ℕ) × (loaded.index ≡ Some bytes) × (f
 abbrev pub TakesByWalk : Type 0
 TakesByWalk =
     (given : List (List ℕ)) (old new : ChainHandle) (before after : QueueState)
-    (told : walked.PopOutcome) (s : ThreadedQueue)
+    (reported : walked.PopOutcome) (s : ThreadedQueue)
     → HasU16Numbers before
     → before.stopped ≡ None
-    → HasPopped told
-    → (walks : WalksBy given old new before after (wents.On told))
+    → HasPopped reported
+    → (walks : WalksBy given old new before after (outcomes.On reported))
     → IsModelOf before s
     → s.holder ≡ Walker
     → (loaded : Loaded)
-    × LoadsOf given old new before after (wents.On told) walks loaded
+    × LoadsOf given old new before after (outcomes.On reported) walks loaded
     × (index : ℕ)
     × IsIndex loaded index
     × (s.known ≡ index
@@ -121,12 +121,12 @@ FindsNoneByWalk =
     → HasU16Numbers before
     → s.index < 2 ^ 16
     → before.stopped ≡ None
-    → (walks : WalksBy given old new before after (wents.On says.Idle))
+    → (walks : WalksBy given old new before after (outcomes.On shows.Idle))
     → IsModelOf before s
     → s.holder ≡ Rearmer
     → s.hidden ≡ false
     → (loaded : Loaded)
-    × LoadsOf given old new before after (wents.On says.Idle) walks loaded
+    × LoadsOf given old new before after (outcomes.On shows.Idle) walks loaded
     × (index : ℕ)
     × IsIndex loaded index
     × (s.index ≡ index

@@ -123,7 +123,7 @@ read_behind size v u l ls w on r = record {
   loads = ap (λ (x : List Load). l ∷ x) r.loads;
   place = ap suc r.place;
   entry = r.entry;
-  tells = r.tells;
+  reports = r.reports;
 }
 
 -- what is found from a step on, by what is found from the next one on
@@ -161,7 +161,7 @@ here size v l ls w alone at is =
       loads = refl;
       place = refl;
       entry = at;
-      tells = is;
+      reports = is;
     }
 
 -- what ends by itself is a chain

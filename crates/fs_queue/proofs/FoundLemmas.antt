@@ -27,29 +27,29 @@ use Rattle.fs_queue.proofs.PathLemmas.{still_few}
 -- ---- what the walk says of a step is so
 
 -- what a step comes to, in the standard's words
-Says : Memory → Queue → Visit → WalkStep → Type 0
-Says m q v (Ordinary d) = EntryIsThere m v × PassesOrdinary q v (entry_of m v) × (d ≡ entry_of m v)
-Says m q v (Indirect t) = EntryIsThere m v × PassesTable v (entry_of m v)
-Says m q v (Faulty fault) = StepHasFault m q v fault
-Says m q v Stops = StepStops m v
+Shows : Memory → Queue → Visit → WalkStep → Type 0
+Shows m q v (Ordinary d) = EntryIsThere m v × PassesOrdinary q v (entry_of m v) × (d ≡ entry_of m v)
+Shows m q v (Indirect t) = EntryIsThere m v × PassesTable v (entry_of m v)
+Shows m q v (Faulty fault) = StepHasFault m q v fault
+Shows m q v Stops = StepStops m v
 
-says_fault : (m : Memory) (q : Queue) (v : Visit) (fault : ChainFault) → StepHasFault m q v fault → Says m q v (Faulty fault)
-unfolding Says
-says_fault m q v fault h = h
+shows_fault : (m : Memory) (q : Queue) (v : Visit) (fault : ChainFault) → StepHasFault m q v fault → Shows m q v (Faulty fault)
+unfolding Shows
+shows_fault m q v fault h = h
 
-says_stops : (m : Memory) (q : Queue) (v : Visit) → StepStops m v → Says m q v Stops
-unfolding Says
-says_stops m q v h = h
+shows_stops : (m : Memory) (q : Queue) (v : Visit) → StepStops m v → Shows m q v Stops
+unfolding Shows
+shows_stops m q v h = h
 
-says_ordinary :
-    (m : Memory) (q : Queue) (v : Visit) → EntryIsThere m v → PassesOrdinary q v (entry_of m v) → Says m q v (Ordinary (entry_of m v))
-unfolding Says
-says_ordinary m q v there passes = (there, passes, refl)
+shows_ordinary :
+    (m : Memory) (q : Queue) (v : Visit) → EntryIsThere m v → PassesOrdinary q v (entry_of m v) → Shows m q v (Ordinary (entry_of m v))
+unfolding Shows
+shows_ordinary m q v there passes = (there, passes, refl)
 
-says_table :
-    (m : Memory) (q : Queue) (v : Visit) (t : DescriptorTable) → EntryIsThere m v → PassesTable v (entry_of m v) → Says m q v (Indirect t)
-unfolding Says
-says_table m q v t there passes = (there, passes)
+shows_table :
+    (m : Memory) (q : Queue) (v : Visit) (t : DescriptorTable) → EntryIsThere m v → PassesTable v (entry_of m v) → Shows m q v (Indirect t)
+unfolding Shows
+shows_table m q v t there passes = (there, passes)
 
 -- there are bytes, and their end is no address
 overflows : (d : Descriptor) → (nat_lt 0 d.len && not (ends_in_64_bits d)) ≡ true → (0 < d.len) × (2 ^ 64 ≤ d.addr + d.len)
@@ -65,14 +65,14 @@ ordinary_overflows m q v plain room over =
     record { ordinary = plain; room = room; some = parts.0; past = parts.1 }
 
 ordinary_is : (m : Memory) (q : Queue) (v : Visit) → v.earlier ≤ q.size → EntryIsThere m v → is_indirect (entry_of m v) ≡ false →
-    Says m q v (ordinary_step q.size v (entry_of m v))
+    Shows m q v (ordinary_step q.size v (entry_of m v))
 ordinary_is m q v few there plain =
-    either (Says m q v) (v.earlier == q.size) _ _
-    (λ full. says_fault m q v TooLong (record { there = there; ordinary = plain }, eqb-true v.earlier q.size full)) (λ more.
-    either (Says m q v) (nat_lt 0 (entry_of m v).len && not (ends_in_64_bits (entry_of m v))) _ _
-    (λ over. says_fault m q v AddressOverflow
+    either (Shows m q v) (v.earlier == q.size) _ _
+    (λ full. shows_fault m q v TooLong (record { there = there; ordinary = plain }, eqb-true v.earlier q.size full)) (λ more.
+    either (Shows m q v) (nat_lt 0 (entry_of m v).len && not (ends_in_64_bits (entry_of m v))) _ _
+    (λ over. shows_fault m q v AddressOverflow
     (inr (ordinary_overflows m q v (record { there = there; ordinary = plain }) (room_left v.earlier q.size few more) over)))
-    (λ ends. says_ordinary m q v there
+    (λ ends. shows_ordinary m q v there
     (record { ordinary = plain; room = room_left v.earlier q.size few more; ends = ends_or_none (entry_of m v) _ _ refl refl ends })))
 
 -- no bytes, or no whole number of entries
@@ -85,20 +85,20 @@ wrong_length n h = one_of (or_cases (n == 0) (not (n % 16 == 0)) h)
 
 long_enough :
     (m : Memory) (q : Queue) (v : Visit) → NamesTableFromOwn m v → ((entry_of m v).len == 0 || not ((entry_of m v).len % 16 == 0)) ≡ false →
-    Says m q v (cond (not (ends_in_64_bits (entry_of m v))) (Faulty AddressOverflow)
+    Shows m q v (cond (not (ends_in_64_bits (entry_of m v))) (Faulty AddressOverflow)
     (Indirect (record { address = (entry_of m v).addr; entries = (entry_of m v).len / 16; indirect = true })))
 long_enough m q v names length =
     let parts = or_parts ((entry_of m v).len == 0) (not ((entry_of m v).len % 16 == 0)) length in
     let some : 0 < (entry_of m v).len = some_bytes (entry_of m v).len parts.0 in
     let whole : (entry_of m v).len % 16 ≡ 0 = eqb-true ((entry_of m v).len % 16) 0 (not-false _ parts.1) in
-    either (Says m q v) (not (ends_in_64_bits (entry_of m v))) _ _
-    (λ over. says_fault m q v AddressOverflow (inl (record {
+    either (Shows m q v) (not (ends_in_64_bits (entry_of m v))) _ _
+    (λ over. shows_fault m q v AddressOverflow (inl (record {
       names = names;
       some = some;
       whole = whole;
       past = ltb-false ((entry_of m v).addr + (entry_of m v).len) (2 ^ 64) (not-true _ over);
     })))
-    (λ ends. says_table m q v _ names.names.names.there (record {
+    (λ ends. shows_table m q v _ names.names.names.there (record {
       indirect = names.names.names.indirect;
       last = names.names.last;
       own = names.own;
@@ -107,38 +107,38 @@ long_enough m q v names length =
       ends = ltb-true ((entry_of m v).addr + (entry_of m v).len) (2 ^ 64) (not-false _ ends);
     }))
 
-indirect_is : (m : Memory) (q : Queue) (v : Visit) → NamesTable m v → Says m q v (indirect_step v (entry_of m v))
+indirect_is : (m : Memory) (q : Queue) (v : Visit) → NamesTable m v → Shows m q v (indirect_step v (entry_of m v))
 indirect_is m q v names =
-    either (Says m q v) (has_next (entry_of m v)) _ _ (λ more. says_fault m q v IndirectWithNext (names, more)) (λ last.
-    either (Says m q v) v.table.indirect _ _
-    (λ nested. says_fault m q v IndirectNested (record { names = names; last = last }, nested)) (λ own.
-    either (Says m q v) ((entry_of m v).len == 0 || not ((entry_of m v).len % 16 == 0)) _ _
-    (λ wrong. says_fault m q v IndirectLength
+    either (Shows m q v) (has_next (entry_of m v)) _ _ (λ more. shows_fault m q v IndirectWithNext (names, more)) (λ last.
+    either (Shows m q v) v.table.indirect _ _
+    (λ nested. shows_fault m q v IndirectNested (record { names = names; last = last }, nested)) (λ own.
+    either (Shows m q v) ((entry_of m v).len == 0 || not ((entry_of m v).len % 16 == 0)) _ _
+    (λ wrong. shows_fault m q v IndirectLength
     (record { names = record { names = names; last = last }; own = own }, wrong_length (entry_of m v).len wrong))
     (λ length. long_enough m q v (record { names = record { names = names; last = last }; own = own }) length)))
 
 is_at : (m : Memory) (q : Queue) (v : Visit) → v.earlier ≤ q.size → v.index < v.table.entries →
-    Says m q v (walk_step_at m q.size v (entry_address v))
+    Shows m q v (walk_step_at m q.size v (entry_address v))
 is_at m q v few inside =
-    either (Says m q v) (not (reach m Read (entry_address v) 16)) _ _
-    (λ unread. either (Says m q v) v.table.indirect _ _
-    (λ other. says_fault m q v TableUnreachable (record { inside = inside; unread = not-true _ unread }, other))
-    (λ own. says_stops m q v (record { inside = inside; unread = not-true _ unread }, own)))
-    (λ read. either (Says m q v) (is_indirect (entry_of m v)) _ _
+    either (Shows m q v) (not (reach m Read (entry_address v) 16)) _ _
+    (λ unread. either (Shows m q v) v.table.indirect _ _
+    (λ other. shows_fault m q v TableUnreachable (record { inside = inside; unread = not-true _ unread }, other))
+    (λ own. shows_stops m q v (record { inside = inside; unread = not-true _ unread }, own)))
+    (λ read. either (Shows m q v) (is_indirect (entry_of m v)) _ _
     (λ named. indirect_is m q v (record { there = record { inside = inside; read = not-false _ read }; indirect = named }))
     (λ plain. ordinary_is m q v few (record { inside = inside; read = not-false _ read }) plain))
 
-step_is : (m : Memory) (q : Queue) (v : Visit) → v.earlier ≤ q.size → Says m q v (walk_step m q.size v)
+step_is : (m : Memory) (q : Queue) (v : Visit) → v.earlier ≤ q.size → Shows m q v (walk_step m q.size v)
 step_is m q v few =
-    either (Says m q v) (nat_le v.table.entries v.index) _ _
-    (λ outside. says_fault m q v NextOutOfTable (leb-true v.table.entries v.index outside))
+    either (Shows m q v) (nat_le v.table.entries v.index) _ _
+    (λ outside. shows_fault m q v NextOutOfTable (leb-true v.table.entries v.index outside))
     (λ inside. is_at m q v few (leb-false v.table.entries v.index inside))
 
 -- ---- what a walk finds is what its steps come to
 
-kept : (m : Memory) (v : Visit) (vs : List Visit) (b : Bool) → is_indirect (entry_of m v) ≡ b →
+preserved : (m : Memory) (v : Visit) (vs : List Visit) (b : Bool) → is_indirect (entry_of m v) ≡ b →
     ordinary_entries m (v ∷ vs) ≡ cond (not b) (entry_of m v ∷ ordinary_entries m vs) (ordinary_entries m vs)
-kept m v vs b is = ap (λ (x : Bool). cond (not x) (entry_of m v ∷ ordinary_entries m vs) (ordinary_entries m vs)) is
+preserved m v vs b is = ap (λ (x : Bool). cond (not x) (entry_of m v ∷ ordinary_entries m vs) (ordinary_entries m vs)) is
 
 -- a step that passes, before others
 before : (m : Memory) (q : Queue) (v : Visit) (vs : List Visit) (IsSo : Visit → Type 0) → Passes m q v → EndsAt m q vs IsSo →
@@ -162,7 +162,7 @@ before_ordinary m q v vs d (IsChain ds) there passes is rest =
     let all : All (Passes m q) (v ∷ vs) = All-cons (Passes m q) v vs (record { there = there; passes = inl passes }) rest.0 in
     let first : d ∷ ds ≡ entry_of m v ∷ ds = ap (λ (x : Descriptor). x ∷ ds) is in
     let others : entry_of m v ∷ ds ≡ entry_of m v ∷ ordinary_entries m vs = ap (λ (xs : List Descriptor). entry_of m v ∷ xs) rest.1 in
-    (all, first ∙ others ∙ sym (kept m v vs false passes.ordinary))
+    (all, first ∙ others ∙ sym (preserved m v vs false passes.ordinary))
 before_ordinary m q v vs d (HasFault fault) there passes is rest =
     before m q v vs (λ w. StepHasFault m q w fault) (record { there = there; passes = inl passes }) rest
 before_ordinary m q v vs d StopsQueue there passes is rest =
@@ -170,22 +170,25 @@ before_ordinary m q v vs d StopsQueue there passes is rest =
 
 before_table : (m : Memory) (q : Queue) (v : Visit) (vs : List Visit) (r : Found) → EntryIsThere m v → PassesTable v (entry_of m v) →
     ComesTo m q vs r → ComesTo m q (v ∷ vs) r
-before_table m q v vs (IsChain ds) there passes rest =
-    (All-cons (Passes m q) v vs (record { there = there; passes = inr passes }) rest.0, rest.1 ∙ sym (kept m v vs true passes.indirect))
+before_table m q v vs (IsChain ds) there passes rest = (
+  All-cons (Passes m q) v vs (record { there = there; passes = inr passes }) rest.0,
+  rest.1 ∙ sym
+      (preserved m v vs true passes.indirect),
+)
 before_table m q v vs (HasFault fault) there passes rest =
     before m q v vs (λ w. StepHasFault m q w fault) (record { there = there; passes = inr passes }) rest
 before_table m q v vs StopsQueue there passes rest = before m q v vs (StepStops m) (record { there = there; passes = inr passes }) rest
 
 -- a step, and those after it
-with_step : (m : Memory) (q : Queue) (n : ℕ) (v : Visit) (x : WalkStep) → Says m q v x →
+with_step : (m : Memory) (q : Queue) (n : ℕ) (v : Visit) (x : WalkStep) → Shows m q v x →
     ComesTo m q (onward (path m q.size n) (next_visit v x)) (found m q.size (onward (path m q.size n) (next_visit v x))) →
     ComesTo m q (v ∷ onward (path m q.size n) (next_visit v x))
     (after_walk_step x (found m q.size (onward (path m q.size n) (next_visit v x))))
-unfolding Says
-with_step m q n v (Ordinary d) says rest = before_ordinary m q v _ d _ says.0 says.1 says.2 rest
-with_step m q n v (Indirect t) says rest = before_table m q v _ _ says.0 says.1 rest
-with_step m q n v (Faulty fault) says rest = alone m q v (λ w. StepHasFault m q w fault) says
-with_step m q n v Stops says rest = alone m q v (StepStops m) says
+unfolding Shows
+with_step m q n v (Ordinary d) shows rest = before_ordinary m q v _ d _ shows.0 shows.1 shows.2 rest
+with_step m q n v (Indirect t) shows rest = before_table m q v _ _ shows.0 shows.1 rest
+with_step m q n v (Faulty fault) shows rest = alone m q v (λ w. StepHasFault m q w fault) shows
+with_step m q n v Stops shows rest = alone m q v (StepStops m) shows
 
 steps_come_to : (m : Memory) (q : Queue) (n : ℕ) (o : Option Visit) → ((w : Visit) → o ≡ Some w → w.earlier ≤ q.size) →
     ComesTo m q (onward (path m q.size n) o) (found m q.size (onward (path m q.size n) o))

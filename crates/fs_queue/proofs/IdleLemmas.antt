@@ -16,9 +16,9 @@ use Rattle.fs_queue.specs.Taking.{Offer, Refuses, is_idle, offer, offer_of, on_n
 use Rattle.fs_queue.proofs.OfferLemmas.{offer_next_avail}
 
 -- what a walk through the ring ended with is that nothing waits
-abbrev pub tells_idle : Stage → Bool
-tells_idle (HasResult avail.Idle) = true
-tells_idle _ = false
+abbrev pub reports_idle : Stage → Bool
+reports_idle (HasResult avail.Idle) = true
+reports_idle _ = false
 
 found_waits : (m : Memory) (limit head : ℕ) (f : Found) → is_idle (offer_of m limit head f) ≡ false
 found_waits m limit head (IsChain ds) = refl
@@ -29,7 +29,7 @@ unless_refused : (b : Bool) (e : QueueError) (o : Offer) → is_idle o ≡ false
 unless_refused true e o waits = refl
 unless_refused false e o waits = waits
 
-by_ring : (m : Memory) (limit : ℕ) (q : Queue) (n : NextAvail) → is_idle (on_next_avail m limit q n) ≡ tells_idle (HasResult n)
+by_ring : (m : Memory) (limit : ℕ) (q : Queue) (n : NextAvail) → is_idle (on_next_avail m limit q n) ≡ reports_idle (HasResult n)
 by_ring m limit q avail.Idle = refl
 by_ring m limit q (avail.Refused e) = refl
 by_ring m limit q (avail.Head head) =
@@ -37,12 +37,12 @@ by_ring m limit q (avail.Head head) =
     (unless_refused (not (reach m Read q.avail 2)) stop.AvailFlagsUnreachable _ (found_waits m limit head (chain m q head)))
 
 pub ring_is_idle : (m : Memory) (limit : ℕ) (q : Queue) (stage : Stage) → q.stopped ≡ false → stage ≡ HasResult (next_avail m q) →
-    is_idle (offer m limit q) ≡ tells_idle stage
-ring_is_idle m limit q stage on told =
-    ap is_idle (offer_next_avail m limit q on) ∙ by_ring m limit q (next_avail m q) ∙ sym (ap tells_idle told)
+    is_idle (offer m limit q) ≡ reports_idle stage
+ring_is_idle m limit q stage on reported =
+    ap is_idle (offer_next_avail m limit q on) ∙ by_ring m limit q (next_avail m q) ∙ sym (ap reports_idle reported)
 
 -- no other end of a walk tells it
-pub waits_unless_idle : (w : Walk) → (w ≡ walk.Idle → ⊥) → tells_idle (stage_of w) ≡ false
+pub waits_unless_idle : (w : Walk) → (w ≡ walk.Idle → ⊥) → reports_idle (stage_of w) ≡ false
 waits_unless_idle walk.Idle not-idle = absurd (not-idle refl)
 waits_unless_idle (walk.Refused e) not-idle = refl
 waits_unless_idle (walk.Chain head first) not-idle = refl

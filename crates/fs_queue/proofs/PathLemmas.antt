@@ -100,20 +100,20 @@ next_is m q v w (inr f) = next_by_table m q.size v w f
 -- ---- the walk's next step follows
 
 -- whatever is the step after one comes after it
-Goes : Memory → Queue → Visit → WalkStep → Type 0
-Goes m q v x = (w : Visit) → next_visit v x ≡ Some w → Follows m q v w
+Proceeds : Memory → Queue → Visit → WalkStep → Type 0
+Proceeds m q v x = (w : Visit) → next_visit v x ≡ Some w → Follows m q v w
 
-goes_faulty : (m : Memory) (q : Queue) (v : Visit) (f : ChainFault) → Goes m q v (Faulty f)
-unfolding Goes
-goes_faulty m q v f w e = absurd (cc)
+proceeds_faulty : (m : Memory) (q : Queue) (v : Visit) (f : ChainFault) → Proceeds m q v (Faulty f)
+unfolding Proceeds
+proceeds_faulty m q v f w e = absurd (cc)
 
-goes_stops : (m : Memory) (q : Queue) (v : Visit) → Goes m q v Stops
-unfolding Goes
-goes_stops m q v w e = absurd (cc)
+proceeds_stops : (m : Memory) (q : Queue) (v : Visit) → Proceeds m q v Stops
+unfolding Proceeds
+proceeds_stops m q v w e = absurd (cc)
 
-past : (m : Memory) (q : Queue) (v : Visit) (b : Bool) (f : ChainFault) (x : WalkStep) → (b ≡ false → Goes m q v x) →
-    Goes m q v (cond b (Faulty f) x)
-past m q v true f x h = goes_faulty m q v f
+past : (m : Memory) (q : Queue) (v : Visit) (b : Bool) (f : ChainFault) (x : WalkStep) → (b ≡ false → Proceeds m q v x) →
+    Proceeds m q v (cond b (Faulty f) x)
+past m q v true f x h = proceeds_faulty m q v f
 past m q v false f x h = h refl
 
 by_next :
@@ -131,15 +131,15 @@ by_next m q v w true there passes is e =
       earlier = sym (ap (λ (u : Visit). u.earlier) same);
     }
 
-goes_next :
-    (m : Memory) (q : Queue) (v : Visit) → EntryIsThere m v → PassesOrdinary q v (entry_of m v) → Goes m q v (Ordinary (entry_of m v))
-unfolding Goes
-goes_next m q v there passes w e = inl (by_next m q v w (has_next (entry_of m v)) there passes refl e)
+proceeds_next :
+    (m : Memory) (q : Queue) (v : Visit) → EntryIsThere m v → PassesOrdinary q v (entry_of m v) → Proceeds m q v (Ordinary (entry_of m v))
+unfolding Proceeds
+proceeds_next m q v there passes w e = inl (by_next m q v w (has_next (entry_of m v)) there passes refl e)
 
-goes_table : (m : Memory) (q : Queue) (v : Visit) → EntryIsThere m v → PassesTable v (entry_of m v) →
-    Goes m q v (Indirect (record { address = (entry_of m v).addr; entries = (entry_of m v).len / 16; indirect = true }))
-unfolding Goes
-goes_table m q v there passes w e =
+proceeds_table : (m : Memory) (q : Queue) (v : Visit) → EntryIsThere m v → PassesTable v (entry_of m v) →
+    Proceeds m q v (Indirect (record { address = (entry_of m v).addr; entries = (entry_of m v).len / 16; indirect = true }))
+unfolding Proceeds
+proceeds_table m q v there passes w e =
     let same : in_table (record { address = (entry_of m v).addr; entries = (entry_of m v).len / 16; indirect = true }) 0 v.earlier
     ≡ w = cc in
     inr (record {
@@ -164,22 +164,22 @@ ends_or_none d true false some ends h = absurd (cc)
 pub room_left : (n size : ℕ) → n ≤ size → (n == size) ≡ false → n < size
 room_left n size le h = let other = eqb-false n size h in omega (arith, le, other)
 
-goes_ordinary : (m : Memory) (q : Queue) (v : Visit) → v.earlier ≤ q.size → EntryIsThere m v → is_indirect (entry_of m v) ≡ false →
-    Goes m q v (ordinary_step q.size v (entry_of m v))
-goes_ordinary m q v few there plain =
+proceeds_ordinary : (m : Memory) (q : Queue) (v : Visit) → v.earlier ≤ q.size → EntryIsThere m v → is_indirect (entry_of m v) ≡ false →
+    Proceeds m q v (ordinary_step q.size v (entry_of m v))
+proceeds_ordinary m q v few there plain =
     past m q v (v.earlier == q.size) TooLong _ (λ more.
     past m q v (nat_lt 0 (entry_of m v).len && not (ends_in_64_bits (entry_of m v))) AddressOverflow _ (λ ends.
-    goes_next m q v there
+    proceeds_next m q v there
     (record { ordinary = plain; room = room_left v.earlier q.size few more; ends = ends_or_none (entry_of m v) _ _ refl refl ends })))
 
-goes_indirect : (m : Memory) (q : Queue) (v : Visit) → EntryIsThere m v → is_indirect (entry_of m v) ≡ true →
-    Goes m q v (indirect_step v (entry_of m v))
-goes_indirect m q v there named =
+proceeds_indirect : (m : Memory) (q : Queue) (v : Visit) → EntryIsThere m v → is_indirect (entry_of m v) ≡ true →
+    Proceeds m q v (indirect_step v (entry_of m v))
+proceeds_indirect m q v there named =
     past m q v (has_next (entry_of m v)) IndirectWithNext _ (λ last. past m q v v.table.indirect IndirectNested _ (λ own.
     past m q v ((entry_of m v).len == 0 || not ((entry_of m v).len % 16 == 0)) IndirectLength _ (λ length.
     past m q v (not (ends_in_64_bits (entry_of m v))) AddressOverflow _ (λ ends.
     let parts = or_parts ((entry_of m v).len == 0) (not ((entry_of m v).len % 16 == 0)) length in
-    goes_table m q v there (record {
+    proceeds_table m q v there (record {
       indirect = named;
       last = last;
       own = own;
@@ -188,24 +188,25 @@ goes_indirect m q v there named =
       ends = ltb-true ((entry_of m v).addr + (entry_of m v).len) (2 ^ 64) (not-false _ ends);
     })))))
 
-goes_at : (m : Memory) (q : Queue) (v : Visit) → v.earlier ≤ q.size → v.index < v.table.entries →
-    Goes m q v (walk_step_at m q.size v (entry_address v))
-goes_at m q v few inside =
-    either (Goes m q v) (not (reach m Read (entry_address v) 16)) _ _
-    (λ _. either (Goes m q v) v.table.indirect _ _ (λ _. goes_faulty m q v _) (λ _. goes_stops m q v))
-    (λ read. either (Goes m q v) (is_indirect (entry_of m v)) _ _
-    (λ named. goes_indirect m q v (record { inside = inside; read = not-false _ read }) named)
-    (λ plain. goes_ordinary m q v few (record { inside = inside; read = not-false _ read }) plain))
+proceeds_at : (m : Memory) (q : Queue) (v : Visit) → v.earlier ≤ q.size → v.index < v.table.entries →
+    Proceeds m q v (walk_step_at m q.size v (entry_address v))
+proceeds_at m q v few inside =
+    either (Proceeds m q v) (not (reach m Read (entry_address v) 16)) _ _
+    (λ _. either (Proceeds m q v) v.table.indirect _ _ (λ _. proceeds_faulty m q v _) (λ _. proceeds_stops m q v))
+    (λ read. either (Proceeds m q v) (is_indirect (entry_of m v)) _ _
+    (λ named. proceeds_indirect m q v (record { inside = inside; read = not-false _ read }) named)
+    (λ plain. proceeds_ordinary m q v few (record { inside = inside; read = not-false _ read }) plain))
 
-goes : (m : Memory) (q : Queue) (v : Visit) → v.earlier ≤ q.size → Goes m q v (walk_step m q.size v)
-goes m q v few =
-    past m q v (nat_le v.table.entries v.index) NextOutOfTable _ (λ inside. goes_at m q v few (leb-false v.table.entries v.index inside))
+proceeds : (m : Memory) (q : Queue) (v : Visit) → v.earlier ≤ q.size → Proceeds m q v (walk_step m q.size v)
+proceeds m q v few =
+    past m q v (nat_le v.table.entries v.index) NextOutOfTable _
+    (λ inside. proceeds_at m q v few (leb-false v.table.entries v.index inside))
 
 -- the next step of the walk comes after this one
 pub next_follows :
     (m : Memory) (q : Queue) (v w : Visit) → v.earlier ≤ q.size → next_visit v (walk_step m q.size v) ≡ Some w → Follows m q v w
-unfolding Goes
-next_follows m q v w few e = goes m q v few w e
+unfolding Proceeds
+next_follows m q v w few e = proceeds m q v few w e
 
 -- no more descriptors come before a step that follows than the queue has
 pub still_few : (m : Memory) (q : Queue) (v w : Visit) → v.earlier ≤ q.size → Follows m q v w → w.earlier ≤ q.size

@@ -17,7 +17,8 @@ use Rattle.fs_queue.specs.declared.returning.Return.{Return}
 use Rattle.fs_queue.specs.declared.fault.ChainFault.{ChainFault}
 use Rattle.fs_queue.specs.Queue.{Queue, element_at, index_at}
 use Rattle.fs_queue.specs.Taking.{RequestAndRoom, IsRequest, CannotFetch, room_of}
-use Rattle.fs_queue.specs.Returning.{next_position, returned, used_bytes, wants_notice, tells, Store, stores_after_reply, ReturnsByStores}
+use Rattle.fs_queue.specs.Returning.{next_position, returned, used_bytes, wants_notice, notifies, Store, stores_after_reply}
+use Rattle.fs_queue.specs.Returning.{ReturnsByStores}
 use Rattle.fs_queue.specs.ReturningView.{put_back, stores_of}
 use Rattle.fs_queue.specs.Windows.{Taken, HoldsChain, IsTaken, chain_places, used_addresses}
 
@@ -58,9 +59,9 @@ stored_located [] ps xs m e = let none : [] ≡ ps = cc in rw (← none)
 stored_located (a ∷ as') ps [] m e = ap (over m) (put_none ps m.host)
 stored_located (a ∷ as') ps (x ∷ xs) m e =
     let s = parts (location m Write a) (located (location m Write) as') ps e in
-    let kept = same_location m (put_byte m.host s.0 x) (put_tables m.host s.0 x) in
+    let preserved = same_location m (put_byte m.host s.0 x) (put_tables m.host s.0 x) in
     stored_one a x as' xs ps s.1 s.0 m s.2 s.4
-    (stored_located as' s.1 xs (over m (put_byte m.host s.0 x)) (ap (λ f. located (f Write) as') kept ∙ s.3))
+    (stored_located as' s.1 xs (over m (put_byte m.host s.0 x)) (ap (λ f. located (f Write) as') preserved ∙ s.3))
 
 -- ---- the stores of a return
 
@@ -76,8 +77,8 @@ room_stored m reply (CannotFetch why) (Err fault) held = refl
 stored_held : (m : Memory) (h h' : Host) (as' xs : List ℕ) (ws vs : List Window) → h.tables ≡ m.host.tables →
     located (location m Write) as' ≡ Some (places vs) →
     ws ≡ vs → h' ≡ put_all h (zip (places ws) xs) → stored_all (over m h) (zip as' xs) ≡ over m h'
-stored_held m h h' as' xs ws vs kept at e is =
-    stored_located as' (places vs) xs (over m h) (ap (λ f. located (f Write) as') (same_location m h kept) ∙ at)
+stored_held m h h' as' xs ws vs preserved at e is =
+    stored_located as' (places vs) xs (over m h) (ap (λ f. located (f Write) as') (same_location m h preserved) ∙ at)
     ∙ ap (over m) (ap (λ (v : List Window). put_all h (zip (places v) xs)) (sym e) ∙ sym is)
 
 -- the used element and the used index at their addresses, at once
@@ -114,20 +115,20 @@ returned_is m h0 h1 h2 q fetched t reply bytes ws host taken a e1 e2 b =
     ∙ stored_all-append room at_used m
     ∙ ap (λ (n : Memory). stored_all n at_used) first ∙ second)
 
-pub told_is : (m : Memory) (h2 : Host) (q : Queue) (fetched : RequestAndRoom) (t : Taken) (flags : List ℕ) (fs : List Window) →
+pub reported_is : (m : Memory) (h2 : Host) (q : Queue) (fetched : RequestAndRoom) (t : Taken) (flags : List ℕ) (fs : List Window) →
     h2.tables ≡ m.host.tables → IsTaken m q fetched t →
-    fs ≡ t.return_windows.flags.items → flags ≡ map (byte_in h2) (places fs) → tells flags ≡ wants_notice (over m h2) q
-told_is m h2 q fetched t flags fs kept taken e f =
+    fs ≡ t.return_windows.flags.items → flags ≡ map (byte_in h2) (places fs) → notifies flags ≡ wants_notice (over m h2) q
+reported_is m h2 q fetched t flags fs preserved taken e f =
     let read : bytes (over m h2) q.avail 2 ≡ flags =
     bytes-located (addresses q.avail 2) (over m h2) (places t.return_windows.flags.items)
-    (ap (λ g. located (g Read) (addresses q.avail 2)) (same_location m h2 kept) ∙ taken.return_windows.flags)
+    (ap (λ g. located (g Read) (addresses q.avail 2)) (same_location m h2 preserved) ∙ taken.return_windows.flags)
     ∙ ap (λ (ws : List Window). map (byte_in h2) (places ws)) (sym e) ∙ sym f in
-    ap tells (sym read)
+    ap notifies (sym read)
 
 -- both stores keep the tables
-pub kept_tables : (m : Memory) (h0 h1 h2 : Host) (ws1 ws2 : List (Place × ℕ)) → m.host ≡ h0 → h1 ≡ put_all h0 ws1 → h2 ≡ put_all h1 ws2 →
-    h2.tables ≡ m.host.tables
-kept_tables m h0 h1 h2 ws1 ws2 host a b =
+pub preserved_tables : (m : Memory) (h0 h1 h2 : Host) (ws1 ws2 : List (Place × ℕ)) → m.host ≡ h0 → h1 ≡ put_all h0 ws1 → h2 ≡ put_all h1 ws2
+    → h2.tables ≡ m.host.tables
+preserved_tables m h0 h1 h2 ws1 ws2 host a b =
     ap (λ (h : Host). h.tables) b ∙ all_tables ws2 h1 ∙ ap (λ (h : Host). h.tables) a ∙ all_tables ws1 h0
     ∙ ap (λ (h : Host). h.tables) (sym host)
 

@@ -57,8 +57,8 @@ located_past r rest (suc n) a past = rw (past_at r rest a past, located_past r r
 
 -- ---- what an available ring tells
 
-abbrev told : Queue → (index_there : Bool) → (waiting : ℕ) → (entry_there : Bool) → (head : ℕ) → NextAvail
-told q b w c h =
+abbrev reported : Queue → (index_there : Bool) → (waiting : ℕ) → (entry_there : Bool) → (head : ℕ) → NextAvail
+reported q b w c h =
     if not b then Refused AvailIndexUnreachable
     else if w == 0 then Idle
     else if nat_lt q.size w then Refused AvailTooFar
@@ -66,15 +66,16 @@ told q b w c h =
     else if nat_le q.size h then Refused HeadOutOfTable
     else Head h
 
-told_by : (q : Queue) (b c : Bool) (i j e f : List ℕ) → (b ≡ true → i ≡ j) → (c ≡ true → e ≡ f) →
-    told q b ((from_le_bytes w16 i + (2 ^ 16 - q.position)) % 2 ^ 16) c (from_le_bytes w16 e)
-    ≡ told q b ((from_le_bytes w16 j + (2 ^ 16 - q.position)) % 2 ^ 16) c (from_le_bytes w16 f)
-told_by q false c i j e f p s = refl
-told_by q true false i j e f p s =
-    ap (λ (l : List ℕ). told q true ((from_le_bytes w16 l + (2 ^ 16 - q.position)) % 2 ^ 16) false (from_le_bytes w16 e)) (p refl) ∙ refl
-told_by q true true i j e f p s =
-    ap (λ (l : List ℕ). told q true ((from_le_bytes w16 l + (2 ^ 16 - q.position)) % 2 ^ 16) true (from_le_bytes w16 e)) (p refl)
-    ∙ ap (λ (l : List ℕ). told q true ((from_le_bytes w16 j + (2 ^ 16 - q.position)) % 2 ^ 16) true (from_le_bytes w16 l)) (s refl)
+reported_by : (q : Queue) (b c : Bool) (i j e f : List ℕ) → (b ≡ true → i ≡ j) → (c ≡ true → e ≡ f) →
+    reported q b ((from_le_bytes w16 i + (2 ^ 16 - q.position)) % 2 ^ 16) c (from_le_bytes w16 e)
+    ≡ reported q b ((from_le_bytes w16 j + (2 ^ 16 - q.position)) % 2 ^ 16) c (from_le_bytes w16 f)
+reported_by q false c i j e f p s = refl
+reported_by q true false i j e f p s =
+    ap (λ (l : List ℕ). reported q true ((from_le_bytes w16 l + (2 ^ 16 - q.position)) % 2 ^ 16) false (from_le_bytes w16 e)) (p refl) ∙
+    refl
+reported_by q true true i j e f p s =
+    ap (λ (l : List ℕ). reported q true ((from_le_bytes w16 l + (2 ^ 16 - q.position)) % 2 ^ 16) true (from_le_bytes w16 e)) (p refl)
+    ∙ ap (λ (l : List ℕ). reported q true ((from_le_bytes w16 j + (2 ^ 16 - q.position)) % 2 ^ 16) true (from_le_bytes w16 l)) (s refl)
 
 abbrev pub pick : (b z far : Bool) → NextAvail → NextAvail
 pick b z far rest = if not b then Refused AvailIndexUnreachable else if z then Idle else if far then Refused AvailTooFar else rest
@@ -87,8 +88,9 @@ picked true false true rest e = refl
 picked true false false rest e = absurd (cc)
 
 -- where the entry isn't asked for it makes no difference
-told_alone : (q : Queue) (b c : Bool) (h k w : ℕ) → asks_entry (told q b w false h) ≡ false → told q b w false h ≡ told q b w c k
-told_alone q b c h k w e =
+reported_alone : (q : Queue) (b c : Bool) (h k w : ℕ) → asks_entry (reported q b w false h) ≡ false
+    → reported q b w false h ≡ reported q b w c k
+reported_alone q b c h k w e =
     picked b (w == 0) (nat_lt q.size w) (if not c then Refused RingEntryUnreachable else if nat_le q.size k then Refused HeadOutOfTable
     else Head k) e
 
@@ -100,9 +102,9 @@ same_avail : (h m : Memory) (q : Queue) → reach h Read (avail_index_at q) 2 �
 same_avail h m q r1 r2 p s =
     let w = (number h w16 (avail_index_at q) + (2 ^ 16 - q.position)) % 2 ^ 16 in
     let e = number h w16 (ring_entry_at q) in
-    ap (λ b. told q b w (reach h Read (ring_entry_at q) 2) e) r1
-    ∙ ap (λ c. told q (reach m Read (avail_index_at q) 2) w c e) r2
-    ∙ told_by q (reach m Read (avail_index_at q) 2) (reach m Read (ring_entry_at q) 2) (bytes h (avail_index_at q) 2)
+    ap (λ b. reported q b w (reach h Read (ring_entry_at q) 2) e) r1
+    ∙ ap (λ c. reported q (reach m Read (avail_index_at q) 2) w c e) r2
+    ∙ reported_by q (reach m Read (avail_index_at q) 2) (reach m Read (ring_entry_at q) 2) (bytes h (avail_index_at q) 2)
     (bytes m (avail_index_at q) 2)
     (bytes h (ring_entry_at q) 2) (bytes m (ring_entry_at q) 2) p s
 
@@ -113,11 +115,11 @@ same_alone : (h m : Memory) (q : Queue) → reach h Read (avail_index_at q) 2 �
 same_alone h m q r1 r2 p asks =
     let w = (number h w16 (avail_index_at q) + (2 ^ 16 - q.position)) % 2 ^ 16 in
     let e = number h w16 (ring_entry_at q) in
-    let here : next_avail h q ≡ told q (reach m Read (avail_index_at q) 2) w false e =
-    ap (λ b. told q b w (reach h Read (ring_entry_at q) 2) e) r1 ∙ ap (λ c. told q (reach m Read (avail_index_at q) 2) w c e) r2 in
-    here ∙ told_alone q (reach m Read (avail_index_at q) 2) (reach m Read (ring_entry_at q) 2) e (number m w16 (ring_entry_at q)) w
+    let here : next_avail h q ≡ reported q (reach m Read (avail_index_at q) 2) w false e =
+    ap (λ b. reported q b w (reach h Read (ring_entry_at q) 2) e) r1 ∙ ap (λ c. reported q (reach m Read (avail_index_at q) 2) w c e) r2 in
+    here ∙ reported_alone q (reach m Read (avail_index_at q) 2) (reach m Read (ring_entry_at q) 2) e (number m w16 (ring_entry_at q)) w
     (ap asks_entry (sym here) ∙ asks)
-    ∙ told_by q (reach m Read (avail_index_at q) 2) (reach m Read (ring_entry_at q) 2) (bytes h (avail_index_at q) 2)
+    ∙ reported_by q (reach m Read (avail_index_at q) 2) (reach m Read (ring_entry_at q) 2) (bytes h (avail_index_at q) 2)
     (bytes m (avail_index_at q) 2)
     (bytes m (ring_entry_at q) 2) (bytes m (ring_entry_at q) 2) p (λ _. refl)
 
@@ -243,11 +245,11 @@ index_lost q i is =
     let one = has_one (avail_index_at q) i (rw is tt) in
     rw (one.there ∙ ap is_some is) refl
 
-pub index_tells : (q : Queue) (i : Option (List ℕ)) (bs : List ℕ) (n w : ℕ) → i ≡ Some bs → length bs ≡ 2 → avail_index_at q + 2 < 2 ^ 64 →
-    n ≡ from_le_bytes w16 bs →
+pub index_reports : (q : Queue) (i : Option (List ℕ)) (bs : List ℕ) (n w : ℕ) → i ≡ Some bs → length bs ≡ 2 → avail_index_at q + 2 < 2 ^ 64
+    → n ≡ from_le_bytes w16 bs →
     w ≡ (n + (2 ^ 16 - q.position)) % 2 ^ 16 →
     next_avail (holding (index_load q i ∷ [])) q ≡ pick true (w == 0) (nat_lt q.size w) (Refused RingEntryUnreachable)
-index_tells q i bs n w is len fits n-is w-is =
+index_reports q i bs n w is len fits n-is w-is =
     let a = avail_index_at q in
     let h = holding (index_load q i ∷ []) in
     let pair : IsPair a i = rw is (len, fits) in
@@ -255,9 +257,9 @@ index_tells q i bs n w is len fits n-is w-is =
     let lacks = lacks_past a (ring_entry_at q) i pair (omega arith) in
     let read : number h w16 a ≡ n = ap (from_le_bytes w16) (one.same bs is) ∙ sym n-is in
     let wait : (number h w16 a + (2 ^ 16 - q.position)) % 2 ^ 16 ≡ w = ap (λ x. (x + (2 ^ 16 - q.position)) % 2 ^ 16) read ∙ sym w-is in
-    ap (λ b. told q b ((number h w16 a + (2 ^ 16 - q.position)) % 2 ^ 16) (reach h Read (ring_entry_at q) 2)
+    ap (λ b. reported q b ((number h w16 a + (2 ^ 16 - q.position)) % 2 ^ 16) (reach h Read (ring_entry_at q) 2)
     (number h w16 (ring_entry_at q))) (one.there ∙ ap is_some is)
-    ∙ ap (λ c. told q true ((number h w16 a + (2 ^ 16 - q.position)) % 2 ^ 16) c (number h w16 (ring_entry_at q))) lacks.there
+    ∙ ap (λ c. reported q true ((number h w16 a + (2 ^ 16 - q.position)) % 2 ^ 16) c (number h w16 (ring_entry_at q))) lacks.there
     ∙ ap (λ x. pick true (x == 0) (nat_lt q.size x) (Refused RingEntryUnreachable)) wait
 
 asked : (z far : Bool) (rest : NextAvail) → asks_entry (pick true z far (Refused RingEntryUnreachable)) ≡ true → pick true z far rest ≡ rest
@@ -265,27 +267,28 @@ asked true far rest e = absurd (cc)
 asked false true rest e = absurd (cc)
 asked false false rest e = refl
 
-abbrev pub entry_says : Queue → Bool → ℕ → NextAvail
-entry_says q c n = if not c then Refused RingEntryUnreachable else if nat_le q.size n then Refused HeadOutOfTable else Head n
+abbrev pub entry_shows : Queue → Bool → ℕ → NextAvail
+entry_shows q c n = if not c then Refused RingEntryUnreachable else if nat_le q.size n then Refused HeadOutOfTable else Head n
 
-pub entry_tells :
+pub entry_reports :
     (q : Queue) (bs : List ℕ) (e : Option (List ℕ)) → length bs ≡ 2 → avail_index_at q + 2 < 2 ^ 64 → IsPair (ring_entry_at q) e →
     asks_entry (next_avail (holding (index_load q (Some bs) ∷ [])) q) ≡ true →
     let h = holding (index_load q (Some bs) ∷ entry_load q e ∷ []) in
-    next_avail h q ≡ entry_says q (is_some e) (number h w16 (ring_entry_at q))
-entry_tells q bs e len fits pe asks =
+    next_avail h q ≡ entry_shows q (is_some e) (number h w16 (ring_entry_at q))
+entry_reports q bs e len fits pe asks =
     let a = avail_index_at q in
     let h = holding (index_load q (Some bs) ∷ entry_load q e ∷ []) in
     let first = has_first a (ring_entry_at q) (Some bs) e (len, fits) pe (omega arith) in
     let second = has_second a (ring_entry_at q) (Some bs) e (len, fits) pe (omega arith) in
     let w = (from_le_bytes w16 bs + (2 ^ 16 - q.position)) % 2 ^ 16 in
-    let index = index_tells q (Some bs) bs (from_le_bytes w16 bs) w refl len fits refl refl in
-    ap (λ b. told q b ((number h w16 a + (2 ^ 16 - q.position)) % 2 ^ 16) (reach h Read (ring_entry_at q) 2)
+    let index = index_reports q (Some bs) bs (from_le_bytes w16 bs) w refl len fits refl refl in
+    ap (λ b. reported q b ((number h w16 a + (2 ^ 16 - q.position)) % 2 ^ 16) (reach h Read (ring_entry_at q) 2)
     (number h w16 (ring_entry_at q))) first.there
-    ∙ ap (λ c. told q true ((number h w16 a + (2 ^ 16 - q.position)) % 2 ^ 16) c (number h w16 (ring_entry_at q))) second.there
-    ∙ ap (λ (l : List ℕ). told q true ((from_le_bytes w16 l + (2 ^ 16 - q.position)) % 2 ^ 16) (is_some e) (number h w16 (ring_entry_at q)))
+    ∙ ap (λ c. reported q true ((number h w16 a + (2 ^ 16 - q.position)) % 2 ^ 16) c (number h w16 (ring_entry_at q))) second.there
+    ∙ ap (λ (l : List ℕ). reported q true ((from_le_bytes w16 l + (2 ^ 16 - q.position)) % 2 ^ 16) (is_some e)
+    (number h w16 (ring_entry_at q)))
     (first.same bs refl)
-    ∙ asked (w == 0) (nat_lt q.size w) (entry_says q (is_some e) (number h w16 (ring_entry_at q))) (ap asks_entry (sym index) ∙ asks)
+    ∙ asked (w == 0) (nat_lt q.size w) (entry_shows q (is_some e) (number h w16 (ring_entry_at q))) (ap asks_entry (sym index) ∙ asks)
 
 pub entry_read : (q : Queue) (bs cs : List ℕ) (n : ℕ) → length bs ≡ 2 → avail_index_at q + 2 < 2 ^ 64 → length cs ≡ 2 →
     ring_entry_at q + 2 < 2 ^ 64 → n ≡ from_le_bytes w16 cs →
@@ -295,13 +298,13 @@ entry_read q bs cs n len fits len' fits' is =
     ((has_second (avail_index_at q) (ring_entry_at q) (Some bs) (Some cs) (len, fits) (len', fits') (omega arith)).same cs refl) ∙ sym is
 
 -- what the code tells of a memory whose index asks for the entry
-pub asked_told :
+pub asked_reported :
     (m : Memory) (q : Queue) (i e : Option (List ℕ)) (stage : Stage) → IsLoadOf m 2 (index_load q i) → IsLoadOf m 2 (entry_load q e) →
     asks_entry (next_avail (holding (index_load q i ∷ [])) q) ≡ true →
     ((bs : List ℕ) → length bs ≡ 2 → asks_entry (next_avail (holding (index_load q (Some bs) ∷ [])) q) ≡ true →
     stage ≡ HasResult (next_avail (holding (index_load q (Some bs) ∷ entry_load q e ∷ [])) q)) →
     stage ≡ HasResult (next_avail m q)
-asked_told m q i e stage is es asks tells =
+asked_reported m q i e stage is es asks reports =
     by_reach (reach m Read (avail_index_at q) 2) refl
   where
     by_reach : (b : Bool) → reach m Read (avail_index_at q) 2 ≡ b → stage ≡ HasResult (next_avail m q)
@@ -313,6 +316,6 @@ asked_told m q i e stage is es asks tells =
         let came : i ≡ Some (bytes m (avail_index_at q) 2) = is ∙ (rw r refl) in
         let pair = from_memory m (avail_index_at q) true r in
         let still = ring_is_still m q (Some (bytes m (avail_index_at q) 2)) e (rw r refl) es in
-        tells (bytes m (avail_index_at q) 2) pair.0
+        reports (bytes m (avail_index_at q) 2) pair.0
         (ap (λ (o : Option (List ℕ)). asks_entry (next_avail (holding (index_load q o
         ∷ [])) q)) (sym came) ∙ asks) ∙ ap HasResult still.both

@@ -74,7 +74,7 @@ pub record WasReadBy (size : ℕ) (ls : List Load) (first : Visit) (w : WalkStep
   pub loads : ls ≡ before ++ load ∷ rest
   pub place : length before ≡ length step.front
   pub entry : load.address ≡ entry_address step.last
-  pub tells : step_by size step.last load ≡ w
+  pub reports : step_by size step.last load ≡ w
 
 -- the last step is past its table's end, so it makes no load
 pub record PastTable (size : ℕ) (ls : List Load) (first : Visit) : Type 0 where

@@ -4,14 +4,14 @@ use Rattle.std.specs.Prelude.{◌≡◌, ℕ, ◌+◌, Bool, true, false, List, 
 use Rattle.vm_iotlb.specs.declared.permissions.Permissions.{Permissions}
 use Rattle.vm_iotlb.specs.declared.permissions.Permissions.TheVariants.{Read, Write, ReadWrite}
 use Rattle.vm_iotlb.specs.declared.range.IotlbRange.{IotlbRange}
-use Rattle.vm_iotlb.specs.Ranges.{table_kept}
+use Rattle.vm_iotlb.specs.Ranges.{table_held}
 use Rattle.vm_memory.specs.Layout.{place}
 use Rattle.vm_memory.specs.Memory.{Memory, addresses, io_memory, memory_of}
 use Rattle.fs_queue.specs.declared.fault.ChainFault.TheVariants.{RoomUnreachable, TooLong}
 use Rattle.fs_queue.specs.declared.fault.QueueError.TheVariants as stop
 use Rattle.fs_queue.specs.Chain.{path, IsChain, HasFault, found, chain}
 use Rattle.fs_queue.specs.Queue.{Queue, fresh}
-use Rattle.fs_queue.specs.Returning.{stores_after_reply, tells}
+use Rattle.fs_queue.specs.Returning.{stores_after_reply, notifies}
 use Rattle.fs_queue.specs.Taking.{Offer, Refuses, Offers, IsRequest, CannotFetch, offer, may_lack_memory}
 
 -- a descriptor of the room, then the available ring with head 0 at position 0, then the used ring and the
@@ -51,17 +51,17 @@ may_lack ranges = may_lack_memory (gives ranges)
 
 -- the device may read and write all
 room_offered : gives (range 0 0x2c ReadWrite ∷ []) ≡ Offers 0 (IsRequest [] (addresses 0x28 4))
-unfolding offer place addresses table_kept path found
+unfolding offer place addresses table_held path found
 room_offered = refl
 
 -- the ring's entry isn't mapped
 entry_unmapped : gives (range 0 0x14 ReadWrite ∷ []) ≡ Refuses stop.RingEntryUnreachable
-unfolding offer place addresses table_kept path found
+unfolding offer place addresses table_held path found
 entry_unmapped = refl
 
 -- a failed allocation doesn't hide that refusal
 entry_unmapped_takes : may_lack (range 0 0x14 ReadWrite ∷ []) ≡ false
-unfolding offer place addresses table_kept path found
+unfolding offer place addresses table_held path found
 entry_unmapped_takes = refl
 
 -- the ring's entry is mapped to addresses that no region has
@@ -71,41 +71,41 @@ entry_elsewhere =
 
 -- so the device can't read it either
 entry_nowhere : gives entry_elsewhere ≡ Refuses stop.RingEntryUnreachable
-unfolding offer place addresses table_kept path found
+unfolding offer place addresses table_held path found
 entry_nowhere = refl
 
 -- a failed allocation doesn't hide that refusal either
 entry_nowhere_takes : may_lack entry_elsewhere ≡ false
-unfolding offer place addresses table_kept path found
+unfolding offer place addresses table_held path found
 entry_nowhere_takes = refl
 
 -- the device may only read the used ring
 used_not_written : gives (range 0 0x18 ReadWrite ∷ range 0x18 0x28 Read ∷ range 0x28 0x2c ReadWrite ∷ [])
     ≡ Refuses stop.UsedUnreachable
-unfolding offer place addresses table_kept path found
+unfolding offer place addresses table_held path found
 used_not_written = refl
 
 -- the available flags aren't mapped, but the index and the entry after them are
 flags_unmapped :
     gives (range 0 0x10 ReadWrite ∷ range 0x12 0x2c ReadWrite ∷ []) ≡ Refuses stop.AvailFlagsUnreachable
-unfolding offer place addresses table_kept path found
+unfolding offer place addresses table_held path found
 flags_unmapped = refl
 
 -- the device may only read the room
 room_not_written :
     gives (range 0 0x28 ReadWrite ∷ range 0x28 0x2c Read ∷ []) ≡ Offers 0 (CannotFetch RoomUnreachable)
-unfolding offer place addresses table_kept path found
+unfolding offer place addresses table_held path found
 room_not_written = refl
 
 -- a chain with that fault is returned without a reply; a failed allocation may delay it
 room_not_written_takes : may_lack (range 0 0x28 ReadWrite ∷ range 0x28 0x2c Read ∷ []) ≡ true
-unfolding offer place addresses table_kept path found
+unfolding offer place addresses table_held path found
 room_not_written_takes = refl
 
 -- the device needs no read access to the room or to the used ring
 room_written :
     gives (range 0 0x18 Read ∷ range 0x18 0x2c Write ∷ []) ≡ Offers 0 (IsRequest [] (addresses 0x28 4))
-unfolding offer place addresses table_kept path found
+unfolding offer place addresses table_held path found
 room_written = refl
 
 -- a head that refers to a table of two entries at 0x20, and an entry that no chain has. The table has a
@@ -146,8 +146,8 @@ last_position : stores_after_reply
 last_position = refl
 
 -- bit 0 of the flags alone disables used buffer notifications
-not_told : tells (1 ∷ 0xff ∷ []) ≡ false
-not_told = refl
+not_reported : notifies (1 ∷ 0xff ∷ []) ≡ false
+not_reported = refl
 
-told : tells (0xfe ∷ 0xff ∷ []) ≡ true
-told = refl
+reported : notifies (0xfe ∷ 0xff ∷ []) ≡ true
+reported = refl

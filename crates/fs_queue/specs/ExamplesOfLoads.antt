@@ -56,10 +56,11 @@ index_asks : asks_entry (next_avail (holding (index_load queue (Some (1 ∷ 0 �
 unfolding place addresses
 index_asks = refl
 
-entry_tells : next_avail (holding (index_load queue (Some (1 ∷ 0 ∷ [])) ∷ entry_load queue (Some (3 ∷ 0 ∷ []))
+entry_notifies : next_avail (holding (index_load queue (Some (1 ∷ 0 ∷ []))
+    ∷ entry_load queue (Some (3 ∷ 0 ∷ []))
     ∷ [])) queue ≡ Head 3
 unfolding place addresses
-entry_tells = refl
+entry_notifies = refl
 
 nothing_waits : next_avail (holding (index_load queue (Some (0 ∷ 0 ∷ [])) ∷ [])) queue ≡ avail.Idle
 unfolding place addresses
@@ -72,10 +73,10 @@ unfolding place addresses loads_by
 stops_early = refl
 
 -- a chain that never ends makes one load more than the queue's size; the last load is TooLong
-goes_round : length (loads_by 1 (Some (entry 0 1 0) ∷ Some (entry 0 1 0) ∷ Some (entry 0 1 0) ∷ [])
+proceeds_round : length (loads_by 1 (Some (entry 0 1 0) ∷ Some (entry 0 1 0) ∷ Some (entry 0 1 0) ∷ [])
     (ahead_of_head (fresh 1 0 0x50 0x60) 0)) ≡ 2
 unfolding place addresses loads_by
-goes_round = refl
+proceeds_round = refl
 
 -- the steps that read an entry
 two_visits : map (λ (v : Visit). v.index) (visits_by 4

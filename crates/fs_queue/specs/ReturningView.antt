@@ -6,7 +6,7 @@ use Rattle.vm_memory_core.specs.Host.{Host}
 use Rattle.vm_memory_core.specs.Window.{byte_in, places, put_all}
 use Rattle.fs_queue.specs.declared.returning.Return.{Return}
 use Rattle.fs_queue.specs.Queue.{Queue}
-use Rattle.fs_queue.specs.Returning.{Store, tells, used_bytes}
+use Rattle.fs_queue.specs.Returning.{Store, notifies, used_bytes}
 use Rattle.fs_queue.specs.Windows.{Taken, chain_places}
 
 -- the stores after the reply, from a return of the code
@@ -24,5 +24,5 @@ put_back h q t front len =
     (zip (places t.return_windows.used.items) (used_bytes q t.head len))
 
 -- whether the driver asks for a used buffer notification, by the flags at the windows of a `Taken`
-abbrev pub tells_by : Host → Taken → Bool
-tells_by h t = tells (map (byte_in h) (places t.return_windows.flags.items))
+abbrev pub notifies_by : Host → Taken → Bool
+notifies_by h t = notifies (map (byte_in h) (places t.return_windows.flags.items))

@@ -5,7 +5,7 @@ use Rattle.fs_queue.specs.declared.fault.QueueError.TheVariants.{Stopped}
 use Rattle.fs_queue.specs.declared.layout.QueueLayout.{QueueLayout}
 use Rattle.fs_queue.specs.declared.walk.RingEntryWalk.{RingEntryWalk}
 use Rattle.fs_queue.specs.declared.walk.Walk as code
-use Rattle.fs_queue.specs.declared.walk.Walk.TheVariants as says
+use Rattle.fs_queue.specs.declared.walk.Walk.TheVariants as shows
 use Rattle.fs_queue.specs.Queue.{Queue}
 use Rattle.fs_queue.specs.NextAvail.{NextAvail, Idle, Head, Refused, next_avail}
 use Rattle.fs_queue.specs.Chain.{first_visit}
@@ -33,36 +33,36 @@ stage_at next = if asks_entry next then AsksEntry else HasResult next
 
 -- the stage of a walk of the code
 abbrev pub stage_of : code.Walk → Stage
-stage_of (says.Index w) = AsksIndex
-stage_of (says.RingEntry w) = AsksEntry
-stage_of (says.Chain head progress) = HasResult (Head head)
-stage_of says.Idle = HasResult Idle
-stage_of (says.Refused e) = HasResult (Refused e)
+stage_of (shows.Index w) = AsksIndex
+stage_of (shows.RingEntry w) = AsksEntry
+stage_of (shows.Chain head progress) = HasResult (Head head)
+stage_of shows.Idle = HasResult Idle
+stage_of (shows.Refused e) = HasResult (Refused e)
 
 -- a walk begins at a position of a queue: it asks for the index
 abbrev pub BeginsAt : QueueLayout → (position : ℕ) → code.Walk → Type 0
-BeginsAt l position (says.Index w) = (w.layout ≡ l) × (w.position ≡ position)
+BeginsAt l position (shows.Index w) = (w.layout ≡ l) × (w.position ≡ position)
 BeginsAt l position _ = ⊥
 
 -- a walk of a queue begins: at the queue's position, or with `Stopped` if the queue is stopped
 abbrev pub BeginsWalk : Queue → code.Walk → Type 0
-BeginsWalk q (says.Index w) = at_position w.layout w.position ≡ q
-BeginsWalk q (says.Refused e) = (q.stopped ≡ true) × (e ≡ Stopped)
+BeginsWalk q (shows.Index w) = at_position w.layout w.position ≡ q
+BeginsWalk q (shows.Refused e) = (q.stopped ≡ true) × (e ≡ Stopped)
 BeginsWalk q _ = ⊥
 
 -- if a chain is available, the walk through it begins at its head
 abbrev pub BeginsChain : QueueLayout → code.Walk → Type 0
-BeginsChain l (says.Chain head progress) =
+BeginsChain l (shows.Chain head progress) =
     (ahead_of progress ≡ ahead_at l.size (first_visit (at_position l 0) head))
     × IfWants progress (λ w. w.size ≡ l.size)
 BeginsChain l _ = Unit {0}
 
 -- if a walk asks for the ring's entry, its value has a property
 abbrev pub IfRingEntry : code.Walk → (RingEntryWalk → Type 0) → Type 0
-IfRingEntry (says.RingEntry w) P = P w
+IfRingEntry (shows.RingEntry w) P = P w
 IfRingEntry _ P = Unit {0}
 
 -- if a walk refuses, the refusal has a property
 abbrev pub IfRefuses : code.Walk → (QueueError → Type 0) → Type 0
-IfRefuses (says.Refused e) P = P e
+IfRefuses (shows.Refused e) P = P e
 IfRefuses _ P = Unit {0}

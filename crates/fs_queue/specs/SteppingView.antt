@@ -2,7 +2,7 @@
 use Rattle.std.specs.Prelude.{ℕ, ◌+◌, ◌-◌, if◌then◌else◌, List, [], Option, Some, None}
 use Rattle.fs_queue.specs.declared.chain_walk.ChainWalk.{ChainWalk}
 use Rattle.fs_queue.specs.declared.chain_walk.Progress as code
-use Rattle.fs_queue.specs.declared.chain_walk.Progress.TheVariants as says
+use Rattle.fs_queue.specs.declared.chain_walk.Progress.TheVariants as shows
 use Rattle.fs_queue.specs.Chain.{Descriptor, Visit, WalkStep, Ordinary, Indirect, Faulty, Stops}
 use Rattle.fs_queue.specs.Chain.{entry_address}
 use Rattle.fs_queue.specs.Loads.{Load, Ahead, Reads, Ends}
@@ -18,13 +18,13 @@ load_of w came = record { address = entry_address (visit_of w); came = came }
 
 -- the state of a walk of the code
 abbrev pub ahead_of : code.Progress → Ahead
-ahead_of (says.Wants w) = Reads (visit_of w)
-ahead_of (says.Ends walked) = Ends (found_of walked [])
+ahead_of (shows.Wants w) = Reads (visit_of w)
+ahead_of (shows.Ends walked) = Ends (found_of walked [])
 
 -- if a walk asks for an entry, its value has a property
 abbrev pub IfWants : code.Progress → (ChainWalk → Type 0) → Type 0
-IfWants (says.Wants w) P = P w
-IfWants (says.Ends walked) P = Unit {0}
+IfWants (shows.Wants w) P = P w
+IfWants (shows.Ends walked) P = Unit {0}
 
 -- the descriptor that joins the chain at a step, if one does
 abbrev pub joining : WalkStep → Option Descriptor

@@ -3,7 +3,7 @@ use Rattle.std.specs.Prelude.{◌≡◌, ℕ, ◌+◌, ◌*◌, ◌^◌, ◌<◌
 use Rattle.vm_iotlb.specs.declared.permissions.Permissions.TheVariants.{Read}
 use Rattle.vm_memory.specs.Memory.{Memory, bytes, reach}
 use Rattle.fs_queue.specs.declared.walk_step.WalkStep as code_step
-use Rattle.fs_queue.specs.declared.walk_step.WalkStep.TheVariants as says
+use Rattle.fs_queue.specs.declared.walk_step.WalkStep.TheVariants as shows
 use Rattle.fs_queue.specs.declared.chain_walk.WalkEnd as walked
 use Rattle.fs_queue.specs.declared.chain_walk.WalkEnd.TheVariants as comes_to
 use Rattle.fs_queue.specs.declared.layout.QueueLayout.{QueueLayout}
@@ -22,10 +22,10 @@ in_table table index earlier = record { table = table; index = index; earlier = 
 
 -- the definitions' step for a step of the code
 abbrev pub walk_step_of : code_step.WalkStep → WalkStep
-walk_step_of (says.Ordinary d) = Ordinary d
-walk_step_of (says.Indirect table) = Indirect table
-walk_step_of (says.Faulty fault) = Faulty fault
-walk_step_of says.Stops = Stops
+walk_step_of (shows.Ordinary d) = Ordinary d
+walk_step_of (shows.Indirect table) = Indirect table
+walk_step_of (shows.Faulty fault) = Faulty fault
+walk_step_of shows.Stops = Stops
 
 -- a table ends below 2^64
 abbrev pub EndsIn64Bits : DescriptorTable → Type 0
@@ -51,17 +51,17 @@ found_of comes_to.Stopped ds = StopsQueue
 
 -- if a step is at an ordinary descriptor, that descriptor has a property
 abbrev pub IfOrdinary : code_step.WalkStep → (Descriptor → Type 0) → Type 0
-IfOrdinary (says.Ordinary d) P = P d
-IfOrdinary (says.Indirect table) P = Unit {0}
-IfOrdinary (says.Faulty fault) P = Unit {0}
-IfOrdinary says.Stops P = Unit {0}
+IfOrdinary (shows.Ordinary d) P = P d
+IfOrdinary (shows.Indirect table) P = Unit {0}
+IfOrdinary (shows.Faulty fault) P = Unit {0}
+IfOrdinary shows.Stops P = Unit {0}
 
 -- if a step is at a descriptor that refers to an indirect table, that table has a property
 abbrev pub IfIndirect : code_step.WalkStep → (DescriptorTable → Type 0) → Type 0
-IfIndirect (says.Ordinary d) P = Unit {0}
-IfIndirect (says.Indirect table) P = P table
-IfIndirect (says.Faulty fault) P = Unit {0}
-IfIndirect says.Stops P = Unit {0}
+IfIndirect (shows.Ordinary d) P = Unit {0}
+IfIndirect (shows.Indirect table) P = P table
+IfIndirect (shows.Faulty fault) P = Unit {0}
+IfIndirect shows.Stops P = Unit {0}
 
 -- each of some descriptors ends below 2^64
 unfoldable pub AllEndIn64Bits : List Descriptor → Type 0

@@ -48,7 +48,7 @@ ghost use Rattle.fs_queue.specs.RingingView.{BeginsWalk};
 ghost use Rattle.fs_queue.specs.Taking.{RequestAndRoom, after_refusal, is_idle, offer, room_of};
 ghost use Rattle.fs_queue.specs.Returning.{returned, stores_after_reply, wants_notice, advanced};
 ghost use Rattle.fs_queue.specs.Returning.{PutFrontLast};
-ghost use Rattle.fs_queue.specs.ReturningView.{stores_of, put_back, tells_by};
+ghost use Rattle.fs_queue.specs.ReturningView.{stores_of, put_back, notifies_by};
 ghost use Rattle.fs_queue.specs.Windows.{Takes, after_taking, taken_if, IsTaken, TakenLiesIn, ChainLiesIn};
 ghost use Rattle.fs_queue.specs.Windows.{room_places, chain_places, HasItsWindows};
 ghost use Rattle.fs_queue.specs.Windows.{IsEmpty, IsEmptyUnlessTaken};
@@ -237,14 +237,14 @@ impl Queue {
             →
             record m { host = H.host host.new }
             ≡ returned m self.old taken.old.head (room_of fetched) reply.now }
-        ensures told { (m : Memory) (fetched : RequestAndRoom)
+        ensures reported { (m : Memory) (fetched : RequestAndRoom)
             → m.host ≡ H.host host.old
             → IsTaken m self.old fetched taken.old
             →
             result ≡ wants_notice (record m { host = H.host host.new }) self.old }
         ensures puts { H.host host.new
             ≡ put_back (H.host host.old) self.old taken.old reply.now (length reply.now) }
-        ensures tells { result ≡ tells_by (H.host host.new) taken.old }
+        ensures notifies { result ≡ notifies_by (H.host host.new) taken.old }
         ensures empty { IsEmpty taken.new }
         ensures queue { self.new ≡ advanced self.old }
         ensures shape { shape (H.host host.new) ≡ shape (H.host host.old) }
@@ -274,14 +274,14 @@ impl Queue {
             IsTaken m self.old fetched taken.old
             →
             record m { host = H.host host.new } ≡ returned m self.old taken.old.head (room_of fetched) reply }
-        ensures told { (m : Memory) (fetched : RequestAndRoom) (reply : List ℕ)
+        ensures reported { (m : Memory) (fetched : RequestAndRoom) (reply : List ℕ)
             →
             PutFrontLast m.host (H.host host.old) (chain_places taken.old.chain) front.now reply
             → IsTaken m self.old fetched taken.old
             →
             result ≡ wants_notice (record m { host = H.host host.new }) self.old }
         ensures puts { H.host host.new ≡ put_back (H.host host.old) self.old taken.old front.now len }
-        ensures tells { result ≡ tells_by (H.host host.new) taken.old }
+        ensures notifies { result ≡ notifies_by (H.host host.new) taken.old }
         ensures empty { IsEmpty taken.new }
         ensures queue { self.new ≡ advanced self.old }
         ensures shape { shape (H.host host.new) ≡ shape (H.host host.old) }
@@ -293,6 +293,6 @@ impl Queue {
         let mut flags = [0u8; 2];
         host.read_windows(taken.flags_windows(), &mut flags);
         taken.clear();
-        Return::tells(flags)
+        Return::notifies(flags)
     }
 }

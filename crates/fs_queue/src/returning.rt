@@ -45,7 +45,7 @@ pub struct Return {
 }
 
 impl Return {
-    ghost use Rattle.fs_queue.specs.Returning.{stores_after_reply, tells};
+    ghost use Rattle.fs_queue.specs.Returning.{stores_after_reply, notifies};
     ghost use Rattle.fs_queue.specs.ReturningView.{stores_of};
     ghost use Rattle.fs_queue.specs.WalkingView.{at_position};
 
@@ -87,8 +87,8 @@ impl Return {
 
     /// Whether the driver asks for a used buffer notification, by the two bytes of the available flags:
     /// bit 0 is clear (VIRTIO 1.2, 2.7.7).
-    pub fn tells(flags: [u8; 2]) -> bool
-        ensures { result ≡ tells flags }
+    pub fn notifies(flags: [u8; 2]) -> bool
+        ensures { result ≡ notifies flags }
     {
         le16_number(&flags) & NO_INTERRUPT == 0
     }

@@ -110,7 +110,7 @@ impl RingEntryWalk {
     /// `RingEntryUnreachable`, then `HeadOutOfTable`.
     #[inline(always)]
     pub fn give(self, came: Option<[u8; 2]>) -> Walk
-        ensures tells { (index : List ℕ)
+        ensures reports { (index : List ℕ)
             → length index ≡ 2
             → asks_entry (by_index (at_position self.layout self.position) (Some index)) ≡ true
             →

@@ -14,9 +14,9 @@ use Rattle.std.proofs.KnownBytes.{Appends-trans}
 use Rattle.fs_queue.specs.Queue.{Queue}
 use Rattle.vm_values.specs.Fields.{spelled, AllFit}
 use Rattle.fs_record.specs.Fields.{head_fields}
-use Rattle.fs_record.specs.Record.{Version, Second, GoesWith, HasItsBits, IsRecordFor, head_error, head_of, record_front, queue_bytes}
+use Rattle.fs_record.specs.Record.{Version, Second, ProceedsWith, HasItsBits, IsRecordFor, head_error, head_of, record_front, queue_bytes}
 use Rattle.fs_record.specs.Record.{end_bytes, IsSavedQueue}
-use Rattle.fs_record.specs.Restoring.{IsRecordFront, RefusesRecord, RefusesQueue, RefusesEnd, LeavesSource, told_by}
+use Rattle.fs_record.specs.Restoring.{IsRecordFront, RefusesRecord, RefusesQueue, RefusesEnd, LeavesSource, reported_by}
 use Rattle.fs_record.specs.declared.fields.RecordHead.{RecordHead}
 use Rattle.fs_record.specs.declared.fields.RecordVersion.{RecordVersion}
 use Rattle.fs_record.specs.declared.fields.RecordVersion.TheVariants as versions
@@ -73,22 +73,22 @@ front_more bytes v options count queues q front short one =
 
 -- what is wrong with a queue behind a front
 pub queue_refuses : (bytes part : List ℕ) (page_size limit : ℕ) (v : Version) (options count index : ℕ) (queues : List Queue)
-    (e : RestoreError) → GoesWith page_size limit v
+    (e : RestoreError) → ProceedsWith page_size limit v
     → IsRecordFront bytes v options count queues → length queues ≡ index → index < count → RefusesQueue part index e
     → RefusesRecord (bytes ++ part) page_size limit e
-queue_refuses bytes part page_size limit v options count index queues Truncated goes front at below h =
-    inr (inl (v, options, count, queues, bytes, part, goes, front, omega (arith, at, below), refl, h))
-queue_refuses bytes part page_size limit v options count index queues ReadFault goes front at below h =
-    inr (inl (v, options, count, queues, bytes, part, goes, front, omega (arith, at, below), refl, h))
-queue_refuses bytes part page_size limit v options count index queues (BadQueue i) goes front at below h =
-    (v, options, count, queues, bytes, h.1, goes, front, at ∙ sym h.0, omega (arith, below, h.0), ap (λ l. bytes ++ l) h.2, h.3, h.4)
-queue_refuses bytes part page_size limit v options count index queues BadMagic goes front at below h = absurd h
-queue_refuses bytes part page_size limit v options count index queues BadVersion goes front at below h = absurd h
-queue_refuses bytes part page_size limit v options count index queues BadCount goes front at below h = absurd h
-queue_refuses bytes part page_size limit v options count index queues BadReserved goes front at below h = absurd h
-queue_refuses bytes part page_size limit v options count index queues BadOptions goes front at below h = absurd h
-queue_refuses bytes part page_size limit v options count index queues OutOfMemory goes front at below h = absurd h
-queue_refuses bytes part page_size limit v options count index queues Mismatch goes front at below h = absurd h
+queue_refuses bytes part page_size limit v options count index queues Truncated proceeds front at below h =
+    inr (inl (v, options, count, queues, bytes, part, proceeds, front, omega (arith, at, below), refl, h))
+queue_refuses bytes part page_size limit v options count index queues ReadFault proceeds front at below h =
+    inr (inl (v, options, count, queues, bytes, part, proceeds, front, omega (arith, at, below), refl, h))
+queue_refuses bytes part page_size limit v options count index queues (BadQueue i) proceeds front at below h =
+    (v, options, count, queues, bytes, h.1, proceeds, front, at ∙ sym h.0, omega (arith, below, h.0), ap (λ l. bytes ++ l) h.2, h.3, h.4)
+queue_refuses bytes part page_size limit v options count index queues BadMagic proceeds front at below h = absurd h
+queue_refuses bytes part page_size limit v options count index queues BadVersion proceeds front at below h = absurd h
+queue_refuses bytes part page_size limit v options count index queues BadCount proceeds front at below h = absurd h
+queue_refuses bytes part page_size limit v options count index queues BadReserved proceeds front at below h = absurd h
+queue_refuses bytes part page_size limit v options count index queues BadOptions proceeds front at below h = absurd h
+queue_refuses bytes part page_size limit v options count index queues OutOfMemory proceeds front at below h = absurd h
+queue_refuses bytes part page_size limit v options count index queues Mismatch proceeds front at below h = absurd h
 
 -- a source that hadn't failed before is left so too
 pub leaves_too : (e : RestoreError) (has : Option (List ℕ)) (before failed fails : Bool) → failed ≡ before →
@@ -98,39 +98,39 @@ leaves_too e has before failed fails same h = subst (λ (b : Bool). LeavesSource
 -- ---- what stands behind the queues
 
 -- a version, with a page size and a limit, goes with them
-pub goes_with : (v : RecordVersion) (page_size limit : ℕ) → GoesWith page_size limit (told_by v page_size limit)
-goes_with versions.First page_size limit = inl refl
-goes_with versions.Second page_size limit = inr refl
+pub proceeds_with : (v : RecordVersion) (page_size limit : ℕ) → ProceedsWith page_size limit (reported_by v page_size limit)
+proceeds_with versions.First page_size limit = inl refl
+proceeds_with versions.Second page_size limit = inr refl
 
 -- a front doesn't tell the limit
 pub with_limit : (v : RecordVersion) (bytes : List ℕ) (page_size limit options count : ℕ) (queues : List Queue)
-    → IsRecordFront bytes (told_by v page_size 0) options count queues
-    → IsRecordFront bytes (told_by v page_size limit) options count queues
+    → IsRecordFront bytes (reported_by v page_size 0) options count queues
+    → IsRecordFront bytes (reported_by v page_size limit) options count queues
 with_limit versions.First bytes page_size limit options count queues front = front
 with_limit versions.Second bytes page_size limit options count queues front = front
 
 -- the end doesn't tell the page size
-same_end : (v : RecordVersion) (page_size limit : ℕ) → end_bytes (told_by v 0 limit) ≡ end_bytes (told_by v page_size limit)
+same_end : (v : RecordVersion) (page_size limit : ℕ) → end_bytes (reported_by v 0 limit) ≡ end_bytes (reported_by v page_size limit)
 same_end versions.First page_size limit = refl
 same_end versions.Second page_size limit = refl
 
-has_its_bits : (v : RecordVersion) (page_size limit : ℕ) → page_size < 2 ^ 32 → limit < 2 ^ 64 → HasItsBits (told_by v page_size limit)
+has_its_bits : (v : RecordVersion) (page_size limit : ℕ) → page_size < 2 ^ 32 → limit < 2 ^ 64 → HasItsBits (reported_by v page_size limit)
 has_its_bits versions.First page_size limit a b = tt
 has_its_bits versions.Second page_size limit a b = (a, b)
 
 -- a front with all its queues, and the end behind it, are a record
 pub whole_record :
     (bytes : List ℕ) (v : RecordVersion) (page_size limit options count : ℕ) (queues : List Queue) → page_size < 2 ^ 32 → limit < 2 ^ 64
-    → IsRecordFront bytes (told_by v page_size limit) options count queues → length queues ≡ count
-    → IsRecordFor (bytes ++ end_bytes (told_by v 0 limit)) page_size limit options queues
+    → IsRecordFront bytes (reported_by v page_size limit) options count queues → length queues ≡ count
+    → IsRecordFor (bytes ++ end_bytes (reported_by v 0 limit)) page_size limit options queues
 whole_record bytes v page_size limit options count queues small low front all =
-    let told = told_by v page_size limit in (
-      told,
-      goes_with v page_size limit,
+    let reported = reported_by v page_size limit in (
+      reported,
+      proceeds_with v page_size limit,
       (
-        ap (λ l. l ++ end_bytes (told_by v 0 limit)) front.0
-            ∙ ap (λ n. record_front told options n queues ++ end_bytes (told_by v 0 limit)) (sym all)
-            ∙ ap (λ l. record_front told options (length queues) queues ++ l) (same_end v page_size limit),
+        ap (λ l. l ++ end_bytes (reported_by v 0 limit)) front.0
+            ∙ ap (λ n. record_front reported options n queues ++ end_bytes (reported_by v 0 limit)) (sym all)
+            ∙ ap (λ l. record_front reported options (length queues) queues ++ l) (same_end v page_size limit),
         has_its_bits v page_size limit small low,
         (front.1, omega (arith, front.2, all), omega (arith, front.3, all), front.5),
       ),
@@ -138,13 +138,13 @@ whole_record bytes v page_size limit options count queues small low front all =
 
 -- what is wrong behind the queues, of version 2
 second_front : (bytes : List ℕ) (v : RecordVersion) (page_size limit options count : ℕ) (queues : List Queue) → v ≡ versions.Second
-    → IsRecordFront bytes (told_by v page_size limit) options count queues
+    → IsRecordFront bytes (reported_by v page_size limit) options count queues
     → IsRecordFront bytes (Second page_size limit) options count queues
 second_front bytes v page_size limit options count queues is front =
-    subst (λ (w : RecordVersion). IsRecordFront bytes (told_by w page_size limit) options count queues) is front
+    subst (λ (w : RecordVersion). IsRecordFront bytes (reported_by w page_size limit) options count queues) is front
 
 pub end_refuses : (bytes part : List ℕ) (v : RecordVersion) (page_size limit options count : ℕ) (queues : List Queue) (e : RestoreError)
-    → IsRecordFront bytes (told_by v page_size limit) options count queues → length queues ≡ count → RefusesEnd part v limit e
+    → IsRecordFront bytes (reported_by v page_size limit) options count queues → length queues ≡ count → RefusesEnd part v limit e
     → RefusesRecord (bytes ++ part) page_size limit e
 end_refuses bytes part v page_size limit options count queues Truncated front all h =
     inr (inr (options, count, queues, bytes, part, second_front bytes v page_size limit options count queues h.0 front, all, refl, h.1))

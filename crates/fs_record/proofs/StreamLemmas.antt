@@ -8,7 +8,7 @@ use Rattle.std.proofs.lemmas.Slice.{take-put_mid_below}
 use Rattle.std.specs.Io.KnownBytes.{Appends, Consumes, Keeps}
 use Rattle.std.proofs.KnownBytes.{Appends-trans, Consumes-trans, Consumes-kept}
 use Rattle.std.specs.Prelude.{IsErr, OnOk}
-use Rattle.fs_record.specs.Streams.{GoesOut}
+use Rattle.fs_record.specs.Streams.{Leaves}
 use borrow.Rule.Slice.PartMut.{put_mid, post_of}
 use lib.Seq.{take-add, take-append-le}
 
@@ -57,17 +57,17 @@ read_less at n buf more a b c short none before last =
     (take at buf ++ [], rw append-nil (omega (arith, short, front)), Consumes-trans a b c (take at buf) [] before nothing)
 
 -- what was read before a source failed
-pub read_kept : (at : ℕ) (buf : List ℕ) (a b c : Option (List ℕ)) → at < length buf → Consumes a b (take at buf) → Keeps b c
+pub read_preserved : (at : ℕ) (buf : List ℕ) (a b c : Option (List ℕ)) → at < length buf → Consumes a b (take at buf) → Keeps b c
     → (part : List ℕ) × (length part < length buf) × Consumes a c part
-read_kept at buf a b c short before kept =
+read_preserved at buf a b c short before preserved =
     let front : length (take at buf) ≡ at = length-take-le at buf (omega (arith, short)) in
-    (take at buf, omega (arith, short, front), Consumes-kept a b c (take at buf) before kept)
+    (take at buf, omega (arith, short, front), Consumes-kept a b c (take at buf) before preserved)
 
 -- a part of one piece went out behind those before it, and not all of it
-pub part_goes_out : (whole done one later part rest : List ℕ) (a b c : Option (List ℕ)) → whole ≡ done ++ (one ++ later)
+pub part_leaves : (whole done one later part rest : List ℕ) (a b c : Option (List ℕ)) → whole ≡ done ++ (one ++ later)
     → one ≡ part ++ rest → 0 < length rest
     → Appends a b done → Appends b c part → (x y : List ℕ) × (whole ≡ x ++ y) × (0 < length y) × Appends a c x
-part_goes_out whole done one later part rest a b c all piece some before last = (
+part_leaves whole done one later part rest a b c all piece some before last = (
   done ++ part,
   rest ++ later,
   all ∙ ap (λ l. done ++ (l ++ later)) piece ∙ ap (λ l. done ++ l) (append_assoc part rest later)
@@ -77,18 +77,18 @@ part_goes_out whole done one later part rest a b c all piece some before last = 
 )
 
 -- an answer that is an error, where a part went out
-pub goes_out_less : {E : Type 0} (bytes : List ℕ) (had has : Option (List ℕ)) (failed fails : Bool) (result : Result Unit E) → IsErr result
-    → (x y : List ℕ) × (bytes ≡ x ++ y) × (0 < length y) × Appends had has x → fails ≡ true → GoesOut bytes had failed result has fails
-goes_out_less bytes had has failed fails (Ok u) wrong part now = absurd (let h : false ≡ true = wrong in cc)
-goes_out_less bytes had has failed fails (Err e) wrong part now = (part.0, part.1, part.2, part.3, part.4, now)
+pub leaves_less : {E : Type 0} (bytes : List ℕ) (had has : Option (List ℕ)) (failed fails : Bool) (result : Result Unit E) → IsErr result
+    → (x y : List ℕ) × (bytes ≡ x ++ y) × (0 < length y) × Appends had has x → fails ≡ true → Leaves bytes had failed result has fails
+leaves_less bytes had has failed fails (Ok u) wrong part now = absurd (let h : false ≡ true = wrong in cc)
+leaves_less bytes had has failed fails (Err e) wrong part now = (part.0, part.1, part.2, part.3, part.4, now)
 
 -- the last piece goes out, or a part of it, behind those before it
-pub goes_out_last : {E : Type 0} (whole done one : List ℕ) (a b c : Option (List ℕ)) (failed before fails : Bool) (result : Result Unit E)
+pub leaves_last : {E : Type 0} (whole done one : List ℕ) (a b c : Option (List ℕ)) (failed before fails : Bool) (result : Result Unit E)
     → whole ≡ done ++ one → Appends a b done
-    → before ≡ failed → GoesOut one b before result c fails → GoesOut whole a failed result c fails
-goes_out_last whole done one a b c failed before fails (Ok u) all front same last =
+    → before ≡ failed → Leaves one b before result c fails → Leaves whole a failed result c fails
+leaves_last whole done one a b c failed before fails (Ok u) all front same last =
     (subst (Appends a c) (sym all) (Appends-trans a b c done one front last.0), last.1 ∙ same)
-goes_out_last whole done one a b c failed before fails (Err e) all front same last = (
+leaves_last whole done one a b c failed before fails (Err e) all front same last = (
   done ++ last.0,
   last.1,
   all ∙ ap (λ l. done ++ l) last.2 ∙ sym (append_assoc done last.0 last.1),

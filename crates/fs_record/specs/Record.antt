@@ -107,13 +107,13 @@ IsRecord bytes v options queues =
 
 -- a version fits this page size and this limit: version 1, which has neither, or version 2 with these
 -- two
-abbrev pub GoesWith : (page_size limit : ℕ) → Version → Type 0
-GoesWith page_size limit v = (v ≡ First) ⊎ (v ≡ Second page_size limit)
+abbrev pub ProceedsWith : (page_size limit : ℕ) → Version → Type 0
+ProceedsWith page_size limit v = (v ≡ First) ⊎ (v ≡ Second page_size limit)
 
 -- the bytes are a record of these options and queues that fits this page size and this limit
 abbrev pub IsRecordFor : List ℕ → (page_size limit : ℕ) → (options : ℕ) → List Queue → Type 0
 IsRecordFor bytes page_size limit options queues =
-    (v : Version) × GoesWith page_size limit v × IsRecord bytes v options queues
+    (v : Version) × ProceedsWith page_size limit v × IsRecord bytes v options queues
 
 -- the first error of a head for guest pages of this size, if it has one
 abbrev pub head_error : (page_size : ℕ) → RecordHead → Option RestoreError

@@ -6,7 +6,8 @@ use Rattle.memory_requests.specs.Refused.{RoomWasRefused}
 use Rattle.vm_values.specs.Fields.{spelled, AllFit}
 use Rattle.fs_queue.specs.Queue.{Queue}
 use Rattle.fs_record.specs.Fields.{head_fields, queue_fields, limit_fields}
-use Rattle.fs_record.specs.Record.{Version, First, Second, GoesWith, record_front, HasKnownBits, IsSavedQueue}
+use Rattle.fs_record.specs.Record.{Version, First, Second, ProceedsWith, record_front, HasKnownBits}
+use Rattle.fs_record.specs.Record.{IsSavedQueue}
 use Rattle.fs_record.specs.Record.{head_error, is_queue}
 use Rattle.fs_record.specs.declared.fields.RecordVersion.{RecordVersion}
 use Rattle.fs_record.specs.declared.fields.RecordVersion.TheVariants as versions
@@ -31,7 +32,7 @@ IsRecordFront bytes v options count queues =
 abbrev pub EndsWithinQueue : List ℕ → (page_size limit : ℕ) → Type 0
 EndsWithinQueue bytes page_size limit =
     (v : Version) × (options count : ℕ) × (queues : List Queue) × (front part : List ℕ)
-    × GoesWith page_size limit v
+    × ProceedsWith page_size limit v
     × IsRecordFront front v options count queues
     × (length queues < count)
     × (bytes ≡ front ++ part)
@@ -62,7 +63,7 @@ IsBadHead bytes page_size error =
 abbrev pub HasBadQueue : List ℕ → (page_size limit : ℕ) → ℕ → Type 0
 HasBadQueue bytes page_size limit i =
     (v : Version) × (options count : ℕ) × (queues : List Queue) × (front : List ℕ) × (bad : SavedQueue)
-    × GoesWith page_size limit v
+    × ProceedsWith page_size limit v
     × IsRecordFront front v options count queues
     × (length queues ≡ i)
     × (i < count)
@@ -89,7 +90,7 @@ RefusesRecord bytes page_size limit BadOptions = IsBadHead bytes page_size BadOp
 RefusesRecord bytes page_size limit ReadFault = EndsWithin bytes page_size limit
 RefusesRecord bytes page_size limit OutOfMemory =
     (v : Version) × (options count : ℕ)
-    × GoesWith page_size limit v
+    × ProceedsWith page_size limit v
     × IsRecordFront bytes v options count []
     × RoomWasRefused count
 RefusesRecord bytes page_size limit Mismatch =
@@ -159,6 +160,6 @@ RefusesEnd bytes version limit Mismatch =
     × (other ≢ limit)
 
 -- a version with the page size and the limit that version 2 has
-abbrev pub told_by : RecordVersion → (page_size limit : ℕ) → Version
-told_by versions.First page_size limit = First
-told_by versions.Second page_size limit = Second page_size limit
+abbrev pub reported_by : RecordVersion → (page_size limit : ℕ) → Version
+reported_by versions.First page_size limit = First
+reported_by versions.Second page_size limit = Second page_size limit

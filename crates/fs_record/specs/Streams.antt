@@ -9,9 +9,9 @@ took_nothing (Ok n) = n == 0
 took_nothing (Err e) = true
 
 -- the sink took all of the bytes, or it took a part of them and then failed
-abbrev pub GoesOut : {E : Type 0} → (bytes : List ℕ) → (had : Option (List ℕ)) → (failed : Bool) →
+abbrev pub Leaves : {E : Type 0} → (bytes : List ℕ) → (had : Option (List ℕ)) → (failed : Bool) →
     Result Unit E → (has : Option (List ℕ)) → (fails : Bool) → Type 0
-GoesOut bytes had failed result has fails = MatchResult result
+Leaves bytes had failed result has fails = MatchResult result
     (λ _. Appends had has bytes × (fails ≡ failed))
     (λ _. (part rest : List ℕ)
     × (bytes ≡ part ++ rest)

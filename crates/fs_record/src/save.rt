@@ -2,7 +2,7 @@
 
 ghost use Rattle.std.specs.Prelude.{◌≡◌, ◌<◌, ◌≤◌, length, OnOk};
 ghost use Rattle.vm_values.specs.Fields.{spelled};
-ghost use Rattle.fs_record.specs.Streams.{GoesOut};
+ghost use Rattle.fs_record.specs.Streams.{Leaves};
 ghost use Rattle.fs_record.specs.Record.{HasKnownBits, IsSavable, Second, IsSavedQueue, saved, record_bytes};
 
 use crate::error::WriteFault;
@@ -21,7 +21,7 @@ const VERSION: u32 = 2;
 
 // Writes all bytes of a slice.
 fn put_slice<S: RecordSink>(sink: &mut S, bytes: &[u8]) -> Result<(), WriteFault>
-    ensures { GoesOut bytes.now (S.sent sink.old) (S.failed sink.old) result (S.sent sink.new)
+    ensures { Leaves bytes.now (S.sent sink.old) (S.failed sink.old) result (S.sent sink.new)
         (S.failed sink.new) }
 {
     let mut rest = bytes;
@@ -36,7 +36,7 @@ fn put_slice<S: RecordSink>(sink: &mut S, bytes: &[u8]) -> Result<(), WriteFault
 
 // Writes the bytes of a value.
 fn put_value<S: RecordSink, T: ByteValued>(sink: &mut S, value: &T) -> Result<(), WriteFault>
-    ensures { GoesOut (spelled (T.fields value.now)) (S.sent sink.old) (S.failed sink.old) result
+    ensures { Leaves (spelled (T.fields value.now)) (S.sent sink.old) (S.failed sink.old) result
         (S.sent sink.new) (S.failed sink.new) }
 {
     let mut buffer = [0; 256];
@@ -74,7 +74,7 @@ pub fn save_record<S: RecordSink>(
     requires known { HasKnownBits options.0 }
     requires some { 1 ≤ length queues.now }
     requires few { length queues.now ≤ 64 }
-    ensures goes_out { GoesOut (record_bytes (Second page_size limit) options.0 queues.now) (S.sent sink.old)
+    ensures leaves { Leaves (record_bytes (Second page_size limit) options.0 queues.now) (S.sent sink.old)
         (S.failed sink.old) result
         (S.sent sink.new) (S.failed sink.new) }
     ensures savable { OnOk result (IsSavable options.0 queues.now) }

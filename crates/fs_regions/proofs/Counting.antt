@@ -4,7 +4,7 @@ use Rattle.std.proofs.Common.{ap, sym, subst, arith}
 use Rattle.std.specs.Prelude.{if◌then◌else◌}
 use Rattle.fs_queue.specs.declared.chain_walk.ChainWalk.{ChainWalk}
 use Rattle.fs_queue.specs.declared.chain_walk.Progress as code
-use Rattle.fs_queue.specs.declared.chain_walk.Progress.TheVariants as says
+use Rattle.fs_queue.specs.declared.chain_walk.Progress.TheVariants as shows
 use Rattle.fs_queue.specs.declared.layout.QueueLayout.{QueueLayout}
 use Rattle.fs_queue.specs.declared.walk.Walk as ring
 use Rattle.fs_queue.specs.declared.walk.Walk.TheVariants as waits
@@ -58,9 +58,9 @@ visit_or u (Reads v) = v
 visit_or u (Ends f) = u
 
 -- a walk that needs an entry is at its next step
-goes_at : (size : ℕ) (w : WalkStep) (o : Option Visit) (u : Visit) → Reads u ≡ ahead_of_next size w o → o ≡ Some u
-goes_at size w None u is = absurd (cc)
-goes_at size w (Some v) u is = by_test (reads_entry v) (after_walk_step (walk_step (holding []) size v) (IsChain [])) is
+proceeds_at : (size : ℕ) (w : WalkStep) (o : Option Visit) (u : Visit) → Reads u ≡ ahead_of_next size w o → o ≡ Some u
+proceeds_at size w None u is = absurd (cc)
+proceeds_at size w (Some v) u is = by_test (reads_entry v) (after_walk_step (walk_step (holding []) size v) (IsChain [])) is
   where
     by_test : (b : Bool) (f : Found) → Reads u ≡ (if b then Reads v else Ends f) → Some v ≡ Some u
     by_test true f same = ap (λ (x : Ahead). Some (visit_or u x)) (sym same)
@@ -70,9 +70,10 @@ goes_at size w (Some v) u is = by_test (reads_entry v) (after_walk_step (walk_st
 pub counts_on : (size : ℕ) (v : Visit) (w : WalkStep) (old new : List Descriptor) (joins : Option Descriptor) (after : code.Progress)
     → joins ≡ joining w → ahead_of after ≡ ahead_after size v w → new ≡ with_joining old joins → v.earlier ≡ length old
     → IfWants after (λ x. x.earlier ≡ length new)
-counts_on size v w old new joins (says.Ends e) is goes joined_so count = tt
-counts_on size v w old new joins (says.Wants x) is goes joined_so count =
-    let next : x.earlier ≡ v.earlier + joined w = next_earlier v (visit_of x) w (goes_at size w (next_visit v w) (visit_of x) goes) in
+counts_on size v w old new joins (shows.Ends e) is proceeds joined_so count = tt
+counts_on size v w old new joins (shows.Wants x) is proceeds joined_so count =
+    let next : x.earlier ≡ v.earlier + joined w =
+    next_earlier v (visit_of x) w (proceeds_at size w (next_visit v w) (visit_of x) proceeds) in
     let len : length new ≡ length old + joined w =
     ap length joined_so ∙ ap (λ (o : Option Descriptor). length (with_joining old o)) is ∙ longer w old in
     let it : x.earlier ≡ length new = omega (arith, next, len, count) in
@@ -81,16 +82,16 @@ counts_on size v w old new joins (says.Wants x) is goes joined_so count =
 -- a stretch
 pub counted : (walk : ChainWalk) (bs : List ℕ) (old new : List Descriptor) (after : code.Progress) (size : ℕ)
     → ReadsStretch walk bs old new after → IsCounted size old walk → IfWants after (IsCounted size new)
-counted walk bs old new (says.Wants w) size r is = (r.size ∙ is.0, r.counts is.1)
-counted walk bs old new (says.Ends e) size r is = tt
+counted walk bs old new (shows.Wants w) size r is = (r.size ∙ is.0, r.counts is.1)
+counted walk bs old new (shows.Ends e) size r is = tt
 
 -- a walk from a head
 pub begun_counted : (l : QueueLayout) (w : ring.Walk) (head : ℕ) (next : ChainWalk) (ds : List Descriptor)
-    → w ≡ waits.Chain head (says.Wants next) → BeginsChain l w → ds ≡ [] → IsCounted l.size ds next
+    → w ≡ waits.Chain head (shows.Wants next) → BeginsChain l w → ds ≡ [] → IsCounted l.size ds next
 begun_counted l w head next ds is begins none =
     let b = subst (λ (x : ring.Walk). BeginsChain l x) is begins in
     let v = first_visit (at_position l 0) head in
-    let at = goes_at l.size Stops (Some v) (visit_of next) b.0 in
+    let at = proceeds_at l.size Stops (Some v) (visit_of next) b.0 in
     (b.1, sym (ap earlier_of at) ∙ sym (ap length none))
 
 -- the layout of a walk of the ring

@@ -7,7 +7,7 @@ use Rattle.std.proofs.lemmas.Bool.Decides.{nat_tests}
 use Rattle.std.proofs.lemmas.List.Elements.{All-nil, All-push}
 use Rattle.vm_values.specs.Fields.{AllFit, spelled}
 use Rattle.fs_queue.specs.declared.chain_walk.ChainWalk.{ChainWalk}
-use Rattle.fs_queue.specs.declared.chain_walk.Progress.TheVariants as says
+use Rattle.fs_queue.specs.declared.chain_walk.Progress.TheVariants as shows
 use Rattle.fs_queue.specs.declared.chain_walk.WalkEnd.TheVariants as comes_to
 use Rattle.fs_queue.specs.Chain.{Descriptor, DescriptorTable, Visit, Ordinary, IsChain, after_walk_step, entry_address, has_next}
 use Rattle.fs_queue.specs.Chain.{is_indirect, walk_step}
@@ -23,9 +23,9 @@ use Rattle.fs_regions.proofs.Stretching.{entry_len, some_more}
 
 -- ---- the list's front stays
 
-pub kept_all : (old : List Descriptor) → take (length old) old ≡ old
-kept_all [] = refl
-kept_all (d ∷ old) = ap (λ (l : List Descriptor). d ∷ l) (kept_all old)
+pub preserved_all : (old : List Descriptor) → take (length old) old ≡ old
+preserved_all [] = refl
+preserved_all (d ∷ old) = ap (λ (l : List Descriptor). d ∷ l) (preserved_all old)
 
 pushed : (old now : List Descriptor) (d : Descriptor) → take (length old) now ≡ old → take (length old) (now ++ d ∷ []) ≡ old
 pushed [] now d is = refl
@@ -35,9 +35,9 @@ pushed (x ∷ old) (y ∷ now) d is =
     let tail : take (length old) now ≡ old = ap (drop 1) is in
     ap (λ (z : Descriptor). z ∷ take (length old) (now ++ d ∷ [])) head ∙ ap (λ (l : List Descriptor). x ∷ l) (pushed old now d tail)
 
-pub kept : (old now new : List Descriptor) (d : Descriptor) → new ≡ now ++ d ∷ [] → take (length old) now ≡ old
+pub preserved : (old now new : List Descriptor) (d : Descriptor) → new ≡ now ++ d ∷ [] → take (length old) now ≡ old
     → take (length old) new ≡ old
-kept old now new d is front = ap (take (length old)) is ∙ pushed old now d front
+preserved old now new d is front = ap (take (length old)) is ∙ pushed old now d front
 
 -- ---- a step
 
@@ -144,7 +144,7 @@ read_brings : (walk : ChainWalk) (bs : List ℕ) (old now new : List Descriptor)
     → a ≡ ahead_after walk.size (visit_at walk k) (Ordinary d) → (ls : List Load) (start : Ahead)
     → Brings walk.size ls start old (Reads (visit_of walk))
     → Brings walk.size (ls ++ (o.reads ++ load_at walk bs k ∷ [])) start new a
-read_brings walk bs old now new k d a e o joined goes ls start from =
+read_brings walk bs old now new k d a e o joined proceeds ls start from =
     let v = visit_at walk k in
     let l = load_at walk bs k in
     let step = entry_step walk bs k d e in
@@ -153,7 +153,7 @@ read_brings walk bs old now new k d a e o joined goes ls start from =
     let long = entry_len bs (16 * k) (omega (arith, whole, inside)) in
     let on : Brings walk.size ((ls ++ o.reads) ++ l ∷ []) start (now ++ d ∷ []) a =
     brings_on walk.size (ls ++ o.reads) start now v l (Some d) a refl (eq-eqb (length (take 16 (drop (16 * k) bs))) 16 long)
-    (sym (ap joining step)) (goes ∙ sym (ap (ahead_after walk.size v) step)) (o.brings inside ls start from) in
+    (sym (ap joining step)) (proceeds ∙ sym (ap (ahead_after walk.size v) step)) (o.brings inside ls start from) in
     subst (λ (x : List Load). Brings walk.size x start new a) (append_assoc ls o.reads (l ∷ []))
     (subst (λ (ds : List Descriptor). Brings walk.size ((ls ++ o.reads) ++ l ∷ []) start ds a) (sym joined) on)
 
@@ -194,7 +194,7 @@ in_order_on walk bs old now new k n d e next is one joined o = record {
 -- the last entry of a chain
 pub in_order_ends : (walk : ChainWalk) (bs : List ℕ) (old now new : List Descriptor) (k : ℕ) (d : Descriptor)
     → IsEntry walk bs k d → has_next d ≡ false → new ≡ now ++ d ∷ [] → InOrder walk bs old now k
-    → ReadsStretch walk bs old new (says.Ends comes_to.Chain)
+    → ReadsStretch walk bs old new (shows.Ends comes_to.Chain)
 in_order_ends walk bs old now new k d e last joined o = record {
   reads = o.reads ++ load_at walk bs k ∷ [];
   read_out = record {

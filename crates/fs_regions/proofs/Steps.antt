@@ -14,7 +14,7 @@ use Rattle.fs_queue.specs.declared.layout.QueueLayout.{QueueLayout}
 use Rattle.fs_queue.specs.declared.walk.IndexWalk.{IndexWalk}
 use Rattle.fs_queue.specs.declared.walk.RingEntryWalk.{RingEntryWalk}
 use Rattle.fs_queue.specs.declared.walk.Walk as code
-use Rattle.fs_queue.specs.declared.walk.Walk.TheVariants as says
+use Rattle.fs_queue.specs.declared.walk.Walk.TheVariants as shows
 use Rattle.fs_queue.specs.Queue.{Queue, avail_index_at, ring_entry_at}
 use Rattle.fs_queue.specs.NextAvail.{NextAvail, Idle, Head, Refused}
 use Rattle.fs_queue.specs.Chain.{Descriptor, Found, Visit, WalkStep, after_walk_step, entry_address, first_visit}
@@ -25,7 +25,7 @@ use Rattle.fs_queue.specs.RingingView.{BeginsChain}
 use Rattle.fs_queue.specs.RingingView.{IfRingEntry}
 use Rattle.fs_queue.specs.WalkingView.{at_position, found_of}
 use Rattle.fs_queue.proofs.LoadLemmas.{step_at, step_lost, reach_none}
-use Rattle.fs_regions.specs.Walks.{Loaded, nothing, standing_before, Brings, BeginsAtHead, BeginsIfChain, TellsBy, StandsAfterIndex}
+use Rattle.fs_regions.specs.Walks.{Loaded, nothing, standing_before, Brings, BeginsAtHead, BeginsIfChain, ReportsBy, StandsAfterIndex}
 use Rattle.fs_regions.specs.Walks.{HeadBeginsWalk, HeadMayBePushed, IsLost, FindsBy}
 use Rattle.fs_regions.specs.Misses.{OfIndex, OfRingEntry, first_miss, needed_at}
 use Rattle.fs_regions.proofs.Finding.{brings_end, before}
@@ -111,13 +111,13 @@ asks false next e = absurd (cc)
 pub entry_asked : (next : NextAvail) → AsksEntry ≡ stage_at next → asks_entry next ≡ true
 entry_asked next e = asks (asks_entry next) next e
 
-told_or_asks : (b : Bool) (next : NextAvail) (s : Stage) → (s ≡ AsksEntry → ⊥) → s ≡ (if b then AsksEntry else HasResult next) →
+reported_or_asks : (b : Bool) (next : NextAvail) (s : Stage) → (s ≡ AsksEntry → ⊥) → s ≡ (if b then AsksEntry else HasResult next) →
     (s ≡ HasResult next) × (b ≡ false)
-told_or_asks true next s not_entry e = absurd (not_entry e)
-told_or_asks false next s not_entry e = (e, refl)
+reported_or_asks true next s not_entry e = absurd (not_entry e)
+reported_or_asks false next s not_entry e = (e, refl)
 
-not_entry_of : (w : code.Walk) → ((x : RingEntryWalk) → w ≡ says.RingEntry x → ⊥) → stage_of w ≡ AsksEntry → ⊥
-not_entry_of (says.RingEntry x) other e = other x refl
+not_entry_of : (w : code.Walk) → ((x : RingEntryWalk) → w ≡ shows.RingEntry x → ⊥) → stage_of w ≡ AsksEntry → ⊥
+not_entry_of (shows.RingEntry x) other e = other x refl
 not_entry_of w other e = cc
 
 by_alone : (q : Queue) (index : Option (List ℕ)) → is_whole 2 index ≡ true → asks_entry (by_index q index) ≡ false →
@@ -133,31 +133,31 @@ no_more : {A : Type 0} (b : Bool) → b ≡ false → b ≡ true → A
 no_more b is is_not = absurd (cc)
 
 -- the index told what waits
-pub tells_alone : (m : Memory) (q : Queue) (index : Option (List ℕ)) (w : code.Walk) → StandsAfterIndex m q index w →
-    ((x : RingEntryWalk) → w ≡ says.RingEntry x → ⊥) →
-    TellsBy m q (record nothing { index = index }) w
-tells_alone m q index w stands other =
-    let told = told_or_asks (asks_entry (by_index q index)) (by_index q index) (stage_of w) (not_entry_of w other) stands.stage in
+pub reports_alone : (m : Memory) (q : Queue) (index : Option (List ℕ)) (w : code.Walk) → StandsAfterIndex m q index w →
+    ((x : RingEntryWalk) → w ≡ shows.RingEntry x → ⊥) →
+    ReportsBy m q (record nothing { index = index }) w
+reports_alone m q index w stands other =
+    let reported = reported_or_asks (asks_entry (by_index q index)) (by_index q index) (stage_of w) (not_entry_of w other) stands.stage in
     record {
       next = by_index q index;
-      tells = told.0;
-      by_loads = by_alone q index stands.whole told.1;
+      reports = reported.0;
+      by_loads = by_alone q index stands.whole reported.1;
       no_entries = refl;
-      asked = (stands.asked, λ none it_asks. no_more (asks_entry (by_index q index)) told.1 it_asks);
-      no_miss = (stands.no_miss, λ none it_asks. no_more (asks_entry (by_index q index)) told.1 it_asks);
+      asked = (stands.asked, λ none it_asks. no_more (asks_entry (by_index q index)) reported.1 it_asks);
+      no_miss = (stands.no_miss, λ none it_asks. no_more (asks_entry (by_index q index)) reported.1 it_asks);
       begins = stands.begins;
     }
 
 -- so did both loads, of which the entry was made or has no place
-pub tells_both : (m : Memory) (q : Queue) (index entry : Option (List ℕ)) (w : code.Walk) → is_whole 2 index ≡ true →
+pub reports_both : (m : Memory) (q : Queue) (index entry : Option (List ℕ)) (w : code.Walk) → is_whole 2 index ≡ true →
     asks_entry (by_index q index) ≡ true → is_whole 2 entry ≡ true →
     (index ≡ None → reach m Read (avail_index_at q) 2 ≡ false) → (entry ≡ None → reach m Read (ring_entry_at q) 2 ≡ false) →
     (index ≡ None → first_miss m (needed_at q OfIndex) ≡ None) → (entry ≡ None → first_miss m (needed_at q OfRingEntry) ≡ None) →
     BeginsIfChain q w → stage_of w ≡ HasResult (by_entry q index entry) →
-    TellsBy m q (record { index = index; entry = entry; entries = [] }) w
-tells_both m q index entry w whole asks_it whole_entry no_index no_entry index_there entry_there begins told = record {
+    ReportsBy m q (record { index = index; entry = entry; entries = [] }) w
+reports_both m q index entry w whole asks_it whole_entry no_index no_entry index_there entry_there begins reported = record {
   next = by_entry q index entry;
-  tells = told;
+  reports = reported;
   by_loads = by_both q index entry whole asks_it whole_entry;
   no_entries = refl;
   asked = (no_index, λ none it_asks. no_entry none);
@@ -169,32 +169,32 @@ tells_both m q index entry w whole asks_it whole_entry no_index no_entry index_t
 
 pub begins_of :
     (l : QueueLayout) (position : ℕ) (q : Queue) (w : code.Walk) → at_position l position ≡ q → BeginsChain l w → BeginsIfChain q w
-begins_of l position q (says.Chain head progress) is begins = subst (λ (x : Queue). BeginsAtHead x head progress) is begins
+begins_of l position q (shows.Chain head progress) is begins = subst (λ (x : Queue). BeginsAtHead x head progress) is begins
 begins_of l position q w is begins = tt
 
-pub index_begins : (l : QueueLayout) (position : ℕ) (x : IndexWalk) → BeginsAt l position (says.Index x) →
+pub index_begins : (l : QueueLayout) (position : ℕ) (x : IndexWalk) → BeginsAt l position (shows.Index x) →
     at_position x.layout x.position ≡ at_position l position
 index_begins l position x begins = rw (begins.0, begins.1) refl
 
 -- a head waits, and nothing of its chain was loaded
 pub head_waits : (m : Memory) (q : Queue) (loaded : Loaded) (head : ℕ) (progress : Progress) →
-    TellsBy m q loaded (says.Chain head progress) → HeadBeginsWalk m q loaded head progress
-head_waits m q loaded head progress tells = record {
-  by_loads = tells.by_loads ∙ ap Some (sym (untold (Head head) tells.next tells.tells));
-  no_entries = tells.no_entries;
-  asked = tells.asked;
-  begins = tells.begins;
+    ReportsBy m q loaded (shows.Chain head progress) → HeadBeginsWalk m q loaded head progress
+head_waits m q loaded head progress reports = record {
+  by_loads = reports.by_loads ∙ ap Some (sym (untold (Head head) reports.next reports.reports));
+  no_entries = reports.no_entries;
+  asked = reports.asked;
+  begins = reports.begins;
 }
 
 -- what both loads tell, by what the code answers
-pub entry_told : (p q : Queue) (index entry : Option (List ℕ)) (bs : List ℕ) (w : code.Walk) → p ≡ q → index ≡ Some bs → length bs ≡ 2 →
+pub entry_reported : (p q : Queue) (index entry : Option (List ℕ)) (bs : List ℕ) (w : code.Walk) → p ≡ q → index ≡ Some bs → length bs ≡ 2 →
     asks_entry (by_index q index) ≡ true →
     ((i : List ℕ) → length i ≡ 2 → asks_entry (by_index p (Some i)) ≡ true → stage_of w ≡ HasResult (by_entry p (Some i) entry)) →
     stage_of w ≡ HasResult (by_entry q index entry)
-entry_told p q index entry bs w same is long asks_it tells =
+entry_reported p q index entry bs w same is long asks_it reports =
     let here : (i : List ℕ) → length i ≡ 2 → asks_entry (by_index q (Some i)) ≡ true → stage_of w ≡ HasResult (by_entry q (Some i) entry) =
     subst (λ (x : Queue). (i : List ℕ) → length i ≡ 2 → asks_entry (by_index x (Some i)) ≡ true →
-    stage_of w ≡ HasResult (by_entry x (Some i) entry)) same tells in
+    stage_of w ≡ HasResult (by_entry x (Some i) entry)) same reports in
     here bs long (ap (λ (o : Option (List ℕ)). asks_entry (by_index q o)) (sym is) ∙ asks_it)
     ∙ ap (λ (o : Option (List ℕ)). HasResult (by_entry q o entry)) (sym is)
 
@@ -206,7 +206,7 @@ waits_on m q loaded entries head waits = record { by_loads = waits.by_loads; ask
 ring_same : (l : QueueLayout) (position : ℕ) (q : Queue) (w : code.Walk) → at_position l position ≡ q →
     IfRingEntry w (λ x. (x.layout ≡ l) × (x.position ≡ position)) →
     IfRingEntry w (λ x. at_position x.layout x.position ≡ q)
-ring_same l position q (says.RingEntry x) is same = rw (same.0, same.1) is
+ring_same l position q (shows.RingEntry x) is same = rw (same.0, same.1) is
 ring_same l position q w is same = tt
 
 -- what comes of the index, by what the code answers
@@ -238,8 +238,8 @@ not_none None is none = absurd (cc)
 not_none (Some bs) is none = absurd (cc)
 
 -- an index that isn't mapped doesn't ask for the entry
-pub without_entry : (q : Queue) (w : code.Walk) → stage_of w ≡ stage_at (by_index q None) → (x : RingEntryWalk) → w ≡ says.RingEntry x → ⊥
-without_entry q w is x e = not_told (ap stage_of (sym e) ∙ is ∙ ap stage_at (index_lost q))
+pub without_entry : (q : Queue) (w : code.Walk) → stage_of w ≡ stage_at (by_index q None) → (x : RingEntryWalk) → w ≡ shows.RingEntry x → ⊥
+without_entry q w is x e = not_reported (ap stage_of (sym e) ∙ is ∙ ap stage_at (index_lost q))
   where
-    not_told : AsksEntry ≡ HasResult (Refused AvailIndexUnreachable) → ⊥
-    not_told same = cc
+    not_reported : AsksEntry ≡ HasResult (Refused AvailIndexUnreachable) → ⊥
+    not_reported same = cc

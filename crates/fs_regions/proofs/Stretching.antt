@@ -15,7 +15,7 @@ use Rattle.vm_memory.proofs.Places.{addresses-append}
 use Rattle.vm_memory.proofs.RangeLemmas.{all_located}
 use Rattle.fs_queue.specs.declared.chain_walk.ChainWalk.{ChainWalk}
 use Rattle.fs_queue.specs.declared.chain_walk.Progress as code
-use Rattle.fs_queue.specs.declared.chain_walk.Progress.TheVariants as says
+use Rattle.fs_queue.specs.declared.chain_walk.Progress.TheVariants as shows
 use Rattle.fs_queue.specs.declared.chain_walk.WalkEnd as walked
 use Rattle.fs_queue.specs.Chain.{Descriptor, entry_address, first_visit}
 use Rattle.fs_queue.specs.Loads.{Load, Ahead, Reads, ahead_at, ahead_after, step_by}
@@ -175,7 +175,7 @@ some_more a ls m some = (some.0, some.1 ++ m ∷ [], ap (λ (x : List Load). x +
 -- one entry more
 pub reading_on : (walk next : ChainWalk) (bs : List ℕ) (old now new : List Descriptor) (left fewer offset : ℕ) (after : code.Progress) →
     entry_address (visit_of next) ≡ entry_address (visit_of walk) + offset →
-    offset + 16 ≤ length bs → left ≡ fewer + 1 → Reading walk bs old now left (says.Wants next) →
+    offset + 16 ≤ length bs → left ≡ fewer + 1 → Reading walk bs old now left (shows.Wants next) →
     ((ls : List Load) (start : Ahead) → Brings next.size ls start now (Reads (visit_of next)) →
     Brings next.size (ls ++ read_at next bs offset ∷ []) start new (ahead_of after)) →
     IfWants after (λ w. w.size ≡ next.size) → (next.earlier ≡ length now → IfWants after (λ w. w.earlier ≡ length new)) →
@@ -199,8 +199,8 @@ reading_on walk next bs old now new left fewer offset after stands inside one so
     }
   where
     same_size : (p : code.Progress) → IfWants p (λ w. w.size ≡ next.size) → next.size ≡ walk.size → IfWants p (λ w. w.size ≡ walk.size)
-    same_size (says.Wants w) a b = a ∙ b
-    same_size (says.Ends walked) a b = tt
+    same_size (shows.Wants w) a b = a ∙ b
+    same_size (shows.Ends walked) a b = tt
 
 read_out : (walk : ChainWalk) (bs : List ℕ) (old now : List Descriptor) (left : ℕ) (after : code.Progress)
     (r : Reading walk bs old now left after) → ReadOutOf (entry_address (visit_of walk)) bs r.reads
@@ -212,10 +212,10 @@ read_out walk bs old now left after r = record {
 
 -- a walk that has ended
 pub reading_ends : (walk : ChainWalk) (bs : List ℕ) (old now : List Descriptor) (left : ℕ) (walked : walked.WalkEnd) →
-    Reading walk bs old now left (says.Ends walked) → ReadsStretch walk bs old now (says.Ends walked)
+    Reading walk bs old now left (shows.Ends walked) → ReadsStretch walk bs old now (shows.Ends walked)
 reading_ends walk bs old now left walked r = record {
   reads = r.reads;
-  read_out = read_out walk bs old now left (says.Ends walked) r;
+  read_out = read_out walk bs old now left (shows.Ends walked) r;
   brings = r.brings;
   size = tt;
   uses_up = tt;
@@ -230,10 +230,10 @@ used from n address len left count total (inr none) = inr (omega (arith, total, 
 -- one that wants another entry
 pub reading_stops : (walk next : ChainWalk) (bs : List ℕ) (old now : List Descriptor) (left : ℕ) →
     (is_in (entry_address (visit_of walk)) (length bs) (entry_address (visit_of next)) ≡ false) ⊎ (left ≡ 0) →
-    Reading walk bs old now left (says.Wants next) → ReadsStretch walk bs old now (says.Wants next)
+    Reading walk bs old now left (shows.Wants next) → ReadsStretch walk bs old now (shows.Wants next)
 reading_stops walk next bs old now left stops r = record {
   reads = r.reads;
-  read_out = read_out walk bs old now left (says.Wants next) r;
+  read_out = read_out walk bs old now left (shows.Wants next) r;
   brings = r.brings;
   size = r.size;
   uses_up = used (entry_address (visit_of walk)) (length bs) (entry_address (visit_of next)) (length bs) left (length r.reads)
@@ -246,14 +246,14 @@ reading_stops walk next bs old now left stops r = record {
 uses_up : (walk : ChainWalk) (bs : List ℕ) (old new : List Descriptor) (after : code.Progress) (r : ReadsStretch walk bs old new after)
     (came : comes.CourseStep) → AsksFor after came →
     UsesUp (entry_address (visit_of walk)) bs r.reads came
-uses_up walk bs old new (says.Wants w) r (step.Load next) asks =
+uses_up walk bs old new (shows.Wants w) r (step.Load next) asks =
     subst (λ a. (is_in (entry_address (visit_of walk)) (length bs) a ≡ false) ⊎ (16 * length r.reads ≡ length bs)) (sym asks) r.uses_up
-uses_up walk bs old new (says.Ends walked) r (step.Load next) asks = absurd asks
+uses_up walk bs old new (shows.Ends walked) r (step.Load next) asks = absurd asks
 uses_up walk bs old new after r came asks = tt
 
 same_size : (p : code.Progress) (a b : ℕ) → IfWants p (λ w. w.size ≡ a) → a ≡ b → IfWants p (λ w. w.size ≡ b)
-same_size (says.Wants w) a b h e = h ∙ e
-same_size (says.Ends walked) a b h e = tt
+same_size (shows.Wants w) a b h e = h ∙ e
+same_size (shows.Ends walked) a b h e = tt
 
 -- by where the walk stood, and by what it comes to where its last entry leads
 pub comes_by : (m : Memory) (limit : ℕ) (q : Queue) (loaded : Loaded) (stretch : EntriesWalk) (bs : List ℕ) (old new : List Descriptor)

@@ -87,7 +87,7 @@ StopsBefore g (l ∷ more) ds (step.Load walk) = LeavesLoad g walk l ds
 StopsBefore g _ ds _ = Unit {0}
 
 -- a pop goes on from a step with loads that were made ahead, as far as each is the one that it asks for
-pub record GoesAhead (g : Mapped) (limit : ℕ) (q : Queue) (ahead : List AheadBytes)
+pub record ProceedsAhead (g : Mapped) (limit : ℕ) (q : Queue) (ahead : List AheadBytes)
     (old : SmallVec Descriptor) (from : comes.CourseStep) (new : SmallVec Descriptor)
     (to : comes.CourseStep) : Type 0 where
   pub first : List AheadBytes

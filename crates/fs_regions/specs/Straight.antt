@@ -4,7 +4,7 @@ use Rattle.std.specs.Prelude.{◌≡◌, ℕ, ◌+◌, ◌<◌, ◌≤◌, List,
 use Rattle.smallvec.specs.SmallVec.{SmallVec}
 use Rattle.fs_queue.specs.declared.chain_walk.ChainWalk.{ChainWalk}
 use Rattle.fs_queue.specs.declared.chain_walk.Progress as code
-use Rattle.fs_queue.specs.declared.chain_walk.Progress.TheVariants as says
+use Rattle.fs_queue.specs.declared.chain_walk.Progress.TheVariants as shows
 use Rattle.fs_queue.specs.declared.chain_walk.WalkEnd as walked
 use Rattle.fs_queue.specs.declared.chain_walk.WalkEnd.TheVariants as comes_to
 use Rattle.fs_queue.specs.declared.walk.Walk as ring
@@ -12,7 +12,7 @@ use Rattle.fs_queue.specs.declared.walk.Walk.TheVariants as waits
 use Rattle.fs_queue.specs.Chain.{Descriptor}
 use Rattle.fs_queue.specs.Queue.{Queue}
 use Rattle.fs_queue.specs.Taking.{chain_fault, return_fault}
-use Rattle.fs_regions.specs.Ahead.{AheadBytes, GoesAhead, IsLoadOf}
+use Rattle.fs_regions.specs.Ahead.{AheadBytes, ProceedsAhead, IsLoadOf}
 use Rattle.fs_regions.specs.Places.{Mapped, places_in}
 use Rattle.fs_regions.specs.Stretches.{ReadsStretch}
 use Rattle.fs_regions.specs.Walks.{IsLongestStretch, IsThere}
@@ -52,13 +52,13 @@ EndsChain g limit w ds head found =
 
 -- a pop goes on from a walk's load, which is mapped, with loads that were made ahead, to a chain without a
 -- fault
-abbrev pub GoesAt : Mapped → (limit : ℕ) → Queue → QueueWalk → SmallVec Descriptor → List AheadBytes →
+abbrev pub ProceedsAt : Mapped → (limit : ℕ) → Queue → QueueWalk → SmallVec Descriptor → List AheadBytes →
     SmallVec Descriptor → (found : ℕ) → Type 0
-GoesAt g limit q w old ahead new found =
-    IsThere (places_in g) w × GoesAhead g limit q ahead old (step.Load w) new (step.Chain found None)
+ProceedsAt g limit q w old ahead new found =
+    IsThere (places_in g) w × ProceedsAhead g limit q ahead old (step.Load w) new (step.Chain found None)
 
 -- the same from the longest stretch on that a walk may ask for, in the chain of a head
-pub record GoesFrom (g : Mapped) (limit : ℕ) (q : Queue) (head : ℕ) (walk : ChainWalk)
+pub record ProceedsFrom (g : Mapped) (limit : ℕ) (q : Queue) (head : ℕ) (walk : ChainWalk)
     (old : SmallVec Descriptor) (ahead : List AheadBytes) (new : SmallVec Descriptor) (found : ℕ) :
     Type 0 where
   pub n : ℕ
@@ -67,12 +67,13 @@ pub record GoesFrom (g : Mapped) (limit : ℕ) (q : Queue) (head : ℕ) (walk : 
   pub inside : walk.index + n ≤ walk.table.entries
   pub is_longest : IsLongestStretch (places_in g) q old.items
       (at.Entries (stretch_of head walk n some few inside))
-  pub goes : GoesAt g limit q (at.Entries (stretch_of head walk n some few inside)) old ahead new found
+  pub proceeds : ProceedsAt g limit q (at.Entries (stretch_of head walk n some few inside)) old ahead new
+      found
 
 -- the same from a head on, whose chain can be pushed
-abbrev pub GoesByHead : Mapped → (limit : ℕ) → Queue → ring.Walk → SmallVec Descriptor → List AheadBytes →
+abbrev pub ProceedsByHead : Mapped → (limit : ℕ) → Queue → ring.Walk → SmallVec Descriptor → List AheadBytes →
     SmallVec Descriptor → (found : ℕ) → Type 0
-GoesByHead g limit q w old ahead new found =
-    (head : ℕ) × (walk : ChainWalk) × (w ≡ waits.Chain head (says.Wants walk))
+ProceedsByHead g limit q w old ahead new found =
+    (head : ℕ) × (walk : ChainWalk) × (w ≡ waits.Chain head (shows.Wants walk))
     × (return_fault (places_in g) q ≡ None)
-    × GoesFrom g limit q head walk old ahead new found
+    × ProceedsFrom g limit q head walk old ahead new found

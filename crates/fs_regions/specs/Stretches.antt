@@ -2,7 +2,7 @@
 use Rattle.std.specs.Prelude.{◌≡◌, ◌⊎◌, ℕ, ◌*◌, false, List, ◌++◌, length}
 use Rattle.fs_queue.specs.declared.chain_walk.ChainWalk.{ChainWalk}
 use Rattle.fs_queue.specs.declared.chain_walk.Progress as code
-use Rattle.fs_queue.specs.declared.chain_walk.Progress.TheVariants as says
+use Rattle.fs_queue.specs.declared.chain_walk.Progress.TheVariants as shows
 use Rattle.fs_queue.specs.Chain.{Descriptor, entry_address}
 use Rattle.fs_queue.specs.Loads.{Load, Ahead, Reads}
 use Rattle.fs_queue.specs.SteppingView.{ahead_of, visit_of, IfWants}
@@ -28,6 +28,6 @@ pub record ReadsStretch (walk : ChainWalk) (bs : List ℕ) (old new : List Descr
 
 -- a walk asks for a load only if it needs an entry, and the load begins at that entry
 abbrev pub AsksFor : code.Progress → comes.CourseStep → Type 0
-AsksFor (says.Wants w) (step.Load next) = asked_by next ≡ entry_address (visit_of w)
-AsksFor (says.Ends walked) (step.Load next) = ⊥
+AsksFor (shows.Wants w) (step.Load next) = asked_by next ≡ entry_address (visit_of w)
+AsksFor (shows.Ends walked) (step.Load next) = ⊥
 AsksFor _ _ = Unit {0}

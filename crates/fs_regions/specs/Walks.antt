@@ -85,9 +85,9 @@ BeginsIfChain q (waits.Chain head progress) = BeginsAtHead q head progress
 BeginsIfChain q _ = Unit {0}
 
 -- the ring's loads determine the walk: a chain, none, or a refusal
-pub record TellsBy (m : Memory) (q : Queue) (loaded : Loaded) (walk : code.Walk) : Type 0 where
+pub record ReportsBy (m : Memory) (q : Queue) (loaded : Loaded) (walk : code.Walk) : Type 0 where
   pub next : NextAvail
-  pub tells : stage_of walk ≡ HasResult next
+  pub reports : stage_of walk ≡ HasResult next
   pub by_loads : available_by q loaded.index loaded.entry ≡ Some next
   pub no_entries : loaded.entries ≡ []
   pub asked : RingIsAsked m q loaded

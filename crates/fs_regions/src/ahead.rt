@@ -4,7 +4,7 @@ ghost use Rattle.std.specs.Prelude.{◌≡◌, ◌≤◌, true, false, length, t
 ghost use Rattle.smallvec.specs.SmallVec.{HasRoomFor};
 ghost use Rattle.fs_regions.specs.Places.{places_in};
 ghost use Rattle.fs_regions.specs.Walks.{IsThere, asked_entries, queue_of};
-ghost use Rattle.fs_regions.specs.Ahead.{GoesAhead, BeginsAhead, IsLoadOf, IsOtherLoad, LeavesLoad};
+ghost use Rattle.fs_regions.specs.Ahead.{ProceedsAhead, BeginsAhead, IsLoadOf, IsOtherLoad, LeavesLoad};
 ghost use Rattle.fs_regions.specs.Ahead.{loads_ahead};
 
 use crate::course::Course;
@@ -69,7 +69,7 @@ impl LoadAhead {
 impl Course {
     // Goes on with loads that were made ahead.
     #[inline(never)]
-    #[tactic(auto, using(crate::proofs::Going::goes_nowhere))]
+    #[tactic(auto, using(crate::proofs::Going::proceeds_nowhere))]
     fn go_ahead(
         &self,
         regions: &GuestMap,
@@ -78,7 +78,8 @@ impl Course {
         bytes: &[u8],
         descriptors: &mut Descriptors,
     ) -> CourseStep
-        ensures { GoesAhead regions.now self.now.limit (queue_of self.now) (loads_ahead ahead.now bytes.now)
+        ensures { ProceedsAhead regions.now self.now.limit (queue_of self.now)
+            (loads_ahead ahead.now bytes.now)
             descriptors.old step descriptors.new result }
     {
         let mut step = step;

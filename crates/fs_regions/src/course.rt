@@ -19,7 +19,7 @@ ghost use Rattle.fs_queue.specs.WalkingView.{at_position, found_of};
 ghost use Rattle.fs_regions.specs.Places.{places_in};
 ghost use Rattle.fs_regions.specs.Stretches.{AsksFor};
 ghost use Rattle.fs_regions.specs.Walks.{Loaded, nothing, asked_len, asked_entries, queue_of, IsCourseOf};
-ghost use Rattle.fs_regions.specs.Walks.{TellsBy, StandsAfterIndex, HeadBeginsWalk, IsWalkAt, ComesBy};
+ghost use Rattle.fs_regions.specs.Walks.{ReportsBy, StandsAfterIndex, HeadBeginsWalk, IsWalkAt, ComesBy};
 ghost use Rattle.fs_regions.specs.Walks.{IsCourseStep, HeadMayBePushed, Brings, FindsBy};
 
 use crate::entries::{ENTRY_LEN, EntriesWalk};
@@ -93,7 +93,7 @@ impl Course {
                     self.without_index(regions, walk, descriptors)
                 }
             }
-            other => self.told(regions, other, descriptors),
+            other => self.reported(regions, other, descriptors),
         }
     }
 
@@ -120,7 +120,7 @@ impl Course {
                 self.at_index(regions, walk.give(Some(pair(bytes))), descriptors)
             }
             QueueWalk::RingEntry(walk) => {
-                self.told(regions, walk.give(Some(pair(bytes))), descriptors)
+                self.reported(regions, walk.give(Some(pair(bytes))), descriptors)
             }
             QueueWalk::Entries(walk) => self.give_entries(regions, walk, bytes, descriptors),
         }
@@ -165,7 +165,7 @@ impl Course {
     {
         match regions.miss(walk.address(), 2, Permissions::Read) {
             Some((range, access)) => CourseStep::Missing(range, access),
-            None => self.told(regions, walk.give(None), descriptors),
+            None => self.reported(regions, walk.give(None), descriptors),
         }
     }
 
@@ -190,7 +190,7 @@ impl Course {
     {
         match regions.miss(walk.address(), 2, Permissions::Read) {
             Some((range, access)) => CourseStep::Missing(range, access),
-            None => self.told(regions, walk.give(None), descriptors),
+            None => self.reported(regions, walk.give(None), descriptors),
         }
     }
 
@@ -211,15 +211,15 @@ impl Course {
                     self.without_ring_entry(regions, walk, descriptors)
                 }
             }
-            other => self.told(regions, other, descriptors),
+            other => self.reported(regions, other, descriptors),
         }
     }
 
     // The step after the ring's loads: a chain, none, or a refusal.
     #[inline(always)]
-    fn told(&self, regions: &GuestMap, walk: Walk, descriptors: &[Descriptor]) -> CourseStep
+    fn reported(&self, regions: &GuestMap, walk: Walk, descriptors: &[Descriptor]) -> CourseStep
         ensures { (loaded : Loaded)
-            → TellsBy (places_in regions.now) (queue_of self.now) loaded walk
+            → ReportsBy (places_in regions.now) (queue_of self.now) loaded walk
             → descriptors.now ≡ []
             → IsCourseStep (places_in regions.now) self.now.limit (queue_of self.now) loaded
             descriptors.now result }

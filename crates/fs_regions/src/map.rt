@@ -4,7 +4,7 @@ ghost use Rattle.std.specs.Prelude.{◌≡◌, ◌+◌, ◌<◌, ◌^◌, ℕ, L
 ghost use Rattle.std.specs.Prelude.{is_some, min};
 ghost use Rattle.std.specs.List.{list_all};
 ghost use Rattle.vm_iotlb.specs.AddressRuns.{missing};
-ghost use Rattle.vm_iotlb.specs.Ranges.{table_kept};
+ghost use Rattle.vm_iotlb.specs.Ranges.{table_held};
 ghost use Rattle.vm_iotlb.specs.declared.iova.IovaRange.{IovaRange};
 ghost use Rattle.vm_iotlb.specs.declared.permissions.Permissions.{Permissions};
 ghost use Rattle.vm_iotlb.specs.declared.range.IotlbRange.{IotlbRange};
@@ -50,7 +50,7 @@ fn reaches_by(
     access: Permissions,
 ) -> bool
     requires { addr + len < 2 ^ 64 }
-    ensures { result ≡ list_all (λ a. is_some (translated regions.now (table_kept table.now) 0 access a))
+    ensures { result ≡ list_all (λ a. is_some (translated regions.now (table_held table.now) 0 access a))
         (addresses addr len) }
 {
     let end = addr + len as u64;
@@ -95,11 +95,11 @@ fn window_by(
     access: Permissions,
 ) -> Option<VolatileSlice>
     requires { 0 < most }
-    ensures none { result ≡ None → translated regions.now (table_kept table.now) 0 access addr ≡ None }
+    ensures none { result ≡ None → translated regions.now (table_held table.now) 0 access addr ≡ None }
     ensures some { IfSome result
-        (IsWindowAt (translated regions.now (table_kept table.now) 0 access) addr most) }
+        (IsWindowAt (translated regions.now (table_held table.now) 0 access) addr most) }
     ensures longest { IfSome result
-        (λ w. w.len ≡ min most (translated_left regions.now (table_kept table.now) addr)) }
+        (λ w. w.len ≡ min most (translated_left regions.now (table_held table.now) addr)) }
 {
     let Some(piece) = table.piece_at(GuestAddress(addr), most, access) else {
         return None;
@@ -121,8 +121,8 @@ fn place_by(
     access: Permissions,
 ) -> Option<usize>
     requires { 0 < len }
-    ensures { IfSome result (LiesAt (translated regions.now (table_kept table.now) 0 access) addr len
-        (translated_left regions.now (table_kept table.now) addr)) }
+    ensures { IfSome result (LiesAt (translated regions.now (table_held table.now) 0 access) addr len
+        (translated_left regions.now (table_held table.now) addr)) }
 {
     let Some(piece) = table.piece_at(GuestAddress(addr), len, access) else {
         return None;
@@ -137,7 +137,7 @@ fn place_by(
 // of them leads to no region.
 #[inline(always)]
 fn piece_by(regions: &GuestRegions, table: &Iotlb, addr: u64, access: Permissions) -> Option<usize>
-    ensures { IfSome result (HavePlaces (translated regions.now (table_kept table.now) 0 access) addr) }
+    ensures { IfSome result (HavePlaces (translated regions.now (table_held table.now) 0 access) addr) }
 {
     let Some(piece) = table.piece_at(GuestAddress(addr), usize::MAX, access) else {
         return None;
@@ -355,8 +355,8 @@ impl GuestMap {
         ensures none { self.now.table ≡ None → result ≡ None }
         ensures first { (ranges : List IotlbRange)
             → self.now.table ≡ Some ranges
-            → MatchOption result (missing (table_kept ranges) addr len ≡ [])
-            (λ r. (rest : List IovaRange) × (missing (table_kept ranges) addr len ≡ r ∷ rest)) }
+            → MatchOption result (missing (table_held ranges) addr len ≡ [])
+            (λ r. (rest : List IovaRange) × (missing (table_held ranges) addr len ≡ r ∷ rest)) }
     {
         match &self.table {
             None => None,

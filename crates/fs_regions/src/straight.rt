@@ -5,7 +5,8 @@ ghost use Rattle.fs_queue.specs.RingingView.{BeginsChain};
 ghost use Rattle.fs_queue.specs.SteppingView.{IfWants};
 ghost use Rattle.fs_queue.specs.WalkingView.{at_position};
 ghost use Rattle.fs_regions.specs.Ahead.{BeginsAhead, loads_ahead};
-ghost use Rattle.fs_regions.specs.Straight.{EndsChain, GoesAt, GoesByHead, GoesFrom, IsCounted, ReadsAhead};
+ghost use Rattle.fs_regions.specs.Straight.{EndsChain, ProceedsAt, ProceedsByHead, ProceedsFrom, IsCounted};
+ghost use Rattle.fs_regions.specs.Straight.{ReadsAhead};
 ghost use Rattle.fs_regions.specs.Walks.{queue_of};
 ghost use Rattle.fs_regions.specs.declared.step.CourseStep.TheVariants as step;
 ghost use Rattle.fs_regions.specs.declared.walk.QueueWalk.TheVariants as at;
@@ -88,7 +89,7 @@ impl Course {
     // Straight through the further stretches of a chain's tables. It recurses for each but the second: at
     // most twice.
     #[inline(never)]
-    #[tactic(auto, using(crate::proofs::GoingStraight::goes_further))]
+    #[tactic(auto, using(crate::proofs::GoingStraight::proceeds_further))]
     fn straight_far(
         &self,
         regions: &GuestMap,
@@ -99,7 +100,7 @@ impl Course {
         descriptors: &mut Descriptors,
     ) -> Option<u16>
         requires { IsCounted self.now.layout.size descriptors.old.items walk }
-        ensures { IfSome result (GoesFrom regions.now self.now.limit (queue_of self.now) head walk
+        ensures { IfSome result (ProceedsFrom regions.now self.now.limit (queue_of self.now) head walk
             descriptors.old (loads_ahead ahead.now bytes.now) descriptors.new) }
     {
         match ahead.split_first() {
@@ -121,7 +122,7 @@ impl Course {
 
     // The same of the first stretch, and of those behind it. A chain mostly ends in its first.
     #[inline(always)]
-    #[tactic(auto, using(crate::proofs::GoingStraight::goes_further))]
+    #[tactic(auto, using(crate::proofs::GoingStraight::proceeds_further))]
     fn straight_at_table(
         &self,
         regions: &GuestMap,
@@ -132,7 +133,7 @@ impl Course {
         descriptors: &mut Descriptors,
     ) -> Option<u16>
         requires { IsCounted self.now.layout.size descriptors.old.items walk }
-        ensures { IfSome result (GoesFrom regions.now self.now.limit (queue_of self.now) head walk
+        ensures { IfSome result (ProceedsFrom regions.now self.now.limit (queue_of self.now) head walk
             descriptors.old (loads_ahead ahead.now bytes.now) descriptors.new) }
     {
         match ahead.split_first() {
@@ -164,7 +165,7 @@ impl Course {
     ) -> Option<u16>
         requires begins { BeginsChain self.now.layout walk }
         requires none { descriptors.old.items ≡ [] }
-        ensures { IfSome result (GoesByHead regions.now self.now.limit (queue_of self.now) walk
+        ensures { IfSome result (ProceedsByHead regions.now self.now.limit (queue_of self.now) walk
             descriptors.old (loads_ahead ahead.now bytes.now) descriptors.new) }
     {
         match walk {
@@ -191,7 +192,7 @@ impl Course {
     ) -> Option<u16>
         requires here { walk.layout ≡ self.now.layout }
         requires none { descriptors.old.items ≡ [] }
-        ensures { IfSome result (GoesAt regions.now self.now.limit (queue_of self.now) (at.RingEntry walk)
+        ensures { IfSome result (ProceedsAt regions.now self.now.limit (queue_of self.now) (at.RingEntry walk)
             descriptors.old (loads_ahead ahead.now bytes.now) descriptors.new) }
     {
         match ahead.split_first() {
@@ -225,7 +226,7 @@ impl Course {
     ) -> Option<u16>
         requires here { walk.layout ≡ self.now.layout }
         requires none { descriptors.old.items ≡ [] }
-        ensures { IfSome result (GoesAt regions.now self.now.limit (queue_of self.now) (at.Index walk)
+        ensures { IfSome result (ProceedsAt regions.now self.now.limit (queue_of self.now) (at.Index walk)
             descriptors.old (loads_ahead ahead.now bytes.now) descriptors.new) }
     {
         match ahead.split_first() {
@@ -253,7 +254,7 @@ impl Course {
     /// load, or for fewer than three or more than five, or has another result than a chain without a fault;
     /// then the list has any descriptors.
     #[inline(always)]
-    #[tactic(auto, using(crate::proofs::GoingStraight::goes_straight))]
+    #[tactic(auto, using(crate::proofs::GoingStraight::proceeds_straight))]
     pub fn straight(
         &self,
         regions: &GuestMap,

@@ -5,7 +5,7 @@ ghost use Rattle.smallvec.specs.SmallVec.{HasRoomFor};
 ghost use Rattle.vm_values.specs.Fields.{AllFit, spelled};
 ghost use Rattle.fs_queue.specs.Chain.{is_indirect};
 ghost use Rattle.fs_queue.specs.Records.{descriptor};
-ghost use Rattle.fs_queue.specs.declared.chain_walk.Progress.TheVariants as says;
+ghost use Rattle.fs_queue.specs.declared.chain_walk.Progress.TheVariants as shows;
 ghost use Rattle.fs_queue.specs.declared.chain_walk.WalkEnd.TheVariants as comes_to;
 ghost use Rattle.fs_regions.specs.Stretches.{ReadsStretch};
 
@@ -38,7 +38,7 @@ fn may_join(descriptor: &Descriptor) -> bool
 
 // Whether a descriptor's next one is at an index.
 #[inline(always)]
-fn goes_to(descriptor: &Descriptor, index: u16) -> bool
+fn proceeds_to(descriptor: &Descriptor, index: u16) -> bool
     ensures { result ≡ true → descriptor.now.next ≡ index }
 {
     descriptor.next == index
@@ -58,7 +58,7 @@ fn is_whole(walk: &ChainWalk, entries: u16) -> bool
 // Reads the entries of a whole table, from its first one on, while each names the one behind it as the
 // next: whether a chain ends so. The descriptors that were read join the list.
 #[inline(always)]
-#[tactic(auto, using(crate::proofs::InOrder::kept))]
+#[tactic(auto, using(crate::proofs::InOrder::preserved))]
 fn read_in_order(
     walk: &ChainWalk,
     entries: u16,
@@ -71,7 +71,7 @@ fn read_in_order(
     requires bytes { length bytes.now ≡ 16 * entries }
     requires room { HasRoomFor descriptors.old entries }
     ensures ends { result ≡ true → ReadsStretch walk.now bytes.now descriptors.old.items descriptors.new.items
-        (says.Ends comes_to.Chain) }
+        (shows.Ends comes_to.Chain) }
     ensures front { take (length descriptors.old.items) descriptors.new.items ≡ descriptors.old.items }
     ensures capacity { descriptors.new.capacity ≡ descriptors.old.capacity }
 {
@@ -86,7 +86,7 @@ fn read_in_order(
             return true;
         }
         index += 1;
-        if !goes_to(&descriptor, index) {
+        if !proceeds_to(&descriptor, index) {
             return false;
         }
     }
@@ -105,7 +105,7 @@ fn ends_in_order(
     requires bytes { length bytes.now ≡ 16 * entries }
     requires room { HasRoomFor descriptors.old entries }
     ensures ends { result ≡ true → ReadsStretch walk.now bytes.now descriptors.old.items descriptors.new.items
-        (says.Ends comes_to.Chain) }
+        (shows.Ends comes_to.Chain) }
     ensures same { result ≡ false → descriptors.new.items ≡ descriptors.old.items }
     ensures capacity { descriptors.new.capacity ≡ descriptors.old.capacity }
 {

@@ -13,7 +13,7 @@ use Rattle.plain_machine.specs.Run.{GuestWrite, SetLayout, Affects, Answer, Done
 use Rattle.plain_machine.specs.Run.{Effect, Performs, effect, guest_written, is_known, no, set_layout, some_overlap, with_layout}
 use Rattle.fs_device.proofs.LayoutLemmas.{all_apart, all_fit, all_known, not_known}
 use Rattle.fs_device.specs.CommandView.{command_of}
-use Rattle.fs_shared.specs.declared.kept.Kept.{Kept}
+use Rattle.fs_shared.specs.declared.recorded.Recorded.{Recorded}
 use Rattle.fs_shared.specs.Held.{WouldDo, came_of}
 use Rattle.fs_shared.specs.Keeping.{KeepsEvent}
 use Rattle.fs_shared.specs.Replay as replay
@@ -70,13 +70,14 @@ unfolding effect
 write_would s a bytes reaches = (record s { memory = guest_written s.memory a bytes }, rw reaches refl)
 
 -- what is kept of it is an event
-pub write_keeps : {F : Type 0} (may : May F) (s after : State F) (a : ℕ) (bytes pages : List ℕ) (kept : Kept) →
+pub write_keeps : {F : Type 0} (may : May F) (s after : State F) (a : ℕ) (bytes pages : List ℕ) (recorded : Recorded) →
     Affects s (GuestWrite a bytes) Done after →
     WritesPages (physical s.memory) (addresses a (length bytes)) pages →
-    (command_of kept.entry.command ≡ GuestWrite a bytes) × (came_of kept.entry.outcome ≡ replay.Done) × (kept.entry.pages.items ≡ pages) →
-    (command_of kept.receipt.command ≡ GuestWrite a bytes) × (came_of kept.receipt.outcome ≡ replay.Done)
-    × (kept.receipt.pages.items ≡ pages) → KeepsEvent may s (GuestWrite a bytes) kept after
-write_keeps may s after a bytes pages kept done are entry receipt = record {
+    (command_of recorded.entry.command ≡ GuestWrite a bytes) × (came_of recorded.entry.outcome ≡ replay.Done)
+    × (recorded.entry.pages.items ≡ pages) →
+    (command_of recorded.receipt.command ≡ GuestWrite a bytes) × (came_of recorded.receipt.outcome ≡ replay.Done)
+    × (recorded.receipt.pages.items ≡ pages) → KeepsEvent may s (GuestWrite a bytes) recorded after
+write_keeps may s after a bytes pages recorded done are entry receipt = record {
   plays = (entry.1, done, rw entry.2 are);
   entry = entry.0;
   receipt = receipt.0;
@@ -134,11 +135,13 @@ layout_performed may s after layout (Pages ps) would is = layout_does s after la
 
 -- what is kept of it is an event
 pub layout_keeps :
-    {F : Type 0} (may : May F) (s after : State F) (layout : List Region) (kept : Kept) → Affects s (SetLayout layout) Done after →
-    (command_of kept.entry.command ≡ SetLayout layout) × (came_of kept.entry.outcome ≡ replay.Done) × (kept.entry.pages.items ≡ []) →
-    (command_of kept.receipt.command ≡ SetLayout layout) × (came_of kept.receipt.outcome ≡ replay.Done) × (kept.receipt.pages.items ≡ []) →
-    KeepsEvent may s (SetLayout layout) kept after
-layout_keeps may s after layout kept done entry receipt = record {
+    {F : Type 0} (may : May F) (s after : State F) (layout : List Region) (recorded : Recorded) → Affects s (SetLayout layout) Done after →
+    (command_of recorded.entry.command ≡ SetLayout layout) × (came_of recorded.entry.outcome ≡ replay.Done)
+    × (recorded.entry.pages.items ≡ []) →
+    (command_of recorded.receipt.command ≡ SetLayout layout) × (came_of recorded.receipt.outcome ≡ replay.Done)
+    × (recorded.receipt.pages.items ≡ []) →
+    KeepsEvent may s (SetLayout layout) recorded after
+layout_keeps may s after layout recorded done entry receipt = record {
   plays = (entry.1, done, entry.2);
   entry = entry.0;
   receipt = receipt.0;

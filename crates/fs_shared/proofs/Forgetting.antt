@@ -32,7 +32,7 @@ returns_forget : {F : Type 0} (s after : State F) (i : ℕ) (q : Queue) (room : 
     (notice : Bool) →
     Returns s i q room expected options x notice after → Returns (forget s) i q room expected options x notice (forget after)
 returns_forget {F} s after i q room expected options x notice r =
-    record { exchange = r.exchange; state = ap (λ (m : State F). forget m) r.state; told = r.told }
+    record { exchange = r.exchange; state = ap (λ (m : State F). forget m) r.state; reported = r.reported }
 
 exchanges_forget :
     {F : Type 0} (may : May F) (s after : State F) (i : ℕ) (q : Queue) (offered : Offer) (calls : Calls) (x : Exchange) (notice : Bool) →

@@ -21,7 +21,7 @@ use Rattle.fs_device.specs.Phases.{HasTaken}
 use Rattle.plain_machine.specs.UsedLength.{IsOffered}
 use Rattle.fs_device.proofs.StepLemmas.{set-same}
 use Rattle.plain_machine.proofs.UsedLemmas.{step_offers}
-use Rattle.fs_shared.specs.declared.kept.Kept.{Kept}
+use Rattle.fs_shared.specs.declared.recorded.Recorded.{Recorded}
 use Rattle.fs_shared.specs.declared.kicking.ReplyRoom.{ReplyRoom}
 use Rattle.fs_shared.specs.Held.{HasOpenQueue, HasWaiting, came_of}
 use Rattle.fs_shared.specs.Keeping.{IsRoomFor, KeepsEvent, KickKeeps, StepChangesNothing}
@@ -67,16 +67,17 @@ module _ {F : Type 0} (may : May F) (s after : State F) (i : ℕ) (calls : Calls
       (subst (λ (f : RequestAndRoom). IsTaken s.memory has.queue f t) same.1 has.taken) in
       (o, are s.memory o.queue o.fetched t x.head x.reply is_room.runs taken ten long)
 
-  pub exchange_keeps : (kept : Kept) → command_of kept.entry.command ≡ Kick i 1 → came_of kept.entry.outcome ≡ Served x notice →
-      AreReturnPages room.runs (length x.reply) kept.entry.pages.items →
-      command_of kept.receipt.command ≡ Kick i 1 → came_of kept.receipt.outcome
-      ≡ Served (record x { request = room.request.items }) notice → kept.receipt.pages.items ≡ kept.entry.pages.items →
-      KeepsEvent may s (Kick i 1) kept after
-  exchange_keeps kept entry outcome pages receipt receipt_outcome receipt_pages = record {
+  pub exchange_keeps : (recorded : Recorded) → command_of recorded.entry.command ≡ Kick i 1
+      → came_of recorded.entry.outcome ≡ Served x notice →
+      AreReturnPages room.runs (length x.reply) recorded.entry.pages.items →
+      command_of recorded.receipt.command ≡ Kick i 1 → came_of recorded.receipt.outcome
+      ≡ Served (record x { request = room.request.items }) notice → recorded.receipt.pages.items ≡ recorded.entry.pages.items →
+      KeepsEvent may s (Kick i 1) recorded after
+  exchange_keeps recorded entry outcome pages receipt receipt_outcome receipt_pages = record {
     plays = (
       refl,
-      subst (λ (o : Outcome). ReplaysKick may s i o kept.entry.pages.items after) (sym outcome)
-          (calls, step, exchange_pages (length x.reply) kept.entry.pages.items refl pages),
+      subst (λ (o : Outcome). ReplaysKick may s i o recorded.entry.pages.items after) (sym outcome)
+          (calls, step, exchange_pages (length x.reply) recorded.entry.pages.items refl pages),
     );
     entry = entry;
     receipt = receipt;

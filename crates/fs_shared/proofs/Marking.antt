@@ -14,14 +14,14 @@ use Rattle.fs_shared.specs.Portion.{IsMarked, MarksPages}
 
 -- from t to u the page was not cleared, no clear more is known of, and a mark stands
 record Onward (t u : Tally) : Type 0 where
-  pub kept : t.marked ≡ true → u.marked ≡ true
+  pub recorded : t.marked ≡ true → u.marked ≡ true
   pub off : u.off ≡ t.off
   pub seen : u.seen ≡ t.seen
   pub held : t.held ≤ u.held
   pub steps : t.mark_steps ≤ u.mark_steps
 
 onward_same : (t : Tally) → Onward t t
-onward_same t = record { kept = λ marked. marked; off = refl; seen = refl; held = omega arith; steps = omega arith }
+onward_same t = record { recorded = λ marked. marked; off = refl; seen = refl; held = omega arith; steps = omega arith }
 
 -- one page more
 pub marks_more : (v : PageCounts) (pages : List ℕ) (x : ℕ) (old cur new : List Tally) → MarksPages pages old cur →
@@ -35,18 +35,18 @@ marks_more v pages x old cur new m c = record {
       (Contains-push_cases pages x p here);
   same = λ p none. c.same p (ne_eqb x p (λ now. none (subst (Contains (pages ++ x ∷ [])) now (Contains-push pages x))))
       ∙ m.same p (λ before. none (Contains-append_left pages (x ∷ []) p before));
-  kept = λ p marked. (each p).kept (m.kept p marked);
+  recorded = λ p marked. (each p).recorded (m.recorded p marked);
   off = λ p. (each p).off ∙ m.off p;
   seen = λ p. (each p).seen ∙ m.seen p;
   held = λ p. let first = m.held p in let second = (each p).held in omega arith;
   steps = λ p within here. let k = m.count in
       ⊎_elim
       (λ (before : Contains pages p). let first = m.steps p within before in let second = (each p).steps in omega arith)
-      (λ (now : x ≡ p). let first = m.steps_kept p in
+      (λ (now : x ≡ p). let first = m.steps_recorded p in
       let second = stepped p (omega arith) (subst (λ (q : ℕ). nat_eq x q ≡ true) now (at_own x)) in
       omega arith)
       (Contains-push_cases pages x p here);
-  steps_kept = λ p. let first = m.steps_kept p in let second = (each p).steps in omega arith;
+  steps_recorded = λ p. let first = m.steps_recorded p in let second = (each p).steps in omega arith;
 }
   where
     at_own : (n : ℕ) → nat_eq n n ≡ true
@@ -60,7 +60,7 @@ marks_more v pages x old cur new m c = record {
 
     by_hit : (p : ℕ) → p < length cur → (b : Bool) → nat_eq x p ≡ b → Onward (tally_of cur p) (tally_of new p)
     by_hit p within true e = subst (Onward (tally_of cur p)) (sym (c.changed p within e).3)
-        (record { kept = λ marked. refl; off = refl; seen = refl; held = omega arith; steps = omega arith })
+        (record { recorded = λ marked. refl; off = refl; seen = refl; held = omega arith; steps = omega arith })
     by_hit p within false e = subst (Onward (tally_of cur p)) (sym (c.same p e)) (onward_same (tally_of cur p))
 
     each : (p : ℕ) → Onward (tally_of cur p) (tally_of new p)
@@ -71,7 +71,7 @@ marks_more v pages x old cur new m c = record {
     ]
 
     stays : (p : ℕ) → IsMarked (tally_of cur p) → IsMarked (tally_of new p)
-    stays p (marked, ahead) = let e = each p in (e.kept marked, (let s = e.seen in let h = e.held in omega arith))
+    stays p (marked, ahead) = let e = each p in (e.recorded marked, (let s = e.seen in let h = e.held in omega arith))
 
 -- nothing is cleared by a pass that has counted nothing
 pub none_by_new : (v : PageCounts) (p : ℕ) → (tally_of (new_half v).pages p).off ≡ 0

@@ -4,14 +4,14 @@ use Rattle.std.proofs.Common.{length, inl, inr, refl, sym, ap, subst, arith}
 use Rattle.std.proofs.lemmas.List.{append_assoc, append-nil, take_all, take_more}
 use Rattle.std.proofs.lemmas.List.Elements.{All-push, All-weaker}
 use Rattle.fs_shared.specs.declared.entry.Receipt.{Receipt}
-use Rattle.fs_shared.specs.Rounds.{GoesOnWith, IsGreatest, IsNumberOf, following}
+use Rattle.fs_shared.specs.Rounds.{ContinuesWith, IsGreatest, IsNumberOf, following}
 
 -- none more, and some after some
-pub none_more : (receipts : List Receipt) → GoesOnWith receipts receipts
+pub none_more : (receipts : List Receipt) → ContinuesWith receipts receipts
 none_more receipts = ([], sym (append-nil receipts))
 
-pub goes_on : (first then last : List Receipt) → GoesOnWith first then → GoesOnWith then last → GoesOnWith first last
-goes_on first then last one two =
+pub carries_on : (first then last : List Receipt) → ContinuesWith first then → ContinuesWith then last → ContinuesWith first last
+carries_on first then last one two =
     (one.0 ++ two.0, two.1 ∙ ap (λ (l : List Receipt). l ++ two.0) one.1 ∙ append_assoc first one.0 two.0)
 
 number_more : (n : ℕ) (xs : List Receipt) (r : Receipt) → IsNumberOf n xs → IsNumberOf n (xs ++ r ∷ [])

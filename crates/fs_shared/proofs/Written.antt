@@ -71,20 +71,20 @@ put_or ls h q p x =
 -- ---- stores
 
 -- what stood at a place in a memory stands there in a host, or the place lies in a page of these
-abbrev pub KeptOr : List ℕ → Place → Memory → List Place → Host → Type 0
-KeptOr ls p m written after = (byte_at after p ≡ byte_at m.host p) ⊎ Contains (map (page_of ls) written) (page_of ls p)
+abbrev pub RecordedOr : List ℕ → Place → Memory → List Place → Host → Type 0
+RecordedOr ls p m written after = (byte_at after p ≡ byte_at m.host p) ⊎ Contains (map (page_of ls) written) (page_of ls p)
 
 put_then : (ls : List ℕ) (p q : Place) (m : Memory) (byte : ℕ) (later : List Place) (after : Host) →
-    KeptOr ls p (stored_at m byte (Some q)) later after → KeptOr ls p m (q ∷ later) after
+    RecordedOr ls p (stored_at m byte (Some q)) later after → RecordedOr ls p m (q ∷ later) after
 put_then ls p q m byte later after (inr page) = inr (Contains-append_right (page_of ls q ∷ []) (map (page_of ls) later) (page_of ls p) page)
-put_then ls p q m byte later after (inl kept) =
+put_then ls p q m byte later after (inl recorded) =
     ⊎_elim
-    (λ (same : byte_at (put_byte m.host q byte) p ≡ byte_at m.host p). inl (kept ∙ same))
+    (λ (same : byte_at (put_byte m.host q byte) p ≡ byte_at m.host p). inl (recorded ∙ same))
     (λ (page : page_of ls q ≡ page_of ls p). inr (0, omega arith, page))
     (put_or ls m.host q p byte)
 
 one_then : (ls : List ℕ) (p : Place) (m : Memory) (byte : ℕ) (o : Option Place) (later : List Place) (after : Host) →
-    KeptOr ls p (stored_at m byte o) later after → KeptOr ls p m (cons_option o later) after
+    RecordedOr ls p (stored_at m byte o) later after → RecordedOr ls p m (cons_option o later) after
 one_then ls p m byte None later after rest = rest
 one_then ls p m byte (Some q) later after rest = put_then ls p q m byte later after rest
 
@@ -104,13 +104,13 @@ location_stays m x (Some p) = same_location m (put_byte m.host p x) (with_tables
 abbrev pub places_stored : Memory → List (ℕ × ℕ) → List Place
 places_stored m ws = filter_map (location m Write) (map (λ w. w.0) ws)
 
-pub stores_or : (ls : List ℕ) (p : Place) (m : Memory) (ws : List (ℕ × ℕ)) → KeptOr ls p m (places_stored m ws) (stored_all m ws).host
+pub stores_or : (ls : List ℕ) (p : Place) (m : Memory) (ws : List (ℕ × ℕ)) → RecordedOr ls p m (places_stored m ws) (stored_all m ws).host
 unfolding stored_all
 stores_or ls p m [] = inl refl
 stores_or ls p m (w ∷ ws) =
     let later : List ℕ = map (λ (w : ℕ × ℕ). w.0) ws in
     let there = location m Write w.0 in
-    subst (λ (f : ℕ → Option Place). KeptOr ls p m (cons_option there (filter_map f later)) (stored_all (stored m w) ws).host)
+    subst (λ (f : ℕ → Option Place). RecordedOr ls p m (cons_option there (filter_map f later)) (stored_all (stored m w) ws).host)
     (location_stays m w.1 there)
     (one_then ls p m w.1 there (filter_map (location (stored m w) Write) later) (stored_all (stored m w) ws).host
     (stores_or ls p (stored m w) ws))

@@ -10,20 +10,20 @@ use Rattle.plain_machine.specs.Step as step
 use Rattle.plain_machine.specs.Step.{State, Step}
 use Rattle.plain_machine.specs.Run.{Command, Kick}
 use Rattle.fs_device.specs.CommandView.{command_of}
-use Rattle.fs_shared.specs.declared.kept.Kept.{Kept}
+use Rattle.fs_shared.specs.declared.recorded.Recorded.{Recorded}
 use Rattle.fs_shared.specs.declared.kicking.ReplyRoom.{ReplyRoom}
 use Rattle.fs_shared.specs.Held.{HasWaiting, came_of}
 use Rattle.fs_shared.specs.Replay.{Plays}
 use Rattle.fs_shared.specs.ReturnRuns.{AreReturnRuns}
 
 -- the machine carried out a command, and entry and receipt both hold its event
-pub record KeepsEvent {F : Type 0} (may : May F) (before : State F) (command : Command) (kept : Kept)
+pub record KeepsEvent {F : Type 0} (may : May F) (before : State F) (command : Command) (recorded : Recorded)
     (after : State F) : Type 0 where
-  pub plays : Plays may before command (came_of kept.entry.outcome) kept.entry.pages.items after
-  pub entry : command_of kept.entry.command ≡ command
-  pub receipt : command_of kept.receipt.command ≡ command
-  pub outcome : came_of kept.receipt.outcome ≡ came_of kept.entry.outcome
-  pub pages : kept.receipt.pages.items ≡ kept.entry.pages.items
+  pub plays : Plays may before command (came_of recorded.entry.outcome) recorded.entry.pages.items after
+  pub entry : command_of recorded.entry.command ≡ command
+  pub receipt : command_of recorded.receipt.command ≡ command
+  pub outcome : came_of recorded.receipt.outcome ≡ came_of recorded.entry.outcome
+  pub pages : recorded.receipt.pages.items ≡ recorded.entry.pages.items
 
 -- the machine made a step of queue i with this end that changes nothing
 abbrev pub StepChangesNothing : {F : Type 0} → May F → State F → ℕ → step.StepEnd → State F → Type 0
@@ -31,8 +31,8 @@ StepChangesNothing may before i outcome after = Step may before i [] outcome bef
 
 -- a kick of a machine for one chain, by cases on the result as in `KicksBy`
 abbrev pub KickKeeps :
-    {F : Type 0} → May F → State F → ℕ → Result (Option Kept) DeviceError → State F → Type 0
-KickKeeps may before i (Ok (Some kept)) after = KeepsEvent may before (Kick i 1) kept after
+    {F : Type 0} → May F → State F → ℕ → Result (Option Recorded) DeviceError → State F → Type 0
+KickKeeps may before i (Ok (Some recorded)) after = KeepsEvent may before (Kick i 1) recorded after
 KickKeeps may before i (Ok None) after = StepChangesNothing may before i step.Idle after
 KickKeeps may before i (Err device.NoSuchQueue) after =
     StepChangesNothing may before i (step.Refused device.NoSuchQueue) after

@@ -4,7 +4,7 @@ use Rattle.std.specs.Prelude.{◌≡◌, ◌≢◌, ℕ, ◌*◌, ◌^◌, ◌<�
 use Rattle.vm_atomic_bitmaps.specs.declared.counts.PageCounts.{PageCounts}
 use Rattle.vm_atomic_bitmaps.specs.declared.counts.Tally.{Tally}
 use Rattle.vm_atomic_bitmaps.specs.Counts.{both_passes, cleared_by, first_pass, in_word, joined_with}
-use Rattle.vm_atomic_bitmaps.specs.Counts.{kept_half, met_with, new_half, IsWhole}
+use Rattle.vm_atomic_bitmaps.specs.Counts.{preserved_half, met_with, new_half, IsWhole}
 use Rattle.fs_shared.specs.Portion.{HasSeen, MarksPages}
 use Rattle.virtiofsd_fuse.specs.Serving.{May}
 use Rattle.plain_machine.specs.Step.{State, Calls, StepEnd, Step}
@@ -136,7 +136,7 @@ HaveSamePart v w = w.parts * 2 ^ v.depth ≡ v.parts * 2 ^ w.depth
 abbrev pub JoinsGiveBack : Type 0
 JoinsGiveBack =
     (v a b : PageCounts) →
-    HaveSamePart (kept_half v) a →
+    HaveSamePart (preserved_half v) a →
     HaveSamePart (new_half v) b →
     HaveSamePart v (both_passes a b)
 
@@ -145,5 +145,5 @@ abbrev pub HalvesAreWhole : Type 0
 HalvesAreWhole =
     (len : ℕ) (h v : PageCounts) →
     HaveSamePart (new_half (first_pass len)) h →
-    HaveSamePart (kept_half (first_pass len)) v →
+    HaveSamePart (preserved_half (first_pass len)) v →
     IsWhole (both_passes h v)

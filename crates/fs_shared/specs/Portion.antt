@@ -2,7 +2,7 @@
 use Rattle.std.specs.Prelude.{◌≡◌, ℕ, ◌+◌, ◌/◌, ◌<◌, ◌≤◌, Bool, true, if◌then◌else◌, List, length}
 use Rattle.std.specs.List.{Contains}
 use Rattle.vm_atomic_bitmaps.specs.declared.counts.Tally.{Tally}
-use Rattle.vm_atomic_bitmaps.specs.Counts.{tally_of, kept_half, new_half, both_passes}
+use Rattle.vm_atomic_bitmaps.specs.Counts.{tally_of, preserved_half, new_half, both_passes}
 use Rattle.vm_atomic_bitmaps.specs.Passes.{Pass, SharedPages, IsPassOf}
 
 -- a share: the number of its parts of a device, the number of calls that were journaled with it, and its pass
@@ -22,8 +22,8 @@ pub record IsShareOf (bitmap : SharedPages) (s : Portion) : Type 0 where
   pub none_cleared : (p : ℕ) → (tally_of s.pass.counts.pages p).off ≡ 0
 
 -- a pass after a split: it keeps its counts and half of its part
-abbrev pub kept_pass : Pass → Pass
-kept_pass p = record { name = p.name; counts = kept_half p.counts }
+abbrev pub recorded_pass : Pass → Pass
+recorded_pass p = record { name = p.name; counts = preserved_half p.counts }
 
 -- the pass that a split makes: it has counted nothing, and has the other half of the part
 abbrev pub new_pass : Pass → Pass
@@ -48,13 +48,13 @@ pub record MarksPages (pages : List ℕ) (old new : List Tally) : Type 0 where
   pub count : length new ≡ length old
   pub marked : (p : ℕ) → p < length old → Contains pages p → IsMarked (tally_of new p)
   pub same : (p : ℕ) → (Contains pages p → ⊥) → tally_of new p ≡ tally_of old p
-  pub kept : (p : ℕ) → (tally_of old p).marked ≡ true → (tally_of new p).marked ≡ true
+  pub recorded : (p : ℕ) → (tally_of old p).marked ≡ true → (tally_of new p).marked ≡ true
   pub off : (p : ℕ) → (tally_of new p).off ≡ (tally_of old p).off
   pub seen : (p : ℕ) → (tally_of new p).seen ≡ (tally_of old p).seen
   pub held : (p : ℕ) → (tally_of old p).held ≤ (tally_of new p).held
   pub steps :
       (p : ℕ) → p < length old → Contains pages p → (tally_of old p).mark_steps < (tally_of new p).mark_steps
-  pub steps_kept : (p : ℕ) → (tally_of old p).mark_steps ≤ (tally_of new p).mark_steps
+  pub steps_recorded : (p : ℕ) → (tally_of old p).mark_steps ≤ (tally_of new p).mark_steps
 
 -- a pass has seen each of its own clears
 abbrev pub HasSeenItsOwn : List Tally → Type 0

@@ -14,8 +14,8 @@ use Rattle.fs_shared.specs.Marks.{HasMarkedSince}
 use Rattle.fs_shared.specs.Replay.{Replays}
 
 -- each of the first `len` pages in which the hosts differ is set in the gathered words or in the words left
-abbrev pub TellsPages : (len : ℕ) → (gathered left : List ℕ) → (before after : Host) → Type 0
-TellsPages len gathered left before after =
+abbrev pub ReportsPages : (len : ℕ) → (gathered left : List ℕ) → (before after : Host) → Type 0
+ReportsPages len gathered left before after =
     (p : Place) → byte_at after p ≢ byte_at before p → page_of (lengths before) p < len →
     (page_bit gathered (page_of (lengths before) p) ≡ 1) ⊎ (page_bit left (page_of (lengths before) p) ≡ 1)
 
@@ -48,8 +48,8 @@ KeepsSince old new before after =
 -- ---- the receipts before the gather
 
 -- the receipts after are those before, followed by further ones
-abbrev pub GoesOnWith : (before after : List Receipt) → Type 0
-GoesOnWith before after = (more : List Receipt) × (after ≡ before ++ more)
+abbrev pub ContinuesWith : (before after : List Receipt) → Type 0
+ContinuesWith before after = (more : List Receipt) × (after ≡ before ++ more)
 
 -- one of the receipts has this number
 abbrev pub IsNumberOf : ℕ → List Receipt → Type 0
@@ -66,4 +66,4 @@ IsGreatest (Some n) receipts = IsNumberOf n receipts × All (λ r. r.number ≤ 
 -- the greatest number of some first receipts, of which there are at most `most`
 abbrev pub IsGreatestOfFirst : (most : ℕ) → Option ℕ → List Receipt → Type 0
 IsGreatestOfFirst most last receipts =
-    (first : List Receipt) × (length first ≤ most) × IsGreatest last first × GoesOnWith first receipts
+    (first : List Receipt) × (length first ≤ most) × IsGreatest last first × ContinuesWith first receipts

@@ -12,7 +12,7 @@ ghost use Rattle.fs_shared.specs.Keeping.{KeepsEvent};
 ghost use Rattle.fs_shared.specs.Replay.{Done, WritesPages};
 
 use crate::entry::Outcome;
-use crate::kept::{Event, Kept};
+use crate::recorded::{Event, Recorded};
 use crate::runs::{page_runs, written_pages};
 use fs_device::{Command, Machine};
 use fuse_fs::FileSystem;
@@ -69,16 +69,22 @@ fn write_event(
 }
 
 // The event of a guest's write, for its entry and for its receipt.
-fn kept_write(alloc: Global, addr: u64, bytes: &[u8], pages: Vec<usize>) -> Result<Kept, AllocError>
-    ensures entry { IfOk result (λ kept. (command_of kept.entry.command ≡ GuestWrite addr bytes.now)
-        × (came_of kept.entry.outcome ≡ Done)
-        × (kept.entry.pages.items ≡ pages.items)) }
-    ensures receipt { IfOk result (λ kept. (command_of kept.receipt.command ≡ GuestWrite addr bytes.now)
-        × (came_of kept.receipt.outcome ≡ Done)
-        × (kept.receipt.pages.items ≡ pages.items)) }
+fn recorded_write(
+    alloc: Global,
+    addr: u64,
+    bytes: &[u8],
+    pages: Vec<usize>,
+) -> Result<Recorded, AllocError>
+    ensures entry { IfOk result (λ recorded. (command_of recorded.entry.command ≡ GuestWrite addr bytes.now)
+        × (came_of recorded.entry.outcome ≡ Done)
+        × (recorded.entry.pages.items ≡ pages.items)) }
+    ensures receipt { IfOk result (λ recorded. (command_of recorded.receipt.command ≡ GuestWrite addr
+        bytes.now)
+        × (came_of recorded.receipt.outcome ≡ Done)
+        × (recorded.receipt.pages.items ≡ pages.items)) }
 {
     let copy = Vec::from_slice(alloc, &pages)?;
-    Ok(Kept {
+    Ok(Recorded {
         entry: write_event(alloc, addr, bytes, pages)?,
         receipt: write_event(alloc, addr, bytes, copy)?,
     })
@@ -86,23 +92,24 @@ fn kept_write(alloc: Global, addr: u64, bytes: &[u8], pages: Vec<usize>) -> Resu
 
 /// The guest writes bytes from a physical address on, in guest memory; the result is the event for entry and
 /// receipt. AllocError if an allocation fails, and then nothing changes.
-pub(crate) fn write_kept<F: FileSystem, I: Iommu + Drop>(
+pub(crate) fn write_recorded<F: FileSystem, I: Iommu + Drop>(
     alloc: Global,
     machine: &mut Machine<F, I>,
     addr: u64,
     bytes: &[u8],
-) -> Result<Kept, AllocError>
+) -> Result<Recorded, AllocError>
     requires reaches { reach (physical (machine_of machine.old).memory) Write addr (length bytes.now) ≡ true }
-    ensures keeps { IfOk result (λ kept. KeepsEvent F.may (machine_of machine.old) (GuestWrite addr bytes.now)
-        kept (machine_of machine.new)) }
+    ensures keeps { IfOk result (λ recorded. KeepsEvent F.may (machine_of machine.old)
+        (GuestWrite addr bytes.now)
+        recorded (machine_of machine.new)) }
     ensures lacks { OnErr result (machine_of machine.new ≡ machine_of machine.old) }
 {
     let layout = machine.mem.get_backend();
     let pages = write_pages(alloc, &machine.host, layout, addr, bytes.len())?;
-    let kept = kept_write(alloc, addr, bytes, pages)?;
+    let recorded = recorded_write(alloc, addr, bytes, pages)?;
     // The range is in guest memory, so the machine doesn't refuse the write.
     let _ = machine.guest_write(addr, bytes);
-    Ok(kept)
+    Ok(recorded)
 }
 
 // The event of a new layout: it writes no page.
@@ -120,21 +127,22 @@ fn layout_event(alloc: Global, layout: GuestMemoryMmap) -> Event
 
 /// Replaces all regions by those of a layout whose blocks the host has; the result is the event for entry and
 /// receipt. AllocError if an allocation fails, and then nothing changes.
-pub(crate) fn layout_kept<F: FileSystem, I: Iommu + Drop>(
+pub(crate) fn layout_recorded<F: FileSystem, I: Iommu + Drop>(
     alloc: Global,
     machine: &mut Machine<F, I>,
     layout: GuestMemoryMmap,
-) -> Result<Kept, AllocError>
+) -> Result<Recorded, AllocError>
     requires { WouldDo (machine_of machine.old) (SetLayout layout) }
     ensures keeps { IfOk result
-        (λ kept. KeepsEvent F.may (machine_of machine.old) (SetLayout layout) kept (machine_of machine.new)) }
+        (λ recorded. KeepsEvent F.may (machine_of machine.old) (SetLayout layout) recorded
+        (machine_of machine.new)) }
     ensures lacks { OnErr result (machine_of machine.new ≡ machine_of machine.old) }
 {
     let first = layout.try_clone()?;
     let second = layout.try_clone()?;
     // The host has the layout's blocks, so the machine doesn't refuse it.
     let _ = machine.set_layout(layout);
-    Ok(Kept {
+    Ok(Recorded {
         entry: layout_event(alloc, first),
         receipt: layout_event(alloc, second),
     })

@@ -8,7 +8,7 @@ use crate::same_command::same_command;
 use crate::same_outcome::same_outcome;
 
 // Whether a receipt has an entry's command, outcome and pages.
-fn tells(entry: &JournalEntry, receipt: &Receipt) -> bool
+fn reports(entry: &JournalEntry, receipt: &Receipt) -> bool
     ensures { IsTrue result ↔ IsReceiptOf entry.now receipt.now }
 {
     same_command(&entry.command, &receipt.command)
@@ -17,11 +17,11 @@ fn tells(entry: &JournalEntry, receipt: &Receipt) -> bool
 }
 
 // Whether a receipt matches the entry of its number.
-fn is_told(journal: &[JournalEntry], receipt: &Receipt) -> bool
+fn is_reported(journal: &[JournalEntry], receipt: &Receipt) -> bool
     ensures { IsTrue result ↔ MatchesJournal journal.now receipt.now }
 {
     match journal.get(receipt.number) {
-        Some(entry) => tells(entry, receipt),
+        Some(entry) => reports(entry, receipt),
         None => false,
     }
 }
@@ -40,11 +40,11 @@ fn times(receipts: &[Receipt], number: usize) -> usize
 }
 
 // Whether each receipt matches the entry of its number.
-fn all_told(journal: &[JournalEntry], receipts: &[Receipt]) -> bool
+fn all_reported(journal: &[JournalEntry], receipts: &[Receipt]) -> bool
     ensures { IsTrue result ↔ All (MatchesJournal journal.now) receipts.now }
 {
     for receipt in receipts {
-        if !is_told(journal, receipt) {
+        if !is_reported(journal, receipt) {
             return false;
         }
     }
@@ -93,5 +93,5 @@ fn each_once(count: usize, receipts: &[Receipt]) -> bool
 pub fn audit(journal: &[JournalEntry], receipts: &[Receipt]) -> bool
     ensures { IsTrue result ↔ AreAllReceipts journal.now receipts.now }
 {
-    all_told(journal, receipts) && each_once(journal.len(), receipts)
+    all_reported(journal, receipts) && each_once(journal.len(), receipts)
 }

@@ -12,10 +12,10 @@ ghost use Rattle.fs_shared.specs.Keeping.{KickKeeps};
 ghost use Rattle.fs_shared.specs.Laws.{HoldsReplay};
 ghost use Rattle.fs_shared.specs.Replay.{ReplayEntry};
 
-use crate::acting::{layout_kept, write_kept};
+use crate::acting::{layout_recorded, write_recorded};
 use crate::entry::{JournalEntry, Kicked, Receipt};
-use crate::kept::journal_kept;
-use crate::kicking::kick_kept;
+use crate::kicking::kick_recorded;
+use crate::recorded::journal_recorded;
 use crate::share::Share;
 use crate::state::SharedState;
 use fs_device::{Answer, DeviceError, Machine, Refusal};
@@ -95,10 +95,10 @@ fn kick_into<L: Ledger, F: FileSystem, I: Iommu + Drop>(
     if journal.reserve(1).is_err() {
         return kick_without_room(alloc, machine, queue);
     }
-    match kick_kept(alloc, machine, queue, taken) {
-        Ok(Some(kept)) => {
+    match kick_recorded(alloc, machine, queue, taken) {
+        Ok(Some(recorded)) => {
             let options = machine.device.server().options();
-            Ok(Kicked::Done(journal_kept(journal, calls, share, options, kept)))
+            Ok(Kicked::Done(journal_recorded(journal, calls, share, options, recorded)))
         }
         Ok(None) => Ok(Kicked::Idle),
         Err(error) => Err(error),
@@ -130,10 +130,10 @@ fn write_into<L: Ledger, F: FileSystem, I: Iommu + Drop>(
     if journal.reserve(1).is_err() {
         return Err(Refusal::OutOfMemory);
     }
-    match write_kept(alloc, machine, addr, bytes) {
-        Ok(kept) => {
+    match write_recorded(alloc, machine, addr, bytes) {
+        Ok(recorded) => {
             let options = machine.device.server().options();
-            Ok(journal_kept(journal, calls, share, options, kept))
+            Ok(journal_recorded(journal, calls, share, options, recorded))
         }
         Err(_) => Err(Refusal::OutOfMemory),
     }
@@ -163,10 +163,10 @@ fn layout_into<L: Ledger, F: FileSystem, I: Iommu + Drop>(
     if journal.reserve(1).is_err() {
         return Err(Refusal::OutOfMemory);
     }
-    match layout_kept(alloc, machine, layout) {
-        Ok(kept) => {
+    match layout_recorded(alloc, machine, layout) {
+        Ok(recorded) => {
             let options = machine.device.server().options();
-            Ok(journal_kept(journal, calls, share, options, kept))
+            Ok(journal_recorded(journal, calls, share, options, recorded))
         }
         Err(_) => Err(Refusal::OutOfMemory),
     }

@@ -7,7 +7,7 @@ ghost use Rattle.vm_bitmaps.specs.Words.{page_bit};
 ghost use Rattle.vm_atomic_bitmaps.specs.Counts.{both_passes, met_with};
 ghost use Rattle.vm_atomic_bitmaps.specs.Passes.{counting};
 ghost use Rattle.vm_atomic_bitmaps.specs.Steps.{SettlesAll};
-ghost use Rattle.fs_shared.specs.Portion.{HasSeen, IsShareOf, MarksPages, counted, joined, kept_pass};
+ghost use Rattle.fs_shared.specs.Portion.{HasSeen, IsShareOf, MarksPages, counted, joined, recorded_pass};
 ghost use Rattle.fs_shared.specs.Portion.{new_pass};
 ghost use Rattle.fs_device.specs.CommandView.{command_of};
 ghost use Rattle.fs_device.specs.MachineView.{machine_of};
@@ -53,7 +53,7 @@ impl<L: Ledger, F, I: Iommu + Drop> Model for SharedDevice<L, F, I> {
 }
 
 ghost use Rattle.fs_shared.specs.Marks.{AccountsFor, AccountsSince, HasPagesOf, IsHarvestOf, LeavesMarked};
-ghost use Rattle.fs_shared.specs.Marks.{first_of, kicked_pages, told_pages};
+ghost use Rattle.fs_shared.specs.Marks.{first_of, kicked_pages, reported_pages};
 ghost use Rattle.fs_shared.specs.declared.share_error.ShareError.TheVariants.{OutOfMemory};
 
 impl<L: Ledger, F: FileSystem, I: Iommu + Drop> SharedDevice<L, F, I> {
@@ -73,7 +73,7 @@ impl<L: Ledger, F: FileSystem, I: Iommu + Drop> SharedDevice<L, F, I> {
         requires some { 0 < parts }
         ensures pages { IfOk result (λ made. HasPagesOf machine.host made.0) }
         ensures whole { IfOk result
-            (λ made. made.1 ≡ record { parts = L.parts; count = 0; pass = kept_pass (first_of made.0) }) }
+            (λ made. made.1 ≡ record { parts = L.parts; count = 0; pass = recorded_pass (first_of made.0) }) }
         ensures own { IfOk result (λ made. IsShareOf made.0 made.1) }
         ensures harvest { IfOk result
             (λ made. made.2 ≡ record { bitmap = made.0; pass = new_pass (first_of made.0) }) }
@@ -101,7 +101,7 @@ impl<L: Ledger, F: FileSystem, I: Iommu + Drop> SharedDevice<L, F, I> {
             (λ s. s ≡ record { parts = share.old.parts / 2; count = 0; pass = new_pass share.old.pass }) }
         ensures rest { IfSome result (λ s. share.new.parts + s.parts ≡ share.old.parts) }
         ensures count { share.new.count ≡ share.old.count }
-        ensures pass { IfSome result (λ s. share.new.pass ≡ kept_pass share.old.pass) }
+        ensures pass { IfSome result (λ s. share.new.pass ≡ recorded_pass share.old.pass) }
         ensures one { IfNone result (share.old.parts ≡ 1) }
         ensures same { IfNone result (share.new ≡ share.old) }
         ensures own { IsShareOf self.now share.new }
@@ -179,7 +179,7 @@ impl<L: Ledger, F: FileSystem, I: Iommu + Drop> SharedDevice<L, F, I> {
         ensures share { share.new ≡ record (counted share.old (did result)) {
           pass = counting share.old.pass share.new.pass.counts.pages;
         } }
-        ensures pages { MarksPages (told_pages result) share.old.pass.counts.pages
+        ensures pages { MarksPages (reported_pages result) share.old.pass.counts.pages
             share.new.pass.counts.pages }
         ensures own { IsShareOf self.now share.new }
         ensures command { IfOk result (λ r. command_of r.command ≡ GuestWrite addr bytes.now) }
@@ -205,7 +205,7 @@ impl<L: Ledger, F: FileSystem, I: Iommu + Drop> SharedDevice<L, F, I> {
         ensures share { share.new ≡ record (counted share.old (did result)) {
           pass = counting share.old.pass share.new.pass.counts.pages;
         } }
-        ensures pages { MarksPages (told_pages result) share.old.pass.counts.pages
+        ensures pages { MarksPages (reported_pages result) share.old.pass.counts.pages
             share.new.pass.counts.pages }
         ensures own { IsShareOf self.now share.new }
         ensures command { IfOk result (λ r. command_of r.command ≡ SetLayout layout) }

@@ -8,7 +8,7 @@ ghost use Rattle.vm_atomic_bitmaps.specs.Counts.{both_passes, cleared_by, in_wor
 ghost use Rattle.vm_atomic_bitmaps.specs.Passes.{IsPassOf, counting};
 ghost use Rattle.vm_atomic_bitmaps.specs.Rule.{StandsAt};
 ghost use Rattle.vm_atomic_bitmaps.specs.Steps.{NoneBeyond, SettlesAll, SettlesWord};
-ghost use Rattle.fs_shared.specs.Portion.{kept_pass, new_pass};
+ghost use Rattle.fs_shared.specs.Portion.{recorded_pass, new_pass};
 
 use crate::numbers::first_page;
 use std::alloc::{AllocError, Global};
@@ -65,7 +65,7 @@ pub(crate) fn clear_pages(
     host: &HostMemory<PageBitmap>,
 ) -> Result<(Arc<AtomicBitmap, Global>, BitmapPass, PageHarvest), AllocError>
     ensures pages { IfOk result (λ r. HasPagesOf host.now (arc_value r.0)) }
-    ensures share { IfOk result (λ r. r.1 ≡ kept_pass (first_of (arc_value r.0))) }
+    ensures share { IfOk result (λ r. r.1 ≡ recorded_pass (first_of (arc_value r.0))) }
     ensures own { IfOk result (λ r. IsPassOf (arc_value r.0) r.1) }
     ensures harvest { IfOk result
         (λ r. r.2 ≡ record { bitmap = arc_value r.0; pass = new_pass (first_of (arc_value r.0)) }) }

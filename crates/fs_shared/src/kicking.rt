@@ -15,7 +15,7 @@ ghost use Rattle.fs_shared.specs.Replay.{Served, Stopped, is_journaled};
 ghost use Rattle.fs_shared.specs.ReturnRuns.{AreReturnPages};
 
 use crate::entry::Outcome;
-use crate::kept::{Event, Kept};
+use crate::recorded::{Event, Recorded};
 use crate::return_pages::{ReturnRuns, return_pages, return_runs};
 use fs_device::{Command, DeviceError, Exchange, FetchedRequest, Machine};
 use fs_queue::{QueueError, Taken};
@@ -71,7 +71,7 @@ fn reply_room<H: HostBlocks>(
 
 // The event of an exchange, with its notice and its pages, for entry and receipt. Allocates nothing.
 #[inline(always)]
-fn kept_exchange(queue: usize, exchange: Exchange, notice: bool, room: ReplyRoom) -> Kept
+fn recorded_exchange(queue: usize, exchange: Exchange, notice: bool, room: ReplyRoom) -> Recorded
     requires reply { room.reply.items ≡ [] }
     requires reply_fits { length exchange.reply.items ≤ vec_capacity room.reply }
     requires pages { room.pages.items ≡ [] }
@@ -103,7 +103,7 @@ fn kept_exchange(queue: usize, exchange: Exchange, notice: bool, room: ReplyRoom
         reply,
         fault: exchange.fault,
     };
-    Kept {
+    Recorded {
         entry: Event {
             command: Command::Kick { queue, most: 1 },
             outcome: Outcome::Served(exchange, notice),
@@ -120,17 +120,18 @@ fn kept_exchange(queue: usize, exchange: Exchange, notice: bool, room: ReplyRoom
 // Answers a chain that was taken from a queue, and returns it to the driver; the result is the event for
 // entry and receipt. AllocError changes nothing: all memory is allocated before the file system is called.
 #[inline(always)]
-fn exchange_kept<F: FileSystem, I: Iommu + Drop>(
+fn exchange_recorded<F: FileSystem, I: Iommu + Drop>(
     alloc: Global,
     machine: &mut Machine<F, I>,
     queue: usize,
     taken: &mut Taken,
-) -> Result<Kept, AllocError>
+) -> Result<Recorded, AllocError>
     requires taken { let s = machine_of machine.old in HasTaken s.memory s.limit s.queues queue taken.old }
     requires lies { TakenLiesIn (lengths machine.old.host) taken.old }
     requires there { queue < length machine.old.device.queues }
     ensures keeps { IfOk result
-        (λ kept. KeepsEvent F.may (machine_of machine.old) (Kick queue 1) kept (machine_of machine.new)) }
+        (λ recorded. KeepsEvent F.may (machine_of machine.old) (Kick queue 1) recorded
+        (machine_of machine.new)) }
     ensures lacks { OnErr result (machine_of machine.new ≡ machine_of machine.old) }
 {
     let request = FetchedRequest::of(alloc, &machine.host, taken)?;
@@ -139,7 +140,7 @@ fn exchange_kept<F: FileSystem, I: Iommu + Drop>(
     let notice = machine
         .device
         .give_back(&mut machine.host, queue, taken, &exchange.reply);
-    Ok(kept_exchange(queue, exchange, notice, room))
+    Ok(recorded_exchange(queue, exchange, notice, room))
 }
 
 // Whether a kick with this refusal is journaled: only if the refusal stops the queue.
@@ -168,18 +169,22 @@ fn stopped(alloc: Global, queue: usize, error: DeviceError) -> Event
 }
 
 // The event of a refusal that is journaled, for entry and receipt. Any other refusal is the error.
-fn kept_refusal(alloc: Global, queue: usize, error: DeviceError) -> Result<Kept, DeviceError>
-    ensures stops { IfOk result (λ kept. IsTrue (is_journaled error)) }
-    ensures entry { IfOk result (λ kept. (command_of kept.entry.command ≡ Kick queue 1)
-        × (came_of kept.entry.outcome ≡ Stopped error)
-        × (kept.entry.pages.items ≡ [])) }
-    ensures receipt { IfOk result (λ kept. (command_of kept.receipt.command ≡ Kick queue 1)
-        × (came_of kept.receipt.outcome ≡ Stopped error)
-        × (kept.receipt.pages.items ≡ [])) }
+fn recorded_refusal(
+    alloc: Global,
+    queue: usize,
+    error: DeviceError,
+) -> Result<Recorded, DeviceError>
+    ensures stops { IfOk result (λ recorded. IsTrue (is_journaled error)) }
+    ensures entry { IfOk result (λ recorded. (command_of recorded.entry.command ≡ Kick queue 1)
+        × (came_of recorded.entry.outcome ≡ Stopped error)
+        × (recorded.entry.pages.items ≡ [])) }
+    ensures receipt { IfOk result (λ recorded. (command_of recorded.receipt.command ≡ Kick queue 1)
+        × (came_of recorded.receipt.outcome ≡ Stopped error)
+        × (recorded.receipt.pages.items ≡ [])) }
     ensures err { IfErr result (λ e. (e ≡ error) × (is_journaled error ≡ false)) }
 {
     if is_journaled(error) {
-        Ok(Kept {
+        Ok(Recorded {
             entry: stopped(alloc, queue, error),
             receipt: stopped(alloc, queue, error),
         })
@@ -192,25 +197,25 @@ fn kept_refusal(alloc: Global, queue: usize, error: DeviceError) -> Result<Kept,
 /// nothing. A refusal that stops the queue is an event too; any other is the error, and changes nothing.
 /// `taken` is scratch memory that is kept from kick to kick.
 #[inline(always)]
-pub(crate) fn kick_kept<F: FileSystem, I: Iommu + Drop>(
+pub(crate) fn kick_recorded<F: FileSystem, I: Iommu + Drop>(
     alloc: Global,
     machine: &mut Machine<F, I>,
     queue: usize,
     taken: &mut Taken,
-) -> Result<Option<Kept>, DeviceError>
+) -> Result<Option<Recorded>, DeviceError>
     ensures { KickKeeps F.may (machine_of machine.old) queue result (machine_of machine.new) }
 {
     match machine
         .device
         .take(alloc, &machine.host, &machine.mem, queue, taken)
     {
-        Ok(true) => match exchange_kept(alloc, machine, queue, taken) {
-            Ok(kept) => Ok(Some(kept)),
+        Ok(true) => match exchange_recorded(alloc, machine, queue, taken) {
+            Ok(recorded) => Ok(Some(recorded)),
             Err(_) => Err(DeviceError::Queue(QueueError::OutOfMemory)),
         },
         Ok(false) => Ok(None),
-        Err(error) => match kept_refusal(alloc, queue, error) {
-            Ok(kept) => Ok(Some(kept)),
+        Err(error) => match recorded_refusal(alloc, queue, error) {
+            Ok(recorded) => Ok(Some(recorded)),
             Err(error) => Err(error),
         },
     }

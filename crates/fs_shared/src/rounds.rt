@@ -7,14 +7,15 @@ ghost use Rattle.std.specs.Int.{div_ceil};
 ghost use Rattle.vm_atomic_bitmaps.specs.Passes.{counting};
 ghost use Rattle.vm_memory_core.specs.Host.{lengths};
 ghost use Rattle.fs_shared.specs.Pages.{first_page};
-ghost use Rattle.fs_shared.specs.Portion.{IsShareOf, kept_pass, new_pass};
+ghost use Rattle.fs_shared.specs.Portion.{IsShareOf, recorded_pass, new_pass};
 ghost use Rattle.fs_device.specs.MachineView.{machine_of};
 ghost use Rattle.fs_shared.specs.Audit.{AreAllReceipts};
 ghost use Rattle.fs_shared.specs.Held.{fixed_of, journal_of, start_of};
 ghost use Rattle.fs_shared.specs.Marks.{HasMarked, first_of};
 ghost use Rattle.fs_shared.specs.Replay.{Replays, forget};
-ghost use Rattle.fs_shared.specs.Rounds.{GoesOnWith, IsGreatest, IsGreatestOfFirst, KeepsSince, LeavesSince};
-ghost use Rattle.fs_shared.specs.Rounds.{TellsPages};
+ghost use Rattle.fs_shared.specs.Rounds.{ContinuesWith, IsGreatest, IsGreatestOfFirst, KeepsSince};
+ghost use Rattle.fs_shared.specs.Rounds.{LeavesSince};
+ghost use Rattle.fs_shared.specs.Rounds.{ReportsPages};
 ghost use Rattle.fs_shared.specs.declared.share_error.ShareError.TheVariants.{OutOfMemory};
 
 use crate::auditing::audit;
@@ -94,7 +95,7 @@ fn kick_once<L: Ledger, F: FileSystem, I: Iommu + Drop, R: Wait>(
     ensures marked { HasMarked share.new.pass.counts.pages receipts.new.items }
     ensures since { KeepsSince share.old.pass.counts.pages share.new.pass.counts.pages receipts.old.items
         receipts.new.items }
-    ensures more { GoesOnWith receipts.old.items receipts.new.items }
+    ensures more { ContinuesWith receipts.old.items receipts.new.items }
     ensures parts { share.new.parts ≡ share.old.parts }
     ensures pass { share.new.pass ≡ counting share.old.pass share.new.pass.counts.pages }
     ensures len { vec_len receipts.new ≤ vec_len receipts.old + 1 }
@@ -127,7 +128,7 @@ fn kick_often<L: Ledger, F: FileSystem, I: Iommu + Drop, R: Wait>(
     ensures marked { HasMarked share.new.pass.counts.pages receipts.new.items }
     ensures since { KeepsSince share.old.pass.counts.pages share.new.pass.counts.pages receipts.old.items
         receipts.new.items }
-    ensures more { GoesOnWith receipts.old.items receipts.new.items }
+    ensures more { ContinuesWith receipts.old.items receipts.new.items }
     ensures parts { share.new.parts ≡ share.old.parts }
     ensures pass { share.new.pass ≡ counting share.old.pass share.new.pass.counts.pages }
     ensures len { vec_len receipts.new ≤ vec_len receipts.old + most }
@@ -173,7 +174,7 @@ fn go_round<L: Ledger, F: FileSystem + Drop, I: Iommu + Drop, R: Wait>(
     queue: usize,
     most: u16,
 ) -> Round<F, I>
-    requires share { made.1 ≡ record { parts = L.parts; count = 0; pass = kept_pass (first_of made.0) } }
+    requires share { made.1 ≡ record { parts = L.parts; count = 0; pass = recorded_pass (first_of made.0) } }
     requires own { IsShareOf made.0 made.1 }
     requires harvest { made.2 ≡ record { bitmap = made.0; pass = new_pass (first_of made.0) } }
     requires receipts { room.receipts.items ≡ [] }
@@ -186,7 +187,7 @@ fn go_round<L: Ledger, F: FileSystem + Drop, I: Iommu + Drop, R: Wait>(
         (journal_of result.parts.journal.items)
         (forget (machine_of result.parts.machine)) }
     ensures pages { IsTrue result.is_audited →
-        TellsPages made.0.len result.gathered.items result.left.items result.parts.start.host
+        ReportsPages made.0.len result.gathered.items result.left.items result.parts.start.host
         result.parts.machine.host }
     ensures since { IsTrue result.is_audited →
         LeavesSince made.0.len result.last_before result.parts.journal.items result.left.items
@@ -246,7 +247,7 @@ pub fn serve_round<L: Ledger, F: FileSystem + Drop, I: Iommu + Drop, R: Wait>(
         (λ round. Replays (start_of round.parts.start (fixed_of (machine_of round.parts.machine)))
         (journal_of round.parts.journal.items) (forget (machine_of round.parts.machine))) }
     ensures pages { IfOk result (λ round. IsTrue round.is_audited
-        → TellsPages (first_page (lengths machine.host) (length (lengths machine.host)))
+        → ReportsPages (first_page (lengths machine.host) (length (lengths machine.host)))
         round.gathered.items round.left.items round.parts.start.host round.parts.machine.host) }
     ensures since { IfOk result (λ round. IsTrue round.is_audited
         → LeavesSince (first_page (lengths machine.host) (length (lengths machine.host)))

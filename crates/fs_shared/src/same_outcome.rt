@@ -30,7 +30,7 @@ fn is_served(outcome: &Outcome, exchange: &Exchange, notice: bool) -> bool
     ensures { IsTrue result ↔ (came_of outcome.now ≡ Served (exchange_of exchange.now) notice) }
 {
     match outcome {
-        Outcome::Served(other, told) => same_exchange(exchange, other) && *told == notice,
+        Outcome::Served(other, reported) => same_exchange(exchange, other) && *reported == notice,
         _ => false,
     }
 }

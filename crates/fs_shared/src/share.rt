@@ -35,7 +35,7 @@ impl<L: Ledger> Model for Share<L> {
 }
 
 ghost use Rattle.fs_shared.specs.Portion.{HasSeen, HasSeenItsOwn, IsShareOf, MarksPages, Portion, counted};
-ghost use Rattle.fs_shared.specs.Portion.{joined, kept_pass, new_pass};
+ghost use Rattle.fs_shared.specs.Portion.{joined, recorded_pass, new_pass};
 
 impl<L: Ledger> Share<L> {
     /// A share of `parts` parts of a ledger with a pass of the device's bitmap. Its token has counted nothing
@@ -84,7 +84,7 @@ impl<L: Ledger> Share<L> {
             (λ s. s ≡ record { parts = self.old.parts / 2; count = 0; pass = new_pass self.old.pass }) }
         ensures rest { IfSome result (λ s. self.new.parts + s.parts ≡ self.old.parts) }
         ensures count { self.new.count ≡ self.old.count }
-        ensures pass { IfSome result (λ s. self.new.pass ≡ kept_pass self.old.pass) }
+        ensures pass { IfSome result (λ s. self.new.pass ≡ recorded_pass self.old.pass) }
         ensures one { IfNone result (self.old.parts ≡ 1) }
         ensures same { IfNone result (self.new ≡ self.old) }
         ensures own { IsShareOf bitmap.now self.new }

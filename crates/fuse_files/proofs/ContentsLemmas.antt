@@ -11,8 +11,8 @@ put_by_test room bytes true is low = let high = ltb-true room (length bytes) is 
 put_by_test room bytes false is low = refl
 
 -- bytes for which there is room
-pub goes_in : (room : ℕ) (bytes : List ℕ) → length bytes ≤ room → call.Bytes bytes ≡ bytes_in room bytes
-goes_in room bytes low = put_by_test room bytes (nat_lt room (length bytes)) refl low
+pub fits_in : (room : ℕ) (bytes : List ℕ) → length bytes ≤ room → call.Bytes bytes ≡ bytes_in room bytes
+fits_in room bytes low = put_by_test room bytes (nat_lt room (length bytes)) refl low
 
 by_want : (room : ℕ) (bytes : List ℕ) (b : Bool) → nat_lt room (length bytes) ≡ b → room < length bytes →
     call.Failed EIO ≡ (if b then call.Failed EIO else call.Bytes bytes)

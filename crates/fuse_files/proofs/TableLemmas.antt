@@ -12,9 +12,9 @@ listing_rest : (at : ℕ) (l : List OwnedFile) → listing_from (at + 1 + 2) (dr
 listing_rest at [] = refl
 listing_rest at (f ∷ fs) = let same : at + 1 + 2 ≡ at + 2 + 1 = omega arith in ap (λ (n : ℕ). listing_from n fs) same
 
-pub listing_goes_on :
+pub listing_carries_on :
     (at : ℕ) (fs : List OwnedFile) → listing_from (at + 1 + 2) (drop (at + 1) fs) ≡ drop 1 (listing_from (at + 2) (drop at fs))
-listing_goes_on at fs = ap (listing_from (at + 1 + 2)) (sym (drop-drop 1 at fs)) ∙ listing_rest at (drop at fs)
+listing_carries_on at fs = ap (listing_from (at + 1 + 2)) (sym (drop-drop 1 at fs)) ∙ listing_rest at (drop at fs)
 
 first_there : (at : ℕ) (fs : List OwnedFile) → slice_get (drop at fs) 0 ≡ slice_get fs at
 first_there zero fs = refl

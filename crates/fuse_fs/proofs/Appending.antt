@@ -4,9 +4,9 @@ use Rattle.std.proofs.Math.Seq.{take-append-add}
 use Rattle.std.proofs.lemmas.List.{take-take, length-take-le, take-append-le}
 
 -- what was there, and the front of what was filled
-pub kept : (from n most : ℕ) (xs buf zs ds : List ℕ) → from ≤ length xs → n ≤ length buf → from + n ≤ most →
+pub preserved : (from n most : ℕ) (xs buf zs ds : List ℕ) → from ≤ length xs → n ≤ length buf → from + n ≤ most →
     take (from + n) (take most ((take from xs ++ (buf ++ zs)) ++ ds)) ≡ take from xs ++ take n buf
-kept from n most xs buf zs ds la ln lm =
+preserved from n most xs buf zs ds la ln lm =
     let e : length (take from xs) ≡ from = length-take-le from xs la in
     let lb : n ≤ length (buf ++ zs) = simp length-append (omega arith) in
     take-take (from + n) most ((take from xs ++ (buf ++ zs)) ++ ds) lm

@@ -172,9 +172,9 @@ up_to_behind place n ns le =
     (cases_eq n 0)
 
 -- the segments that were taken off a queue, and one more of them
-pub up_to_goes : (part n k : ℕ) (ns : List ℕ) → 0 < part → k ≡ min part n →
+pub up_to_proceeds : (part n k : ℕ) (ns : List ℕ) → 0 < part → k ≡ min part n →
     up_to part (filled (n ∷ ns)) ≡ filled (k ∷ []) ++ up_to (part - k) (filled ns)
-up_to_goes part n k ns some e =
+up_to_proceeds part n k ns some e =
     ⊎_elim
     (λ (l : part < n).
     up_to_first part n ns (omega (arith, l)) ∙ ap (λ i. filled (i ∷ [])) (let p : part ≡ k = omega (arith, e, l) in p)
@@ -184,8 +184,8 @@ up_to_goes part n k ns some e =
     ∙ ap (λ i. filled (i ∷ []) ++ up_to (part - i) (filled ns)) (let p : n ≡ k = omega (arith, e, l) in p))
     (cases_lt part n)
 
-pub past_goes : (part n k : ℕ) (ns : List ℕ) → k ≡ min part n → past (part - k) (filled ((n - k) ∷ ns)) ≡ past part (filled (n ∷ ns))
-past_goes part n k ns e =
+pub past_proceeds : (part n k : ℕ) (ns : List ℕ) → k ≡ min part n → past (part - k) (filled ((n - k) ∷ ns)) ≡ past part (filled (n ∷ ns))
+past_proceeds part n k ns e =
     ⊎_elim
     (λ (l : part < n).
     let same : k ≡ part = omega (arith, e, l) in

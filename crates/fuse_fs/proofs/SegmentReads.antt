@@ -172,12 +172,12 @@ module _ {F : Type 0} (may : MayRead F) where
       (a.rooms ∙ ap (λ i. past i now.rooms) none ∙ past_zero_of now.rooms same) ends
 
   -- one more call of a file gave something
-  pub so_far_goes : (f : F) (before : Filling) (count most off done : ℕ) (now : Filling) (g : F) (n place : ℕ) (part : List ℕ)
+  pub so_far_proceeds : (f : F) (before : Filling) (count most off done : ℕ) (now : Filling) (g : F) (n place : ℕ) (part : List ℕ)
       (new : Filling) (h : F) → Offered before count most →
       SoFar f before most off done now g → ReadsOnce may g (min (most - done) (first now.rooms)) place part (Ok n) h → Added now part new →
       (n ≡ 0 → ⊥) → place ≡ off + done →
       SoFar f before most off (done + n) new h
-  so_far_goes f before count most off done now g n place part new h t s once a some at =
+  so_far_proceeds f before count most off done now g n place part new h t s once a some at =
       ⊎_elim
       (λ (full : (min (most - done) (first now.rooms) ≡ 0) × (Ok n ≡ Ok 0) × (h ≡ g)). absurd (some (ap moved full.1)))
       (λ (last : (0 < min (most - done) (first now.rooms)) × (length part ≤ min (most - done) (first now.rooms))

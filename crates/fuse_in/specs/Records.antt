@@ -56,7 +56,7 @@ in_header = record {
         total_extlen = total_extlen;
         padding = padding;
       };
-  says = λ r. r.len & r.opcode & r.unique & r.nodeid & r.uid.0 & r.gid.0 & r.pid & r.total_extlen &
+  shows = λ r. r.len & r.opcode & r.unique & r.nodeid & r.uid.0 & r.gid.0 & r.pid & r.total_extlen &
       r.padding & end;
 }
 
@@ -66,7 +66,7 @@ init_in_compat = record {
   parts = u32 ∷ u32 ∷ u32 ∷ u32 ∷ [];
   make = λ major minor max_readahead flags.
       record { major = major; minor = minor; max_readahead = max_readahead; flags = flags };
-  says = λ r. r.major & r.minor & r.max_readahead & r.flags & end;
+  shows = λ r. r.major & r.minor & r.max_readahead & r.flags & end;
 }
 
 -- struct fuse_init_in, the last 48 bytes
@@ -74,7 +74,7 @@ abbrev pub init_in_ext : RecordShape InitInExt
 init_in_ext = record {
   parts = u32 ∷ u32s 11 ∷ [];
   make = λ flags2 unused. record { flags2 = flags2; unused = unused };
-  says = λ r. r.flags2 & r.unused & end;
+  shows = λ r. r.flags2 & r.unused & end;
 }
 
 -- struct fuse_interrupt_in, 8 bytes
@@ -86,7 +86,7 @@ abbrev pub forget_in : RecordShape ForgetIn
 forget_in = record {
   parts = u64 ∷ [];
   make = λ nlookup. record { nlookup = nlookup };
-  says = λ r. r.nlookup & end;
+  shows = λ r. r.nlookup & end;
 }
 
 -- struct fuse_batch_forget_in, 8 bytes
@@ -94,7 +94,7 @@ abbrev pub batch_forget_in : RecordShape BatchForgetIn
 batch_forget_in = record {
   parts = u32 ∷ u32 ∷ [];
   make = λ count dummy. record { count = count; dummy = dummy };
-  says = λ r. r.count & r.dummy & end;
+  shows = λ r. r.count & r.dummy & end;
 }
 
 -- struct fuse_syncfs_in, 8 bytes
@@ -106,7 +106,7 @@ abbrev pub getattr_in : RecordShape GetattrIn
 getattr_in = record {
   parts = u32 ∷ u32 ∷ u64 ∷ [];
   make = λ flags dummy fh. record { flags = flags; dummy = dummy; fh = fh };
-  says = λ r. r.flags & r.dummy & r.fh & end;
+  shows = λ r. r.flags & r.dummy & r.fh & end;
 }
 
 -- struct fuse_setattr_in, 88 bytes
@@ -133,7 +133,7 @@ setattr_in = record {
         gid = record { 0 = gid };
         unused5 = unused5;
       };
-  says = λ r.
+  shows = λ r.
       r.valid & r.padding & r.fh & r.size & r.lock_owner & r.atime & r.mtime & r.ctime & r.atimensec &
       r.mtimensec & r.ctimensec & r.mode & r.unused4 &
       r.uid.0 & r.gid.0 & r.unused5 & end;
@@ -144,7 +144,7 @@ abbrev pub mknod_in : RecordShape MknodIn
 mknod_in = record {
   parts = u32 ∷ u32 ∷ u32 ∷ u32 ∷ [];
   make = λ mode rdev umask padding. record { mode = mode; rdev = rdev; umask = umask; padding = padding };
-  says = λ r. r.mode & r.rdev & r.umask & r.padding & end;
+  shows = λ r. r.mode & r.rdev & r.umask & r.padding & end;
 }
 
 -- struct fuse_mkdir_in, 8 bytes
@@ -152,7 +152,7 @@ abbrev pub mkdir_in : RecordShape MkdirIn
 mkdir_in = record {
   parts = u32 ∷ u32 ∷ [];
   make = λ mode umask. record { mode = mode; umask = umask };
-  says = λ r. r.mode & r.umask & end;
+  shows = λ r. r.mode & r.umask & end;
 }
 
 -- struct fuse_rename_in, 8 bytes
@@ -160,7 +160,7 @@ abbrev pub rename_in : RecordShape RenameIn
 rename_in = record {
   parts = u64 ∷ [];
   make = λ newdir. record { newdir = newdir };
-  says = λ r. r.newdir & end;
+  shows = λ r. r.newdir & end;
 }
 
 -- struct fuse_rename2_in, 16 bytes
@@ -168,7 +168,7 @@ abbrev pub rename2_in : RecordShape Rename2In
 rename2_in = record {
   parts = u64 ∷ u32 ∷ u32 ∷ [];
   make = λ newdir flags padding. record { newdir = newdir; flags = flags; padding = padding };
-  says = λ r. r.newdir & r.flags & r.padding & end;
+  shows = λ r. r.newdir & r.flags & r.padding & end;
 }
 
 -- struct fuse_link_in, 8 bytes
@@ -176,7 +176,7 @@ abbrev pub link_in : RecordShape LinkIn
 link_in = record {
   parts = u64 ∷ [];
   make = λ oldnodeid. record { oldnodeid = oldnodeid };
-  says = λ r. r.oldnodeid & end;
+  shows = λ r. r.oldnodeid & end;
 }
 
 -- struct fuse_access_in, 8 bytes
@@ -184,7 +184,7 @@ abbrev pub access_in : RecordShape AccessIn
 access_in = record {
   parts = u32 ∷ u32 ∷ [];
   make = λ mask padding. record { mask = mask; padding = padding };
-  says = λ r. r.mask & r.padding & end;
+  shows = λ r. r.mask & r.padding & end;
 }
 
 -- struct fuse_setxattr_in, 16 bytes
@@ -193,7 +193,7 @@ setxattr_in = record {
   parts = u32 ∷ u32 ∷ u32 ∷ u32 ∷ [];
   make = λ size flags setxattr_flags padding.
       record { size = size; flags = flags; setxattr_flags = setxattr_flags; padding = padding };
-  says = λ r. r.size & r.flags & r.setxattr_flags & r.padding & end;
+  shows = λ r. r.size & r.flags & r.setxattr_flags & r.padding & end;
 }
 
 -- struct fuse_setxattr_in without FUSE_SETXATTR_EXT, 8 bytes
@@ -201,7 +201,7 @@ abbrev pub setxattr_in_compat : RecordShape SetxattrInCompat
 setxattr_in_compat = record {
   parts = u32 ∷ u32 ∷ [];
   make = λ size flags. record { size = size; flags = flags };
-  says = λ r. r.size & r.flags & end;
+  shows = λ r. r.size & r.flags & end;
 }
 
 -- struct fuse_getxattr_in, 8 bytes
@@ -209,7 +209,7 @@ abbrev pub getxattr_in : RecordShape GetxattrIn
 getxattr_in = record {
   parts = u32 ∷ u32 ∷ [];
   make = λ size padding. record { size = size; padding = padding };
-  says = λ r. r.size & r.padding & end;
+  shows = λ r. r.size & r.padding & end;
 }
 
 -- struct fuse_open_in, 8 bytes
@@ -217,7 +217,7 @@ abbrev pub open_in : RecordShape OpenIn
 open_in = record {
   parts = u32 ∷ u32 ∷ [];
   make = λ flags open_flags. record { flags = flags; open_flags = open_flags };
-  says = λ r. r.flags & r.open_flags & end;
+  shows = λ r. r.flags & r.open_flags & end;
 }
 
 -- struct fuse_create_in, 16 bytes
@@ -226,7 +226,7 @@ create_in = record {
   parts = u32 ∷ u32 ∷ u32 ∷ u32 ∷ [];
   make = λ flags mode umask open_flags.
       record { flags = flags; mode = mode; umask = umask; open_flags = open_flags };
-  says = λ r. r.flags & r.mode & r.umask & r.open_flags & end;
+  shows = λ r. r.flags & r.mode & r.umask & r.open_flags & end;
 }
 
 -- struct fuse_release_in, 24 bytes
@@ -235,7 +235,7 @@ release_in = record {
   parts = u64 ∷ u32 ∷ u32 ∷ u64 ∷ [];
   make = λ fh flags release_flags lock_owner.
       record { fh = fh; flags = flags; release_flags = release_flags; lock_owner = lock_owner };
-  says = λ r. r.fh & r.flags & r.release_flags & r.lock_owner & end;
+  shows = λ r. r.fh & r.flags & r.release_flags & r.lock_owner & end;
 }
 
 -- struct fuse_flush_in, 24 bytes
@@ -244,7 +244,7 @@ flush_in = record {
   parts = u64 ∷ u32 ∷ u32 ∷ u64 ∷ [];
   make = λ fh unused padding lock_owner.
       record { fh = fh; unused = unused; padding = padding; lock_owner = lock_owner };
-  says = λ r. r.fh & r.unused & r.padding & r.lock_owner & end;
+  shows = λ r. r.fh & r.unused & r.padding & r.lock_owner & end;
 }
 
 -- struct fuse_read_in, 40 bytes
@@ -261,7 +261,7 @@ read_in = record {
         flags = flags;
         padding = padding;
       };
-  says = λ r. r.fh & r.offset & r.size & r.read_flags & r.lock_owner & r.flags & r.padding & end;
+  shows = λ r. r.fh & r.offset & r.size & r.read_flags & r.lock_owner & r.flags & r.padding & end;
 }
 
 -- struct fuse_write_in, 40 bytes
@@ -278,7 +278,7 @@ write_in = record {
         flags = flags;
         padding = padding;
       };
-  says = λ r. r.fh & r.offset & r.size & r.write_flags & r.lock_owner & r.flags & r.padding & end;
+  shows = λ r. r.fh & r.offset & r.size & r.write_flags & r.lock_owner & r.flags & r.padding & end;
 }
 
 -- struct fuse_fsync_in, 16 bytes
@@ -286,7 +286,7 @@ abbrev pub fsync_in : RecordShape FsyncIn
 fsync_in = record {
   parts = u64 ∷ u32 ∷ u32 ∷ [];
   make = λ fh fsync_flags padding. record { fh = fh; fsync_flags = fsync_flags; padding = padding };
-  says = λ r. r.fh & r.fsync_flags & r.padding & end;
+  shows = λ r. r.fh & r.fsync_flags & r.padding & end;
 }
 
 -- struct fuse_fallocate_in, 32 bytes
@@ -295,7 +295,7 @@ fallocate_in = record {
   parts = u64 ∷ u64 ∷ u64 ∷ u32 ∷ u32 ∷ [];
   make = λ fh offset length mode padding.
       record { fh = fh; offset = offset; length = length; mode = mode; padding = padding };
-  says = λ r. r.fh & r.offset & r.length & r.mode & r.padding & end;
+  shows = λ r. r.fh & r.offset & r.length & r.mode & r.padding & end;
 }
 
 -- struct fuse_lseek_in, 24 bytes
@@ -303,7 +303,7 @@ abbrev pub lseek_in : RecordShape LseekIn
 lseek_in = record {
   parts = u64 ∷ u64 ∷ u32 ∷ u32 ∷ [];
   make = λ fh offset whence padding. record { fh = fh; offset = offset; whence = whence; padding = padding };
-  says = λ r. r.fh & r.offset & r.whence & r.padding & end;
+  shows = λ r. r.fh & r.offset & r.whence & r.padding & end;
 }
 
 -- struct fuse_copy_file_range_in, 56 bytes
@@ -320,7 +320,7 @@ copyfilerange_in = record {
         len = len;
         flags = flags;
       };
-  says = λ r. r.fh_in & r.off_in & r.nodeid_out & r.fh_out & r.off_out & r.len & r.flags & end;
+  shows = λ r. r.fh_in & r.off_in & r.nodeid_out & r.fh_out & r.off_out & r.len & r.flags & end;
 }
 
 -- struct fuse_lk_in, 48 bytes

@@ -86,8 +86,8 @@ made_of (p ∷ ps) make xs = made_of ps (make xs.0) xs.1
 pub record RecordShape (R : Type 0) : Type 0 where
   pub parts : List RecordPart
   pub make : MakesOf parts R
-  pub says : R → AllSaid parts
+  pub shows : R → AllSaid parts
 
 -- the fields of a record, by its shape
 abbrev pub fields_by : {R : Type 0} → RecordShape R → R → List Field
-fields_by s x = fields_of s.parts (s.says x)
+fields_by s x = fields_of s.parts (s.shows x)

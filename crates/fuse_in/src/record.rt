@@ -13,5 +13,6 @@ pub trait InRecord: ByteValued {
     // The parts give the record's fields, its values make the record again, and the parts' sizes
     // add up to its size.
     ghost of_shape: { ((x : Self) → fields_by shape x ≡ Self.fields x)
-        × ((x : Self) → made_of shape.parts shape.make (shape.says x) ≡ x) × (size shape.parts ≡ Self.SIZE) };
+        × ((x : Self) → made_of shape.parts shape.make (shape.shows x) ≡ x)
+        × (size shape.parts ≡ Self.SIZE) };
 }

@@ -68,17 +68,17 @@ module _ (before after : FileTree) (directory : ℕ) (name : List ℕ) (moved : 
     (answer : FileAnswer) (is_known : known ≡ true)
     (place : ℕ) (is_moved : moved ≡ Ok place)
     (found : Option ℕ) (is_target : target ≡ Ok found) (entry : DirectoryEntry) (there : slice_get before.entries place ≡ Some entry) where
-  pub renames : (kept same : Bool) → keep ≡ kept → is_at place found ≡ same →
-      RenamesOver before place entry directory name found kept same answer after →
+  pub renames : (preserved same : Bool) → keep ≡ preserved → is_at place found ≡ same →
+      RenamesOver before place entry directory name found preserved same answer after →
       RenamesBy before known moved target directory name keep answer after
-  renames kept same is_kept is_same over =
+  renames preserved same is_preserved is_same over =
       subst (λ (b : Bool). RenamesBy before b moved target directory name keep answer after) (sym is_known)
       (subst (λ (r : Result ℕ ℕ). Renames before r target directory name keep answer after) (sym is_moved)
       (subst (λ (r : Result (Option ℕ) ℕ). Renames before (Ok place) r directory name keep answer after) (sym is_target) (
         entry,
         there,
-        subst (λ (b : Bool). RenamesOver before place entry directory name found b (is_at place found) answer after) (sym is_kept)
-            (subst (λ (b : Bool). RenamesOver before place entry directory name found kept b answer after) (sym is_same) over),
+        subst (λ (b : Bool). RenamesOver before place entry directory name found b (is_at place found) answer after) (sym is_preserved)
+            (subst (λ (b : Bool). RenamesOver before place entry directory name found preserved b answer after) (sym is_same) over),
       )))
 
 -- ---- a node that is made
@@ -86,11 +86,11 @@ module _ (before after : FileTree) (directory : ℕ) (name : List ℕ) (moved : 
 pub makes_node : (before after : FileTree) (directory : ℕ) (name : List ℕ) (mode : ℕ) (e : Entry ℕ) (node : ℕ) → e.inode ≡ node →
     IsFree before node → node ≤ before.most → MakesFile before node directory name mode after →
     HasAttrOf (made_file directory mode) e.attr → MakesNode before directory name mode (HasEntry e) after
-makes_node before after directory name mode e node is free low makes told = (
+makes_node before after directory name mode e node is free low makes reported = (
   subst (λ (n : ℕ). IsFree before n) (sym is) free,
   subst (λ (n : ℕ). n ≤ before.most) (sym is) low,
   subst (λ (n : ℕ). MakesFile before n directory name mode after) (sym is) makes,
-  told,
+  reported,
 )
 
 pub makes_entry : (before after : FileTree) (found : Result (Option ℕ) ℕ) (directory : ℕ) (name : List ℕ) (mode : ℕ) (answer : FileAnswer) →

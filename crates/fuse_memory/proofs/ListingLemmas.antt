@@ -20,6 +20,6 @@ entry_there at entries d low =
     ∙ sym (first_there at (map listed_of entries))
 
 -- behind it comes what is left
-pub listing_goes_on :
+pub listing_carries_on :
     (at : ℕ) (entries : List OwnedEntry) → drop (at + 1) (map listed_of entries) ≡ drop 1 (drop at (map listed_of entries))
-listing_goes_on at entries = sym (drop-drop 1 at (map listed_of entries))
+listing_carries_on at entries = sym (drop-drop 1 at (map listed_of entries))

@@ -48,16 +48,16 @@ abbrev pub in_directory : (directory : ℕ) → File → File
 in_directory directory f = record f { parent = directory }
 
 -- a file, or none if it has no name and its lookup count is 0
-abbrev pub kept : File → Option File
-kept f = if f.links == 0 && f.held == 0 then None else Some f
+abbrev pub preserved : File → Option File
+preserved f = if f.links == 0 && f.held == 0 then None else Some f
 
 -- a file whose lookup count is lower by `count`, or none if it isn't kept
 abbrev pub let_go : (count : ℕ) → File → Option File
-let_go count f = kept (record f { held = f.held - count })
+let_go count f = preserved (record f { held = f.held - count })
 
 -- a file whose name is taken away, or none if it isn't kept
 abbrev pub unnamed : File → Option File
-unnamed f = kept (record f { links = 0 })
+unnamed f = preserved (record f { links = 0 })
 
 -- each file after a change of one node's file
 abbrev pub changed : FileTree → (node : ℕ) → (File → File) → (other : ℕ) → Option File

@@ -50,7 +50,7 @@ impl ReadableFileSystem for MemoryFiles {
         _handle: Option<u64>,
     ) -> Result<(Attr, Timeout), Errno> {
         match self.node(inode) {
-            Some(node) => Ok((node.told(), second())),
+            Some(node) => Ok((node.reported(), second())),
             None => Err(Errno::ENOENT),
         }
     }
@@ -149,8 +149,8 @@ impl WritableFileSystem for MemoryFiles {
         };
         match &mut self.nodes[place] {
             Some(node) => {
-                let told = node.set(&attr, valid, room)?;
-                Ok((told, second()))
+                let reported = node.set(&attr, valid, room)?;
+                Ok((reported, second()))
             }
             None => Err(Errno::ENOENT),
         }

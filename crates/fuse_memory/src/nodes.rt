@@ -3,7 +3,8 @@
 ghost use Rattle.std.specs.Prelude.{◌≡◌, ℕ, ◌+◌, ◌<◌, ◌≤◌, [], List, length, take, min, map, position};
 ghost use Rattle.std.specs.Prelude.{option_map, option_and_then, IfOk, OnOk, OnErr};
 ghost use Rattle.fuse_fs.specs.Answers.{data_answer};
-ghost use Rattle.fuse_memory.specs.Changes.{attributes_set, in_directory, kept, let_go, mode_set, opened};
+ghost use Rattle.fuse_memory.specs.Changes.{attributes_set, in_directory, preserved, let_go, mode_set};
+ghost use Rattle.fuse_memory.specs.Changes.{opened};
 ghost use Rattle.fuse_memory.specs.Changes.{read_of, unnamed, written};
 ghost use Rattle.fuse_memory.specs.Contents.{sized};
 ghost use Rattle.fuse_memory.specs.Files.{HasAttrOf, entry_of, file_of, is_directory, slot_file};
@@ -102,7 +103,7 @@ impl Node {
     }
 
     // All attributes, with the size.
-    pub fn told(&self) -> Attr
+    pub fn reported(&self) -> Attr
         ensures { HasAttrOf (file_of self.now) result }
     {
         let size = self.contents.len();
@@ -116,12 +117,12 @@ impl Node {
     // The entry that a look-up returns, with the node's number.
     pub fn entry(&self, number: u64) -> Entry<u64>
         ensures inode { result.inode ≡ number }
-        ensures told { HasAttrOf (file_of self.now) result.attr }
+        ensures reported { HasAttrOf (file_of self.now) result.attr }
     {
         Entry {
             inode: number,
             generation: self.generation,
-            attr: self.told(),
+            attr: self.reported(),
             attr_timeout: second(),
             entry_timeout: second(),
         }
@@ -131,14 +132,14 @@ impl Node {
     // more bytes of memory. An error changes nothing: that of `set_len`.
     pub fn set(&mut self, to: &SetattrIn, valid: SetattrValid, room: u64) -> Result<Attr, Errno>
         ensures ok { OnOk result (file_of self.new ≡ attributes_set valid.0 to.now (file_of self.old)) }
-        ensures told { IfOk result (λ attr. HasAttrOf (file_of self.new) attr) }
+        ensures reported { IfOk result (λ attr. HasAttrOf (file_of self.new) attr) }
         ensures err { OnErr result (file_of self.new ≡ file_of self.old) }
     {
         if valid.contains(SetattrValid::SIZE) {
             self.set_len(to.size, room)?;
         }
         self.attr = with_set(self.attr, to, valid);
-        Ok(self.told())
+        Ok(self.reported())
     }
 
     // Sets a file's length. A file that grows may take `room` more bytes of memory. Errors, which
@@ -262,7 +263,7 @@ pub(crate) fn lose_name(slot: &mut Option<Node>)
 
 // Drops a slot's node if it has no name and its lookup count is 0.
 fn drop_unused(slot: &mut Option<Node>)
-    ensures { slot_file slot.new ≡ option_and_then kept (slot_file slot.old) }
+    ensures { slot_file slot.new ≡ option_and_then preserved (slot_file slot.old) }
 {
     if let Some(node) = slot
         && node.attr.nlink == 0

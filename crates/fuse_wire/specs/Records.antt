@@ -91,7 +91,7 @@ abbrev pub forget_one : RecordShape ForgetOne
 forget_one = record {
   parts = u64 ∷ u64 ∷ [];
   make = λ nodeid nlookup. record { nodeid = nodeid; nlookup = nlookup };
-  says = λ r. r.nodeid & r.nlookup & end;
+  shows = λ r. r.nodeid & r.nlookup & end;
 }
 
 -- struct fuse_removemapping_one, 16 bytes
@@ -119,7 +119,7 @@ abbrev pub ext_header : RecordShape ExtHeader
 ext_header = record {
   parts = u32 ∷ u32 ∷ [];
   make = λ size ext_type. record { size = size; ext_type = ext_type };
-  says = λ r. r.size & r.ext_type & end;
+  shows = λ r. r.size & r.ext_type & end;
 }
 
 -- struct fuse_secctx, 8 bytes
@@ -127,7 +127,7 @@ abbrev pub secctx : RecordShape Secctx
 secctx = record {
   parts = u32 ∷ u32 ∷ [];
   make = λ size padding. record { size = size; padding = padding };
-  says = λ r. r.size & r.padding & end;
+  shows = λ r. r.size & r.padding & end;
 }
 
 -- struct fuse_secctx_header, 8 bytes
@@ -139,7 +139,7 @@ abbrev pub supp_groups : RecordShape SuppGroups
 supp_groups = record {
   parts = u32 ∷ [];
   make = λ nr_groups. record { nr_groups = nr_groups };
-  says = λ r. r.nr_groups & end;
+  shows = λ r. r.nr_groups & end;
 }
 
 -- struct fuse_notify_poll_wakeup_out, 8 bytes

@@ -15,8 +15,9 @@ pub const OUT_HEADER_LEN: usize = 16;
 /// follow an error.
 pub fn body(reply: &[u8], unique: u64) -> Option<Result<&[u8], i32>>
     ensures good { IfSome result
-        (λ told. IfOk told (λ body. reply.now ≡ good_header (16 + length body.now) unique ++ body.now)) }
-    ensures failed { IfSome result (λ told. IfErr told (λ error. (error <ℤ pos 0)
+        (λ reported. IfOk reported (λ body. reply.now ≡ good_header (16 + length body.now) unique
+        ++ body.now)) }
+    ensures failed { IfSome result (λ reported. IfErr reported (λ error. (error <ℤ pos 0)
         × (reply.now ≡ reply_header 16 error unique))) }
     ensures none { IfNone result (IsNoReply reply.now unique) }
 {

@@ -9,7 +9,7 @@ use Rattle.vm_memory.specs.Memory.{Memory, addresses, location, reach}
 use Rattle.fs_queue.specs.Chain.{Descriptor}
 use Rattle.fs_queue.specs.Loads.{Load}
 use Rattle.fs_queue.specs.Queue.{Queue, avail_index_at, element_at, index_at, ring_entry_at}
-use Rattle.fs_queue.specs.Returning.{Store, advanced, tells}
+use Rattle.fs_queue.specs.Returning.{Store, advanced, notifies}
 use Rattle.fs_queue.specs.Taking.{Offer, Offers, CannotFetch, IsRequest, addresses_of, all_reach, readable, total_len, writable}
 use Rattle.fs_queue.specs.declared.fault.ChainFault.{ChainFault}
 use Rattle.fs_queue.proofs.ConfinedLemmas.{only_places_count}
@@ -53,15 +53,15 @@ module _ {A : Type 0} (P : A → Type 0) where
   all_both [] ys h g = g
   all_both (x ∷ xs) ys h g = (h.0, all_both xs ys h.1 g)
 
-  all_kept :
+  all_preserved :
       (f : A → Bool) (x : A) (xs : List A) (b : Bool) → f x ≡ b → P x → AllByRecursion P (filter f xs) →
       AllByRecursion P (filter f (x ∷ xs))
-  all_kept f x xs true is one h = rw is (one, h)
-  all_kept f x xs false is one h = rw is h
+  all_preserved f x xs true is one h = rw is (one, h)
+  all_preserved f x xs false is one h = rw is h
 
   pub all_filter : (f : A → Bool) (xs : List A) → AllByRecursion P xs → AllByRecursion P (filter f xs)
   all_filter f [] h = tt
-  all_filter f (x ∷ xs) h = all_kept f x xs (f x) refl h.0 (all_filter f xs h.1)
+  all_filter f (x ∷ xs) h = all_preserved f x xs (f x) refl h.0 (all_filter f xs h.1)
 
 -- ---- what holds of each chain that is out
 
@@ -139,7 +139,7 @@ own_walked limit c p request reply is un few h = absurd un
 pub keeps : {F : Type 0} (may : May F) (s after : LiveState F) (e : LiveEvent) → Happens may s e after → AllWalked s → AllWalked after
 keeps may s after (EndsPop i loaded ds came) h all = walk_keeps s after i h.w loaded ds came h.ends h.mapped all
 keeps {F} may s after (RefusesPop i e) h all = subst (λ (k : LiveState F). AllWalked k) (sym h.state) all
-keeps {F} may s after (DecodesRequest c request told) h all =
+keeps {F} may s after (DecodesRequest c request reported) h all =
     let P = Walked s.limit in
     let parts = one_walked s h.before h.behind c h.out all in
     subst (λ (k : LiveState F). AllWalked k) (sym h.state)
@@ -254,7 +254,7 @@ pub record Exchanging {G : Type 0} (other : May G) (m : State G) (files : G) (c 
   pub offered : offered_by m.memory m.limit c.taken (chain_loads c lost) ≡ Some offer
   pub room : room_offered offer ≡ room_of c
   pub exchanges :
-      ExchangesBy other m c.queue c.taken offer (calls_in c.phase) x (tells seen) (effects_of c x last seen) (after_alone m c files)
+      ExchangesBy other m c.queue c.taken offer (calls_in c.phase) x (notifies seen) (effects_of c x last seen) (after_alone m c files)
 
 pub exchange_of : {G : Type 0} (other : May G) (m : State G) (files : G) (places : Memory) (i : ℕ) (q : Queue) (loaded : Loaded)
     (ds : List Descriptor) (head : ℕ) (p : Phase) (x : Exchange) (last : ℕ) (seen : List ℕ)
@@ -266,21 +266,21 @@ pub exchange_of : {G : Type 0} (other : May G) (m : State G) (files : G) (places
     → length seen ≡ 2 → FileRun other m.files (calls_in p) files
     → Exchanging other m files (record { places = places; queue = i; taken = q; loaded = loaded; descriptors = ds; head = head; phase = p })
     x last seen
-exchange_of {G} other m files places i q loaded ds head (PoppedFaulty why) x last seen at served walked options goes two run =
+exchange_of {G} other m files places i q loaded ds head (PoppedFaulty why) x last seen at served walked options proceeds two run =
     let c : InFlightChain =
     record { places = places; queue = i; taken = q; loaded = loaded; descriptors = ds; head = head; phase = PoppedFaulty why } in
     let by : OffersBy m.memory m.limit q loaded [] (Offers head (CannotFetch why)) =
     offers_over m.memory places at m.limit q loaded [] (Offers head (CannotFetch why)) walked.0 in
-    let made : ReturnsFaultyBy m i q head why [] x (tells seen) (effects_of c x last seen) (after_alone m c files) = record {
+    let made : ReturnsFaultyBy m i q head why [] x (notifies seen) (effects_of c x last seen) (after_alone m c files) = record {
       no_call = refl;
       files = run;
       returns = record {
-        exchange = goes;
+        exchange = proceeds;
         flags = seen;
         flags_len = two;
-        acts = ap (λ (k : Exchange). return_acts (return_stores q head [] k.reply last) seen) goes;
+        acts = ap (λ (k : Exchange). return_acts (return_stores q head [] k.reply last) seen) proceeds;
         state = refl;
-        told = refl;
+        reported = refl;
       };
     } in
     record {
@@ -292,29 +292,31 @@ exchange_of {G} other m files places i q loaded ds head (PoppedFaulty why) x las
       room = refl;
       exchanges = made;
     }
-exchange_of other m files places i q loaded ds head Fetched x last seen at served walked options goes two run = absurd goes
-exchange_of other m files places i q loaded ds head (Own request reply) x last seen at served walked options goes two run = absurd served
-exchange_of other m files places i q loaded ds head (Abandoned fault) x last seen at served walked options goes two run = absurd goes
-exchange_of {G} other m files places i q loaded ds head (Asked request asked calls) x last seen at served walked options goes two run =
+exchange_of other m files places i q loaded ds head Fetched x last seen at served walked options proceeds two run = absurd proceeds
+exchange_of other m files places i q loaded ds head (Own request reply) x last seen at served walked options proceeds two run =
+    absurd served
+exchange_of other m files places i q loaded ds head (Abandoned fault) x last seen at served walked options proceeds two run =
+    absurd proceeds
+exchange_of {G} other m files places i q loaded ds head (Asked request asked calls) x last seen at served walked options proceeds two run =
     let c : InFlightChain =
     record { places = places; queue = i; taken = q; loaded = loaded; descriptors = ds; head = head; phase = Asked request asked calls } in
     let room = room_of c in
     let by : OffersBy m.memory m.limit q loaded request (Offers head (IsRequest request room)) =
     offers_over m.memory places at m.limit q loaded request (Offers head (IsRequest request room)) (walked.0.1 request walked.1) in
-    let made : AnswersBy other m i q head request room calls x (tells seen) (effects_of c x last seen) (after_alone m c files) = record {
+    let made : AnswersBy other m i q head request room calls x (notifies seen) (effects_of c x last seen) (after_alone m c files) = record {
       given = serving m.page_size asked asked request room calls;
       serves = record {
         gives = ap (λ (o : ℕ). serving m.page_size o o request room calls) (sym options);
-        asks = goes.0;
+        asks = proceeds.0;
         run = run;
       };
       returns = record {
-        exchange = goes.1;
+        exchange = proceeds.1;
         flags = seen;
         flags_len = two;
-        acts = ap (λ (k : Exchange). return_acts (return_stores q head room k.reply last) seen) goes.1;
+        acts = ap (λ (k : Exchange). return_acts (return_stores q head room k.reply last) seen) proceeds.1;
         state = refl;
-        told = refl;
+        reported = refl;
       };
     } in
     record {
@@ -344,9 +346,9 @@ pub step_by_walk : {F G : Type 0} (may : May F) (other : May G) (now after : Liv
     → (w : LiveQueue) × (slice_get now.queues c.queue ≡ Some w) × IsAStep other m files w c x last used seen notice
 step_by_walk {F} {G} may other now after c x notice last used seen m files walked h served first calls =
     let so : Walked m.limit c = subst (λ (k : ℕ). Walked k c) (sym first.limit) walked in
-    let goes : PushedWith m.page_size c c.phase x = subst (λ (k : ℕ). PushedWith k c c.phase x) (sym first.page_size) h.goes in
+    let proceeds : PushedWith m.page_size c c.phase x = subst (λ (k : ℕ). PushedWith k c c.phase x) (sym first.page_size) h.proceeds in
     let made = exchange_of other m files c.places c.queue c.taken c.loaded c.descriptors c.head c.phase x last seen first.places served so
-    first.options goes h.two calls in (
+    first.options proceeds h.two calls in (
       h.w,
       h.there,
       record {
@@ -355,10 +357,10 @@ step_by_walk {F} {G} may other now after c x notice last used seen m files walke
         ring = made.ring;
         mapped = mapped_over m.memory c.places first.places c.taken c.loaded so.2;
         step = subst (λ (k : Option Queue). StepOfBy other m c.queue k (chain_loads c made.lost) (calls_in c.phase)
-            (Exchanged x (tells seen)) (effects_of c x last seen) (after_alone m c files)) (sym first.queue)
+            (Exchanged x (notifies seen)) (effects_of c x last seen) (after_alone m c files)) (sym first.queue)
             (made.offer, made.offered, made.exchanges);
         acts = ap (λ (u : List Store). return_acts (reply_stores (room_of c) x.reply last ++ u) seen) h.used_is;
-        notice_is = h.told;
+        notice_is = h.reported;
       },
     )
 
@@ -376,7 +378,7 @@ own_is_returned {F} G may s now after es c x notice last used seen request reply
     let fetched : FetchesBy c.places now.limit c.taken c.loaded c.descriptors c.head None =
     subst (λ (p : Phase). FetchesBy c.places now.limit c.taken c.loaded c.descriptors c.head (fault_of_phase p)) is walked.0 in
     let room : room_of c ≡ addresses_of (writable c.descriptors) = ap (λ (p : Phase). room_of_phase p c.descriptors) is in
-    let exchange : x ≡ own_exchange c.head request reply = subst (λ (p : Phase). PushedWith now.page_size c p x) is h.goes in (
+    let exchange : x ≡ own_exchange c.head request reply = subst (λ (p : Phase). PushedWith now.page_size c p x) is h.proceeds in (
       h.w,
       h.there,
       record {
@@ -393,9 +395,9 @@ own_is_returned {F} G may s now after es c x notice last used seen request reply
           acts = ap (λ (k : Exchange). return_acts (return_stores c.taken c.head (room_of c) k.reply last) seen) exchange;
           state = ap (λ (o : ℕ). record m { queues = changed_at m.queues c.queue (λ _. advanced c.taken); options = o; files = m.files })
               (ap (λ (p : Phase). options_left m.page_size m.options c p) is);
-          told = refl;
+          reported = refl;
         };
         acts = ap (λ (u : List Store). return_acts (reply_stores (room_of c) x.reply last ++ u) seen) h.used_is;
-        notice_is = h.told;
+        notice_is = h.reported;
       },
     )

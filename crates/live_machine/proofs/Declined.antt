@@ -23,9 +23,9 @@ declined_tests false true true true is event = (refl, refl)
 -- with the event index used_event and avail_event have places
 pub has_events : (m : Memory) (w : LiveQueue) → pop_refusal m w ≡ None → w.event_index ≡ true
     → (reach m Read (used_event_at w.queue) 2 ≡ true) × (reach m Write (avail_event_at w.queue) 2 ≡ true)
-has_events m w goes event =
+has_events m w proceeds event =
     declined_tests w.queue.stopped w.event_index (reach m Read (used_event_at w.queue) 2)
-    (reach m Write (avail_event_at w.queue) 2) goes event
+    (reach m Write (avail_event_at w.queue) 2) proceeds event
 
 -- the two bytes that are seen have one
 seen_tests : (m : Memory) (b : Bool) (flags event : ℕ) → reach m Read flags 2 ≡ true → (b ≡ true → reach m Read event 2 ≡ true) →

@@ -8,7 +8,7 @@ use Rattle.fuse_fs.specs.declared.answers.Entry.{Entry}
 use Rattle.fuse_fs.specs.Calls.{FileCall, FileAnswer, Init, Listed, Lookup}
 use Rattle.fuse_fs.specs.Calls as file
 use Rattle.server_calls.specs.Requests.{entry_node, forget_node, forget_entry, options_after}
-use Rattle.server_replies.specs.Entries.{Fit, GoesIn, IsFull, IsWrong, entry_bytes, entry_len, fit_of, is_dot, no_node}
+use Rattle.server_replies.specs.Entries.{Fit, FitsIn, IsFull, IsWrong, entry_bytes, entry_len, fit_of, is_dot, no_node}
 use Rattle.server_replies.specs.WholeReplies.{error_bytes, listing_bytes}
 use Rattle.virtiofsd_fuse.specs.Grammar.{Meaning, IsFault, Replies, IsSilent, Asks, One, Starts, Lists}
 use Rattle.virtiofsd_fuse.specs.Listings.{ListRequest, Next, ListingResult, after_call, list_entries, looked_up, placed, readdir_call}
@@ -37,7 +37,7 @@ choose false n x y x' y' one two = two
 
 placed_leads : (f : Fit) (bytes : List ℕ) (undo : List FileCall) (n : ℕ) (x y : ListingResult) → undo ≡ take n undo → Leads n x y →
     Leads n (placed f bytes undo x) (placed f bytes undo y)
-placed_leads GoesIn bytes undo n x y short leads = leads
+placed_leads FitsIn bytes undo n x y short leads = leads
 placed_leads IsFull bytes undo n x y short leads = short
 placed_leads (IsWrong errno) bytes undo n x y short leads = short
 

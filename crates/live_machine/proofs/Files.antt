@@ -33,7 +33,7 @@ module _ {F : Type 0} (may : May F) where
     w = h.w;
     there = h.there;
     room = h.room;
-    goes = h.goes;
+    proceeds = h.proceeds;
     mapped = h.mapped;
     ends = ends s after files i h.w loaded ds came h.ends;
   }
@@ -45,13 +45,13 @@ module _ {F : Type 0} (may : May F) where
     no_miss = h.no_miss;
     state = ap (λ (k : LiveState (Unit {0})). over k files) h.state;
   }
-  happens s after files (DecodesRequest c request told) isnt h = record {
+  happens s after files (DecodesRequest c request reported) isnt h = record {
     before = h.before;
     behind = h.behind;
     out = h.out;
     fresh = h.fresh;
     whole = h.whole;
-    tells = h.tells;
+    reports = h.reports;
     state = ap (λ (k : LiveState (Unit {0})). over k files) h.state;
   }
   happens s after files (ReceivesAnswer c call answer) isnt h = absurd isnt
@@ -61,10 +61,10 @@ module _ {F : Type 0} (may : May F) where
     out = h.out;
     w = h.w;
     there = h.there;
-    goes = h.goes;
+    proceeds = h.proceeds;
     used_is = h.used_is;
     two = h.two;
-    told = h.told;
+    reported = h.reported;
     state = ap (λ (k : LiveState (Unit {0})). over k files) h.state;
   }
   happens s after files (StoresNotification i store) isnt h = record {

@@ -15,7 +15,7 @@ use Rattle.live_machine.specs.Guest.{reported_through, written_by_guest}
 use Rattle.live_machine.specs.Live.{event_acts}
 use Rattle.live_machine.specs.Runs.{reported_by}
 use Rattle.live_machine.proofs.GuestMappings.{event_keeps, event_over, same_mappings}
-use Rattle.live_machine.proofs.Pages.{event_told}
+use Rattle.live_machine.proofs.Pages.{event_reported}
 
 -- ---- marks
 
@@ -108,8 +108,8 @@ device_before m n ws guest device after same first later = record {
 }
 
 -- the guest's writes leave the mappings
-ways_kept : (m : Memory) (ws : List (ℕ × ℕ)) → ways (after_writes m ws) ≡ ways m
-ways_kept m ws = ap (λ (k : Memory). record m { host = k.host }) (ways_stay (physical m) ws)
+ways_preserved : (m : Memory) (ws : List (ℕ × ℕ)) → ways (after_writes m ws) ≡ ways m
+ways_preserved m ws = ap (λ (k : Memory). record m { host = k.host }) (ways_stay (physical m) ws)
 
 -- ---- the run
 
@@ -118,15 +118,15 @@ pages_of_run may s after [] m run has stay = none_by_both m
 pages_of_run may s after (Writes ws ∷ ms) m run has stay =
     let n = after_writes m ws in
     guest_before m n (map (λ (w : ℕ × ℕ). w.0) ws) (written_by_guest ms) (reported_through may s ms after run) (after_moments n ms).host
-    (ways_kept m ws) (writes_mark (physical m) ws)
-    (pages_of_run may s after ms n run (same_mappings s m n (ways_kept m ws) has) stay)
+    (ways_preserved m ws) (writes_mark (physical m) ws)
+    (pages_of_run may s after ms n run (same_mappings s m n (ways_preserved m ws) has) stay)
 pages_of_run may s after (DeviceEvent e ∷ ms) m run has stay =
     let ws = flat_map writes_of (stores_among (event_acts e)) in
     let n : Memory = after_stores m (stores_among (event_acts e)) in
     let laid : after_event m e ≡ n = event_over may s run.0 e m run.1 stay.0 has in
     let guest = written_by_guest ms in
     let device = reported_through may run.0 ms after run.2 in
-    let first : Marks m (reported_by s e) n.host = event_told may s run.0 e run.1 m in
+    let first : Marks m (reported_by s e) n.host = event_reported may s run.0 e run.1 m in
     let later : MarksOfBoth n guest device (after_moments n ms).host =
     pages_of_run may run.0 after ms n run.2 (event_keeps may s run.0 e m run.1 stay.0 has) stay.1 in
     subst (λ (k : Memory). MarksOfBoth m guest (reported_by s e ++ device) (after_moments k ms).host) (sym laid)

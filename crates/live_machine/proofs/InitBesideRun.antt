@@ -86,7 +86,7 @@ first_walks f = record {
   w = at_positions 0 0;
   there = refl;
   room = refl;
-  goes = refl;
+  proceeds = refl;
   mapped = first_mapped;
   ends = (first_fetches, refl, tt);
 }
@@ -94,7 +94,7 @@ first_walks f = record {
 first_asks : {F : Type 0} (f : F) →
     DecodesRequestSo (state f (at_positions 1 0) 0 (first ∷ [])) first lookup (looks ∷ []) (state f (at_positions 1 0) 0 (first_asked ∷ []))
 unfolding addresses meaning record_parser meant row last_name counted reply_bytes error_bytes fields.field_bytes
-first_asks f = record { before = []; behind = []; out = refl; fresh = refl; whole = refl; tells = refl; state = refl }
+first_asks f = record { before = []; behind = []; out = refl; fresh = refl; whole = refl; reports = refl; state = refl }
 
 second_walks : {F : Type 0} (f : F) → EndsPopSo (state f (at_positions 1 0) 0 (first_asked ∷ [])) 0 second_loads second_table
     (step.Chain 2 None) (state f (at_positions 2 0) 0 (first_asked ∷ second ∷ []))
@@ -102,7 +102,7 @@ second_walks f = record {
   w = at_positions 1 0;
   there = refl;
   room = refl;
-  goes = refl;
+  proceeds = refl;
   mapped = second_mapped;
   ends = (second_fetches, refl, tt);
 }
@@ -110,7 +110,7 @@ second_walks f = record {
 second_asks : {F : Type 0} (f : F) → DecodesRequestSo (state f (at_positions 2 0) 0 (first_asked ∷ second ∷ [])) second init (starts ∷ [])
     (state f (at_positions 2 0) 0 (first_asked ∷ second_asked ∷ []))
 unfolding addresses meaning record_parser meant row reply_bytes error_bytes fields.field_bytes
-second_asks f = record { before = first_asked ∷ []; behind = []; out = refl; fresh = refl; whole = refl; tells = refl; state = refl }
+second_asks f = record { before = first_asked ∷ []; behind = []; out = refl; fresh = refl; whole = refl; reports = refl; state = refl }
 
 second_answers : {F : Type 0} (may : May F) (before after : F) → may before starts (Wants 0) after →
     ReceivesAnswerSo may (state before (at_positions 2 0) 0 (first_asked ∷ second_asked ∷ [])) second_asked starts (Wants 0)
@@ -141,10 +141,10 @@ second_returns f = record {
   out = refl;
   w = at_positions 2 0;
   there = refl;
-  goes = (refl, refl);
+  proceeds = (refl, refl);
   used_is = refl;
   two = refl;
-  told = refl;
+  reported = refl;
   state = refl;
 }
 
@@ -177,10 +177,10 @@ first_returns f = record {
   out = refl;
   w = at_positions 2 1;
   there = refl;
-  goes = (refl, refl);
+  proceeds = (refl, refl);
   used_is = refl;
   two = refl;
-  told = refl;
+  reported = refl;
   state = refl;
 }
 

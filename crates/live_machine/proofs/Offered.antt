@@ -53,37 +53,37 @@ Fits m q (Offers head (IsRequest request room)) = (return_fault m q ≡ None) ×
 Fits m q (Offers head (CannotFetch why)) = return_fault m q ≡ None
 Fits m q _ = Unit {0}
 
-abbrev Says : Memory → Queue → Option Offer → Type 0
-Says m q None = Unit {0}
-Says m q (Some o) = Fits m q o
+abbrev Shows : Memory → Queue → Option Offer → Type 0
+Shows m q None = Unit {0}
+Shows m q (Some o) = Fits m q o
 
-on_request : (m : Memory) (q : Queue) (request : List ℕ) (o : Offer) → Fits m q o → Says m q (without_request request o)
+on_request : (m : Memory) (q : Queue) (request : List ℕ) (o : Offer) → Fits m q o → Shows m q (without_request request o)
 on_request m q [] o fits = fits
 on_request m q (b ∷ bs) o fits = tt
 
-on_chain : (m : Memory) (q : Queue) (ls : List Load) (request : List ℕ) (o : Offer) → Fits m q o → Says m q (without_chain ls request o)
+on_chain : (m : Memory) (q : Queue) (ls : List Load) (request : List ℕ) (o : Offer) → Fits m q o → Shows m q (without_chain ls request o)
 on_chain m q [] request o fits = on_request m q request o fits
 on_chain m q (l ∷ ls) request o fits = tt
 
 on_nothing : (m : Memory) (q : Queue) (index entry : Option (List ℕ)) (ls : List Load) (request : List ℕ) (o : Offer) → Fits m q o →
-    Says m q (without_loads index entry ls request o)
+    Shows m q (without_loads index entry ls request o)
 on_nothing m q None None ls request o fits = on_chain m q ls request o fits
 on_nothing m q None (Some bs) ls request o fits = tt
 on_nothing m q (Some bs) entry ls request o fits = tt
 
 -- what is fetched, by its tests
-module _ (m : Memory) (q : Queue) (goes : return_fault m q ≡ None) (head : ℕ) where
+module _ (m : Memory) (q : Queue) (proceeds : return_fault m q ≡ None) (head : ℕ) where
   fetched : (bs room : List ℕ) (same : Bool) → are_mapped m room ≡ true →
-      Says m q (option_map (Offers head) (if same then Some (IsRequest bs room) else None))
-  fetched bs room true has = (goes, has)
+      Shows m q (option_map (Offers head) (if same then Some (IsRequest bs room) else None))
+  fetched bs room true has = (proceeds, has)
   fetched bs room false has = tt
 
-  no_fetch : (bs : List ℕ) (why : ChainFault) → Says m q (option_map (Offers head) (without_request bs (CannotFetch why)))
-  no_fetch [] why = goes
+  no_fetch : (bs : List ℕ) (why : ChainFault) → Shows m q (option_map (Offers head) (without_request bs (CannotFetch why)))
+  no_fetch [] why = proceeds
   no_fetch (b ∷ bs) why = tt
 
   fetched_tests : (bs request room : List ℕ) (over lost_request has_room : Bool) → (has_room ≡ true → are_mapped m room ≡ true) →
-      Says m q (option_map (Offers head)
+      Shows m q (option_map (Offers head)
       (with_request bs (if over then CannotFetch OverLimit else if lost_request then CannotFetch RequestUnreachable
       else if not has_room then CannotFetch RoomUnreachable else IsRequest request room)))
   fetched_tests bs request room true b c has = no_fetch bs OverLimit
@@ -91,7 +91,7 @@ module _ (m : Memory) (q : Queue) (goes : return_fault m q ≡ None) (head : ℕ
   fetched_tests bs request room false false false has = no_fetch bs RoomUnreachable
   fetched_tests bs request room false false true has = fetched bs room (length bs == length request) (has refl)
 
-  of_found : (limit : ℕ) (bs : List ℕ) (f : Found) → Says m q (with_loaded bs (offer_of m limit head f))
+  of_found : (limit : ℕ) (bs : List ℕ) (f : Found) → Shows m q (with_loaded bs (offer_of m limit head f))
   of_found limit bs (IsChain ds) =
       fetched_tests bs (flat_map (λ d. bytes m d.addr d.len) (readable ds)) (flat_map (λ d. addresses d.addr d.len) (writable ds))
       (nat_lt limit (total_len (readable ds)) || nat_lt limit (total_len (writable ds))) (not (all_reach m Read (readable ds)))
@@ -99,42 +99,42 @@ module _ (m : Memory) (q : Queue) (goes : return_fault m q ≡ None) (head : ℕ
   of_found limit bs (HasFault fault) = no_fetch bs fault
   of_found limit bs StopsQueue = on_request m q bs (Refuses stop.DescriptorUnreachable) tt
 
-  of_option : (limit : ℕ) (bs : List ℕ) (f : Option Found) → Says m q (option_and_then (λ f. with_loaded bs (offer_of m limit head f)) f)
+  of_option : (limit : ℕ) (bs : List ℕ) (f : Option Found) → Shows m q (option_and_then (λ f. with_loaded bs (offer_of m limit head f)) f)
   of_option limit bs None = tt
   of_option limit bs (Some f) = of_found limit bs f
 
 head_tests : (m : Memory) (q : Queue) (ls : List Load) (bs : List ℕ) (a b : Bool) (x : Option Offer) →
-    ((if not a then Some stop.UsedUnreachable else if not b then Some stop.AvailFlagsUnreachable else None) ≡ None → Says m q x) →
-    Says m q (if not a then without_chain ls bs (Refuses stop.UsedUnreachable)
+    ((if not a then Some stop.UsedUnreachable else if not b then Some stop.AvailFlagsUnreachable else None) ≡ None → Shows m q x) →
+    Shows m q (if not a then without_chain ls bs (Refuses stop.UsedUnreachable)
     else if not b then without_chain ls bs (Refuses stop.AvailFlagsUnreachable) else x)
-head_tests m q ls bs false b x says = on_chain m q ls bs (Refuses stop.UsedUnreachable) tt
-head_tests m q ls bs true false x says = on_chain m q ls bs (Refuses stop.AvailFlagsUnreachable) tt
-head_tests m q ls bs true true x says = says refl
+head_tests m q ls bs false b x shows = on_chain m q ls bs (Refuses stop.UsedUnreachable) tt
+head_tests m q ls bs true false x shows = on_chain m q ls bs (Refuses stop.AvailFlagsUnreachable) tt
+head_tests m q ls bs true true x shows = shows refl
 
-of_next : (m : Memory) (limit : ℕ) (q : Queue) (ls : List Load) (bs : List ℕ) (w : NextAvail) → Says m q (on_waits m limit q ls bs w)
+of_next : (m : Memory) (limit : ℕ) (q : Queue) (ls : List Load) (bs : List ℕ) (w : NextAvail) → Shows m q (on_waits m limit q ls bs w)
 of_next m limit q ls bs avail.Idle = on_chain m q ls bs taking.Idle tt
 of_next m limit q ls bs (avail.Refused e) = on_chain m q ls bs (Refuses e) tt
 of_next m limit q ls bs (avail.Head head) =
     head_tests m q ls bs (reach m Write (element_at q) 8 && reach m Write (index_at q) 2) (reach m Read q.avail 2)
     (option_and_then (λ f. with_loaded bs (offer_of m limit head f)) (chain_exactly ls q head))
-    (λ goes. of_option m q goes head limit bs (chain_exactly ls q head))
+    (λ proceeds. of_option m q proceeds head limit bs (chain_exactly ls q head))
 
 of_waits : (m : Memory) (limit : ℕ) (q : Queue) (ls : List Load) (bs : List ℕ) (w : Option NextAvail) →
-    Says m q (option_and_then (on_waits m limit q ls bs) w)
+    Shows m q (option_and_then (on_waits m limit q ls bs) w)
 of_waits m limit q ls bs None = tt
 of_waits m limit q ls bs (Some w) = of_next m limit q ls bs w
 
 by_stop : (m : Memory) (q : Queue) (stopped : Bool) (index entry : Option (List ℕ)) (ls : List Load) (bs : List ℕ) (x : Option Offer) →
-    Says m q x →
-    Says m q (if stopped then without_loads index entry ls bs (Refuses stop.Stopped) else x)
-by_stop m q true index entry ls bs x says = on_nothing m q index entry ls bs (Refuses stop.Stopped) tt
-by_stop m q false index entry ls bs x says = says
+    Shows m q x →
+    Shows m q (if stopped then without_loads index entry ls bs (Refuses stop.Stopped) else x)
+by_stop m q true index entry ls bs x shows = on_nothing m q index entry ls bs (Refuses stop.Stopped) tt
+by_stop m q false index entry ls bs x shows = shows
 
 fits :
     (m : Memory) (limit : ℕ) (q : Queue) (loaded : Loaded) (request : List ℕ) (o : Offer) → OffersBy m limit q loaded request o → Fits m q o
 fits m limit q loaded request o by =
     let ls = loaded.entries ++ by.1 in
-    subst (Says m q) by.3
+    subst (Shows m q) by.3
     (by_stop m q q.stopped loaded.index loaded.entry ls request
     (option_and_then (on_waits m limit q ls request) (available_by q loaded.index loaded.entry))
     (of_waits m limit q ls request (available_by q loaded.index loaded.entry)))
@@ -160,6 +160,6 @@ return_tests : (a b c : Bool) → (if not (a && b) then Some stop.UsedUnreachabl
 return_tests true true true is = (refl, refl, refl)
 return_tests a b c is = absurd (cc)
 
-pub goes_back : (m : Memory) (q : Queue) → return_fault m q ≡ None →
+pub is_returned : (m : Memory) (q : Queue) → return_fault m q ≡ None →
     (reach m Write (element_at q) 8 ≡ true) × (reach m Write (index_at q) 2 ≡ true) × (reach m Read q.avail 2 ≡ true)
-goes_back m q goes = return_tests (reach m Write (element_at q) 8) (reach m Write (index_at q) 2) (reach m Read q.avail 2) goes
+is_returned m q proceeds = return_tests (reach m Write (element_at q) 8) (reach m Write (index_at q) 2) (reach m Read q.avail 2) proceeds

@@ -90,7 +90,7 @@ first_walks f = record {
   w = at_positions 0 0;
   there = refl;
   room = refl;
-  goes = refl;
+  proceeds = refl;
   mapped = first_mapped;
   ends = (first_fetches, refl, tt);
 }
@@ -99,7 +99,7 @@ first_asks : {F : Type 0} (f : F) →
     DecodesRequestSo (state f (at_positions 1 0) 1 (first ∷ [])) first destroy (Destroy ∷ [])
     (state f (at_positions 1 0) 1 (first_asked ∷ []))
 unfolding addresses meaning record_parser meant row reply_bytes error_bytes fields.field_bytes
-first_asks f = record { before = []; behind = []; out = refl; fresh = refl; whole = refl; tells = refl; state = refl }
+first_asks f = record { before = []; behind = []; out = refl; fresh = refl; whole = refl; reports = refl; state = refl }
 
 second_walks : {F : Type 0} (f : F) → EndsPopSo (state f (at_positions 1 0) 1 (first_asked ∷ [])) 0 second_loads second_table
     (step.Chain 2 None) (state f (at_positions 2 0) 1 (first_asked ∷ second ∷ []))
@@ -107,7 +107,7 @@ second_walks f = record {
   w = at_positions 1 0;
   there = refl;
   room = refl;
-  goes = refl;
+  proceeds = refl;
   mapped = second_mapped;
   ends = (second_fetches, refl, tt);
 }
@@ -115,7 +115,7 @@ second_walks f = record {
 second_asks : {F : Type 0} (f : F) → DecodesRequestSo (state f (at_positions 2 0) 1 (first_asked ∷ second ∷ [])) second unknown []
     (state f (at_positions 2 0) 1 (first_asked ∷ second_asked ∷ []))
 unfolding addresses meaning record_parser meant row reply_bytes error_bytes fields.field_bytes
-second_asks f = record { before = first_asked ∷ []; behind = []; out = refl; fresh = refl; whole = refl; tells = refl; state = refl }
+second_asks f = record { before = first_asked ∷ []; behind = []; out = refl; fresh = refl; whole = refl; reports = refl; state = refl }
 
 second_returns : {F : Type 0} (f : F) →
     PushesChainSo (state f (at_positions 2 0) 1 (first_asked ∷ second_asked ∷ [])) second_asked second_exchange true 0 second_used (le16 0)
@@ -127,10 +127,10 @@ second_returns f = record {
   out = refl;
   w = at_positions 2 0;
   there = refl;
-  goes = (refl, refl);
+  proceeds = (refl, refl);
   used_is = refl;
   two = refl;
-  told = refl;
+  reported = refl;
   state = refl;
 }
 
@@ -163,10 +163,10 @@ first_returns f = record {
   out = refl;
   w = at_positions 2 1;
   there = refl;
-  goes = (refl, refl);
+  proceeds = (refl, refl);
   used_is = refl;
   two = refl;
-  told = refl;
+  reported = refl;
   state = refl;
 }
 

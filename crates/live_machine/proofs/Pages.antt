@@ -100,9 +100,9 @@ module _ (q : Queue) (head : ℕ) (room reply : List ℕ) where
 -- ---- an event
 
 -- both by one list of addresses that sets the same marks
-both_told : {F : Type 0} (s : LiveState F) (e : LiveEvent) →
+both_reported : {F : Type 0} (s : LiveState F) (e : LiveEvent) →
     ((p : ℕ → Bool) → list_any p (written_by (event_acts e)) ≡ list_any p (reported_by s e)) → MarksAsReported s e × LogsAsReported s e
-both_told s e same = (
+both_reported s e same = (
   λ m.
       let ws = flat_map writes_of (stores_among (event_acts e)) in
       let marks = writes_mark m ws in record {
@@ -116,36 +116,36 @@ both_told s e same = (
   λ page. same (λ a. page_of a == page),
 )
 
-returns_told : {F : Type 0} (s mid : LiveState F) (c : InFlightChain) (x : Exchange) (notice : Bool) (last : ℕ) (used : List Store)
+returns_reported : {F : Type 0} (s mid : LiveState F) (c : InFlightChain) (x : Exchange) (notice : Bool) (last : ℕ) (used : List Store)
     (seen : List ℕ) → (h : PushesChainSo s c x notice last used seen mid)
     → reported_by s (PushesChain c x notice last used seen) ≡ returned_addresses (returning h.w) c.head (room_of c) x.reply
-returns_told s mid c x notice last used seen h =
+returns_reported s mid c x notice last used seen h =
     ap (λ (k : Option LiveQueue). take (length x.reply) (room_of c) ++ queue_addresses k) h.there
     ∙ sym (returned_are (returning h.w) c.head (room_of c) x.reply)
 
 -- a store of two bytes
-abbrev TellsTwo : Option Store → Type 0
-TellsTwo None = Unit {0}
-TellsTwo (Some store) = firsts (flat_map writes_of (store ∷ [])) ≡ addresses store.address 2
+abbrev ReportsTwo : Option Store → Type 0
+ReportsTwo None = Unit {0}
+ReportsTwo (Some store) = firsts (flat_map writes_of (store ∷ [])) ≡ addresses store.address 2
 
-two_told : (a v : ℕ) → firsts (flat_map writes_of (record { address = a; bytes = to_le_bytes w16 v } ∷ [])) ≡ addresses a 2
-two_told a v = ap firsts (append-nil (zip (addresses a 2) (to_le_bytes w16 v))) ∙ whole_firsts a 2 (to_le_bytes w16 v) refl
+two_reported : (a v : ℕ) → firsts (flat_map writes_of (record { address = a; bytes = to_le_bytes w16 v } ∷ [])) ≡ addresses a 2
+two_reported a v = ap firsts (append-nil (zip (addresses a 2) (to_le_bytes w16 v))) ∙ whole_firsts a 2 (to_le_bytes w16 v) refl
 
-sleep_told : (q : Queue) (next_used max_in_flight : ℕ) (event wanted : Bool) →
-    TellsTwo (sleep_store (record { queue = q; next_used = next_used; max_in_flight = max_in_flight; event_index = event }) wanted)
-sleep_told q next_used max_in_flight true true = two_told (avail_event_at q) q.position
-sleep_told q next_used max_in_flight true false = tt
-sleep_told q next_used max_in_flight false true = two_told q.used 0
-sleep_told q next_used max_in_flight false false = two_told q.used 1
+sleep_reported : (q : Queue) (next_used max_in_flight : ℕ) (event wanted : Bool) →
+    ReportsTwo (sleep_store (record { queue = q; next_used = next_used; max_in_flight = max_in_flight; event_index = event }) wanted)
+sleep_reported q next_used max_in_flight true true = two_reported (avail_event_at q) q.position
+sleep_reported q next_used max_in_flight true false = tt
+sleep_reported q next_used max_in_flight false true = two_reported q.used 0
+sleep_reported q next_used max_in_flight false false = two_reported q.used 1
 
 -- stores in a room
-fills_told :
+fills_reported :
     (stores : List Store) → firsts (flat_map writes_of stores) ≡ flat_map (λ store. addresses store.address (length store.bytes)) stores
-fills_told [] = refl
-fills_told (store ∷ stores) =
+fills_reported [] = refl
+fills_reported (store ∷ stores) =
     map-append (λ (w : ℕ × ℕ). w.0) (writes_of store) (flat_map writes_of stores)
     ∙ ap (λ (l : List ℕ). l ++ firsts (flat_map writes_of stores)) (whole_firsts store.address (length store.bytes) store.bytes refl)
-    ∙ ap (λ (l : List ℕ). addresses store.address (length store.bytes) ++ l) (fills_told stores)
+    ∙ ap (λ (l : List ℕ). addresses store.address (length store.bytes) ++ l) (fills_reported stores)
 
 pub one_event : {F : Type 0} (may : May F) (s mid : LiveState F) (e : LiveEvent) → Happens may s e mid → (p : ℕ → Bool) →
     list_any p (written_by (event_acts e)) ≡ list_any p (reported_by s e)
@@ -153,21 +153,22 @@ one_event may s mid (PushesChain c x notice last used seen) h p =
     let so : PushesChainSo s c x notice last used seen mid = h in
     ap (λ (l : List Store). list_any p (firsts (flat_map writes_of l))) (among_return (reply_stores (room_of c) x.reply last ++ used) seen)
     ∙ any_stored (returning so.w) c.head (room_of c) x.reply p last used so.used_is
-    ∙ ap (list_any p) (sym (returns_told s mid c x notice last used seen so))
+    ∙ ap (list_any p) (sym (returns_reported s mid c x notice last used seen so))
 one_event may s mid (StoresNotification i store) h p =
     let so : StoresNotificationSo s i store mid = h in
-    ap (list_any p) (subst TellsTwo so.stores (sleep_told so.w.queue so.w.next_used so.w.max_in_flight so.w.event_index so.wanted))
+    ap (list_any p) (subst ReportsTwo so.stores (sleep_reported so.w.queue so.w.next_used so.w.max_in_flight so.w.event_index so.wanted))
 one_event may s mid (FillsBuffer c stores) h p =
-    ap (list_any p) (ap (λ (l : List Store). firsts (flat_map writes_of l)) (among_stores stores) ∙ fills_told stores)
+    ap (list_any p) (ap (λ (l : List Store). firsts (flat_map writes_of l)) (among_stores stores) ∙ fills_reported stores)
 one_event may s mid e h p = refl
 
-pub pages_are_told : {F : Type 0} (may : May F) → PagesAreReported may
-pages_are_told may s after [] run = tt
-pages_are_told may s after (e ∷ es) run = (both_told s e (one_event may s run.0 e run.1), pages_are_told may run.0 after es run.2)
+pub pages_are_reported : {F : Type 0} (may : May F) → PagesAreReported may
+pages_are_reported may s after [] run = tt
+pages_are_reported may s after (e ∷ es) run =
+    (both_reported s e (one_event may s run.0 e run.1), pages_are_reported may run.0 after es run.2)
 
 pub returns_tell : {F : Type 0} (may : May F) → ReturnsReport may
-returns_tell may s after c x notice last used seen h = (h.w, h.there, returns_told s after c x notice last used seen h)
+returns_tell may s after c x notice last used seen h = (h.w, h.there, returns_reported s after c x notice last used seen h)
 
 -- over a memory
-pub event_told : {F : Type 0} (may : May F) (s mid : LiveState F) (e : LiveEvent) → Happens may s e mid → MarksAsReported s e
-event_told may s mid e h = (both_told s e (one_event may s mid e h)).0
+pub event_reported : {F : Type 0} (may : May F) (s mid : LiveState F) (e : LiveEvent) → Happens may s e mid → MarksAsReported s e
+event_reported may s mid e h = (both_reported s e (one_event may s mid e h)).0

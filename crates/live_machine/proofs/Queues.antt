@@ -65,10 +65,10 @@ self n = eq-eqb n n refl
 pub apart_of : (j i : ℕ) → (j == i) ≡ false → j ≡ i → ⊥
 apart_of j i other same = not_both (i == i) (self i) (subst (λ (k : ℕ). (k == i) ≡ false) same other)
 
-pub kept_not : (f : InFlightChain → Bool) (c : InFlightChain) (cs : List InFlightChain) (b : Bool) → f c ≡ b →
+pub preserved_not : (f : InFlightChain → Bool) (c : InFlightChain) (cs : List InFlightChain) (b : Bool) → f c ≡ b →
     filter f (c ∷ cs) ≡ (if b then c ∷ filter f cs else filter f cs)
-kept_not f c cs true is = rw is refl
-kept_not f c cs false is = rw is refl
+preserved_not f c cs true is = rw is refl
+preserved_not f c cs false is = rw is refl
 
 module _ (i : ℕ) where
   abbrev ticket_of : InFlightChain → InFlightId
@@ -94,17 +94,17 @@ module _ (i : ℕ) where
   tickets-append (c ∷ xs) ys = ticket_and c xs ys (c.queue == i) refl (tickets-append xs ys)
 
   -- a chain that goes on keeps its ticket
-  pub goes_on :
+  pub carries_on :
       (before behind : List InFlightChain) (c d : InFlightChain) (b : Bool) → (c.queue == i) ≡ b → d.queue ≡ c.queue →
       ticket_of d ≡ ticket_of c
       → in_flight_on i (before ++ d ∷ behind) ≡ in_flight_on i (before ++ c ∷ behind)
-  goes_on before behind c d true is same ticket =
+  carries_on before behind c d true is same ticket =
       let is_d : (d.queue == i) ≡ true = ap (λ (n : ℕ). n == i) same ∙ is in
       tickets-append before (d ∷ behind)
       ∙ ap (λ (l : List InFlightId). in_flight_on i before ++ l)
       (one_ticket d behind true is_d ∙ ap (λ (t : InFlightId). t ∷ in_flight_on i behind) ticket ∙ sym (one_ticket c behind true is))
       ∙ sym (tickets-append before (c ∷ behind))
-  goes_on before behind c d false is same ticket =
+  carries_on before behind c d false is same ticket =
       let is_d : (d.queue == i) ≡ false = ap (λ (n : ℕ). n == i) same ∙ is in
       tickets-append before (d ∷ behind)
       ∙ ap (λ (l : List InFlightId). in_flight_on i before ++ l) (one_ticket d behind false is_d ∙ sym (one_ticket c behind false is))
@@ -118,14 +118,14 @@ module _ (i : ℕ) where
       → in_flight_on i (filter (λ c. not (c.queue == j)) (c ∷ cs)) ≡ in_flight_on i (c ∷ cs)
   one_dropped j c cs true true apart is other more = absurd (apart (sym (eqb-true c.queue j other) ∙ eqb-true c.queue i is))
   one_dropped j c cs true false apart is other more =
-      ap (λ (l : List InFlightChain). in_flight_on i l) (kept_not (λ c. not (c.queue == j)) c cs true (ap not other))
+      ap (λ (l : List InFlightChain). in_flight_on i l) (preserved_not (λ c. not (c.queue == j)) c cs true (ap not other))
       ∙ one_ticket c (filter (λ c. not (c.queue == j)) cs) true is ∙ ap (λ (l : List InFlightId). ticket_of c ∷ l) more
       ∙ sym (one_ticket c cs true is)
   one_dropped j c cs false true apart is other more =
-      ap (λ (l : List InFlightChain). in_flight_on i l) (kept_not (λ c. not (c.queue == j)) c cs false (ap not other)) ∙ more
+      ap (λ (l : List InFlightChain). in_flight_on i l) (preserved_not (λ c. not (c.queue == j)) c cs false (ap not other)) ∙ more
       ∙ sym (one_ticket c cs false is)
   one_dropped j c cs false false apart is other more =
-      ap (λ (l : List InFlightChain). in_flight_on i l) (kept_not (λ c. not (c.queue == j)) c cs true (ap not other))
+      ap (λ (l : List InFlightChain). in_flight_on i l) (preserved_not (λ c. not (c.queue == j)) c cs true (ap not other))
       ∙ one_ticket c (filter (λ c. not (c.queue == j)) cs) false is ∙ more ∙ sym (one_ticket c cs false is)
 
   pub dropped : (j : ℕ) (cs : List InFlightChain) → (j ≡ i → ⊥) → in_flight_on i (filter (λ c. not (c.queue == j)) cs) ≡ in_flight_on i cs
@@ -282,16 +282,16 @@ module _ (i : ℕ) where
   carries may s mid w (EndsPop j loaded ds came) there anew h = walks s mid j w h.w loaded ds came there h.there h.room h.ends
   carries {F} may s mid w (RefusesPop j e) there anew h =
       subst (λ (k : LiveState F). Carries s k w []) (sym h.state) (refuses s j w h.w (j == i) (stops_queue e) refl there h.there)
-  carries {F} may s mid w (DecodesRequest c request told) there anew h =
+  carries {F} may s mid w (DecodesRequest c request reported) there anew h =
       subst (λ (k : LiveState F). Carries s k w []) (sym h.state)
       (stays s (after_decoding s h.before h.behind c request) w w there refl
-      (goes_on h.before h.behind c (asked_chain c request s.options []) (c.queue == i) refl refl refl
+      (carries_on h.before h.behind c (asked_chain c request s.options []) (c.queue == i) refl refl refl
       ∙ sym (ap (λ (l : List InFlightChain). in_flight_on i l) h.out)))
   carries {F} may s mid w (ReceivesAnswer c call answer) there anew h =
       let calls = h.calls ++ (call, answer) ∷ [] in
       subst (λ (k : LiveState F). Carries s k w []) (sym h.state)
       (stays s (after_answer s h.before h.behind c h.request h.options calls h.files) w w there refl
-      (goes_on h.before h.behind c (asked_chain c h.request h.options calls) (c.queue == i) refl refl refl
+      (carries_on h.before h.behind c (asked_chain c h.request h.options calls) (c.queue == i) refl refl refl
       ∙ sym (ap (λ (l : List InFlightChain). in_flight_on i l) h.out)))
   carries {F} may s mid w (PushesChain c x notice last used seen) there anew h =
       subst (λ (k : LiveState F). Carries s k w (event_on i (PushesChain c x notice last used seen))) (sym h.state)
@@ -310,12 +310,12 @@ module _ (i : ℕ) where
   carries {F} may s mid w (Abandons c) there anew h =
       subst (λ (k : LiveState F). Carries s k w []) (sym h.state)
       (stays s (after_abandoning s h.before h.behind c) w w there refl
-      (goes_on h.before h.behind c (abandoned_chain c) (c.queue == i) refl refl refl ∙ sym
+      (carries_on h.before h.behind c (abandoned_chain c) (c.queue == i) refl refl refl ∙ sym
       (ap (λ (l : List InFlightChain). in_flight_on i l) h.out)))
   carries {F} may s mid w (RepliesOwnBytes c request reply options) there anew h =
       subst (λ (k : LiveState F). Carries s k w []) (sym h.state)
       (stays s (after_own s h.before h.behind c request reply options) w w there refl
-      (goes_on h.before h.behind c (record c { phase = Own request reply }) (c.queue == i) refl refl refl
+      (carries_on h.before h.behind c (record c { phase = Own request reply }) (c.queue == i) refl refl refl
       ∙ sym (ap (λ (l : List InFlightChain). in_flight_on i l) h.out)))
   carries {F} may s mid w (HasEffect call answer) there anew h =
       subst (λ (k : LiveState F). Carries s k w []) (sym h.state) (stays s (record s { files = h.files }) w w there refl refl)

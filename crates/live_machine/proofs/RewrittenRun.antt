@@ -20,7 +20,7 @@ use Rattle.plain_machine.specs.Examples.{blank}
 use Rattle.live_machine.specs.Live.{DecodesRequestSo, ReceivesAnswerSo, PushesChainSo, EndsPopSo, LoadsAreMapped}
 use Rattle.live_machine.specs.Overlap.{state}
 use Rattle.live_machine.specs.Rewritten.{Rewritten, at_positions, exchange, first, first_answered, first_asked, first_loads, forget, queue}
-use Rattle.live_machine.specs.Rewritten.{second_loads, stopped_at, table, told, used}
+use Rattle.live_machine.specs.Rewritten.{second_loads, stopped_at, table, reported, used}
 use Rattle.live_machine.proofs.OverlapRun.{some_none}
 
 first_offers :
@@ -60,7 +60,7 @@ first_walks f = record {
   w = at_positions 0 0;
   there = refl;
   room = refl;
-  goes = refl;
+  proceeds = refl;
   mapped = first_mapped;
   ends = (first_fetches, refl, tt);
 }
@@ -71,18 +71,18 @@ second_walks f = record {
   w = at_positions 1 0;
   there = refl;
   room = refl;
-  goes = refl;
+  proceeds = refl;
   mapped = second_mapped;
   ends = (second_offers, refl, (λ none. refl, λ none asks. refl));
 }
 
 first_asks : {F : Type 0} (f : F) →
-    DecodesRequestSo (state f (stopped_at 1 0) 0 (first ∷ [])) first forget (told ∷ []) (state f (stopped_at 1 0) 0 (first_asked ∷ []))
+    DecodesRequestSo (state f (stopped_at 1 0) 0 (first ∷ [])) first forget (reported ∷ []) (state f (stopped_at 1 0) 0 (first_asked ∷ []))
 unfolding addresses meaning record_parser meant row reply_bytes error_bytes fields.field_bytes
-first_asks f = record { before = []; behind = []; out = refl; fresh = refl; whole = refl; tells = refl; state = refl }
+first_asks f = record { before = []; behind = []; out = refl; fresh = refl; whole = refl; reports = refl; state = refl }
 
-first_answers : {F : Type 0} (may : May F) (before after : F) → may before told Done after →
-    ReceivesAnswerSo may (state before (stopped_at 1 0) 0 (first_asked ∷ [])) first_asked told Done
+first_answers : {F : Type 0} (may : May F) (before after : F) → may before reported Done after →
+    ReceivesAnswerSo may (state before (stopped_at 1 0) 0 (first_asked ∷ [])) first_asked reported Done
     (state after (stopped_at 1 0) 0 (first_answered ∷ []))
 unfolding addresses meaning record_parser meant row reply_bytes error_bytes fields.field_bytes
 first_answers may before after so = record {
@@ -109,10 +109,10 @@ first_returns f = record {
   out = refl;
   w = stopped_at 1 0;
   there = refl;
-  goes = (refl, refl);
+  proceeds = (refl, refl);
   used_is = refl;
   two = refl;
-  told = refl;
+  reported = refl;
   state = refl;
 }
 

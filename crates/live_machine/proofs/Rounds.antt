@@ -79,20 +79,20 @@ module _ {X : Type 0} (f : X → Bool) where
 
 -- what is kept of the places of a page, if each of them is
 module _ (keep : ℕ → Bool) (page : ℕ) (all : (c : ℕ) → (page_of c == page) ≡ true → keep c ≡ true) where
-  kept_one : (c : ℕ) (xs : List ℕ) (is keeps : Bool) → (page_of c == page) ≡ is → keep c ≡ keeps
+  preserved_one : (c : ℕ) (xs : List ℕ) (is keeps : Bool) → (page_of c == page) ≡ is → keep c ≡ keeps
       → (has_page xs page ≡ true → has_page (filter keep xs) page ≡ true) → (is || has_page xs page) ≡ true
       → has_page (cond keeps (c ∷ filter keep xs) (filter keep xs)) page ≡ true
-  kept_one c xs is true same keeps rest h =
+  preserved_one c xs is true same keeps rest h =
       either_way is (has_page xs page) (page_of c == page) (has_page (filter keep xs) page) (λ e. same ∙ e) rest h
-  kept_one c xs true false same keeps rest h = absurd (apart (keep c) (all c same) keeps)
+  preserved_one c xs true false same keeps rest h = absurd (apart (keep c) (all c same) keeps)
     where
       apart : (b : Bool) → b ≡ true → b ≡ false → ⊥
       apart b t f = cc
-  kept_one c xs false false same keeps rest h = rest h
+  preserved_one c xs false false same keeps rest h = rest h
 
-  kept : (xs : List ℕ) → has_page xs page ≡ true → has_page (filter keep xs) page ≡ true
-  kept [] h = cc
-  kept (c ∷ xs) h = kept_one c xs (page_of c == page) (keep c) refl refl (kept xs) h
+  preserved : (xs : List ℕ) → has_page xs page ≡ true → has_page (filter keep xs) page ≡ true
+  preserved [] h = cc
+  preserved (c ∷ xs) h = preserved_one c xs (page_of c == page) (keep c) refl refl (preserved xs) h
 
 -- ---- each moment
 
@@ -136,7 +136,7 @@ module _ (m : Migration) (fine : LosesNothing m) where
       (not among || has_store m.to_store page) ≡ true →
       has_page m.to_mark page ≡ true → has_page (after_marking m pages).to_mark page ≡ true
   stays_owed pages page among is stays h =
-      kept (λ (a : ℕ). not (list_any (λ (p : ℕ). p == page_of a) pages) || has_store m.to_store (page_of a)) page
+      preserved (λ (a : ℕ). not (list_any (λ (p : ℕ). p == page_of a) pages) || has_store m.to_store (page_of a)) page
       (λ c same. subst (λ (k : ℕ). (not (list_any (λ (p : ℕ). p == k) pages) || has_store m.to_store k) ≡ true)
       (sym (eqb-true (page_of c) page same)) (ap (λ (b : Bool). not b || has_store m.to_store page) is ∙ stays))
       m.to_mark h

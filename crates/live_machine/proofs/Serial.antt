@@ -12,7 +12,7 @@ use Rattle.fs_queue.specs.declared.fault.ChainFault.{ChainFault}
 use Rattle.fs_queue.specs.Chain.{Descriptor}
 use Rattle.fs_queue.specs.Loads.{Load, AreEntriesOf, IsEntryOf, IsLoadOf}
 use Rattle.fs_queue.specs.Queue.{Queue, avail_index_at, ring_entry_at, element_at, index_at}
-use Rattle.fs_queue.specs.Returning.{Store, stores_after_reply, tells, advanced}
+use Rattle.fs_queue.specs.Returning.{Store, stores_after_reply, notifies, advanced}
 use Rattle.fs_queue.specs.Taking.{Offer, Offers, IsRequest, CannotFetch, Idle, Refuses, readable, writable, total_len}
 use Rattle.fs_queue.proofs.ConfinedLemmas.{only_places_count}
 use Rattle.fs_regions.specs.Laws.{HasLoaded}
@@ -97,9 +97,9 @@ pub record Alone {F : Type 0} (may : May F) (s : LiveState F) (queues : List Liv
 
 asks_alone : {F : Type 0} (may : May F) (s : LiveState F) (queues : List LiveQueue) (c₀ : InFlightChain) (k mid : LiveState F)
     (c : InFlightChain)
-    (request : List ℕ) (told : List FileCall)
-    → Alone may s queues c₀ k → DecodesRequestSo k c request told mid → Alone may s queues c₀ mid
-asks_alone {F} may s queues c₀ k mid c request told a h =
+    (request : List ℕ) (reported : List FileCall)
+    → Alone may s queues c₀ k → DecodesRequestSo k c request reported mid → Alone may s queues c₀ mid
+asks_alone {F} may s queues c₀ k mid c request reported a h =
     let one = alone (in_phase c₀ a.phase) h.before h.behind c (sym a.chains ∙ h.out) in
     let fresh : a.phase ≡ Fetched = sym (ap (λ (x : InFlightChain). x.phase) one.1) ∙ h.fresh in
     let now : k.options ≡ s.options =
@@ -173,8 +173,8 @@ pub between_alone : {F : Type 0} (may : May F) (s : LiveState F) (queues : List 
     → AllByRecursion IsOfChain es → Alone may s queues c k → LiveRun may k (es ++ back ∷ []) after
     → (now : LiveState F) × Alone may s queues c now × Happens may now back after
 between_alone {F} may s queues c k after [] back of a run = (k, a, subst (λ (x : LiveState F). Happens may k back x) (sym run.2) run.1)
-between_alone may s queues c k after (DecodesRequest d request told ∷ es) back of a run =
-    between_alone may s queues c run.0 after es back of.1 (asks_alone may s queues c k run.0 d request told a run.1) run.2
+between_alone may s queues c k after (DecodesRequest d request reported ∷ es) back of a run =
+    between_alone may s queues c run.0 after es back of.1 (asks_alone may s queues c k run.0 d request reported a run.1) run.2
 between_alone may s queues c k after (ReceivesAnswer d call answer ∷ es) back of a run =
     between_alone may s queues c run.0 after es back of.1 (answers_alone_too may s queues c k run.0 d call answer a run.1) run.2
 between_alone may s queues c k after es back of a run = absurd of.0
@@ -247,7 +247,7 @@ exchanges_over {F} may before after i q (Offers head (CannotFetch why)) calls x 
     flags_len = made.returns.flags_len;
     acts = made.returns.acts;
     state = ap (λ (st : State F). record st { memory = m }) made.returns.state;
-    told = made.returns.told;
+    reported = made.returns.reported;
   };
 }
 exchanges_over {F} may before after i q (Offers head (IsRequest request room)) calls x notice e m made = record {
@@ -259,7 +259,7 @@ exchanges_over {F} may before after i q (Offers head (IsRequest request room)) c
     flags_len = made.returns.flags_len;
     acts = made.returns.acts;
     state = ap (λ (st : State F). record st { memory = m }) made.returns.state;
-    told = made.returns.told;
+    reported = made.returns.reported;
   };
 }
 exchanges_over may before after i q Idle calls x notice e m made = absurd made
@@ -275,7 +275,7 @@ pub step_over : {F : Type 0} (may : May F) (before : State F) (files : F) (c : I
     → Exchanging may before files c x last seen → location m ≡ location before.memory → slice_get before.queues c.queue ≡ Some c.taken
     → HasLoaded m c.taken c.loaded (request_of_phase c.phase) → FindFlags m c.taken (effects_of c x last seen).acts
     → MayStoreLast m (room_of c) last
-    → Step may (record before { memory = m }) c.queue (calls_in c.phase) (Exchanged x (tells seen))
+    → Step may (record before { memory = m }) c.queue (calls_in c.phase) (Exchanged x (notifies seen))
     (record (after_alone before c files) { memory = after_stores m (stores_among (effects_of c x last seen).acts) })
 step_over {F} may before files c x last seen m made same there has flags apart =
     let n = before.memory in
@@ -292,11 +292,11 @@ step_over {F} may before files c x last seen m made same there has flags apart =
       chain = λ hd ds found. (all_reach_same m n same Read (readable ds), all_reach_same m n same Write (writable ds));
     }) in
     let offered : offered_by m before.limit q l ≡ Some made.offer = alike ∙ made.offered in
-    let step : StepBy may over c.queue l (calls_in c.phase) (Exchanged x (tells seen)) e after =
-    subst (λ (k : Option Queue). StepOfBy may over c.queue k l (calls_in c.phase) (Exchanged x (tells seen)) e after) (sym there) (
+    let step : StepBy may over c.queue l (calls_in c.phase) (Exchanged x (notifies seen)) e after =
+    subst (λ (k : Option Queue). StepOfBy may over c.queue k l (calls_in c.phase) (Exchanged x (notifies seen)) e after) (sym there) (
       made.offer,
       offered,
-      exchanges_over may before (after_alone before c files) c.queue q made.offer (calls_in c.phase) x (tells seen) e m made.exchanges,
+      exchanges_over may before (after_alone before c files) c.queue q made.offer (calls_in c.phase) x (notifies seen) e m made.exchanges,
     ) in
     let are : AreStepLoadsOf m q l = record {
       index_is = λ _. load_is m (avail_index_at q) c.loaded.index (λ none. reach_same m n same Read (avail_index_at q) 2 ∙ made.ring.0 none)
@@ -315,7 +315,7 @@ step_over {F} may before files c x last seen m made same there has flags apart =
           (sym made.room ∙ ap room_in_offer (sym offered
           ∙ subst (λ (k : Queue). offered_by m before.limit k l ≡ Some (Offers hd (IsRequest rq rm))) (sym (is_q p at)) off)) apart;
     } in
-    step_by_is_step may over c.queue l (calls_in c.phase) (Exchanged x (tells seen)) e after of_memory step
+    step_by_is_step may over c.queue l (calls_in c.phase) (Exchanged x (notifies seen)) e after of_memory step
 
 -- ---- queues of the plain machine
 
@@ -344,7 +344,7 @@ state_same m files queues queues' options options' limit limit' page_size page_s
 
 -- ---- a chain alone
 
-wants_flags : (w : LiveQueue) (seen : List ℕ) → w.event_index ≡ false → wants w seen ≡ tells seen
+wants_flags : (w : LiveQueue) (seen : List ℕ) → w.event_index ≡ false → wants w seen ≡ notifies seen
 wants_flags w seen no_event = rw no_event refl
 
 pub single_is_step : {F : Type 0} (may : May F) → SingleIsStep may
@@ -370,12 +370,12 @@ single_is_step {F} may s after r m w none there rest of run found =
     ∙ there_same s.queues i i (λ _. took v) v refl walk.there) in
     let base : State F = plain s s.places in
     let at : slice_get base.queues i ≡ Some v.queue = get_map (λ (x : LiveQueue). x.queue) s.queues i v walk.there in
-    let goes : PushedWith s.page_size d a.phase r.exchange =
+    let proceeds : PushedWith s.page_size d a.phase r.exchange =
     subst (λ (p : ℕ). PushedWith p d a.phase r.exchange) a.page_size
-    (subst (λ (c : InFlightChain). PushedWith k.page_size c c.phase r.exchange) one.1 b.goes) in
+    (subst (λ (c : InFlightChain). PushedWith k.page_size c c.phase r.exchange) one.1 b.proceeds) in
     let made : Exchanging may base k.files d r.exchange r.last r.seen =
     exchange_of may base k.files s.places i v.queue r.loaded r.descriptors r.head a.phase r.exchange r.last r.seen refl a.served a.walked
-    a.asked goes b.two a.run in
+    a.asked proceeds b.two a.run in
     let behind_is : r.used ≡ stores_after_reply v.queue r.head (length r.exchange.reply) =
     b.used_is ∙ ap (λ (u : LiveQueue). stores_after_reply (returning u) r.chain.head (length r.exchange.reply)) w_is
     ∙ ap (λ (c : InFlightChain). stores_after_reply (returning (took v)) c.head (length r.exchange.reply)) one.1
@@ -408,13 +408,14 @@ single_is_step {F} may s after r m w none there rest of run found =
     plain_queues
     (ap (λ (x : LiveState F). x.options) b.state ∙ a.options) (ap (λ (x : LiveState F). x.limit) b.state ∙ a.limit)
     (ap (λ (x : LiveState F). x.page_size) b.state ∙ a.page_size) in
-    let notice_is : r.notice ≡ tells r.seen = b.told ∙ wants_flags b.w r.seen (ap (λ (u : LiveQueue). u.event_index) w_is ∙ calm.0) in (
+    let notice_is : r.notice ≡ notifies r.seen =
+    b.reported ∙ wants_flags b.w r.seen (ap (λ (u : LiveQueue). u.event_index) w_is ∙ calm.0) in (
       subst (λ (mm : Memory). Step may (plain s m) i (calls_in r.chain.phase) (Exchanged r.exchange r.notice) (plain after mm))
           (sym memory_is)
           (subst (λ (st : State F). Step may (plain s m) i (calls_in r.chain.phase) (Exchanged r.exchange r.notice) st) (sym after_is)
           (subst (λ (n : Bool). Step may (plain s m) i (calls_in r.chain.phase) (Exchanged r.exchange n)
           (record (after_alone base d k.files) { memory = m' })) (sym notice_is)
-          (subst (λ (c : InFlightChain). Step may (plain s m) i (calls_in c.phase) (Exchanged r.exchange (tells r.seen))
+          (subst (λ (c : InFlightChain). Step may (plain s m) i (calls_in c.phase) (Exchanged r.exchange (notifies r.seen))
           (record (after_alone base d k.files) { memory = m' })) (sym one.1) stepped))),
       ap (λ (x : LiveState F). x.chains) b.state ∙ ap (λ (l : List InFlightChain). l ++ b.behind) one.0 ∙ one.2,
       gave_one,

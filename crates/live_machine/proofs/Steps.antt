@@ -6,7 +6,7 @@ use Rattle.vm_memory.specs.Memory.{Memory, bytes, stored_all}
 use Rattle.vm_memory.proofs.Places.{stored_all-append}
 use Rattle.fs_queue.specs.Chain.{Descriptor}
 use Rattle.fs_queue.specs.Queue.{Queue}
-use Rattle.fs_queue.specs.Returning.{Store, stores_after_reply, tells, wants_notice, writes_of}
+use Rattle.fs_queue.specs.Returning.{Store, stores_after_reply, notifies, wants_notice, writes_of}
 use Rattle.fs_queue.specs.Taking.{Offer, Refuses, after_refusal}
 use Rattle.fs_queue.specs.Taking as taking
 use Rattle.fs_queue.specs.declared.fault.QueueError.{QueueError}
@@ -114,13 +114,13 @@ used_there w c head len order = ap (λ (q : Queue). stores_after_reply q head le
 
 -- ---- a chain over a memory
 
-by_flags_told : (w : LiveQueue) (m : Memory) (avail : ℕ) (seen : List ℕ) (notice : Bool)
+by_flags_reported : (w : LiveQueue) (m : Memory) (avail : ℕ) (seen : List ℕ) (notice : Bool)
     → notice ≡ wants w seen → w.queue.avail ≡ avail → w.event_index ≡ false → seen ≡ bytes m (seen_at w) 2
-    → notice ≡ tells (bytes m avail 2)
-by_flags_told w m avail seen notice told same no_event found =
+    → notice ≡ notifies (bytes m avail 2)
+by_flags_reported w m avail seen notice reported same no_event found =
     let at : seen_at w ≡ avail = (rw no_event refl) ∙ same in
-    let flags : wants w seen ≡ tells seen = rw no_event refl in
-    told ∙ flags ∙ ap tells (found ∙ ap (λ (a : ℕ). bytes m a 2) at)
+    let flags : wants w seen ≡ notifies seen = rw no_event refl in
+    reported ∙ flags ∙ ap notifies (found ∙ ap (λ (a : ℕ). bytes m a 2) at)
 
 -- a chain that was walked and goes back is a step over a memory that has its loads
 over_walk : {F G : Type 0} (may : May F) (other : May G) (now after : LiveState F) (c : InFlightChain) (x : Exchange) (notice : Bool)
@@ -131,19 +131,19 @@ over_walk : {F G : Type 0} (may : May F) (other : May G) (now after : LiveState 
     → IsAStepOver other m files w c x (PushesChain c x notice last used seen) seen notice
 over_walk {F} {G} may other now after c x notice last used seen m files w walked h served there first calls order has =
     let so : Walked m.limit c = subst (λ (k : ℕ). Walked k c) (sym first.limit) walked in
-    let goes : PushedWith m.page_size c c.phase x = subst (λ (k : ℕ). PushedWith k c c.phase x) (sym first.page_size) h.goes in
+    let proceeds : PushedWith m.page_size c c.phase x = subst (λ (k : ℕ). PushedWith k c c.phase x) (sym first.page_size) h.proceeds in
     let stores = return_stores c.taken c.head (room_of c) x.reply last in
     let left = after_stores m.memory stores in
     let flags = bytes left c.taken.avail 2 in
     let made = exchange_of other m files c.places c.queue c.taken c.loaded c.descriptors c.head c.phase x last flags first.places served so
-    first.options goes (length-bytes left c.taken.avail 2) calls in
+    first.options proceeds (length-bytes left c.taken.avail 2) calls in
     let stepped = step_over other m files c x last flags m.memory made refl first.queue has.loads
     (finds_last m.memory c.taken stores flags refl) has.apart in
     let P : List Store → Type 0 = λ ss. Step other m c.queue (calls_in c.phase)
     (Exchanged x (wants_notice (after_stores m.memory ss) c.taken))
     (record (after_alone m c files) { memory = after_stores m.memory ss }) in
     let by_stores : P stores =
-    subst (λ (ss : List Store). Step other m c.queue (calls_in c.phase) (Exchanged x (tells flags))
+    subst (λ (ss : List Store). Step other m c.queue (calls_in c.phase) (Exchanged x (notifies flags))
     (record (after_alone m c files) { memory = after_stores m.memory ss })) (among_return stores flags) stepped in
     let same : h.w ≡ w = same_some h.w w (sym h.there ∙ there) in
     let used_is : used ≡ stores_after_reply c.taken c.head (length x.reply) =
@@ -156,8 +156,8 @@ over_walk {F} {G} may other now after c x notice last used seen m files w walked
     let there_now = after_stores m.memory (stores_among (event_acts event)) in
     record {
       step = subst P (sym mine) by_stores;
-      by_flags = λ no_event found. by_flags_told w there_now c.taken.avail seen notice
-          (h.told ∙ ap (λ (k : LiveQueue). wants k seen) same) (ap (λ (q : Queue). q.avail) order) no_event found;
+      by_flags = λ no_event found. by_flags_reported w there_now c.taken.avail seen notice
+          (h.reported ∙ ap (λ (k : LiveQueue). wants k seen) same) (ap (λ (q : Queue). q.avail) order) no_event found;
     }
 
 pub returned_is_step : {F G : Type 0} (may : May F) (other : May G) → ReturnedIsStep may other

@@ -25,24 +25,24 @@ use Rattle.fs_queue.proofs.ReadLemmas.{length-bytes}
 -- ---- an offer that is told is one of these
 
 -- what an offer says
-abbrev pub Says : (P : Offer → Type 0) → Option Offer → Type 0
-Says P None = Unit {0}
-Says P (Some o) = P o
+abbrev pub Shows : (P : Offer → Type 0) → Option Offer → Type 0
+Shows P None = Unit {0}
+Shows P (Some o) = P o
 
-says_is : (P : Offer → Type 0) (x : Option Offer) (o : Offer) → Says P x → x ≡ Some o → P o
-says_is P None o says is = absurd (cc)
-says_is P (Some p) o says is = let same : p ≡ o = cc in subst P same says
+shows_is : (P : Offer → Type 0) (x : Option Offer) (o : Offer) → Shows P x → x ≡ Some o → P o
+shows_is P None o shows is = absurd (cc)
+shows_is P (Some p) o shows is = let same : p ≡ o = cc in subst P same shows
 
-on_request : (P : Offer → Type 0) (request : List ℕ) (o : Offer) → P o → Says P (without_request request o)
+on_request : (P : Offer → Type 0) (request : List ℕ) (o : Offer) → P o → Shows P (without_request request o)
 on_request P [] o p = p
 on_request P (b ∷ bs) o p = tt
 
-on_chain : (P : Offer → Type 0) (ls : List Load) (request : List ℕ) (o : Offer) → P o → Says P (without_chain ls request o)
+on_chain : (P : Offer → Type 0) (ls : List Load) (request : List ℕ) (o : Offer) → P o → Shows P (without_chain ls request o)
 on_chain P [] request o p = on_request P request o p
 on_chain P (l ∷ ls) request o p = tt
 
 on_nothing : (P : Offer → Type 0) (index entry : Option (List ℕ)) (ls : List Load) (request : List ℕ) (o : Offer) → P o →
-    Says P (without_loads index entry ls request o)
+    Shows P (without_loads index entry ls request o)
 on_nothing P None None ls request o p = on_chain P ls request o p
 on_nothing P None (Some bs) ls request o p = tt
 on_nothing P (Some bs) entry ls request o p = tt
@@ -50,9 +50,9 @@ on_nothing P (Some bs) entry ls request o p = tt
 -- ---- by what waits
 
 -- what waits is said of the ring
-abbrev SaysNext : (P : NextAvail → Type 0) → Option NextAvail → Type 0
-SaysNext P None = Unit {0}
-SaysNext P (Some w) = P w
+abbrev ShowsNext : (P : NextAvail → Type 0) → Option NextAvail → Type 0
+ShowsNext P None = Unit {0}
+ShowsNext P (Some w) = P w
 
 -- it is no refusal for want of memory
 abbrev NoWant : NextAvail → Type 0
@@ -69,18 +69,18 @@ next_tests a b c d e head = λ is. cc
 next_is : (m : Memory) (q : Queue) → NoWant (next_avail m q)
 next_is m q = next_tests _ _ _ _ _ _
 
-entry_not : (entry : Option (List ℕ)) (w : NextAvail) → NoWant w → SaysNext NoWant (without_entry entry w)
+entry_not : (entry : Option (List ℕ)) (w : NextAvail) → NoWant w → ShowsNext NoWant (without_entry entry w)
 entry_not None w h = h
 entry_not (Some bs) w h = tt
 
 waits_tests : (a b c : Bool) (entry : Option (List ℕ)) (v w : NextAvail) → NoWant v → NoWant w →
-    SaysNext NoWant (if a then None else if b then without_entry entry v else if c then None else Some w)
+    ShowsNext NoWant (if a then None else if b then without_entry entry v else if c then None else Some w)
 waits_tests true b c entry v w one two = tt
 waits_tests false true c entry v w one two = entry_not entry v one
 waits_tests false false true entry v w one two = tt
 waits_tests false false false entry v w one two = two
 
-waits_is : (q : Queue) (index entry : Option (List ℕ)) → SaysNext NoWant (available_by q index entry)
+waits_is : (q : Queue) (index entry : Option (List ℕ)) → ShowsNext NoWant (available_by q index entry)
 waits_is q index entry =
     waits_tests _ _ _ entry (next_avail (holding (index_load q index ∷ [])) q)
     (next_avail (holding (index_load q index ∷ entry_load q entry ∷ [])) q)
@@ -103,19 +103,19 @@ or_false false true is = absurd (cc)
 -- what is fetched, by its tests
 fetched : (limit head : ℕ) (bs request room : List ℕ) (same : Bool) → (length bs == length request) ≡ same → length request ≤ limit →
     length room ≤ limit →
-    Says (IsWithin limit) (option_map (Offers head) (if same then Some (IsRequest bs room) else None))
+    Shows (IsWithin limit) (option_map (Offers head) (if same then Some (IsRequest bs room) else None))
 fetched limit head bs request room true is few some =
     (subst (λ (n : ℕ). n ≤ limit) (sym (eqb-true (length bs) (length request) is)) few, some)
 fetched limit head bs request room false is few some = tt
 
 no_fetch : (limit head : ℕ) (bs : List ℕ) (why : ChainFault) →
-    Says (IsWithin limit) (option_map (Offers head) (without_request bs (CannotFetch why)))
+    Shows (IsWithin limit) (option_map (Offers head) (without_request bs (CannotFetch why)))
 no_fetch limit head [] why = tt
 no_fetch limit head (b ∷ bs) why = tt
 
 fetched_tests : (limit head : ℕ) (bs request room : List ℕ) (over lost_request lost_room : Bool) →
     (over ≡ false → (length request ≤ limit) × (length room ≤ limit)) →
-    Says (IsWithin limit)
+    Shows (IsWithin limit)
     (option_map (Offers head) (with_request bs (if over then CannotFetch OverLimit else if lost_request then CannotFetch RequestUnreachable
     else if lost_room then CannotFetch RoomUnreachable else IsRequest request room)))
 fetched_tests limit head bs request room true b c few = no_fetch limit head bs OverLimit
@@ -131,7 +131,7 @@ length-request m (d ∷ ds) =
     ∙ ap (λ n. n + length (flat_map (λ x. bytes m x.addr x.len) ds)) (length-bytes m d.addr d.len)
     ∙ ap (λ n. d.len + n) (length-request m ds) ∙ sym (sum_by-cons (λ x. x.len) d ds)
 
-of_found : (m : Memory) (limit head : ℕ) (bs : List ℕ) (f : Found) → Says (IsWithin limit) (with_loaded bs (offer_of m limit head f))
+of_found : (m : Memory) (limit head : ℕ) (bs : List ℕ) (f : Found) → Shows (IsWithin limit) (with_loaded bs (offer_of m limit head f))
 of_found m limit head bs (IsChain ds) =
     fetched_tests limit head bs (flat_map (λ d. bytes m d.addr d.len) (readable ds)) (flat_map (λ d. addresses d.addr d.len) (writable ds))
     (nat_lt limit (total_len (readable ds)) || nat_lt limit (total_len (writable ds))) (not (all_reach m Read (readable ds)))
@@ -144,37 +144,37 @@ of_found m limit head bs (HasFault fault) = no_fetch limit head bs fault
 of_found m limit head bs StopsQueue = on_request (IsWithin limit) bs (Refuses stop.DescriptorUnreachable) (λ is. cc)
 
 of_option : (m : Memory) (limit head : ℕ) (bs : List ℕ) (f : Option Found) →
-    Says (IsWithin limit) (option_and_then (λ f. with_loaded bs (offer_of m limit head f)) f)
+    Shows (IsWithin limit) (option_and_then (λ f. with_loaded bs (offer_of m limit head f)) f)
 of_option m limit head bs None = tt
 of_option m limit head bs (Some f) = of_found m limit head bs f
 
-head_tests : (limit : ℕ) (ls : List Load) (bs : List ℕ) (a b : Bool) (x : Option Offer) → Says (IsWithin limit) x →
-    Says (IsWithin limit) (if a then without_chain ls bs (Refuses stop.UsedUnreachable)
+head_tests : (limit : ℕ) (ls : List Load) (bs : List ℕ) (a b : Bool) (x : Option Offer) → Shows (IsWithin limit) x →
+    Shows (IsWithin limit) (if a then without_chain ls bs (Refuses stop.UsedUnreachable)
     else if b then without_chain ls bs (Refuses stop.AvailFlagsUnreachable) else x)
-head_tests limit ls bs true b x says = on_chain (IsWithin limit) ls bs (Refuses stop.UsedUnreachable) (λ is. cc)
-head_tests limit ls bs false true x says = on_chain (IsWithin limit) ls bs (Refuses stop.AvailFlagsUnreachable) (λ is. cc)
-head_tests limit ls bs false false x says = says
+head_tests limit ls bs true b x shows = on_chain (IsWithin limit) ls bs (Refuses stop.UsedUnreachable) (λ is. cc)
+head_tests limit ls bs false true x shows = on_chain (IsWithin limit) ls bs (Refuses stop.AvailFlagsUnreachable) (λ is. cc)
+head_tests limit ls bs false false x shows = shows
 
 of_next : (m : Memory) (limit : ℕ) (q : Queue) (ls : List Load) (bs : List ℕ) (w : NextAvail) → NoWant w →
-    Says (IsWithin limit) (on_waits m limit q ls bs w)
+    Shows (IsWithin limit) (on_waits m limit q ls bs w)
 of_next m limit q ls bs avail.Idle h = on_chain (IsWithin limit) ls bs taking.Idle tt
 of_next m limit q ls bs (avail.Refused e) h = on_chain (IsWithin limit) ls bs (Refuses e) h
 of_next m limit q ls bs (avail.Head head) h = head_tests limit ls bs _ _ _ (of_option m limit head bs (chain_exactly ls q head))
 
-of_waits : (m : Memory) (limit : ℕ) (q : Queue) (ls : List Load) (bs : List ℕ) (w : Option NextAvail) → SaysNext NoWant w →
-    Says (IsWithin limit) (option_and_then (on_waits m limit q ls bs) w)
+of_waits : (m : Memory) (limit : ℕ) (q : Queue) (ls : List Load) (bs : List ℕ) (w : Option NextAvail) → ShowsNext NoWant w →
+    Shows (IsWithin limit) (option_and_then (on_waits m limit q ls bs) w)
 of_waits m limit q ls bs None h = tt
 of_waits m limit q ls bs (Some w) h = of_next m limit q ls bs w h
 
 by_stop : (m : Memory) (limit : ℕ) (stopped : Bool) (index entry : Option (List ℕ)) (ls : List Load) (bs : List ℕ) (x : Option Offer) →
-    Says (IsWithin limit) x →
-    Says (IsWithin limit) (if stopped then without_loads index entry ls bs (Refuses stop.Stopped) else x)
-by_stop m limit true index entry ls bs x says = on_nothing (IsWithin limit) index entry ls bs (Refuses stop.Stopped) (λ is. cc)
-by_stop m limit false index entry ls bs x says = says
+    Shows (IsWithin limit) x →
+    Shows (IsWithin limit) (if stopped then without_loads index entry ls bs (Refuses stop.Stopped) else x)
+by_stop m limit true index entry ls bs x shows = on_nothing (IsWithin limit) index entry ls bs (Refuses stop.Stopped) (λ is. cc)
+by_stop m limit false index entry ls bs x shows = shows
 
 pub is_within : (m : Memory) (limit : ℕ) (q : Queue) (index entry : Option (List ℕ)) (ls : List Load) (request : List ℕ) (o : Offer) →
     offer_by m limit q index entry ls request ≡ Some o → IsWithin limit o
 is_within m limit q index entry ls request o is =
-    says_is (IsWithin limit) (offer_by m limit q index entry ls request) o
+    shows_is (IsWithin limit) (offer_by m limit q index entry ls request) o
     (by_stop m limit q.stopped index entry ls request (option_and_then (on_waits m limit q ls request) (available_by q index entry))
     (of_waits m limit q ls request (available_by q index entry) (waits_is q index entry))) is

@@ -9,7 +9,7 @@ use Rattle.vm_memory_core.specs.Host.{changed_at}
 use Rattle.vm_memory.specs.Memory.{Memory, addresses, location, reach}
 use Rattle.fs_queue.specs.Loads.{Load}
 use Rattle.fs_queue.specs.Queue.{element_at, index_at}
-use Rattle.fs_queue.specs.Returning.{Store, writes_of, tells, advanced}
+use Rattle.fs_queue.specs.Returning.{Store, writes_of, notifies, advanced}
 use Rattle.fs_queue.specs.Taking.{IsRequest, Offers}
 use Rattle.fs_regions.specs.declared.step.CourseStep.TheVariants as step
 use Rattle.fuse_fs.specs.Calls.{FileRun}
@@ -100,14 +100,14 @@ chain_loads c lost =
 -- flags. Its calls with their answers, and its exchange, are the step's. So are its acts, with the used
 -- element and index of the queue's next used position. The loads that brought bytes are of mapped addresses.
 -- Whether the driver is to be notified is by the two bytes that were seen: without the event index, as the
--- step says (`tells seen`); with it, by used_event
+-- step says (`notifies seen`); with it, by used_event
 pub record IsAStep {G : Type 0} (other : May G) (m : State G) (files : G) (w : LiveQueue) (c : InFlightChain)
     (x : Exchange) (last : ℕ) (used : List Store) (seen : List ℕ) (notice : Bool) : Type 0 where
   pub lost : List Load
   pub lost_are : All (IsLost m.memory) lost
   pub ring : RingIsAsked m.memory c.taken c.loaded
   pub mapped : LoadsAreMapped m.memory c.taken c.loaded
-  pub step : StepBy other m c.queue (chain_loads c lost) (calls_in c.phase) (Exchanged x (tells seen))
+  pub step : StepBy other m c.queue (chain_loads c lost) (calls_in c.phase) (Exchanged x (notifies seen))
       (record {
         acts = return_acts (return_stores c.taken c.head (room_of c) x.reply last) seen;
         last = last;
@@ -143,7 +143,7 @@ pub record IsAReturn {G : Type 0} (m : State G) (limit : ℕ) (w : LiveQueue) (c
   pub mapped : LoadsAreMapped m.memory c.taken c.loaded
   pub fits : length reply ≤ length (room_of c)
   pub returns :
-      ReturnsBy m c.queue c.taken (room_of c) (own_exchange c.head request reply) m.options x (tells seen)
+      ReturnsBy m c.queue c.taken (room_of c) (own_exchange c.head request reply) m.options x (notifies seen)
       (record {
         acts = return_acts (return_stores c.taken c.head (room_of c) x.reply last) seen;
         last = last;
@@ -389,8 +389,8 @@ unrecorded w = (w.max_in_flight, w.event_index)
 -- a device moves between two chains, and is given there the parts that no record has. It goes on as one that
 -- didn't move and whose guest's memory got these mappings. Over the same mappings it goes on as if nothing
 -- had happened
-abbrev pub MovedGoesOn : {F : Type 0} → May F → Type 0
-MovedGoesOn {F} may =
+abbrev pub MovedContinues : {F : Type 0} → May F → Type 0
+MovedContinues {F} may =
     (s now moved : LiveState F) (es : List LiveEvent) (m : Memory) (queues : List LiveQueue) →
     s.chains ≡ [] →
     AllByRecursion HasNoneInFlight s.queues →

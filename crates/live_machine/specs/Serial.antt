@@ -46,7 +46,7 @@ events_in r =
 
 -- between them the chain is decoded and answered, and nothing else happens
 abbrev pub IsOfChain : LiveEvent → Type 0
-IsOfChain (DecodesRequest c request told) = Unit {0}
+IsOfChain (DecodesRequest c request reported) = Unit {0}
 IsOfChain (ReceivesAnswer c call answer) = Unit {0}
 IsOfChain _ = ⊥
 

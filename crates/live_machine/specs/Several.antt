@@ -4,7 +4,7 @@ use Rattle.std.specs.Prelude.{◌≡◌, ℕ, ◌+◌, ◌-◌, ◌*◌, ◌%◌
 use Rattle.std.specs.Prelude.{◌++◌, map, IsTrue, IsPermutation, Option, Some, None, if◌then◌else◌}
 use Rattle.std.specs.Int.{w16, to_le_bytes, from_le_bytes}
 use Rattle.fs_queue.specs.Queue.{Queue}
-use Rattle.fs_queue.specs.Returning.{Store, stores_after_reply, next_position, advanced, tells}
+use Rattle.fs_queue.specs.Returning.{Store, stores_after_reply, next_position, advanced, notifies}
 
 -- a queue of which several chains may be in flight. The next chain is popped at its queue's `position`, and
 -- returned at `next_used`, both modulo 2^16. It has a limit of chains in flight, and whether
@@ -175,7 +175,7 @@ passes event old new = nat_lt ((new + (2 ^ 16 - 1 - event)) % 2 ^ 16) ((new + (2
 -- whether the driver enabled the notification of the next return, by the two bytes that were seen: the
 -- available flags, or with the event index used_event
 abbrev pub wants : LiveQueue → (seen : List ℕ) → Bool
-wants w seen = if w.event_index then from_le_bytes w16 seen == w.next_used else tells seen
+wants w seen = if w.event_index then from_le_bytes w16 seen == w.next_used else notifies seen
 
 -- with used_event the notification is enabled exactly if the used index passes it
 abbrev pub ByEvent : Type 0

@@ -8,7 +8,7 @@ ghost use Rattle.live_machine.specs.InitBeside.{InitBeside};
 ghost use Rattle.live_machine.specs.Overlap.{Overlap};
 ghost use Rattle.live_machine.specs.Rewritten.{Rewritten};
 ghost use Rattle.live_machine.specs.Rounds.{BeginsWithAllMarked, EndsWithWholeCopy, RoundsLoseNothing};
-ghost use Rattle.live_machine.specs.Runs.{CallsAreARun, LiveUsedInOrder, MovedGoesOn, OncePerLiveChain};
+ghost use Rattle.live_machine.specs.Runs.{CallsAreARun, LiveUsedInOrder, MovedContinues, OncePerLiveChain};
 ghost use Rattle.live_machine.specs.Runs.{OwnIsReturned, PagesAreReported, ReturnedIsStepBy};
 ghost use Rattle.live_machine.specs.Runs.{ReturnsAreMapped};
 ghost use Rattle.live_machine.specs.Runs.{ReturnsReport, RunsOnQueue, PositionsAgree, StoresStayThere};
@@ -50,7 +50,7 @@ pub fn law_runs<F: FileSystem, G: FileSystem>()
     ensures tell { ReturnsReport F.may }
     ensures log { PagesOfRun F.may }
     ensures positions { PositionsAgree F.may }
-    ensures moves { MovedGoesOn F.may }
+    ensures moves { MovedContinues F.may }
     ensures places { ReturnsAreMapped F.may }
     ensures queue { RunsOnQueue F.may }
     ensures once { OncePerLiveChain F.may }

@@ -33,7 +33,7 @@ pub fn reserve<T>(list: &mut Vec<T>, more: usize) -> Result<(), AllocError>
     ensures items { list.new.items ≡ list.old.items }
     ensures len { vec_len list.new ≡ vec_len list.old }
     ensures room { OnOk result (vec_len list.new + more ≤ vec_capacity list.new) }
-    ensures kept { OnErr result (vec_capacity list.new ≡ vec_capacity list.old) }
+    ensures preserved { OnErr result (vec_capacity list.new ≡ vec_capacity list.old) }
     ensures full { OnErr result (vec_capacity list.old < vec_len list.old + more) }
     ensures asked { OnErr result (RoomWasRefused more) }
     ensures refused { OnErr result MemoryWasRefused }
@@ -49,7 +49,7 @@ pub fn reserve_small<T: MadeWith<Global> + Drop, const N: usize>(
 ) -> Result<(), AllocError>
     ensures items { list.new.items ≡ list.old.items }
     ensures room { OnOk result (HasRoomFor list.new more) }
-    ensures kept { OnErr result (list.new ≡ list.old) }
+    ensures preserved { OnErr result (list.new ≡ list.old) }
     ensures full { OnErr result (HasRoomFor list.old more → ⊥) }
     ensures asked { OnErr result (RoomWasRefused more) }
     ensures refused { OnErr result MemoryWasRefused }
@@ -61,7 +61,7 @@ pub fn reserve_small<T: MadeWith<Global> + Drop, const N: usize>(
 #[tactic(auto, using(crate::proofs::Asking::room_was_refused, crate::proofs::Asking::memory_was_refused))]
 pub fn shared<T>(alloc: Global, value: T) -> Result<Arc<T, Global>, AllocFailed<T>>
     ensures shared { IfOk result (λ arc. arc_value arc ≡ value) }
-    ensures kept { IfErr result (λ failed. failed.value ≡ value) }
+    ensures preserved { IfErr result (λ failed. failed.value ≡ value) }
     ensures asked { OnErr result (RoomWasRefused 1) }
     ensures refused { OnErr result MemoryWasRefused }
 {
@@ -72,7 +72,7 @@ pub fn shared<T>(alloc: Global, value: T) -> Result<Arc<T, Global>, AllocFailed<
 #[tactic(auto, using(crate::proofs::Asking::room_was_refused, crate::proofs::Asking::memory_was_refused))]
 pub fn boxed<T>(alloc: Global, value: T) -> Result<Box<T, Global>, AllocFailed<T>>
     ensures boxed { IfOk result (λ made. made.value ≡ value) }
-    ensures kept { IfErr result (λ failed. failed.value ≡ value) }
+    ensures preserved { IfErr result (λ failed. failed.value ≡ value) }
     ensures asked { OnErr result (RoomWasRefused 1) }
     ensures refused { OnErr result MemoryWasRefused }
 {

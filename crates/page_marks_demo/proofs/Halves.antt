@@ -2,7 +2,7 @@
 use Rattle.std.proofs.Common.{◌≡◌, ℕ, suc, ◌+◌, ◌*◌, ◌^◌, sym, ap, ◌∙◌, arith}
 use Rattle.std.proofs.lemmas.Nat.{pow-add}
 use Rattle.vm_atomic_bitmaps.specs.declared.counts.PageCounts.{PageCounts}
-use Rattle.vm_atomic_bitmaps.specs.Counts.{kept_half, new_half, both_passes, IsWhole}
+use Rattle.vm_atomic_bitmaps.specs.Counts.{preserved_half, new_half, both_passes, IsWhole}
 use Rattle.page_marks_demo.specs.Threads.{HaveSamePart, HasHalf}
 
 -- a part in halves, each in other units
@@ -15,7 +15,7 @@ power_up : (d : ℕ) → 2 ^ suc d ≡ 2 * 2 ^ d
 power_up d = let one : suc d ≡ 1 + d = omega arith in ap (λ (k : ℕ). 2 ^ k) one ∙ pow-add 2 1 d
 
 -- the halves of a pass, marked with and joined, have its part again
-pub joined_part : (v a b : PageCounts) → HaveSamePart (kept_half v) a → HaveSamePart (new_half v) b → HaveSamePart v (both_passes a b)
+pub joined_part : (v a b : PageCounts) → HaveSamePart (preserved_half v) a → HaveSamePart (new_half v) b → HaveSamePart v (both_passes a b)
 joined_part v a b p q =
     halves_are a.parts b.parts v.parts (2 ^ v.depth) (2 ^ a.depth) (2 ^ b.depth)
     (ap (λ (k : ℕ). a.parts * k) (sym (power_up v.depth)) ∙ p) (ap (λ (k : ℕ). b.parts * k) (sym (power_up v.depth)) ∙ q)

@@ -47,13 +47,14 @@ marks_just v hit old new c = record {
         ap (λ (t : Tally). t.marked) (c.same p e)
         ∙ sym (ap (λ (b : Bool). (tally_of old p).marked || b) e ∙ or_false (tally_of old p).marked)
 
-    kept_by : (p : ℕ) → p < length old → (b : Bool) → hit p ≡ b → TakesNone (tally_of old p) (tally_of new p)
-    kept_by p within true e = subst (λ (t : Tally). TakesNone (tally_of old p) t) (sym (c.changed p within e).3) (refl, refl, omega arith)
-    kept_by p within false e = subst (λ (t : Tally). TakesNone (tally_of old p) t) (sym (c.same p e)) (refl, refl, omega arith)
+    preserved_by : (p : ℕ) → p < length old → (b : Bool) → hit p ≡ b → TakesNone (tally_of old p) (tally_of new p)
+    preserved_by p within true e =
+        subst (λ (t : Tally). TakesNone (tally_of old p) t) (sym (c.changed p within e).3) (refl, refl, omega arith)
+    preserved_by p within false e = subst (λ (t : Tally). TakesNone (tally_of old p) t) (sym (c.same p e)) (refl, refl, omega arith)
 
     each : (p : ℕ) → TakesNone (tally_of old p) (tally_of new p)
     each p = elim (cases_lt p (length old)) [
-      | inl within ↦ kept_by p within (hit p) refl
+      | inl within ↦ preserved_by p within (hit p) refl
       | inr past ↦
           let k = c.count in
           subst (λ (t : Tally). TakesNone (tally_of old p) t) (sym (at_past new p (omega arith) ∙ sym (at_past old p past)))
@@ -145,8 +146,8 @@ both_halves left right whole v met a b split is l r = record {
     none : (p : ℕ) → (tally_of b.pages p).off ≡ 0
     none p = r.off p ∙ ap (λ (t : Tally). t.off) (start p)
 
-    told : (p : ℕ) → (tally_of b.pages p).seen ≡ (tally_of v.pages p).seen
-    told p = let e = r.seen p in
+    reported : (p : ℕ) → (tally_of b.pages p).seen ≡ (tally_of v.pages p).seen
+    reported p = let e = r.seen p in
         let f : (tally_of met.pages p).seen ≡ max 0 (tally_of v.pages p).seen = ap (λ (t : Tally). t.seen) (start p) in
         omega arith
 
@@ -157,7 +158,7 @@ both_halves left right whole v met a b split is l r = record {
           let o = l.off p in
           let s = l.seen p in
           let h = l.held p in
-          let u = told p in
+          let u = reported p in
           subst (λ (t : Tally). TakesNone (tally_of v.pages p) t) (sym (page p within)) (omega arith, omega arith, omega arith)
       | inr past ↦
           let k = length-each_tally (λ p t. both_of t (tally_of b.pages p)) 0 a.pages in
@@ -172,12 +173,12 @@ both_halves left right whole v met a b split is l r = record {
         let k = l.count in
         let first = l.ahead p within h in
         let s = l.seen p in
-        let u = told p in
+        let u = reported p in
         subst (λ (t : Tally). t.seen < t.held) (sym (page p (omega arith))) (omega arith)
     by_left p within e false h =
         let k = l.count in
         let k' = long in
         let s = l.seen p in
-        let u = told p in
+        let u = reported p in
         let after = r.ahead p (omega arith) (or_left (left p) (right p) (sym (split p) ∙ e) h) in
         subst (λ (t : Tally). t.seen < t.held) (sym (page p (omega arith))) (omega arith)

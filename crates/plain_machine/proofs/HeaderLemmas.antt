@@ -20,7 +20,7 @@ use Rattle.server_requests.specs.Extras.{new_link, new_name}
 use Rattle.server_requests.specs.Fronts as fronts
 use Rattle.server_calls.specs.Requests as request
 use Rattle.server_calls.specs.Requests.{is_silent}
-use Rattle.server_replies.specs.WholeReplies.{reply_bytes, error_bytes, data_reply, told_bytes, listing_bytes, listing_answer}
+use Rattle.server_replies.specs.WholeReplies.{reply_bytes, error_bytes, data_reply, reported_bytes, listing_bytes, listing_answer}
 use Rattle.server_replies.specs.WholeReplies.{started_bytes}
 use Rattle.server_replies.proofs.ReplyLemmas.{length_reply, length_error}
 use Rattle.virtiofsd_fuse.specs.Grammar as grammar
@@ -52,20 +52,20 @@ unless_silent : (silent : Bool) (unique : ℕ) (body : List ℕ) → IsHeaded (i
 unless_silent true unique body = none_headed
 unless_silent false unique body = reply_headed unique body
 
-told_headed : (silent : Bool) (unique : ℕ) (a : FileAnswer) → IsHeaded (told_bytes silent unique a)
-told_headed silent unique (call.Failed errno) = error_headed unique errno
-told_headed silent unique call.Done = unless_silent silent unique _
-told_headed silent unique (call.HasEntry e) = unless_silent silent unique _
-told_headed silent unique (call.HasAttr attr timeout) = unless_silent silent unique _
-told_headed silent unique (call.Opened handle options) = unless_silent silent unique _
-told_headed silent unique (call.Created e handle options) = unless_silent silent unique _
-told_headed silent unique (call.Bytes bytes) = unless_silent silent unique _
-told_headed silent unique (call.Count n) = unless_silent silent unique _
-told_headed silent unique (call.Stats st) = unless_silent silent unique _
-told_headed silent unique (call.Wrote n) = unless_silent silent unique _
-told_headed silent unique (call.Offset n) = unless_silent silent unique _
-told_headed silent unique (call.Entries ds) = unless_silent silent unique _
-told_headed silent unique (call.Wants options) = unless_silent silent unique _
+reported_headed : (silent : Bool) (unique : ℕ) (a : FileAnswer) → IsHeaded (reported_bytes silent unique a)
+reported_headed silent unique (call.Failed errno) = error_headed unique errno
+reported_headed silent unique call.Done = unless_silent silent unique _
+reported_headed silent unique (call.HasEntry e) = unless_silent silent unique _
+reported_headed silent unique (call.HasAttr attr timeout) = unless_silent silent unique _
+reported_headed silent unique (call.Opened handle options) = unless_silent silent unique _
+reported_headed silent unique (call.Created e handle options) = unless_silent silent unique _
+reported_headed silent unique (call.Bytes bytes) = unless_silent silent unique _
+reported_headed silent unique (call.Count n) = unless_silent silent unique _
+reported_headed silent unique (call.Stats st) = unless_silent silent unique _
+reported_headed silent unique (call.Wrote n) = unless_silent silent unique _
+reported_headed silent unique (call.Offset n) = unless_silent silent unique _
+reported_headed silent unique (call.Entries ds) = unless_silent silent unique _
+reported_headed silent unique (call.Wants options) = unless_silent silent unique _
 
 start_headed : (page_size unique capable readahead : ℕ) (a : FileAnswer) → IsHeaded (start_answered page_size unique capable readahead a)
 start_headed page_size unique capable readahead (call.Wants wanted) =
@@ -97,64 +97,67 @@ RepliesHeaded IsSilent = Unit {0}
 RepliesHeaded (Asks command) = Unit {0}
 
 -- a reply begins with its header, and has room
-abbrev IsTold : (room : ℕ) → List ℕ → Type 0
-IsTold room bytes = IsHeaded bytes × (length bytes ≤ room)
+abbrev IsReported : (room : ℕ) → List ℕ → Type 0
+IsReported room bytes = IsHeaded bytes × (length bytes ≤ room)
 
-none_told : (room : ℕ) → IsTold room []
-none_told room = (none_headed, omega arith)
+none_reported : (room : ℕ) → IsReported room []
+none_reported room = (none_headed, omega arith)
 
 unless_long :
     (room : ℕ) (calls : List FileCall) (options : ℕ) (bytes : List ℕ) (long : Bool) → nat_lt room (length bytes) ≡ long → IsHeaded bytes →
-    IsTold room (if long then [] else bytes)
-unless_long room calls options bytes true is headed = none_told room
+    IsReported room (if long then [] else bytes)
+unless_long room calls options bytes true is headed = none_reported room
 unless_long room calls options bytes false is headed = (headed, ltb-false room (length bytes) is)
 
-which_reply : (room : ℕ) (calls : List FileCall) (options : ℕ) (bytes : List ℕ) (long : Bool) → IsTold room (if long then [] else bytes) →
-    nat_lt room (length bytes) ≡ long →
-    IsTold room (replied room calls options bytes).reply
-which_reply room calls options bytes true told is = rw is told
-which_reply room calls options bytes false told is = rw is told
+which_reply : (room : ℕ) (calls : List FileCall) (options : ℕ) (bytes : List ℕ) (long : Bool) → IsReported room (if long then [] else bytes)
+    → nat_lt room (length bytes) ≡ long →
+    IsReported room (replied room calls options bytes).reply
+which_reply room calls options bytes true reported is = rw is reported
+which_reply room calls options bytes false reported is = rw is reported
 
-replied_told : (room : ℕ) (calls : List FileCall) (options : ℕ) (bytes : List ℕ) → IsHeaded bytes →
-    IsTold room (replied room calls options bytes).reply
-replied_told room calls options bytes headed =
+replied_reported : (room : ℕ) (calls : List FileCall) (options : ℕ) (bytes : List ℕ) → IsHeaded bytes →
+    IsReported room (replied room calls options bytes).reply
+replied_reported room calls options bytes headed =
     which_reply room calls options bytes (nat_lt room (length bytes))
     (unless_long room calls options bytes (nat_lt room (length bytes)) refl headed) refl
 
-list_told : (s : Setting) (unique : ℕ) (l : ListRequest) (a : FileAnswer) (answers : List FileAnswer) →
-    IsTold s.room (list_answered s unique l a answers).reply
-list_told s unique l (call.Entries ds) answers =
+list_reported : (s : Setting) (unique : ℕ) (l : ListRequest) (a : FileAnswer) (answers : List FileAnswer) →
+    IsReported s.room (list_answered s unique l a answers).reply
+list_reported s unique l (call.Entries ds) answers =
     let w = list_entries l ds l.size (s.room - 16) answers in
-    replied_told s.room _ s.options (listing_bytes unique l.with_nodes w.bytes w.error)
+    replied_reported s.room _ s.options (listing_bytes unique l.with_nodes w.bytes w.error)
     (data_headed unique (listing_answer (length w.bytes) l.with_nodes w.error) w.bytes)
-list_told s unique l (call.Failed errno) answers = replied_told s.room _ s.options (error_bytes unique errno) (error_headed unique errno)
-list_told s unique l call.Done answers = none_told s.room
-list_told s unique l (call.HasEntry e) answers = none_told s.room
-list_told s unique l (call.HasAttr attr timeout) answers = none_told s.room
-list_told s unique l (call.Opened handle options) answers = none_told s.room
-list_told s unique l (call.Created e handle options) answers = none_told s.room
-list_told s unique l (call.Bytes bytes) answers = none_told s.room
-list_told s unique l (call.Count n) answers = none_told s.room
-list_told s unique l (call.Stats st) answers = none_told s.room
-list_told s unique l (call.Wrote n) answers = none_told s.room
-list_told s unique l (call.Offset n) answers = none_told s.room
-list_told s unique l (call.Wants options) answers = none_told s.room
+list_reported s unique l (call.Failed errno) answers =
+    replied_reported s.room _ s.options (error_bytes unique errno) (error_headed unique errno)
+list_reported s unique l call.Done answers = none_reported s.room
+list_reported s unique l (call.HasEntry e) answers = none_reported s.room
+list_reported s unique l (call.HasAttr attr timeout) answers = none_reported s.room
+list_reported s unique l (call.Opened handle options) answers = none_reported s.room
+list_reported s unique l (call.Created e handle options) answers = none_reported s.room
+list_reported s unique l (call.Bytes bytes) answers = none_reported s.room
+list_reported s unique l (call.Count n) answers = none_reported s.room
+list_reported s unique l (call.Stats st) answers = none_reported s.room
+list_reported s unique l (call.Wrote n) answers = none_reported s.room
+list_reported s unique l (call.Offset n) answers = none_reported s.room
+list_reported s unique l (call.Wants options) answers = none_reported s.room
 
-command_told : (s : Setting) (command : FileCommand) (answers : List FileAnswer) → IsTold s.room (commanded s command answers).reply
-command_told s (One unique c) [] = none_told s.room
-command_told s (One unique c) (a ∷ answers) = replied_told s.room _ _ (answer_bytes unique c a) (told_headed (is_silent c) unique a)
-command_told s (Starts unique capable readahead) [] = none_told s.room
-command_told s (Starts unique capable readahead) (a ∷ answers) =
-    replied_told s.room _ _ (start_answered s.page_size unique capable readahead a) (start_headed s.page_size unique capable readahead a)
-command_told s (Lists unique l) [] = none_told s.room
-command_told s (Lists unique l) (a ∷ answers) = list_told s unique l a answers
+command_reported : (s : Setting) (command : FileCommand) (answers : List FileAnswer) → IsReported s.room (commanded s command answers).reply
+command_reported s (One unique c) [] = none_reported s.room
+command_reported s (One unique c) (a ∷ answers) =
+    replied_reported s.room _ _ (answer_bytes unique c a) (reported_headed (is_silent c) unique a)
+command_reported s (Starts unique capable readahead) [] = none_reported s.room
+command_reported s (Starts unique capable readahead) (a ∷ answers) =
+    replied_reported s.room _ _ (start_answered s.page_size unique capable readahead a)
+    (start_headed s.page_size unique capable readahead a)
+command_reported s (Lists unique l) [] = none_reported s.room
+command_reported s (Lists unique l) (a ∷ answers) = list_reported s unique l a answers
 
 -- what is served begins with its header, and has room
-served_told : (s : Setting) (m : Meaning) (answers : List FileAnswer) → RepliesHeaded m → IsTold s.room (served s m answers).reply
-served_told s (IsFault e) answers h = none_told s.room
-served_told s (Replies bytes) answers h = replied_told s.room [] s.options bytes h
-served_told s IsSilent answers h = none_told s.room
-served_told s (Asks command) answers h = command_told s command answers
+served_reported : (s : Setting) (m : Meaning) (answers : List FileAnswer) → RepliesHeaded m → IsReported s.room (served s m answers).reply
+served_reported s (IsFault e) answers h = none_reported s.room
+served_reported s (Replies bytes) answers h = replied_reported s.room [] s.options bytes h
+served_reported s IsSilent answers h = none_reported s.room
+served_reported s (Asks command) answers h = command_reported s command answers
 
 -- ---- what a request means
 
@@ -322,7 +325,7 @@ unfolding meaning
 meaning_headed options room bs = with_header_headed options room (record_parser inputs.in_header bs)
 
 -- the reply to a request begins with its header, and has room
-pub reply_told : (s : Setting) (options room : ℕ) (bs : List ℕ) (answers : List FileAnswer) →
+pub reply_reported : (s : Setting) (options room : ℕ) (bs : List ℕ) (answers : List FileAnswer) →
     IsHeaded (served s (meaning options bs room) answers).reply ×
     (length (served s (meaning options bs room) answers).reply ≤ s.room)
-reply_told s options room bs answers = served_told s (meaning options bs room) answers (meaning_headed options room bs)
+reply_reported s options room bs answers = served_reported s (meaning options bs room) answers (meaning_headed options room bs)

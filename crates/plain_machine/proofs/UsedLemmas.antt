@@ -9,8 +9,8 @@ use Rattle.fs_queue.specs.Taking as taking
 use Rattle.fs_queue.specs.Returning.{returned, writes}
 use Rattle.virtiofsd_fuse.specs.Serving.{May, setting}
 use Rattle.plain_machine.specs.Step.{State, Exchange, Exchanged, Calls, Exchanges, StepOf, Step, answers_alone}
-use Rattle.plain_machine.specs.UsedLength.{IsOffered, TellsLength, LengthsAreTold, reply_writes, ring_writes}
-use Rattle.plain_machine.proofs.HeaderLemmas.{IsHeaded, reply_told}
+use Rattle.plain_machine.specs.UsedLength.{IsOffered, ReportsLength, LengthsAreReported, reply_writes, ring_writes}
+use Rattle.plain_machine.proofs.HeaderLemmas.{IsHeaded, reply_reported}
 
 -- ---- what is told
 
@@ -34,10 +34,10 @@ in_two :
     (q : Queue) (head : ℕ) (room reply : List ℕ) → writes q head room reply ≡ reply_writes room reply ++ ring_writes q head (length reply)
 in_two q head room reply = append_assoc (zip room reply) _ _
 
-tells : (m : Memory) (q : Queue) (head : ℕ) (room reply : List ℕ) (after : Memory) → after ≡ returned m q head room reply →
+reports : (m : Memory) (q : Queue) (head : ℕ) (room reply : List ℕ) (after : Memory) → after ≡ returned m q head room reply →
     length reply ≤ length room → IsHeaded reply →
-    TellsLength m q head room reply (length reply) after
-tells m q head room reply after is fits headed =
+    ReportsLength m q head room reply (length reply) after
+reports m q head room reply after is fits headed =
     let written : after ≡ stored_all m (reply_writes room reply ++ ring_writes q head (length reply)) =
     is ∙ ap (stored_all m) (in_two q head room reply) in
     record {
@@ -101,23 +101,23 @@ exchange_returns {F} may s i q head (IsRequest request room) calls x notice afte
     ∙ ap (returned s.memory q head room) (sym (ap (λ (e : Exchange). e.reply) r.returns.exchange))
 
 -- a reply begins with its header and has room
-exchange_told : {F : Type 0} (may : May F) (s : State F) (i : ℕ) (q : Queue) (head : ℕ) (fetched : RequestAndRoom) (calls : Calls)
+exchange_reported : {F : Type 0} (may : May F) (s : State F) (i : ℕ) (q : Queue) (head : ℕ) (fetched : RequestAndRoom) (calls : Calls)
     (x : Exchange) (notice : Bool) (after : State F) →
     Exchanges may s i q (Offers head fetched) calls x notice after → IsHeaded x.reply × (length x.reply ≤ length (room_of fetched))
-exchange_told may s i q head (CannotFetch why) calls x notice after r =
+exchange_reported may s i q head (CannotFetch why) calls x notice after r =
     subst (λ (bytes : List ℕ). IsHeaded bytes × (length bytes ≤ 0)) (sym (ap (λ (e : Exchange). e.reply) r.returns.exchange))
     ((λ some. absurd (omega (arith, some))), omega arith)
-exchange_told may s i q head (IsRequest request room) calls x notice after r =
+exchange_reported may s i q head (IsRequest request room) calls x notice after r =
     subst (λ (bytes : List ℕ). IsHeaded bytes × (length bytes ≤ length room))
     (sym (ap (λ (e : Exchange). e.reply) r.returns.exchange ∙ ap (λ g. g.reply) r.serves.gives))
-    (reply_told (setting s.page_size s.options (length room)) s.options (length room) request (answers_alone calls))
+    (reply_reported (setting s.page_size s.options (length room)) s.options (length room) request (answers_alone calls))
 
-pub lengths_are_told : {F : Type 0} (may : May F) → LengthsAreTold may
-lengths_are_told may s after i calls x notice step =
+pub lengths_are_reported : {F : Type 0} (may : May F) → LengthsAreReported may
+lengths_are_reported may s after i calls x notice step =
     let found = step_offers may s after i calls x notice step in
     let o = found.0 in
-    let told = exchange_told may s i o.queue x.head o.fetched calls x notice after found.1 in (
+    let reported = exchange_reported may s i o.queue x.head o.fetched calls x notice after found.1 in (
       o,
-      tells s.memory o.queue x.head (room_of o.fetched) x.reply after.memory
-          (exchange_returns may s i o.queue x.head o.fetched calls x notice after found.1) told.1 told.0,
+      reports s.memory o.queue x.head (room_of o.fetched) x.reply after.memory
+          (exchange_returns may s i o.queue x.head o.fetched calls x notice after found.1) reported.1 reported.0,
     )

@@ -219,7 +219,7 @@ unfolding offer place addresses stored_all path found meaning record_parser mean
 one_step = record {
   given = record { calls = []; options = 0; reply = unknown_reply; fault = None };
   serves = record { gives = refl; asks = refl; run = refl };
-  returns = record { exchange = refl; state = refl; told = refl };
+  returns = record { exchange = refl; state = refl; reported = refl };
 }
 
 -- the bytes in memory afterwards
@@ -233,14 +233,14 @@ unfolding offer place addresses stored_all path found
 element_stands = refl
 
 -- the driver suppresses notifications (VIRTQ_AVAIL_F_NO_INTERRUPT)
-not_told : Step may (device (put with_one_request 0x100 (le16 1)) queue) 0 []
+not_reported : Step may (device (put with_one_request 0x100 (le16 1)) queue) 0 []
     (Exchanged unknown_exchange false) (after_reply (put with_one_request 0x100 (le16 1)) queue)
 unfolding offer place addresses stored_all path found meaning record_parser meant error_bytes
     fields.field_bytes
-not_told = record {
+not_reported = record {
   given = record { calls = []; options = 0; reply = unknown_reply; fault = None };
   serves = record { gives = refl; asks = refl; run = refl };
-  returns = record { exchange = refl; state = refl; told = refl };
+  returns = record { exchange = refl; state = refl; reported = refl };
 }
 
 -- an available index that is too far ahead stops the queue

@@ -104,8 +104,8 @@ unfolding addresses
 return_without_room = refl
 
 -- the device stores nothing if no chain is available
-nothing_goes_back : return_addresses queue Idle ≡ []
-nothing_goes_back = refl
+nothing_is_returned : return_addresses queue Idle ≡ []
+nothing_is_returned = refl
 
 -- a reply buffer may have a byte twice if none of its first bytes is stored last
 none_last : MayStoreLast blank (0x2000 ∷ 0x2000 ∷ []) 0
@@ -130,7 +130,14 @@ step_by_loads = (
     given = record { calls = []; options = 0; reply = unknown_reply; fault = None };
     serves = record { gives = refl; asks = refl; run = refl };
     returns =
-        record { exchange = refl; flags = le16 0; flags_len = refl; acts = refl; state = refl; told = refl };
+        record {
+          exchange = refl;
+          flags = le16 0;
+          flags_len = refl;
+          acts = refl;
+          state = refl;
+          reported = refl;
+        };
   },
 )
 

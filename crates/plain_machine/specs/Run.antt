@@ -7,8 +7,8 @@ use Rattle.vm_iotlb.specs.declared.permissions.Permissions.{Permissions}
 use Rattle.vm_iotlb.specs.declared.permissions.Permissions.TheVariants.{Read, Write}
 use Rattle.vm_iotlb.specs.declared.range.IotlbRange.{IotlbRange}
 use Rattle.vm_iotlb.specs.Table.{Table, AreSame, mapped, nothing_mapped, unmapped}
-use Rattle.vm_iotlb.specs.Ranges.{AreRanges, table_kept}
-use Rattle.vm_iotlb.specs.AddressRuns.{begins_anew_about, goes_on_at}
+use Rattle.vm_iotlb.specs.Ranges.{AreRanges, table_held}
+use Rattle.vm_iotlb.specs.AddressRuns.{begins_anew_about, carries_on_at}
 use Rattle.vm_memory_core.specs.Host.{Host, Block, cleared, new_block, with_block}
 use Rattle.vm_memory_core.specs.Lending.{with_table_at}
 use Rattle.vm_memory.specs.Layout.{Region, fits, overlap, with_region, is_region, without_region}
@@ -198,7 +198,7 @@ abbrev pub TableBecomes : {F : Type 0} → State F → Table → State F → Typ
 TableBecomes s table after =
     (ranges : List IotlbRange)
     × AreRanges ranges
-    × AreSame (table_kept ranges) table
+    × AreSame (table_held ranges) table
     × (after ≡ with_ranges s ranges)
 
 -- the table becomes this one if the ends of its ranges are below 2^64; else `BadMapping`, and nothing
@@ -264,10 +264,10 @@ KickRun {F} may s i (suc most) (t ∷ ts) refused after =
 -- a kick of a queue that may be missing; a missing one is refused with `NoSuchQueue`
 abbrev pub Kicks :
     {F : Type 0} → May F → State F → ℕ → ℕ → Option Queue → Turns → KickAnswer → State F → Type 0
-Kicks may s i most None told k after =
-    (after ≡ s) × (told ≡ []) × (k ≡ record { exchanges = []; refused = Some device.NoSuchQueue })
-Kicks may s i most (Some q) told k after =
-    KickRun may s i most told k.refused after × (k.exchanges ≡ map shown told)
+Kicks may s i most None reported k after =
+    (after ≡ s) × (reported ≡ []) × (k ≡ record { exchanges = []; refused = Some device.NoSuchQueue })
+Kicks may s i most (Some q) reported k after =
+    KickRun may s i most reported k.refused after × (k.exchanges ≡ map shown reported)
 
 -- ---- runs
 
@@ -282,14 +282,14 @@ abbrev pub kick_takes_memory : {F : Type 0} → State F → (queue most : ℕ) �
 kick_takes_memory s queue most = is_open (slice_get s.queues queue) && nat_lt 0 most
 
 -- whether a region may join a layout: its last address fits 64 bits, and it overlaps no other region
-abbrev pub goes_in : List Region → Region → Bool
-goes_in layout r = fits r && not (list_any (overlap r) layout)
+abbrev pub fits_in : List Region → Region → Bool
+fits_in layout r = fits r && not (list_any (overlap r) layout)
 
 -- whether a block exists, and a region from an address on that shows all of it may join the layout
-abbrev pub block_goes_in : List Region → (base block : ℕ) → Option Block → Bool
-block_goes_in layout base block None = false
-block_goes_in layout base block (Some b) =
-    goes_in layout (record { start = base; size = length b.bytes; block = block })
+abbrev pub block_fits_in : List Region → (base block : ℕ) → Option Block → Bool
+block_fits_in layout base block None = false
+block_fits_in layout base block (Some b) =
+    fits_in layout (record { start = base; size = length b.bytes; block = block })
 
 -- whether a command allocates memory, and so may be refused with `OutOfMemory`: a read of at least one
 -- byte, a new block, a region added or removed, or a changed mapping, but only if no other refusal
@@ -302,7 +302,7 @@ command_takes_memory s (Map iova target n perm) =
     (nat_lt 0 n && (ends_fit iova n && ends_fit target n))
     && begins_anew_about (table_of s.memory) (mapped iova target n perm (table_of s.memory)) iova (iova + n)
 command_takes_memory s (Unmap iova n) =
-    (nat_lt 0 n && ends_fit iova n) && goes_on_at (table_of s.memory) (iova + n)
+    (nat_lt 0 n && ends_fit iova n) && carries_on_at (table_of s.memory) (iova + n)
 command_takes_memory s UnmapAll = false
 command_takes_memory s (SetIommu on) = false
 command_takes_memory s (Kick queue most) = kick_takes_memory s queue most
@@ -311,7 +311,7 @@ command_takes_memory s (SetLayout layout) = false
 command_takes_memory s (GuestRead a n) = nat_lt 0 n && reach (physical s.memory) Read a n
 command_takes_memory s (NewBlock n) = nat_lt 0 n
 command_takes_memory s (InsertRegion base block) =
-    block_goes_in s.memory.layout base block (slice_get s.memory.host.blocks block)
+    block_fits_in s.memory.layout base block (slice_get s.memory.host.blocks block)
 command_takes_memory s (RemoveRegion base size) = list_any (is_region base size) s.memory.layout
 command_takes_memory s Image = true
 command_takes_memory s Harvest = true
@@ -323,10 +323,10 @@ HasEffect s command (t ∷ ts) answer after = ⊥
 
 -- a command for which the allocations succeed
 abbrev pub Does : {F : Type 0} → May F → State F → Command → Turns → Answer → State F → Type 0
-Does may s (Kick queue most) told (Served k) after =
-    Kicks may s queue most (slice_get s.queues queue) told k after
-Does may s (Kick queue most) told answer after = ⊥
-Does may s command told answer after = HasEffect s command told answer after
+Does may s (Kick queue most) reported (Served k) after =
+    Kicks may s queue most (slice_get s.queues queue) reported k after
+Does may s (Kick queue most) reported answer after = ⊥
+Does may s command reported answer after = HasEffect s command reported answer after
 
 -- an allocation fails, and nothing changes
 abbrev pub LacksMemory : {F : Type 0} → State F → Command → Turns → State F → Type 0
@@ -335,18 +335,18 @@ LacksMemory s command (t ∷ ts) after = ⊥
 
 -- a command may have this answer, with these exchanges behind it, and leave this state
 abbrev pub Performs : {F : Type 0} → May F → State F → Command → Turns → Answer → State F → Type 0
-Performs may s command told (IsRefused why.OutOfMemory) after = LacksMemory s command told after
-Performs may s command told answer after = Does may s command told answer after
+Performs may s command reported (IsRefused why.OutOfMemory) after = LacksMemory s command reported after
+Performs may s command reported answer after = Does may s command reported answer after
 
 -- these commands have these answers, one after another, each with the exchanges behind it
-unfoldable pub RunTold :
+unfoldable pub RunReported :
     {F : Type 0} → May F → State F → List (Command × Answer) → List Turns → State F → Type 0
-RunTold may s [] [] after = after ≡ s
-RunTold may s [] (told ∷ tolds) after = ⊥
-RunTold may s (e ∷ es) [] after = ⊥
-RunTold {F} may s (e ∷ es) (told ∷ tolds) after =
-    (mid : State F) × Performs may s e.0 told e.1 mid × RunTold may mid es tolds after
+RunReported may s [] [] after = after ≡ s
+RunReported may s [] (reported ∷ all_reported) after = ⊥
+RunReported may s (e ∷ es) [] after = ⊥
+RunReported {F} may s (e ∷ es) (reported ∷ all_reported) after =
+    (mid : State F) × Performs may s e.0 reported e.1 mid × RunReported may mid es all_reported after
 
 -- these commands may have these answers, one after another, and leave this state
 abbrev pub Run : {F : Type 0} → May F → State F → List (Command × Answer) → State F → Type 0
-Run may s events after = (tolds : List Turns) × RunTold may s events tolds after
+Run may s events after = (all_reported : List Turns) × RunReported may s events all_reported after

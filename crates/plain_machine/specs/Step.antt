@@ -98,7 +98,7 @@ pub record Returns {F : Type 0} (before : State F) (i : ℕ) (q : Queue) (room :
     (options : ℕ) (x : Exchange) (notice : Bool) (after : State F) : Type 0 where
   pub exchange : x ≡ expected
   pub state : after ≡ after_return before i q expected.head room expected.reply options after.files
-  pub told : notice ≡ wants_notice after.memory q
+  pub reported : notice ≡ wants_notice after.memory q
 
 -- the exchange of a faulty chain: no request, no reply, and its fault
 abbrev pub faulty : (head : ℕ) → ChainFault → Exchange

@@ -13,7 +13,7 @@ use Rattle.fs_queue.specs.Taking.{after_refusal}
 use Rattle.fs_queue.specs.Taking as taking
 use Rattle.fs_queue.specs.Loads.{Load}
 use Rattle.fs_queue.specs.OfferLoads.{offer_by, AreLoadsOf}
-use Rattle.fs_queue.specs.Returning.{Store, writes_of, stores_after_reply, tells, advanced}
+use Rattle.fs_queue.specs.Returning.{Store, writes_of, stores_after_reply, notifies, advanced}
 use Rattle.plain_machine.specs.Apart.{Apart}
 use Rattle.virtiofsd_fuse.specs.Serving.{May, ServedMessage}
 use Rattle.plain_machine.specs.declared.error.DeviceError.TheVariants as device
@@ -93,7 +93,7 @@ pub record ReturnsBy {F : Type 0} (before : State F) (i : ℕ) (q : Queue) (room
     options = options;
     files = after.files;
   }
-  pub told : notice ≡ tells flags
+  pub reported : notice ≡ notifies flags
 
 -- a faulty chain is returned without a reply, and no call is made
 pub record ReturnsFaultyBy {F : Type 0} (before : State F) (i : ℕ) (q : Queue) (head : ℕ) (why : ChainFault)

@@ -25,7 +25,7 @@ ring_writes q head used_length =
 
 -- the used length is the number of reply bytes written, and if it isn't 0, the length in the reply's
 -- header as le32. If it is 0, only the used element and the used index are written
-pub record TellsLength (before : Memory) (q : Queue) (head : ℕ) (room reply : List ℕ) (used_length : ℕ)
+pub record ReportsLength (before : Memory) (q : Queue) (head : ℕ) (room reply : List ℕ) (used_length : ℕ)
     (after : Memory) : Type 0 where
   pub written : after ≡ stored_all before (reply_writes room reply ++ ring_writes q head used_length)
   pub count : length (reply_writes room reply) ≡ used_length
@@ -41,9 +41,9 @@ pub record IsOffered {F : Type 0} (s : State F) (i : ℕ) (x : Exchange) : Type 
   pub offered : offer s.memory s.limit queue ≡ Offers x.head fetched
 
 -- theorem: the used length of each exchange is the length of its reply
-abbrev pub LengthsAreTold : {F : Type 0} → May F → Type 0
-LengthsAreTold {F} may =
+abbrev pub LengthsAreReported : {F : Type 0} → May F → Type 0
+LengthsAreReported {F} may =
     (s after : State F) (i : ℕ) (calls : Calls) (x : Exchange) (notice : Bool) →
     Step may s i calls (Exchanged x notice) after →
     (o : IsOffered s i x)
-    × TellsLength s.memory o.queue x.head (room_of o.fetched) x.reply (length x.reply) after.memory
+    × ReportsLength s.memory o.queue x.head (room_of o.fetched) x.reply (length x.reply) after.memory

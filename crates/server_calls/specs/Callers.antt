@@ -31,8 +31,8 @@ is_plain (Readdir c n h s o) = false
 is_plain _ = true
 
 -- the call is plain, and a call that may answer an entry is made for the request's sender
-abbrev pub CallSays : InHeader → FileCall → Type 0
-CallSays h call = (is_plain call ≡ true) × IsFor (context_of h) call
+abbrev pub CallShows : InHeader → FileCall → Type 0
+CallShows h call = (is_plain call ≡ true) × IsFor (context_of h) call
 
 -- the parts of a request behind its header: none, a record, a record of an open file, a name, a
 -- record with names, or the name of a new node

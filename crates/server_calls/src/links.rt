@@ -16,7 +16,7 @@ impl RecordNameValue for Link {
 
     ghost call = { link_call };
 
-    ghost says = { λ h r name. (refl, (refl, refl)) };
+    ghost shows = { λ h r name. (refl, (refl, refl)) };
 
     fn value<'a>(head: &InHeader, request: &LinkIn, name: &'a [u8]) -> FileCall<'a> {
         FileCall::Link {
@@ -36,7 +36,7 @@ impl TwoPartsValue for Rename {
 
     ghost call = { rename_call };
 
-    ghost says = { λ h r parts. (refl, (refl, tt)) };
+    ghost shows = { λ h r parts. (refl, (refl, tt)) };
 
     fn value<'a>(
         head: &InHeader,
@@ -66,7 +66,7 @@ impl TwoPartsValue for Rename2 {
 
     ghost call = { rename2_call };
 
-    ghost says = { λ h r parts. (refl, (refl, tt)) };
+    ghost shows = { λ h r parts. (refl, (refl, tt)) };
 
     fn value<'a>(
         head: &InHeader,

@@ -18,7 +18,7 @@ impl NewNameValue for Mknod {
 
     ghost call = { mknod_call };
 
-    ghost says = { λ h r x. (refl, (refl, refl)) };
+    ghost shows = { λ h r x. (refl, (refl, refl)) };
 
     fn value<'a>(
         head: &InHeader,
@@ -46,7 +46,7 @@ impl NewNameValue for Mkdir {
 
     ghost call = { mkdir_call };
 
-    ghost says = { λ h r x. (refl, (refl, refl)) };
+    ghost shows = { λ h r x. (refl, (refl, refl)) };
 
     fn value<'a>(
         head: &InHeader,
@@ -73,7 +73,7 @@ impl NewNameValue for Create {
 
     ghost call = { create_call };
 
-    ghost says = { λ h r x. (refl, (refl, refl)) };
+    ghost shows = { λ h r x. (refl, (refl, refl)) };
 
     fn value<'a>(
         head: &InHeader,

@@ -20,7 +20,7 @@ pub struct Lookup;
 impl NameValue for Lookup {
     ghost call = { lookup_call };
 
-    ghost says = { λ h name. (refl, (refl, refl)) };
+    ghost shows = { λ h name. (refl, (refl, refl)) };
 
     fn value<'a>(head: &InHeader, name: &'a [u8]) -> FileCall<'a> {
         FileCall::Lookup {
@@ -37,7 +37,7 @@ pub struct Unlink;
 impl NameValue for Unlink {
     ghost call = { unlink_call };
 
-    ghost says = { λ h name. (refl, (refl, tt)) };
+    ghost shows = { λ h name. (refl, (refl, tt)) };
 
     fn value<'a>(head: &InHeader, name: &'a [u8]) -> FileCall<'a> {
         FileCall::Unlink {
@@ -54,7 +54,7 @@ pub struct Rmdir;
 impl NameValue for Rmdir {
     ghost call = { rmdir_call };
 
-    ghost says = { λ h name. (refl, (refl, tt)) };
+    ghost shows = { λ h name. (refl, (refl, tt)) };
 
     fn value<'a>(head: &InHeader, name: &'a [u8]) -> FileCall<'a> {
         FileCall::Rmdir {
@@ -71,7 +71,7 @@ pub struct Removexattr;
 impl NameValue for Removexattr {
     ghost call = { removexattr_call };
 
-    ghost says = { λ h name. (refl, (refl, tt)) };
+    ghost shows = { λ h name. (refl, (refl, tt)) };
 
     fn value<'a>(head: &InHeader, name: &'a [u8]) -> FileCall<'a> {
         FileCall::Removexattr {
@@ -90,7 +90,7 @@ impl RecordValue for Forget {
 
     ghost call = { forget_call };
 
-    ghost says = { λ h r. (refl, (refl, tt)) };
+    ghost shows = { λ h r. (refl, (refl, tt)) };
 
     fn value<'a>(head: &InHeader, request: &ForgetIn) -> FileCall<'a> {
         FileCall::Forget {
@@ -109,7 +109,7 @@ impl RecordValue for Getattr {
 
     ghost call = { getattr_call };
 
-    ghost says = { λ h r. (refl, (refl, tt)) };
+    ghost shows = { λ h r. (refl, (refl, tt)) };
 
     fn value<'a>(head: &InHeader, request: &GetattrIn) -> FileCall<'a> {
         FileCall::Getattr {
@@ -136,7 +136,7 @@ impl RecordValue for Setattr {
 
     ghost call = { setattr_call };
 
-    ghost says = { λ h r. (refl, (refl, tt)) };
+    ghost shows = { λ h r. (refl, (refl, tt)) };
 
     fn value<'a>(head: &InHeader, request: &SetattrIn) -> FileCall<'a> {
         FileCall::Setattr {
@@ -157,7 +157,7 @@ impl RecordValue for Access {
 
     ghost call = { access_call };
 
-    ghost says = { λ h r. (refl, (refl, tt)) };
+    ghost shows = { λ h r. (refl, (refl, tt)) };
 
     fn value<'a>(head: &InHeader, request: &AccessIn) -> FileCall<'a> {
         FileCall::Access {
@@ -174,7 +174,7 @@ pub struct Readlink;
 impl PlainValue for Readlink {
     ghost call = { readlink_call };
 
-    ghost says = { λ h. (refl, (refl, tt)) };
+    ghost shows = { λ h. (refl, (refl, tt)) };
 
     fn value<'a>(head: &InHeader) -> FileCall<'a> {
         FileCall::Readlink {
@@ -190,7 +190,7 @@ pub struct Statfs;
 impl PlainValue for Statfs {
     ghost call = { statfs_call };
 
-    ghost says = { λ h. (refl, (refl, tt)) };
+    ghost shows = { λ h. (refl, (refl, tt)) };
 
     fn value<'a>(head: &InHeader) -> FileCall<'a> {
         FileCall::Statfs {
@@ -206,7 +206,7 @@ pub struct Syncfs;
 impl PlainValue for Syncfs {
     ghost call = { syncfs_call };
 
-    ghost says = { λ h. (refl, (refl, tt)) };
+    ghost shows = { λ h. (refl, (refl, tt)) };
 
     fn value<'a>(head: &InHeader) -> FileCall<'a> {
         FileCall::Syncfs {

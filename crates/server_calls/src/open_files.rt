@@ -25,7 +25,7 @@ impl RecordValue for Open {
 
     ghost call = { open_call };
 
-    ghost says = { λ h r. (refl, (refl, tt)) };
+    ghost shows = { λ h r. (refl, (refl, tt)) };
 
     fn value<'a>(head: &InHeader, request: &OpenIn) -> FileCall<'a> {
         FileCall::Open {
@@ -42,9 +42,9 @@ fn releasing_owner(request: &ReleaseIn) -> Option<u64>
     ensures { result ≡ if_set (has_bit request.now.release_flags 0 || has_bit request.now.release_flags 1)
         request.now.lock_owner }
 {
-    let told = request.release_flags & RELEASE_FLUSH != 0
+    let reported = request.release_flags & RELEASE_FLUSH != 0
         || request.release_flags & RELEASE_FLOCK_UNLOCK != 0;
-    number_if(told, request.lock_owner)
+    number_if(reported, request.lock_owner)
 }
 
 /// RELEASE (`struct fuse_release_in`): closes an open file.
@@ -55,7 +55,7 @@ impl RecordValue for Release {
 
     ghost call = { release_call };
 
-    ghost says = { λ h r. (refl, (refl, tt)) };
+    ghost shows = { λ h r. (refl, (refl, tt)) };
 
     fn value<'a>(head: &InHeader, request: &ReleaseIn) -> FileCall<'a> {
         FileCall::Release {
@@ -78,7 +78,7 @@ impl RecordValue for Fsync {
 
     ghost call = { fsync_call };
 
-    ghost says = { λ h r. (refl, (refl, tt)) };
+    ghost shows = { λ h r. (refl, (refl, tt)) };
 
     fn value<'a>(head: &InHeader, request: &FsyncIn) -> FileCall<'a> {
         FileCall::Fsync {
@@ -98,7 +98,7 @@ impl RecordValue for Fsyncdir {
 
     ghost call = { fsyncdir_call };
 
-    ghost says = { λ h r. (refl, (refl, tt)) };
+    ghost shows = { λ h r. (refl, (refl, tt)) };
 
     fn value<'a>(head: &InHeader, request: &FsyncIn) -> FileCall<'a> {
         FileCall::Fsyncdir {
@@ -118,7 +118,7 @@ impl RecordValue for Flush {
 
     ghost call = { flush_call };
 
-    ghost says = { λ h r. (refl, (refl, tt)) };
+    ghost shows = { λ h r. (refl, (refl, tt)) };
 
     fn value<'a>(head: &InHeader, request: &FlushIn) -> FileCall<'a> {
         FileCall::Flush {
@@ -138,7 +138,7 @@ impl RecordValue for Opendir {
 
     ghost call = { opendir_call };
 
-    ghost says = { λ h r. (refl, (refl, tt)) };
+    ghost shows = { λ h r. (refl, (refl, tt)) };
 
     fn value<'a>(head: &InHeader, request: &OpenIn) -> FileCall<'a> {
         FileCall::Opendir {
@@ -157,7 +157,7 @@ impl RecordValue for Releasedir {
 
     ghost call = { releasedir_call };
 
-    ghost says = { λ h r. (refl, (refl, tt)) };
+    ghost shows = { λ h r. (refl, (refl, tt)) };
 
     fn value<'a>(head: &InHeader, request: &ReleaseIn) -> FileCall<'a> {
         FileCall::Releasedir {
@@ -177,7 +177,7 @@ impl RecordValue for Fallocate {
 
     ghost call = { fallocate_call };
 
-    ghost says = { λ h r. (refl, (refl, tt)) };
+    ghost shows = { λ h r. (refl, (refl, tt)) };
 
     fn value<'a>(head: &InHeader, request: &FallocateIn) -> FileCall<'a> {
         FileCall::Fallocate {
@@ -199,7 +199,7 @@ impl RecordValue for Lseek {
 
     ghost call = { lseek_call };
 
-    ghost says = { λ h r. (refl, (refl, tt)) };
+    ghost shows = { λ h r. (refl, (refl, tt)) };
 
     fn value<'a>(head: &InHeader, request: &LseekIn) -> FileCall<'a> {
         FileCall::Lseek {
@@ -220,7 +220,7 @@ impl RecordValue for CopyFileRange {
 
     ghost call = { copy_file_range_call };
 
-    ghost says = { λ h r. (refl, (refl, tt)) };
+    ghost shows = { λ h r. (refl, (refl, tt)) };
 
     fn value<'a>(head: &InHeader, request: &CopyfilerangeIn) -> FileCall<'a> {
         FileCall::CopyFileRange {

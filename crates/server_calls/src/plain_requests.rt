@@ -13,7 +13,7 @@ pub struct Getlk;
 impl PlainValue for Getlk {
     ghost call = { λ h. call.Getlk };
 
-    ghost says = { λ h. (refl, (refl, tt)) };
+    ghost shows = { λ h. (refl, (refl, tt)) };
 
     fn value<'a>(head: &InHeader) -> FileCall<'a> {
         FileCall::Getlk
@@ -26,7 +26,7 @@ pub struct Setlk;
 impl PlainValue for Setlk {
     ghost call = { λ h. call.Setlk };
 
-    ghost says = { λ h. (refl, (refl, tt)) };
+    ghost shows = { λ h. (refl, (refl, tt)) };
 
     fn value<'a>(head: &InHeader) -> FileCall<'a> {
         FileCall::Setlk
@@ -39,7 +39,7 @@ pub struct Setlkw;
 impl PlainValue for Setlkw {
     ghost call = { λ h. call.Setlkw };
 
-    ghost says = { λ h. (refl, (refl, tt)) };
+    ghost shows = { λ h. (refl, (refl, tt)) };
 
     fn value<'a>(head: &InHeader) -> FileCall<'a> {
         FileCall::Setlkw
@@ -52,7 +52,7 @@ pub struct Bmap;
 impl PlainValue for Bmap {
     ghost call = { λ h. call.Bmap };
 
-    ghost says = { λ h. (refl, (refl, tt)) };
+    ghost shows = { λ h. (refl, (refl, tt)) };
 
     fn value<'a>(head: &InHeader) -> FileCall<'a> {
         FileCall::Bmap
@@ -65,7 +65,7 @@ pub struct Ioctl;
 impl PlainValue for Ioctl {
     ghost call = { λ h. call.Ioctl };
 
-    ghost says = { λ h. (refl, (refl, tt)) };
+    ghost shows = { λ h. (refl, (refl, tt)) };
 
     fn value<'a>(head: &InHeader) -> FileCall<'a> {
         FileCall::Ioctl
@@ -78,7 +78,7 @@ pub struct Poll;
 impl PlainValue for Poll {
     ghost call = { λ h. call.Poll };
 
-    ghost says = { λ h. (refl, (refl, tt)) };
+    ghost shows = { λ h. (refl, (refl, tt)) };
 
     fn value<'a>(head: &InHeader) -> FileCall<'a> {
         FileCall::Poll
@@ -91,7 +91,7 @@ pub struct NotifyReply;
 impl PlainValue for NotifyReply {
     ghost call = { λ h. call.NotifyReply };
 
-    ghost says = { λ h. (refl, (refl, tt)) };
+    ghost shows = { λ h. (refl, (refl, tt)) };
 
     fn value<'a>(head: &InHeader) -> FileCall<'a> {
         FileCall::NotifyReply
@@ -104,7 +104,7 @@ pub struct TmpFile;
 impl PlainValue for TmpFile {
     ghost call = { λ h. call.TmpFile };
 
-    ghost says = { λ h. (refl, (refl, tt)) };
+    ghost shows = { λ h. (refl, (refl, tt)) };
 
     fn value<'a>(head: &InHeader) -> FileCall<'a> {
         FileCall::TmpFile

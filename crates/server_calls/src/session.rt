@@ -19,7 +19,7 @@ pub struct Destroy;
 impl PlainValue for Destroy {
     ghost call = { λ h. call.Destroy };
 
-    ghost says = { λ h. (refl, (refl, tt)) };
+    ghost shows = { λ h. (refl, (refl, tt)) };
 
     fn value<'a>(head: &InHeader) -> FileCall<'a> {
         FileCall::Destroy

@@ -5,17 +5,18 @@ ghost use Rattle.fuse_in.specs.declared.session.InHeader.{InHeader};
 ghost use Rattle.fuse_fs.specs.Calls as call;
 ghost use Rattle.fuse_fs.specs.Calls.{Extra};
 ghost use Rattle.fuse_values.specs.Values.{call_of, received_extra};
-ghost use Rattle.server_calls.specs.Callers.{CallSays, Header, Named, NamedRecord, Made, shape_of, is_record};
+ghost use Rattle.server_calls.specs.Callers.{CallShows, Header, Named, NamedRecord, Made, shape_of};
+ghost use Rattle.server_calls.specs.Callers.{is_record};
 ghost use Rattle.server_calls.specs.Requests.{if_set};
 
 use fuse_in::{InHeader, InRecord};
 use fuse_values::{FileCall, Received};
 
 /// A number, if its flag is set.
-pub fn number_if(told: bool, number: u64) -> Option<u64>
-    ensures { result ≡ if_set told number }
+pub fn number_if(reported: bool, number: u64) -> Option<u64>
+    ensures { result ≡ if_set reported number }
 {
-    if told { Some(number) } else { None }
+    if reported { Some(number) } else { None }
 }
 
 /// A request that is only its header.
@@ -24,7 +25,7 @@ pub trait PlainValue {
     ghost call: { InHeader → call.FileCall };
 
     // The call has this shape, and is made for the request's sender.
-    ghost says: { (h : InHeader) → (shape_of (call h) ≡ Header) × CallSays h (call h) };
+    ghost shows: { (h : InHeader) → (shape_of (call h) ≡ Header) × CallShows h (call h) };
 
     /// The call.
     fn value<'a>(head: &InHeader) -> FileCall<'a>
@@ -39,8 +40,8 @@ pub trait RecordValue {
     ghost call: { InHeader → Self.Record → call.FileCall };
 
     // The call has this shape, and is made for the request's sender.
-    ghost says: { (h : InHeader) (r : Self.Record)
-        → (is_record (shape_of (call h r)) ≡ true) × CallSays h (call h r) };
+    ghost shows: { (h : InHeader) (r : Self.Record)
+        → (is_record (shape_of (call h r)) ≡ true) × CallShows h (call h r) };
 
     /// The call.
     fn value<'a>(head: &InHeader, request: &Self::Record) -> FileCall<'a>
@@ -53,8 +54,8 @@ pub trait NameValue {
     ghost call: { InHeader → List ℕ → call.FileCall };
 
     // The call has this shape, and is made for the request's sender.
-    ghost says: { (h : InHeader) (name : List ℕ)
-        → (shape_of (call h name) ≡ Named) × CallSays h (call h name) };
+    ghost shows: { (h : InHeader) (name : List ℕ)
+        → (shape_of (call h name) ≡ Named) × CallShows h (call h name) };
 
     /// The call.
     fn value<'a>(head: &InHeader, name: &'a [u8]) -> FileCall<'a>
@@ -69,8 +70,8 @@ pub trait RecordNameValue {
     ghost call: { InHeader → Self.Record → List ℕ → call.FileCall };
 
     // The call has this shape, and is made for the request's sender.
-    ghost says: { (h : InHeader) (r : Self.Record) (name : List ℕ)
-        → (shape_of (call h r name) ≡ NamedRecord) × CallSays h (call h r name) };
+    ghost shows: { (h : InHeader) (r : Self.Record) (name : List ℕ)
+        → (shape_of (call h r name) ≡ NamedRecord) × CallShows h (call h r name) };
 
     /// The call.
     fn value<'a>(head: &InHeader, request: &Self::Record, name: &'a [u8]) -> FileCall<'a>
@@ -85,8 +86,8 @@ pub trait TwoPartsValue {
     ghost call: { InHeader → Self.Record → List ℕ × List ℕ → call.FileCall };
 
     // The call has this shape, and is made for the request's sender.
-    ghost says: { (h : InHeader) (r : Self.Record) (parts : List ℕ × List ℕ)
-        → (shape_of (call h r parts) ≡ NamedRecord) × CallSays h (call h r parts) };
+    ghost shows: { (h : InHeader) (r : Self.Record) (parts : List ℕ × List ℕ)
+        → (shape_of (call h r parts) ≡ NamedRecord) × CallShows h (call h r parts) };
 
     /// The call.
     fn value<'a>(
@@ -106,8 +107,8 @@ pub trait NewNameValue {
     ghost call: { InHeader → Self.Record → List ℕ × Extra → call.FileCall };
 
     // The call has this shape, and is made for the request's sender.
-    ghost says: { (h : InHeader) (r : Self.Record) (x : List ℕ × Extra)
-        → (shape_of (call h r x) ≡ Made) × CallSays h (call h r x) };
+    ghost shows: { (h : InHeader) (r : Self.Record) (x : List ℕ × Extra)
+        → (shape_of (call h r x) ≡ Made) × CallShows h (call h r x) };
 
     /// The call.
     fn value<'a>(

@@ -18,7 +18,7 @@ impl RecordNameValue for Getxattr {
 
     ghost call = { getxattr_call };
 
-    ghost says = { λ h r name. (refl, (refl, tt)) };
+    ghost shows = { λ h r name. (refl, (refl, tt)) };
 
     fn value<'a>(head: &InHeader, request: &GetxattrIn, name: &'a [u8]) -> FileCall<'a> {
         FileCall::Getxattr {
@@ -38,7 +38,7 @@ impl RecordValue for Listxattr {
 
     ghost call = { listxattr_call };
 
-    ghost says = { λ h r. (refl, (refl, tt)) };
+    ghost shows = { λ h r. (refl, (refl, tt)) };
 
     fn value<'a>(head: &InHeader, request: &GetxattrIn) -> FileCall<'a> {
         FileCall::Listxattr {
@@ -65,7 +65,7 @@ impl TwoPartsValue for Setxattr {
 
     ghost call = { setxattr_call };
 
-    ghost says = { λ h r parts. (refl, (refl, tt)) };
+    ghost shows = { λ h r parts. (refl, (refl, tt)) };
 
     fn value<'a>(
         head: &InHeader,

@@ -12,7 +12,7 @@ use Rattle.fuse_wire.specs.Records.{dirent}
 use Rattle.fuse_fs.specs.declared.answers.Entry.{Entry}
 use Rattle.fuse_fs.specs.Replies.{dirent_of}
 use Rattle.fuse_fs.specs.Calls.{FileCall, FileAnswer, Listed, Lookup, HasEntry, Failed, Entries}
-use Rattle.server_replies.specs.Entries.{Fit, GoesIn, IsFull, IsWrong, EIO, EOVERFLOW, dirent_len, entry_len, entry_bytes, dirent_bytes}
+use Rattle.server_replies.specs.Entries.{Fit, FitsIn, IsFull, IsWrong, EIO, EOVERFLOW, dirent_len, entry_len, entry_bytes, dirent_bytes}
 use Rattle.server_replies.specs.Entries.{node_bytes, fit_of, is_dot, no_node}
 use Rattle.server_replies.specs.WholeReplies.{reply_bytes, error_bytes, listing_bytes, data_header}
 use Rattle.server_replies.proofs.ReplyLemmas.{length_reply, length_error}
@@ -68,21 +68,21 @@ name_short : (b : Bool) (n : ℕ) → n ≤ entry_len b n
 name_short true n = omega arith
 name_short false n = omega arith
 
-abbrev went : List FileCall → List ℕ → Option ℕ → ListingResult
-went calls bytes error = record { calls = calls; bytes = bytes; error = error }
+abbrev yielded : List FileCall → List ℕ → Option ℕ → ListingResult
+yielded calls bytes error = record { calls = calls; bytes = bytes; error = error }
 
-fits : (n len left room : ℕ) → n < 2 ^ 32 → len ≤ left → len ≤ room → fit_of n len left room ≡ GoesIn
+fits : (n len left room : ℕ) → n < 2 ^ 32 → len ≤ left → len ≤ room → fit_of n len left room ≡ FitsIn
 unfolding fit_of
 fits n len left room s f g =
     let short : nat_le (2 ^ 32) n ≡ false = grind (arith, nat_tests) in
     rw (short, le-ltb left len f, le-ltb room len g) refl
 
-goes_in : (b : Bool) (d : Listed) (e : Entry ℕ) (undo : List FileCall) (next : Next) (left room : ℕ) (answers : List FileAnswer)
+fits_in : (b : Bool) (d : Listed) (e : Entry ℕ) (undo : List FileCall) (next : Next) (left room : ℕ) (answers : List FileAnswer)
     (w : ListingResult)
     → length d.name < 2 ^ 32 → entry_len b (length d.name) ≤ left → entry_len b (length d.name) ≤ room
     → next (left - entry_len b (length d.name)) (room - entry_len b (length d.name)) answers ≡ w
-    → with_entry b d e undo next left room answers ≡ went w.calls (entry_bytes b e d ++ w.bytes) w.error
-goes_in b d e undo next left room answers w s f g k = rw (fits (length d.name) (entry_len b (length d.name)) left room s f g, k) refl
+    → with_entry b d e undo next left room answers ≡ yielded w.calls (entry_bytes b e d ++ w.bytes) w.error
+fits_in b d e undo next left room answers w s f g k = rw (fits (length d.name) (entry_len b (length d.name)) left room s f g, k) refl
 
 brought_by : (b dot : Bool) (unique : ℕ) (l : asked.ListRequest) (e : Brought) (next : Next) (left room : ℕ) (answers : List FileAnswer)
     (w : ListingResult)
@@ -90,17 +90,17 @@ brought_by : (b dot : Bool) (unique : ℕ) (l : asked.ListRequest) (e : Brought)
     → entry_len b (length e.0.name) ≤ room
     → next (left - entry_len b (length e.0.name)) (room - entry_len b (length e.0.name)) answers ≡ w
     → list_entry l e.0 next left room (cond (is_looked_up l.with_nodes e.0) (HasEntry e.1 ∷ []) [] ++ answers)
-    ≡ went (look_up (Lists unique l) e.0 ++ w.calls) (bytes_of l.with_nodes e ++ w.bytes) w.error
+    ≡ yielded (look_up (Lists unique l) e.0 ++ w.calls) (bytes_of l.with_nodes e ++ w.bytes) w.error
 brought_by false dot unique l e next left room answers w n t s f g k =
-    rw n (goes_in false e.0 (no_node e.0) [] next left room answers w s f g k)
+    rw n (fits_in false e.0 (no_node e.0) [] next left room answers w s f g k)
 brought_by true true unique l e next left room answers w n t s f g k =
-    rw (n, t) (goes_in true e.0 (no_node e.0) (forget_lookup l.context 0 ∷ []) next left room answers w s f g k)
+    rw (n, t) (fits_in true e.0 (no_node e.0) (forget_lookup l.context 0 ∷ []) next left room answers w s f g k)
 brought_by true false unique l e next left room answers w n t s f g k =
     rw (n, t) (ap (after_call (Lookup l.context l.node e.0.name))
-    (goes_in true e.0 e.1 (forget_lookup l.context e.1.inode ∷ []) next left room answers w s f g k))
+    (fits_in true e.0 e.1 (forget_lookup l.context e.1.inode ∷ []) next left room answers w s f g k))
 
 assoc : (a b c : List FileCall) (x y z : List ℕ) (e : Option ℕ) →
-    went (a ++ (b ++ c)) (x ++ (y ++ z)) e ≡ went ((a ++ b) ++ c) ((x ++ y) ++ z) e
+    yielded (a ++ (b ++ c)) (x ++ (y ++ z)) e ≡ yielded ((a ++ b) ++ c) ((x ++ y) ++ z) e
 assoc a b c x y z e = rw (append_assoc a b c, append_assoc x y z) refl
 
 length_brought :
@@ -116,7 +116,7 @@ pub listed_all : (unique : ℕ) (l : asked.ListRequest) (es : List Brought) (ds 
     → length (all_bytes l.with_nodes es) ≤ left → length (all_bytes l.with_nodes es) ≤ room → length (all_bytes l.with_nodes es) < 2 ^ 32
     → list_entries l ds (left - length (all_bytes l.with_nodes es)) (room - length (all_bytes l.with_nodes es)) answers ≡ w
     → list_entries l (entries_of es ++ ds) left room (all_found l.with_nodes es ++ answers)
-    ≡ went (look_ups (Lists unique l) es ++ w.calls) (all_bytes l.with_nodes es ++ w.bytes) w.error
+    ≡ yielded (look_ups (Lists unique l) es ++ w.calls) (all_bytes l.with_nodes es ++ w.bytes) w.error
 unfolding list_entries
 listed_all unique l [] ds left room answers w f g s k =
     let here : left ≡ left - 0 = omega arith in
@@ -144,16 +144,16 @@ listed_all unique l (e ∷ es) ds left room answers w f g s k =
 listed_only : (unique : ℕ) (l : asked.ListRequest) (es : List Brought) (left room : ℕ)
     → length (all_bytes l.with_nodes es) ≤ left → length (all_bytes l.with_nodes es) ≤ room → length (all_bytes l.with_nodes es) < 2 ^ 32
     → list_entries l (entries_of es) left room (all_found l.with_nodes es)
-    ≡ went (look_ups (Lists unique l) es) (all_bytes l.with_nodes es) None
+    ≡ yielded (look_ups (Lists unique l) es) (all_bytes l.with_nodes es) None
 unfolding list_entries
 listed_only unique l es left room f g s =
-    let all = listed_all unique l es [] left room [] (went [] [] None) f g s refl in
+    let all = listed_all unique l es [] left room [] (yielded [] [] None) f g s refl in
     simp append-nil at all
 
 -- a reply that has room
-told_whole : (room options : ℕ) (calls : List FileCall) (reply : List ℕ) → length reply ≤ room →
+reported_whole : (room options : ℕ) (calls : List FileCall) (reply : List ℕ) → length reply ≤ room →
     replied room calls options reply ≡ record { calls = calls; options = options; reply = reply; fault = None }
-told_whole room options calls reply f = rw (le-ltb room (length reply) f) refl
+reported_whole room options calls reply f = rw (le-ltb room (length reply) f) refl
 
 in_list : (unique len : ℕ) (list bytes : List ℕ) → len ≡ length bytes → take len list ≡ bytes →
     reply_bytes unique bytes ≡ data_header unique (Ok len) ++ take len list
@@ -168,13 +168,13 @@ gives_list : (room options unique len : ℕ) (calls : List FileCall) (list bytes
     → replied room calls options (reply_bytes unique bytes) ≡ by_reply calls options (data_header unique (Ok len) ++ take len list)
 gives_list room options unique len calls list bytes e t f =
     let long = length_reply unique bytes in
-    told_whole room options calls (reply_bytes unique bytes) (omega (arith, long, e, f))
+    reported_whole room options calls (reply_bytes unique bytes) (omega (arith, long, e, f))
     ∙ ap (by_reply calls options) (in_list unique len list bytes e t)
 
 gives_error : (room options unique errno : ℕ) (calls : List FileCall) (list : List ℕ) → 16 ≤ room
     → replied room calls options (error_bytes unique errno) ≡ by_reply calls options (error_bytes unique errno ++ take 0 list)
 gives_error room options unique errno calls list f =
-    told_whole room options calls (error_bytes unique errno) (omega (arith, length_error unique errno, f))
+    reported_whole room options calls (error_bytes unique errno) (omega (arith, length_error unique errno, f))
     ∙ ap (by_reply calls options) (sym (append-nil (error_bytes unique errno)))
 
 -- the entries so far are the reply
@@ -208,7 +208,7 @@ out (Some errno) = IsWrong errno
 left_out : (b : Bool) (d : Listed) (e : Entry ℕ) (undo : List FileCall) (next : Next) (left room : ℕ) (answers : List FileAnswer)
     (error : Option ℕ)
     → fit_of (length d.name) (entry_len b (length d.name)) left room ≡ out error
-    → with_entry b d e undo next left room answers ≡ went undo [] error
+    → with_entry b d e undo next left room answers ≡ yielded undo [] error
 left_out b d e undo next left room answers None f = rw f refl
 left_out b d e undo next left room answers (Some errno) f = rw f refl
 
@@ -216,7 +216,7 @@ out_by : (b dot : Bool) (unique : ℕ) (l : asked.ListRequest) (e : Brought) (ne
     (error : Option ℕ)
     → l.with_nodes ≡ b → is_dot e.0.name ≡ dot → fit_of (length e.0.name) (entry_len b (length e.0.name)) left room ≡ out error
     → list_entry l e.0 next left room (found_of l.with_nodes e ++ answers)
-    ≡ went (look_up (Lists unique l) e.0 ++ forget_listed (Lists unique l) e) [] error
+    ≡ yielded (look_up (Lists unique l) e.0 ++ forget_listed (Lists unique l) e) [] error
 out_by false dot unique l e next left room answers error n t f = rw n (left_out false e.0 (no_node e.0) [] next left room answers error f)
 out_by true true unique l e next left room answers error n t f =
     rw (n, t) (left_out true e.0 (no_node e.0) (forget_lookup l.context 0 ∷ []) next left room answers error f)
@@ -228,7 +228,7 @@ out_first :
     (unique : ℕ) (l : asked.ListRequest) (e : Brought) (behind : List Listed) (left room : ℕ) (answers : List FileAnswer) (error : Option ℕ)
     → fit_of (length e.0.name) (entry_len l.with_nodes (length e.0.name)) left room ≡ out error
     → list_entries l (e.0 ∷ behind) left room (found_of l.with_nodes e ++ answers)
-    ≡ went (look_up (Lists unique l) e.0 ++ forget_listed (Lists unique l) e) [] error
+    ≡ yielded (look_up (Lists unique l) e.0 ++ forget_listed (Lists unique l) e) [] error
 unfolding list_entries
 out_first unique l e behind left room answers error f =
     out_by l.with_nodes (is_dot e.0.name) unique l e (list_entries l behind) left room answers error refl refl f
@@ -243,7 +243,7 @@ out_behind : (s : Setting) (l : Listing) (unique : ℕ) (a : asked.ListRequest) 
     (error : Option ℕ) → IsListingFor l s.room (Lists unique a) → Holds l list es → fit_in l (length e.0.name) ≡ out error
     → list_entries a (entries_of es ++ e.0 ∷ behind) a.size (s.room - 16)
     (all_found a.with_nodes es ++ (found_of a.with_nodes e ++ answers))
-    ≡ went (look_ups (Lists unique a) es ++ (look_up (Lists unique a) e.0 ++ forget_listed (Lists unique a) e))
+    ≡ yielded (look_ups (Lists unique a) es ++ (look_up (Lists unique a) e.0 ++ forget_listed (Lists unique a) e))
     (all_bytes a.with_nodes es) error
 out_behind s l unique a list es e behind answers error is holds fit =
     let b = a.with_nodes in
@@ -265,7 +265,7 @@ out_behind s l unique a list es e behind answers error is holds fit =
     let all = listed_all unique a es (e.0 ∷ behind) a.size (s.room - 16) (found_of b e ++ answers) _ (omega (arith, long, size, asked))
     (omega (arith, long, room, fits))
     (omega (arith, long, small, asked)) one in
-    all ∙ ap (λ x. went (look_ups (Lists unique a) es ++ calls) x error) (append-nil (all_bytes b es))
+    all ∙ ap (λ x. yielded (look_ups (Lists unique a) es ++ calls) x error) (append-nil (all_bytes b es))
 
 full_ends : (l : Listing) (list : List ℕ) (e : Brought) → fit_in l (length e.0.name) ≡ IsFull → EndsList l list e
 full_ends l list e full s (One unique call) es behind answers is holds = absurd is
@@ -292,18 +292,19 @@ failed_fits true b unique errno room bytes t f = rw t (omega (arith, length_repl
 failed_fits false b unique errno room bytes t f = rw t (omega (arith, length_error unique errno, f))
 
 -- a list that an error ended
-failed_told :
+failed_reported :
     (s : Setting) (l : Listing) (unique errno : ℕ) (a : asked.ListRequest) (calls : List FileCall) (list : List ℕ) (es : List Brought)
-    → IsListingFor l s.room (Lists unique a) → Holds l list es → list_ended s unique a (went calls (all_bytes a.with_nodes es) (Some errno))
+    → IsListingFor l s.room (Lists unique a) → Holds l list es → list_ended s unique a
+    (yielded calls (all_bytes a.with_nodes es) (Some errno))
     ≡ by_reply (readdir_call a ∷ calls) s.options (listing_bytes l.unique l.with_nodes (all_bytes l.with_nodes es) (Some errno))
-failed_told s l unique errno a calls list es is holds =
+failed_reported s l unique errno a calls list es is holds =
     let b = a.with_nodes in
     let bytes = all_bytes b es in
     let long : l.len ≡ length bytes = holds.long ∙ ap (λ b. length (all_bytes b es)) is.1 in
     let room : l.room ≡ s.room - 16 = is.3 in
     let place : 16 ≤ s.room = is.4 in
     let fits = l.fits in
-    told_whole s.room s.options (readdir_call a ∷ calls) (listing_bytes unique b bytes (Some errno))
+    reported_whole s.room s.options (readdir_call a ∷ calls) (listing_bytes unique b bytes (Some errno))
     (failed_fits (b && nat_lt 0 (length bytes)) b unique errno s.room bytes refl (omega (arith, long, room, fits, place)))
     ∙ ap (λ u. by_reply (readdir_call a ∷ calls) s.options (listing_bytes u b bytes (Some errno))) (sym is.0)
     ∙ ap (λ b. by_reply (readdir_call a ∷ calls) s.options (listing_bytes l.unique b (all_bytes b es) (Some errno))) (sym is.1)
@@ -316,7 +317,7 @@ wrong_fails l list e errno wrong s (Lists unique a) es behind answers is holds =
     let command = Lists unique a in
     ap (λ b. commanded s command (Entries (entries_of es ++ e.0 ∷ behind) ∷ (all_found b es ++ (found_of b e ++ answers)))) is.1
     ∙ ap (list_ended s unique a) (out_behind s l unique a list es e behind answers (Some errno) is holds wrong)
-    ∙ failed_told s l unique errno a (look_ups command es ++ (look_up command e.0 ++ forget_listed command e)) list es is holds
+    ∙ failed_reported s l unique errno a (look_ups command es ++ (look_up command e.0 ++ forget_listed command e)) list es is holds
 
 abbrev outcome : Type 0
 outcome = Result (Unit {0}) NotAdded
@@ -327,7 +328,7 @@ tested long full no_room short =
     cond long (Err TooLong) (cond full (Err Full) (cond no_room (Err NoRoom) (cond short (Err ShortList) (Ok tt))))
 
 abbrev fit_tested : (long full no_room : Bool) → Fit
-fit_tested long full no_room = cond long (IsWrong EOVERFLOW) (cond full IsFull (cond no_room (IsWrong EIO) GoesIn))
+fit_tested long full no_room = cond long (IsWrong EOVERFLOW) (cond full IsFull (cond no_room (IsWrong EIO) FitsIn))
 
 tested_full : (long full no_room short : Bool) → tested long full no_room short ≡ Err Full → fit_tested long full no_room ≡ IsFull
 tested_full true full no_room short e = absurd (cc)
@@ -377,7 +378,7 @@ fails_alone s l (Lists unique a) list errno is =
     ∙ ap (λ u. by_reply (readdir_call a ∷ []) s.options (error_bytes u errno ++ take 0 list)) (sym is.0)
 
 not_found : (unique errno : ℕ) (l : asked.ListRequest) (d : Listed) (left room : ℕ) → l.with_nodes ≡ true → is_dot d.name ≡ false
-    → list_entries l (d ∷ []) left room (Failed errno ∷ []) ≡ went (look_up (Lists unique l) d) [] (Some errno)
+    → list_entries l (d ∷ []) left room (Failed errno ∷ []) ≡ yielded (look_up (Lists unique l) d) [] (Some errno)
 unfolding list_entries
 not_found unique errno l d left room n t = rw (n, t) refl
 
@@ -405,24 +406,24 @@ look_up_failed s l (Lists unique a) list es d errno is holds n t =
     (omega (arith, long, room, fits))
     (omega (arith, long, small, asked)) one in
     ap (λ b. commanded s (Lists unique a) (Entries (entries_of es ++ d ∷ []) ∷ (all_found b es ++ Failed errno ∷ []))) (sym nodes)
-    ∙ ap (list_ended s unique a) (all ∙ ap (λ x. went calls x (Some errno)) (append-nil (all_bytes b es)))
-    ∙ failed_told s l unique errno a calls list es is holds
+    ∙ ap (list_ended s unique a) (all ∙ ap (λ x. yielded calls x (Some errno)) (append-nil (all_bytes b es)))
+    ∙ failed_reported s l unique errno a calls list es is holds
 
 -- the reply of an error behind entries whose nodes are held: these
 pub held_reply : (l : Listing) (list : List ℕ) (es : List Brought) (errno : ℕ) → Holds l list es → (l.with_nodes && nat_lt 0 l.len) ≡ true
     → data_header l.unique (Ok l.len) ++ take l.len list ≡ listing_bytes l.unique l.with_nodes (all_bytes l.with_nodes es) (Some errno)
 held_reply l list es errno holds some =
-    let told : (l.with_nodes && nat_lt 0 (length (all_bytes l.with_nodes es))) ≡ true =
+    let reported : (l.with_nodes && nat_lt 0 (length (all_bytes l.with_nodes es))) ≡ true =
     sym (ap (λ n. l.with_nodes && nat_lt 0 n) holds.long) ∙ some in
-    rw told (sym (in_list l.unique l.len list (all_bytes l.with_nodes es) holds.long holds.stands))
+    rw reported (sym (in_list l.unique l.len list (all_bytes l.with_nodes es) holds.long holds.stands))
 
 -- else the error
 pub error_reply : (l : Listing) (list : List ℕ) (es : List Brought) (errno : ℕ) → Holds l list es → (l.with_nodes && nat_lt 0 l.len) ≡ false
     → error_bytes l.unique errno ++ take 0 list ≡ listing_bytes l.unique l.with_nodes (all_bytes l.with_nodes es) (Some errno)
 error_reply l list es errno holds none =
-    let told : (l.with_nodes && nat_lt 0 (length (all_bytes l.with_nodes es))) ≡ false =
+    let reported : (l.with_nodes && nat_lt 0 (length (all_bytes l.with_nodes es))) ≡ false =
     sym (ap (λ n. l.with_nodes && nat_lt 0 n) holds.long) ∙ none in
-    rw told (append-nil (error_bytes l.unique errno))
+    rw reported (append-nil (error_bytes l.unique errno))
 
 all_bytes_more : (b : Bool) (es : List Brought) (e : Brought) → all_bytes b (es ++ e ∷ []) ≡ all_bytes b es ++ bytes_of b e
 all_bytes_more b [] e = append-nil (bytes_of b e)

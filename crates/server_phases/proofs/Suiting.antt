@@ -11,7 +11,7 @@ use Rattle.fuse_values.specs.declared.answer.FileAnswer as made
 use Rattle.fuse_values.specs.declared.answer.FileAnswer.TheVariants as value
 use Rattle.fuse_values.specs.Answers.{answer_of}
 use Rattle.server_calls.specs.Requests.{is_silent, options_after, forget_entry, forget_node, entry_node}
-use Rattle.server_replies.specs.WholeReplies.{reply_bytes, error_bytes, told_bytes}
+use Rattle.server_replies.specs.WholeReplies.{reply_bytes, error_bytes, reported_bytes}
 use Rattle.server_replies.proofs.ReplyLemmas.{length_reply}
 use Rattle.server_segments.specs.declared.error.Error.TheVariants.{EncodeMessage}
 use Rattle.virtiofsd_fuse.specs.Grammar.{FileCommand, One, Starts, Lists}
@@ -23,10 +23,10 @@ use Rattle.server_phases.specs.declared.waiting.Awaits.TheVariants as awaits
 use Rattle.server_phases.specs.declared.waiting.Waiting.{Waiting}
 use Rattle.server_calls.specs.Callers.{IsFor}
 use Rattle.server_phases.specs.Waiting.{awaits_of, WaitsFor, first_call}
-use Rattle.server_phases.specs.Answering.{TellsBytes, tells_nothing, leaves_options, brings_entry, takes, back_by, served_by, data_of}
+use Rattle.server_phases.specs.Answering.{ReportsBytes, reports_nothing, leaves_options, brings_entry, takes, back_by, served_by, data_of}
 use Rattle.server_phases.specs.Answering.{init_offer_of}
 
-silent_same : (call : FileCall) → is_silent call ≡ tells_nothing (awaits_of call)
+silent_same : (call : FileCall) → is_silent call ≡ reports_nothing (awaits_of call)
 silent_same Destroy = refl
 silent_same _ = refl
 
@@ -74,8 +74,9 @@ data_long room unique options call bytes len e t =
 -- the reply to what a call waits for, without data
 abbrev pub Placed : Setting → Waiting → FileCall → FileAnswer → ServedMessage → Type 0
 Placed s w call a given =
-    replied s.room (call ∷ undone s.room (told_bytes (tells_nothing w.awaits) w.unique a) (back_by (brings_entry w.awaits) w.context a))
-    (leaves_options s.options w.awaits) (told_bytes (tells_nothing w.awaits) w.unique a) ≡ given
+    replied s.room (call ∷ undone s.room (reported_bytes (reports_nothing w.awaits) w.unique a)
+    (back_by (brings_entry w.awaits) w.context a))
+    (leaves_options s.options w.awaits) (reported_bytes (reports_nothing w.awaits) w.unique a) ≡ given
 
 -- a listing waits for no value of an answer but an error
 failed_list : (s : Setting) (w : Waiting) (unique : ℕ) (call : FileCall) (with_nodes : Bool) (size errno : ℕ) (given : ServedMessage)
@@ -95,7 +96,7 @@ failed_list s w unique call with_nodes size errno given a b h =
 
 pub single_gives : (s : Setting) (w : Waiting) (command : FileCommand) (bytes : List ℕ) (answer : made.FileAnswer) (given : ServedMessage)
     → WaitsFor w command
-    → TellsBytes bytes answer → takes w.awaits (answer_of bytes answer) ≡ true → data_of answer ≡ None → init_offer_of w.awaits ≡ None
+    → ReportsBytes bytes answer → takes w.awaits (answer_of bytes answer) ≡ true → data_of answer ≡ None → init_offer_of w.awaits ≡ None
     → Placed s w (first_call command) (answer_of bytes answer) given → commanded s command (answer_of bytes answer ∷ []) ≡ given
 single_gives s w (One unique call) bytes answer given waits t taken plain single h =
     let a = answer_of bytes answer in
@@ -112,6 +113,6 @@ single_gives s w (Lists unique l) bytes answer given waits t taken plain single 
     let clash : false ≡ true = ap (λ (a : Awaits). takes a (answer_of bytes answer)) (sym waits.1) ∙ taken in absurd (cc)
 
 -- data or none, the answer says so
-pub no_data : (bytes : List ℕ) (answer : made.FileAnswer) → TellsBytes bytes answer → data_of answer ≡ None → bytes ≡ []
+pub no_data : (bytes : List ℕ) (answer : made.FileAnswer) → ReportsBytes bytes answer → data_of answer ≡ None → bytes ≡ []
 no_data bytes (value.Bytes len) t e = absurd (cc)
 no_data bytes _ t e = t

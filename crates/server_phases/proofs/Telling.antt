@@ -12,7 +12,7 @@ use Rattle.fuse_values.specs.declared.call.FileCall.TheVariants as value
 use Rattle.fuse_values.specs.Values.{call_of, pairs_in, pairs_of}
 use Rattle.server_requests.specs.Fronts.{forget_pair}
 use Rattle.server_requests.specs.Reading.{Faults, many, record_parser, value_of}
-use Rattle.server_calls.specs.Callers.{CallSays, is_plain}
+use Rattle.server_calls.specs.Callers.{CallShows, is_plain}
 use Rattle.server_calls.specs.Requests.{batch_forget_call}
 use Rattle.server_replies.specs.WholeReplies.{error_bytes, reply_bytes, versions_bytes}
 use Rattle.server_replies.proofs.ReplyLemmas.{length_error, length_reply}
@@ -23,7 +23,7 @@ use Rattle.virtiofsd_fuse.specs.Serving.{Setting, setting}
 use Rattle.virtiofsd_fuse.proofs.Serve.{ask_of, ended_ask, ended_fault}
 use Rattle.server_phases.specs.declared.asking.DecodedRequest.{DecodedRequest}
 use Rattle.server_phases.specs.declared.asking.DecodedRequest.TheVariants as asked
-use Rattle.server_phases.specs.Asking.{IsDecoded, IsAskedBy, HasAsker, TellsData, told_reply}
+use Rattle.server_phases.specs.Asking.{IsDecoded, IsAskedBy, HasAsker, ReportsData, reported_reply}
 use Rattle.server_phases.specs.Waiting.{awaits_of, is_one_call}
 
 reply_by : (t : Bool) (page_size options room : ℕ) (reply bytes : List ℕ) → nat_lt room (length reply) ≡ t → 0 < length reply
@@ -32,15 +32,15 @@ reply_by true page_size options room reply bytes e some = rw e refl
 reply_by false page_size options room reply bytes e some = (rw e refl, some)
 
 -- an immediate reply, if it has room
-pub reply_told : (page_size options room : ℕ) (reply bytes : List ℕ) → 0 < length reply →
-    IsDecoded (setting page_size options room) (Replies reply) bytes (told_reply room reply)
-reply_told page_size options room reply bytes some = reply_by (nat_lt room (length reply)) page_size options room reply bytes refl some
+pub reply_reported : (page_size options room : ℕ) (reply bytes : List ℕ) → 0 < length reply →
+    IsDecoded (setting page_size options room) (Replies reply) bytes (reported_reply room reply)
+reply_reported page_size options room reply bytes some = reply_by (nat_lt room (length reply)) page_size options room reply bytes refl some
 
 -- the same of an error
-pub error_told : (page_size options room unique errno : ℕ) (bytes : List ℕ)
-    → IsDecoded (setting page_size options room) (Replies (error_bytes unique errno)) bytes (told_reply room (error_bytes unique errno))
-error_told page_size options room unique errno bytes =
-    reply_told page_size options room (error_bytes unique errno) bytes (omega (arith, length_error unique errno))
+pub error_reported : (page_size options room unique errno : ℕ) (bytes : List ℕ)
+    → IsDecoded (setting page_size options room) (Replies (error_bytes unique errno)) bytes (reported_reply room (error_bytes unique errno))
+error_reported page_size options room unique errno bytes =
+    reply_reported page_size options room (error_bytes unique errno) bytes (omega (arith, length_error unique errno))
 
 -- what is kept of a call names who sent the header
 pub has_asker : (request left : List ℕ) (head : InHeader) (a : DecodedRequest) → Ok (head, left) ≡ record_parser in_header request →
@@ -61,34 +61,34 @@ plain_not c d e not_c is_d = let same : false ≡ true = sym not_c ∙ ap is_pla
 
 -- the value of such a call holds no data
 plain_by : (call : made.FileCall) (bytes : List ℕ) (c : FileCall) → call_of [] call ≡ c → is_plain c ≡ true →
-    (call_of bytes call ≡ c) × TellsData bytes call
+    (call_of bytes call ≡ c) × ReportsData bytes call
 plain_by (value.Write x n h b s o w d k f) bytes c e p = absurd (plain_not _ c e refl p)
 plain_by (value.BatchForget x counts) bytes c e p = absurd (plain_not _ c e refl p)
 plain_by call bytes c e p = (e, tt)
 
 -- one call is told with what it waits for
-pub call_is_told : (s : Setting) (h : InHeader) (bytes : List ℕ) (c : FileCall) (call : made.FileCall) (room : ℕ) → s.room ≡ room
-    → CallSays h c → call_of [] call ≡ c
+pub call_is_reported : (s : Setting) (h : InHeader) (bytes : List ℕ) (c : FileCall) (call : made.FileCall) (room : ℕ) → s.room ≡ room
+    → CallShows h c → call_of [] call ≡ c
     → IsDecoded s (Asks (One h.unique c)) bytes
     (asked.Call call (record { unique = h.unique; context = context_of h; awaits = awaits_of (call_of [] call); room = room }))
-call_is_told s h bytes c call room place says e =
-    let w = plain_by call bytes c e says.0 in
-    (One h.unique c, refl, w.0, w.1, (refl, ap awaits_of e, says.1, single c says.0), sym place)
+call_is_reported s h bytes c call room place shows e =
+    let w = plain_by call bytes c e shows.0 in
+    (One h.unique c, refl, w.0, w.1, (refl, ap awaits_of e, shows.1, single c shows.0), sym place)
 
 -- a fault
-pub fault_told : (s : Setting) (m : Meaning) (e : Error) → m ≡ IsFault e → IsDecoded s m [] (asked.Fault e)
-fault_told s m e h = rw h refl
+pub fault_reported : (s : Setting) (m : Meaning) (e : Error) → m ≡ IsFault e → IsDecoded s m [] (asked.Fault e)
+fault_reported s m e h = rw h refl
 
 -- no reply
-pub silence_told : (s : Setting) (m : Meaning) → m ≡ IsSilent → IsDecoded s m [] asked.Silence
-silence_told s m h = rw h refl
+pub silence_reported : (s : Setting) (m : Meaning) → m ≡ IsSilent → IsDecoded s m [] asked.Silence
+silence_reported s m h = rw h refl
 
 -- a reply that tells the versions
-pub versions_told : (page_size options room unique : ℕ) (bytes : List ℕ)
+pub versions_reported : (page_size options room unique : ℕ) (bytes : List ℕ)
     → IsDecoded (setting page_size options room) (Replies (reply_bytes unique versions_bytes)) bytes
-    (told_reply room (reply_bytes unique versions_bytes))
-versions_told page_size options room unique bytes =
-    reply_told page_size options room (reply_bytes unique versions_bytes) bytes (omega (arith, length_reply unique versions_bytes))
+    (reported_reply room (reply_bytes unique versions_bytes))
+versions_reported page_size options room unique bytes =
+    reply_reported page_size options room (reply_bytes unique versions_bytes) bytes (omega (arith, length_reply unique versions_bytes))
 
 length_pairs : (n : ℕ) (bytes : List ℕ) → length (pairs_of n bytes) ≡ n
 unfolding pairs_of

@@ -46,11 +46,11 @@ fails_never awaits.End = true
 fails_never _ = false
 
 -- the call has no reply if it succeeds
-abbrev pub tells_nothing : Awaits → Bool
-tells_nothing awaits.Forgotten = true
-tells_nothing awaits.NoReply = true
-tells_nothing awaits.End = true
-tells_nothing _ = false
+abbrev pub reports_nothing : Awaits → Bool
+reports_nothing awaits.Forgotten = true
+reports_nothing awaits.NoReply = true
+reports_nothing awaits.End = true
+reports_nothing _ = false
 
 -- the options after a call: none after DESTROY
 abbrev pub leaves_options : ℕ → Awaits → ℕ
@@ -70,9 +70,9 @@ takes (awaits.FileBytes most) (call.Bytes bytes) = nat_le (length bytes) most
 takes w answer = is_of (kind_for w) answer
 
 -- an answer that is data has the length of these bytes; another answer has no bytes
-abbrev pub TellsBytes : (bytes : List ℕ) → FileAnswer → Type 0
-TellsBytes bytes (value.Bytes len) = len ≡ length bytes
-TellsBytes bytes _ = bytes ≡ []
+abbrev pub ReportsBytes : (bytes : List ℕ) → FileAnswer → Type 0
+ReportsBytes bytes (value.Bytes len) = len ≡ length bytes
+ReportsBytes bytes _ = bytes ≡ []
 
 -- FORGET of 1 for a node and its caller, if there is one
 abbrev pub forget_calls : Option (Context × ℕ) → List call.FileCall

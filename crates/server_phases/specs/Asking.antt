@@ -21,11 +21,11 @@ use Rattle.server_phases.specs.declared.asking.AskedFront.TheVariants as asked_f
 use Rattle.server_phases.specs.Waiting.{WaitsFor, first_call}
 
 -- a WRITE has the number of its data bytes, and a BATCH_FORGET has 16 bytes a pair and no more
-abbrev pub TellsData : (bytes : List ℕ) → FileCall → Type 0
-TellsData bytes (value.Write context node handle len size offset owner delayed kill flags) =
+abbrev pub ReportsData : (bytes : List ℕ) → FileCall → Type 0
+ReportsData bytes (value.Write context node handle len size offset owner delayed kill flags) =
     len ≡ length bytes
-TellsData bytes (value.BatchForget context counts) = length counts.now ≡ 16 * length (pairs_in counts.now)
-TellsData bytes _ = Unit {0}
+ReportsData bytes (value.BatchForget context counts) = length counts.now ≡ 16 * length (pairs_in counts.now)
+ReportsData bytes _ = Unit {0}
 
 -- the meaning is a command: the call is its first call, and the state has the command's kind of
 -- answer and the room. bytes: the data of a WRITE
@@ -34,7 +34,7 @@ AsksCall s m bytes made w =
     (command : FileCommand)
     × (m ≡ Asks command)
     × (call_of bytes made ≡ first_call command)
-    × TellsData bytes made
+    × ReportsData bytes made
     × WaitsFor w command
     × (w.room ≡ s.room)
 
@@ -62,13 +62,14 @@ HasAsker request asked =
     IsAskedBy (context_of h) asked
 
 -- a reply without a call, or a fault if it doesn't fit
-abbrev pub told_reply : (room : ℕ) → List ℕ → DecodedRequest
-told_reply room reply = if nat_lt room (length reply) then asked.Fault EncodeMessage else asked.Reply reply
+abbrev pub reported_reply : (room : ℕ) → List ℕ → DecodedRequest
+reported_reply room reply =
+    if nat_lt room (length reply) then asked.Fault EncodeMessage else asked.Reply reply
 
 -- a request is decoded by a row of the grammar; bytes: those behind its header
-abbrev pub IsRowTold : (page_size options : ℕ) → InHeader → (room : ℕ) → (Given → Parser Meaning) →
+abbrev pub IsRowReported : (page_size options : ℕ) → InHeader → (room : ℕ) → (Given → Parser Meaning) →
     (bytes : List ℕ) → DecodedRequest → Type 0
-IsRowTold page_size options h room row bytes asked =
+IsRowReported page_size options h room row bytes asked =
     IsDecoded (setting page_size options room) (ended h.unique (row (given h options room) bytes))
     (drop 40 bytes) asked
 

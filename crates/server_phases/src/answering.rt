@@ -4,10 +4,11 @@ ghost use Rattle.std.specs.Prelude.{◌≡◌, ℕ, ◌+◌, ◌<◌, ◌≤◌,
 ghost use Rattle.std.specs.Prelude.{false, nat_lt, nat_le, option_map};
 ghost use Rattle.fuse_fs.specs.Calls.{FileCall, is_handle, Done, Bytes};
 ghost use Rattle.fuse_values.specs.Answers.{answer_of};
-ghost use Rattle.server_replies.specs.WholeReplies.{reply_bytes, told_bytes};
+ghost use Rattle.server_replies.specs.WholeReplies.{reply_bytes, reported_bytes};
 ghost use Rattle.server_calls.specs.Requests.{entry_node, forget_node};
 ghost use Rattle.virtiofsd_fuse.specs.Serving.{replied, undone};
-ghost use Rattle.server_phases.specs.Answering.{TellsBytes, takes, tells_nothing, fails_never, brings_entry};
+ghost use Rattle.server_phases.specs.Answering.{ReportsBytes, takes, reports_nothing, fails_never};
+ghost use Rattle.server_phases.specs.Answering.{brings_entry};
 ghost use Rattle.server_phases.specs.Answering.{back_by, forget_calls, served_by, is_too_long};
 
 use crate::waiting::{Awaits, Waiting};
@@ -56,8 +57,8 @@ pub struct RefusedAnswer {
 }
 
 // The reply to an answer without data, of a call that has a reply.
-fn told_front(unique: u64, answer: FileAnswer) -> Front
-    ensures { result ≡ told_bytes false unique (answer_of [] answer) }
+fn reported_front(unique: u64, answer: FileAnswer) -> Front
+    ensures { result ≡ reported_bytes false unique (answer_of [] answer) }
 {
     match answer {
         FileAnswer::Failed(error) => Front::error(unique, error),
@@ -81,7 +82,7 @@ fn told_front(unique: u64, answer: FileAnswer) -> Front
 
 // The reply to an answer of a silent call: empty unless it failed.
 fn silent_front(unique: u64, answer: &FileAnswer) -> Front
-    ensures { result ≡ told_bytes true unique (answer_of [] answer.now) }
+    ensures { result ≡ reported_bytes true unique (answer_of [] answer.now) }
 {
     match answer {
         FileAnswer::Failed(error) => Front::error(unique, *error),
@@ -91,13 +92,13 @@ fn silent_front(unique: u64, answer: &FileAnswer) -> Front
 
 // The front of the reply to an answer.
 fn front_of(waiting: &Waiting, answer: FileAnswer) -> Front
-    ensures { result ≡ told_bytes (tells_nothing waiting.now.awaits) waiting.now.unique
+    ensures { result ≡ reported_bytes (reports_nothing waiting.now.awaits) waiting.now.unique
         (answer_of [] answer) }
 {
-    if tells_nothing(&waiting.awaits) {
+    if reports_nothing(&waiting.awaits) {
         silent_front(waiting.unique, &answer)
     } else {
-        told_front(waiting.unique, answer)
+        reported_front(waiting.unique, answer)
     }
 }
 
@@ -134,8 +135,8 @@ fn fails_never(awaits: &Awaits) -> bool
 }
 
 // Whether the call has no reply if it succeeds.
-fn tells_nothing(awaits: &Awaits) -> bool
-    ensures { result ≡ tells_nothing awaits.now }
+fn reports_nothing(awaits: &Awaits) -> bool
+    ensures { result ≡ reports_nothing awaits.now }
 {
     matches!(awaits, Awaits::Forgotten | Awaits::NoReply | Awaits::End)
 }
@@ -169,9 +170,10 @@ pub(crate) fn placed(front: Front, room: usize, back: Option<(Context, u64)>) ->
 // The reply to an answer without data.
 pub(crate) fn answered_without_data(waiting: &Waiting, answer: FileAnswer) -> Answered
     ensures { let room = waiting.now.room in
-        let told = told_bytes (tells_nothing waiting.now.awaits) waiting.now.unique (answer_of [] answer) in
+        let reported = reported_bytes (reports_nothing waiting.now.awaits) waiting.now.unique
+        (answer_of [] answer) in
         let back = back_by (brings_entry waiting.now.awaits) waiting.now.context (answer_of [] answer) in
-        (options : ℕ) (call : FileCall) → replied room (call ∷ undone room told back) options told
+        (options : ℕ) (call : FileCall) → replied room (call ∷ undone room reported back) options reported
         ≡ served_by (call ∷ forget_calls result.forget) options result.sent [] }
 {
     let back = back_of(waiting, &answer);
@@ -260,7 +262,7 @@ fn is_handle(handle: Option<u64>) -> bool
 /// Whether the call can have this answer.
 pub(crate) fn suits(awaits: &Awaits, answer: &FileAnswer) -> bool
     ensures { (bytes : List ℕ)
-        → TellsBytes bytes answer.now
+        → ReportsBytes bytes answer.now
         → result ≡ takes awaits.now (answer_of bytes answer.now) }
 {
     match answer {

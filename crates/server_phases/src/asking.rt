@@ -5,7 +5,7 @@ ghost use Rattle.fuse_fs.specs.Answers.{context_of};
 ghost use Rattle.fuse_fs.specs.Calls as call;
 ghost use Rattle.fuse_values.specs.Values.{call_of, pairs_in};
 ghost use Rattle.fuse_wire.specs.Opcodes.{opcode_of};
-ghost use Rattle.server_calls.specs.Callers.{CallSays};
+ghost use Rattle.server_calls.specs.Callers.{CallShows};
 ghost use Rattle.server_calls.specs.Requests.{batch_forget_call, read_call, write_call};
 ghost use Rattle.server_replies.specs.WholeReplies.{error_bytes};
 ghost use Rattle.virtiofsd_fuse.specs.DataApart.{begins_a_write, is_write};
@@ -13,8 +13,8 @@ ghost use Rattle.virtiofsd_fuse.specs.Grammar.{Meaning, Replies, Asks, One, Star
 ghost use Rattle.virtiofsd_fuse.specs.Grammar.{known_options, meant, meaning, write_row};
 ghost use Rattle.virtiofsd_fuse.specs.Listings.{listing_of};
 ghost use Rattle.virtiofsd_fuse.specs.Serving.{Setting, setting};
-ghost use Rattle.server_phases.specs.Asking.{IsDecoded, IsAskedBy, HasAsker, TellsData, IsRequestFront};
-ghost use Rattle.server_phases.specs.Asking.{BeginsRecord, told_reply};
+ghost use Rattle.server_phases.specs.Asking.{IsDecoded, IsAskedBy, HasAsker, ReportsData, IsRequestFront};
+ghost use Rattle.server_phases.specs.Asking.{BeginsRecord, reported_reply};
 
 use crate::waiting::{Awaits, Waiting, awaits_of};
 use bitflags::Flags;
@@ -58,7 +58,7 @@ pub enum AskedFront<'a> {
 
 /// A reply without a call, or the fault `EncodeMessage` if it doesn't fit.
 pub(crate) fn replied<'a>(room: usize, reply: Front) -> DecodedRequest<'a>
-    ensures { result ≡ told_reply room reply }
+    ensures { result ≡ reported_reply room reply }
 {
     if room < reply.bytes().len() {
         DecodedRequest::Fault(Error::EncodeMessage)
@@ -69,7 +69,7 @@ pub(crate) fn replied<'a>(room: usize, reply: Front) -> DecodedRequest<'a>
 
 /// The reply of an error, or the fault `EncodeMessage` if it doesn't fit.
 pub(crate) fn refused<'a>(head: &InHeader, error: Errno, room: usize) -> DecodedRequest<'a>
-    ensures told { (page_size options : ℕ) (m : Meaning) (bytes : List ℕ)
+    ensures reported { (page_size options : ℕ) (m : Meaning) (bytes : List ℕ)
         → m ≡ Replies (error_bytes head.now.unique error)
         → IsDecoded (setting page_size options room) m bytes result }
     ensures asker { IsAskedBy (context_of head.now) result }
@@ -80,7 +80,7 @@ pub(crate) fn refused<'a>(head: &InHeader, error: Errno, room: usize) -> Decoded
 /// The call of a READ, in whose reply buffer the header fits.
 pub(crate) fn read_asked<'a>(head: &InHeader, request: &ReadIn, room: usize) -> DecodedRequest<'a>
     requires { 16 ≤ room }
-    ensures told { (page_size options : ℕ) (bytes : List ℕ)
+    ensures reported { (page_size options : ℕ) (bytes : List ℕ)
         → IsDecoded (setting page_size options room)
         (Asks (One head.now.unique (read_call head.now (room - 16) request.now))) bytes result }
     ensures asker { IsAskedBy (context_of head.now) result }
@@ -98,7 +98,7 @@ pub(crate) fn read_asked<'a>(head: &InHeader, request: &ReadIn, room: usize) -> 
 // The call of a READ with `most` bytes for its data.
 fn read_value<'a>(head: &InHeader, request: &ReadIn, most: usize) -> FileCall<'a>
     ensures call { (bytes : List ℕ) → call_of bytes result ≡ read_call head.now most request.now }
-    ensures data_apart { (bytes : List ℕ) → TellsData bytes result }
+    ensures data_apart { (bytes : List ℕ) → ReportsData bytes result }
 {
     FileCall::Read {
         context: Context::from(*head),
@@ -121,7 +121,7 @@ pub(crate) fn entries_asked<'a>(
 ) -> DecodedRequest<'a>
     requires size { request.now.size ≤ 2 ^ 20 }
     requires enough { 16 ≤ room }
-    ensures told { (page_size options : ℕ) (bytes : List ℕ)
+    ensures reported { (page_size options : ℕ) (bytes : List ℕ)
         → IsDecoded (setting page_size options room)
         (Asks (Lists head.now.unique (listing_of with_nodes head.now request.now))) bytes result }
     ensures asker { IsAskedBy (context_of head.now) result }
@@ -157,7 +157,7 @@ fn write_asked<'a>(
     len: usize,
     room: usize,
 ) -> DecodedRequest<'a>
-    ensures told { (page_size options : ℕ) (bytes : List ℕ)
+    ensures reported { (page_size options : ℕ) (bytes : List ℕ)
         → len ≡ length bytes
         → IsDecoded (setting page_size options room)
         (Asks (One head.now.unique (write_call head.now request.now bytes))) bytes result }
@@ -175,9 +175,9 @@ fn write_asked<'a>(
 // The call of a WRITE of `len` bytes, as a value.
 fn write_value<'a>(head: &InHeader, request: &WriteIn, len: usize) -> FileCall<'a>
     ensures call { (bytes : List ℕ) → call_of bytes result ≡ write_call head.now request.now bytes }
-    ensures data_apart { (bytes : List ℕ) → len ≡ length bytes → TellsData bytes result }
+    ensures data_apart { (bytes : List ℕ) → len ≡ length bytes → ReportsData bytes result }
 {
-    let told = write_flags(request);
+    let reported = write_flags(request);
     FileCall::Write {
         context: Context::from(*head),
         node: head.nodeid,
@@ -185,19 +185,19 @@ fn write_value<'a>(head: &InHeader, request: &WriteIn, len: usize) -> FileCall<'
         len,
         size: request.size,
         offset: request.offset,
-        owner: told.owner,
-        delayed: told.delayed,
-        kill: told.kill,
+        owner: reported.owner,
+        delayed: reported.delayed,
+        kill: reported.kill,
         flags: request.flags,
     }
 }
 
 /// A call, and the state for its answer.
 pub(crate) fn called<'a>(head: &InHeader, made: FileCall<'a>, room: usize) -> DecodedRequest<'a>
-    ensures told { (s : Setting) (m : Meaning) (bytes : List ℕ) (c : call.FileCall)
+    ensures reported { (s : Setting) (m : Meaning) (bytes : List ℕ) (c : call.FileCall)
         → s.room ≡ room
         → m ≡ Asks (One head.now.unique c)
-        → CallSays head.now c
+        → CallShows head.now c
         → call_of [] made.entry ≡ c
         → IsDecoded s m bytes result }
     ensures asker { IsAskedBy (context_of head.now) result }
@@ -214,7 +214,7 @@ pub(crate) fn called<'a>(head: &InHeader, made: FileCall<'a>, room: usize) -> De
 
 /// The call of a BATCH_FORGET; `counts` are the bytes of its pairs.
 pub(crate) fn pairs_asked<'a>(head: &InHeader, counts: &'a [u8], room: usize) -> DecodedRequest<'a>
-    ensures told { (page_size options : ℕ) (m : Meaning) (bytes : List ℕ)
+    ensures reported { (page_size options : ℕ) (m : Meaning) (bytes : List ℕ)
         → length counts.now ≡ 16 * length (pairs_in counts.now)
         → m ≡ Asks (One head.now.unique (batch_forget_call head.now (pairs_in counts.now)))
         → IsDecoded (setting page_size options room) m bytes result }
@@ -238,7 +238,7 @@ pub(crate) fn init_asked<'a>(
     room: usize,
 ) -> DecodedRequest<'a>
     requires { bit_and capable.0 known_options ≡ capable.0 }
-    ensures told { (s : Setting) (m : Meaning) (bytes : List ℕ)
+    ensures reported { (s : Setting) (m : Meaning) (bytes : List ℕ)
         → s.room ≡ room
         → m ≡ Asks (Starts head.now.unique capable.0 readahead)
         → IsDecoded s m bytes result }
@@ -263,7 +263,7 @@ pub(crate) fn ask_write_row<'a>(
     room: usize,
     source: Flat<'a>,
 ) -> DecodedRequest<'a>
-    ensures told { (page_size options : ℕ) (bytes : List ℕ)
+    ensures reported { (page_size options : ℕ) (bytes : List ℕ)
         → BeginsRecord source.entry.bytes.now bytes
         → len ≡ length (drop 40 bytes)
         → IsDecoded (setting page_size options room)
@@ -282,7 +282,7 @@ pub(crate) fn ask_write_front<'a>(front: &'a [u8], len: usize, room: usize) -> D
     requires write { begins_a_write front.now ≡ true }
     requires front { 80 ≤ length front.now }
     requires len { 80 ≤ len }
-    ensures told { (page_size options : ℕ) (request : List ℕ)
+    ensures reported { (page_size options : ℕ) (request : List ℕ)
         → len ≡ length request
         → IsRequestFront front.now request
         → IsDecoded (setting page_size options room) (meaning options request room) (drop 80 request) result }
@@ -303,7 +303,7 @@ fn ask_write_head<'a>(
     source: Flat<'a>,
 ) -> DecodedRequest<'a>
     requires { is_write (opcode_of head.now.opcode) ≡ true }
-    ensures told { (page_size options : ℕ) (bytes : List ℕ)
+    ensures reported { (page_size options : ℕ) (bytes : List ℕ)
         → BeginsRecord source.entry.bytes.now bytes
         → len ≡ length (drop 40 bytes)
         → IsDecoded (setting page_size options room) (meant (given head.now options room) bytes)

@@ -4,7 +4,7 @@ ghost use Rattle.std.specs.Prelude.{drop};
 ghost use Rattle.fuse_fs.specs.Answers.{context_of};
 ghost use Rattle.virtiofsd_fuse.specs.Grammar.{given, meant, row};
 ghost use Rattle.virtiofsd_fuse.specs.Serving.{setting};
-ghost use Rattle.server_phases.specs.Asking.{IsAskedBy, IsRowTold, IsDecoded};
+ghost use Rattle.server_phases.specs.Asking.{IsAskedBy, IsRowReported, IsDecoded};
 
 use crate::asking::{DecodedRequest, refused};
 use crate::session::Session;
@@ -23,7 +23,8 @@ impl Session {
         room: usize,
         source: Flat<'a>,
     ) -> DecodedRequest<'a>
-        ensures told { IsRowTold self.now.page_size self.now.options.0 head.now room (λ g. row g opcode)
+        ensures reported { IsRowReported self.now.page_size self.now.options.0 head.now room
+            (λ g. row g opcode)
             source.entry.bytes.now result }
         ensures asker { IsAskedBy (context_of head.now) result }
     {
@@ -45,7 +46,7 @@ impl Session {
         room: usize,
         source: Flat<'a>,
     ) -> DecodedRequest<'a>
-        ensures told { IsDecoded (setting self.now.page_size self.now.options.0 room)
+        ensures reported { IsDecoded (setting self.now.page_size self.now.options.0 room)
             (meant (given head.now self.now.options.0 room) source.entry.bytes.now)
             (drop 40 source.entry.bytes.now) result }
         ensures asker { IsAskedBy (context_of head.now) result }

@@ -6,7 +6,7 @@ ghost use Rattle.fuse_fs.specs.Calls.{FileCall, Init, suits};
 ghost use Rattle.fuse_values.specs.Answers.{answer_of};
 ghost use Rattle.virtiofsd_fuse.specs.Grammar.{FileCommand, known_options};
 ghost use Rattle.virtiofsd_fuse.specs.Serving.{setting, replied, start_options, start_answered};
-ghost use Rattle.server_phases.specs.Answering.{Gives, TellsBytes, takes, forget_calls, served_by, data_of};
+ghost use Rattle.server_phases.specs.Answering.{Gives, ReportsBytes, takes, forget_calls, served_by, data_of};
 ghost use Rattle.server_phases.specs.Answering.{init_offer_of, leaves_options, is_too_long, IsRefusedFor};
 ghost use Rattle.server_phases.specs.Waiting.{WaitsFor, first_call};
 
@@ -90,7 +90,7 @@ impl Session {
         requires single { init_offer_of waiting.now.awaits ≡ None }
         ensures gives { (command : FileCommand) (bytes : List ℕ)
             → WaitsFor waiting.now command
-            → TellsBytes bytes answer
+            → ReportsBytes bytes answer
             → takes waiting.now.awaits (answer_of bytes answer) ≡ true
             → Gives (setting self.old.page_size self.old.options.0 waiting.now.room) command bytes answer
             result self.new.options.0 }
@@ -105,7 +105,7 @@ impl Session {
         requires without_data { data_of answer ≡ None }
         ensures gives { (command : FileCommand) (bytes : List ℕ)
             → WaitsFor waiting.now command
-            → TellsBytes bytes answer
+            → ReportsBytes bytes answer
             → takes waiting.now.awaits (answer_of bytes answer) ≡ true
             → Gives (setting self.old.page_size self.old.options.0 waiting.now.room) command bytes answer
             result self.new.options.0 }
@@ -130,7 +130,7 @@ impl Session {
         requires { is_too_long waiting.now.room answer ≡ false }
         ensures gives { (command : FileCommand) (bytes : List ℕ)
             → WaitsFor waiting.now command
-            → TellsBytes bytes answer
+            → ReportsBytes bytes answer
             → takes waiting.now.awaits (answer_of bytes answer) ≡ true
             → Gives (setting self.old.page_size self.old.options.0 waiting.now.room) command bytes answer
             result self.new.options.0 }
@@ -153,17 +153,17 @@ impl Session {
     ) -> Result<Answered, RefusedAnswer>
         ensures gives { IfOk result (λ given. (command : FileCommand) (bytes : List ℕ)
             → WaitsFor waiting command
-            → TellsBytes bytes answer
+            → ReportsBytes bytes answer
             → Gives (setting self.old.page_size self.old.options.0 waiting.room) command bytes answer given
             self.new.options.0) }
         ensures taken { OnOk result ((command : FileCommand) (bytes : List ℕ)
             → WaitsFor waiting command
-            → TellsBytes bytes answer
+            → ReportsBytes bytes answer
             → (suits (first_call command) (answer_of bytes answer) ≡ true)
             × (is_too_long waiting.room answer ≡ false)) }
         ensures refused { IfErr result (λ r. (command : FileCommand) (bytes : List ℕ)
             → WaitsFor waiting command
-            → TellsBytes bytes answer
+            → ReportsBytes bytes answer
             → IsRefusedFor r.why (first_call command) waiting.room bytes answer) }
         ensures given_back { IfErr result (λ r. r.waiting ≡ waiting) }
         ensures same { OnErr result (self.new ≡ self.old) }

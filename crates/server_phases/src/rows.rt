@@ -6,7 +6,7 @@ ghost use Rattle.virtiofsd_fuse.specs.Grammar.{row, forgets_asked, batch_forget_
 ghost use Rattle.virtiofsd_fuse.specs.Grammar.{read_row, write_row, ended, given};
 ghost use Rattle.virtiofsd_fuse.specs.RowMeanings.{is_single};
 ghost use Rattle.virtiofsd_fuse.specs.Serving.{setting};
-ghost use Rattle.server_phases.specs.Asking.{IsAskedBy, IsRowTold, IsDecoded};
+ghost use Rattle.server_phases.specs.Asking.{IsAskedBy, IsRowReported, IsDecoded};
 
 use crate::asking::{
     DecodedRequest, WRITE_IN_LEN, ask_write_row, called, entries_asked, init_asked, pairs_asked,
@@ -33,7 +33,8 @@ impl Session {
         source: Flat<'a>,
     ) -> DecodedRequest<'a>
         requires { is_single opcode ≡ true }
-        ensures told { IsRowTold self.now.page_size self.now.options.0 head.now room (λ g. row g opcode)
+        ensures reported { IsRowReported self.now.page_size self.now.options.0 head.now room
+            (λ g. row g opcode)
             source.entry.bytes.now result }
         ensures asker { IsAskedBy (context_of head.now) result }
     {
@@ -54,7 +55,7 @@ impl Session {
         source: Flat<'a>,
     ) -> DecodedRequest<'a>
         requires { count ≤ 65536 }
-        ensures told { (bytes : List ℕ) → IsDecoded (setting self.now.page_size self.now.options.0 room)
+        ensures reported { (bytes : List ℕ) → IsDecoded (setting self.now.page_size self.now.options.0 room)
             (ended head.now.unique (forgets_asked count (given head.now self.now.options.0 room)
             source.entry.bytes.now)) bytes result }
         ensures asker { IsAskedBy (context_of head.now) result }
@@ -72,7 +73,7 @@ impl Session {
         room: usize,
         source: Flat<'a>,
     ) -> DecodedRequest<'a>
-        ensures told { IsRowTold self.now.page_size self.now.options.0 head.now room batch_forget_row
+        ensures reported { IsRowReported self.now.page_size self.now.options.0 head.now room batch_forget_row
             source.entry.bytes.now result }
         ensures asker { IsAskedBy (context_of head.now) result }
     {
@@ -91,7 +92,7 @@ impl Session {
         room: usize,
         source: Flat<'a>,
     ) -> DecodedRequest<'a>
-        ensures told { IsRowTold self.now.page_size self.now.options.0 head.now room read_row
+        ensures reported { IsRowReported self.now.page_size self.now.options.0 head.now room read_row
             source.entry.bytes.now result }
         ensures asker { IsAskedBy (context_of head.now) result }
     {
@@ -109,7 +110,8 @@ impl Session {
         room: usize,
         source: Flat<'a>,
     ) -> DecodedRequest<'a>
-        ensures told { IsRowTold self.now.page_size self.now.options.0 head.now room (listing_row with_nodes)
+        ensures reported { IsRowReported self.now.page_size self.now.options.0 head.now room
+            (listing_row with_nodes)
             source.entry.bytes.now result }
         ensures asker { IsAskedBy (context_of head.now) result }
     {
@@ -127,7 +129,7 @@ impl Session {
         room: usize,
         source: Flat<'a>,
     ) -> DecodedRequest<'a>
-        ensures told { IsRowTold self.now.page_size self.now.options.0 head.now room init_row
+        ensures reported { IsRowReported self.now.page_size self.now.options.0 head.now room init_row
             source.entry.bytes.now result }
         ensures asker { IsAskedBy (context_of head.now) result }
     {
@@ -146,7 +148,7 @@ impl Session {
         room: usize,
         source: Flat<'a>,
     ) -> DecodedRequest<'a>
-        ensures told { IsRowTold self.now.page_size self.now.options.0 head.now room write_row
+        ensures reported { IsRowReported self.now.page_size self.now.options.0 head.now room write_row
             source.entry.bytes.now result }
         ensures asker { IsAskedBy (context_of head.now) result }
     {

@@ -42,7 +42,7 @@ entry_bytes with_nodes e d = (if with_nodes then node_bytes e else []) ++ dirent
 
 -- an entry goes into the list, or the list is full, or an error ends it
 pub data Fit : Type 0 where
-  GoesIn : Fit
+  FitsIn : Fit
   IsFull : Fit
   IsWrong : (errno : ℕ) → Fit
 
@@ -53,7 +53,7 @@ fit_of name_len len left room =
     if nat_le (2 ^ 32) name_len then IsWrong EOVERFLOW
     else if nat_lt left len then IsFull
     else if nat_lt room len then IsWrong EIO
-    else GoesIn
+    else FitsIn
 
 -- the name is `.` or `..`
 abbrev pub is_dot : List ℕ → Bool
@@ -93,6 +93,6 @@ AfterEntry = Result ℕ (Option ℕ)
 
 -- the size left after an entry of this length, or the end of the list
 abbrev pub after_entry : Fit → (left len : ℕ) → AfterEntry
-after_entry GoesIn left len = Ok (left - len)
+after_entry FitsIn left len = Ok (left - len)
 after_entry IsFull left len = Err None
 after_entry (IsWrong errno) left len = Err (Some errno)

@@ -68,22 +68,22 @@ made_is (p ∷ ps) make xs h =
 
 -- where the bytes of a record stand in front, it is read; the law is that of the trait `InRecord`
 pub read_front : {R : Type 0} → (s : RecordShape R) (fields : R → List Field) (n : ℕ)
-    → ((x : R) → fields_by s x ≡ fields x) × ((x : R) → made_of s.parts s.make (s.says x) ≡ x) × (size s.parts ≡ n)
+    → ((x : R) → fields_by s x ≡ fields x) × ((x : R) → made_of s.parts s.make (s.shows x) ≡ x) × (size s.parts ≡ n)
     → (x : R) (all more : List ℕ) → all ≡ spelled (fields x) ++ more → AllFit (fields x) → Ok (x, more) ≡ record_parser s all
 unfolding record_parser
 read_front s fields n law x all more e h =
     let b = spelled (fields_by s x) in
     let fit : AllFit (fields_by s x) = rw (law.0 x) h in
-    let l : length b ≡ size s.parts = length_spelled s.parts (s.says x) fit in
+    let l : length b ≡ size s.parts = length_spelled s.parts (s.shows x) fit in
     let enough : size s.parts ≤ length (b ++ more) = rw (length-append b more) (omega (arith, l)) in
-    let same : made s.parts s.make b ≡ x = made_is s.parts s.make (s.says x) fit ∙ law.1 x in
+    let same : made s.parts s.make b ≡ x = made_is s.parts s.make (s.shows x) fit ∙ law.1 x in
     let all_is : all ≡ b ++ more = e ∙ ap (λ f. spelled f ++ more) (sym (law.0 x)) in
     rw (all_is, le-ltb (length (b ++ more)) (size s.parts) enough, take_at b more (size s.parts) l, drop_at b more (size s.parts) l, same)
     refl
 
 -- too few bytes are no record
 pub read_short : {R : Type 0} → (s : RecordShape R) (fields : R → List Field) (n : ℕ)
-    → ((x : R) → fields_by s x ≡ fields x) × ((x : R) → made_of s.parts s.make (s.says x) ≡ x) × (size s.parts ≡ n)
+    → ((x : R) → fields_by s x ≡ fields x) × ((x : R) → made_of s.parts s.make (s.shows x) ≡ x) × (size s.parts ≡ n)
     → (all : List ℕ) → length all < n → Err (Faults DecodeMessage) ≡ record_parser s all
 unfolding record_parser
 read_short s fields n law all h =

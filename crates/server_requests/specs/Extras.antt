@@ -49,7 +49,7 @@ security_context =
 
 -- the number of a group, four bytes
 abbrev pub group_number : RecordShape ℕ
-group_number = record { parts = u32 ∷ []; make = λ n. n; says = λ n. n & end }
+group_number = record { parts = u32 ∷ []; make = λ n. n; shows = λ n. n & end }
 
 -- a list of exactly one group
 unfoldable pub one_group : Parser ℕ

@@ -9,7 +9,7 @@ use Rattle.std.proofs.Math.Seq.{take-append-add, drop-append-add, take-nil}
 use Rattle.std.specs.Borrow.{Bor}
 use Rattle.fuse_fs.specs.Lengths.{filled, past, up_to}
 use Rattle.server_segments.specs.Segments.{joined, all_of, segment_lengths}
-use Rattle.fuse_fs.proofs.Lengths.{sum-cons, sum-filled, filled-append, up_to_zero, up_to_goes, past_goes, past_zero, past_first}
+use Rattle.fuse_fs.proofs.Lengths.{sum-cons, sum-filled, filled-append, up_to_zero, up_to_proceeds, past_proceeds, past_zero, past_first}
 use Rattle.fuse_fs.proofs.Lengths.{past_behind, up_to_first, up_to_behind}
 
 -- one segment more
@@ -108,7 +108,7 @@ before_more front after queue popped cut segment part n whole a l m some q w =
     ∙ ap (λ s. s ++ behind) (filled-append (segment_lengths front) (length cut.now ∷ []))
     ∙ append_assoc (filled (segment_lengths front)) (filled (length cut.now ∷ [])) behind
     ∙ ap (λ k. filled (segment_lengths front) ++ (filled (k ∷ []) ++ behind)) l
-    ∙ ap (λ s. filled (segment_lengths front) ++ s) (sym (up_to_goes part (length segment.now) n (segment_lengths popped) some m))
+    ∙ ap (λ s. filled (segment_lengths front) ++ s) (sym (up_to_proceeds part (length segment.now) n (segment_lengths popped) some m))
     ∙ ap (λ (s : List (Bor (List ℕ))). filled (segment_lengths front) ++ up_to part (filled (segment_lengths s))) (sym q)
     ∙ w
 
@@ -118,7 +118,7 @@ pub behind_more : (queue popped : List (Bor (List ℕ))) (segment : Bor (List �
     past part (filled (length rest ∷ segment_lengths queue)) ≡ whole →
     past (part - n) (filled (length tail ∷ segment_lengths popped)) ≡ whole
 behind_more queue popped segment rest tail part n whole l m q r w =
-    ap (λ k. past (part - n) (filled (k ∷ segment_lengths popped))) l ∙ past_goes part (length segment.now) n (segment_lengths popped) m
+    ap (λ k. past (part - n) (filled (k ∷ segment_lengths popped))) l ∙ past_proceeds part (length segment.now) n (segment_lengths popped) m
     ∙ ap (λ (s : List (Bor (List ℕ))). past part (filled (segment_lengths s))) (sym q)
     ∙ ap (λ (s : List ℕ). past part (filled (length s ∷ segment_lengths queue))) (sym r) ∙ w
 
@@ -130,19 +130,20 @@ pub behind_ends : (ns whole : List ℕ) (part : ℕ) → part ≡ 0 → past par
 behind_ends ns whole part z w = sym (ap (λ i. past i (filled ns)) z ∙ past_zero ns) ∙ w
 
 -- a reader that is cut in its first segment
-pub cut_before : (segment : List ℕ) (later kept : List (Bor (List ℕ))) (offset : ℕ) (segments : List ℕ) →
+pub cut_before : (segment : List ℕ) (later preserved : List (Bor (List ℕ))) (offset : ℕ) (segments : List ℕ) →
     filled (length segment ∷ segment_lengths later) ≡ segments → offset ≤ length segment →
-    kept ≡ [] → filled (length (take offset segment) ∷ segment_lengths kept) ≡ up_to offset segments
-cut_before segment later kept offset segments v le k =
+    preserved ≡ [] → filled (length (take offset segment) ∷ segment_lengths preserved) ≡ up_to offset segments
+cut_before segment later preserved offset segments v le k =
     ap (λ (s : List (Bor (List ℕ))). filled (length (take offset segment) ∷ segment_lengths s)) k
     ∙ ap (λ (i : ℕ). filled (i ∷ [])) (length-take-le offset segment le)
     ∙ sym (up_to_first offset (length segment) (segment_lengths later) le) ∙ ap (up_to offset) v
 
-pub cut_behind : (segment tail : List ℕ) (later kept : List (Bor (List ℕ))) (offset : ℕ) (segments result : List ℕ) →
+pub cut_behind : (segment tail : List ℕ) (later preserved : List (Bor (List ℕ))) (offset : ℕ) (segments result : List ℕ) →
     filled (length segment ∷ segment_lengths later) ≡ segments →
-    offset ≤ length segment → kept ≡ later → length tail ≡ length segment - offset → result ≡ filled (length tail ∷ segment_lengths kept) →
+    offset ≤ length segment → preserved ≡ later → length tail ≡ length segment - offset
+    → result ≡ filled (length tail ∷ segment_lengths preserved) →
     result ≡ past offset segments
-cut_behind segment tail later kept offset segments result v le k l r =
+cut_behind segment tail later preserved offset segments result v le k l r =
     r ∙ ap (λ (s : List (Bor (List ℕ))). filled (length tail ∷ segment_lengths s)) k
     ∙ ap (λ (i : ℕ). filled (i ∷ segment_lengths later)) l
     ∙ sym (past_first offset (length segment) (segment_lengths later) le) ∙ ap (past offset) v

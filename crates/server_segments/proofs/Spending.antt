@@ -185,12 +185,13 @@ module _ {F : Type 0} (gives : F → List ℕ → ℕ → Option ℕ → Result 
       (ap (λ (r : ReaderView). r.left) same) (ap (λ (r : ReaderView). r.segments) same) (ap (λ (r : ReaderView). r.read) same) ends
 
   -- one more call of a file took something
-  pub spent_goes : (f : F) (before : ReaderView) (count most off : ℕ) (flags : Option ℕ) (done : ℕ) (now : ReaderView) (g : F) (n place : ℕ)
+  pub spent_proceeds : (f : F) (before : ReaderView) (count most off : ℕ) (flags : Option ℕ) (done : ℕ) (now : ReaderView) (g : F)
+      (n place : ℕ)
       (new : ReaderView) (h : F) → Lent before count most →
       Spent f before most off flags done now g → WritesOnce gives g now.left now.segments (most - done) place flags (Ok n) h →
       new.left ≡ drop n now.left → new.segments ≡ past n now.segments →
       new.read ≡ now.read + n → (n ≡ 0 → ⊥) → place ≡ off + done → Spent f before most off flags (done + n) new h
-  spent_goes f before count most off flags done now g n place new h t s once el es er some at =
+  spent_proceeds f before count most off flags done now g n place new h t s once el es er some at =
       ⊎_elim
       (λ (full : (min (most - done) (first now.segments) ≡ 0) × (Ok n ≡ Ok 0) × (h ≡ g)). absurd (some (ap moved full.1)))
       (λ (last : (0 < min (most - done) (first now.segments)) × (n ≤ min (most - done) (first now.segments))

@@ -18,7 +18,7 @@ fn run(rt: &HostRuntime, writer: &mut impl Write) -> u8 {
         return 0;
     };
     if let Halt::NotACommand(number, why, word) = halt {
-        let _told = eprintln!(rt; "line {number}: {why}{word}");
+        let _reported = eprintln!(rt; "line {number}: {why}{word}");
     }
     halt.status()
 }
@@ -26,7 +26,7 @@ fn run(rt: &HostRuntime, writer: &mut impl Write) -> u8 {
 // Says that a stream failed, if one did.
 fn report(rt: &HostRuntime, status: u8) {
     if status == Halt::Stream.status() {
-        let _told = eprintln!(rt; "the script can't be read, or the output can't be written");
+        let _reported = eprintln!(rt; "the script can't be read, or the output can't be written");
     }
 }
 

@@ -5,7 +5,7 @@ use Rattle.std.specs.Prelude.{IsTrue, OnOk, OnErr, slice_get}
 use Rattle.fuse_fs.specs.declared.answers.Entry.{Entry}
 use Rattle.fuse_fs.specs.Calls.{FileCall, FileAnswer, FileRun, Listed, Lookup, HasEntry, Failed, suits}
 use Rattle.virtiofsd_fuse.specs.Listings.{ListRequest, ListingResult, Next, forget_lookup, after_call, with_entry, list_entries}
-use Rattle.server_replies.specs.Entries.{Fit, GoesIn, IsFull, IsWrong, entry_len, entry_bytes, fit_of, is_dot, no_node, AfterEntry}
+use Rattle.server_replies.specs.Entries.{Fit, FitsIn, IsFull, IsWrong, entry_len, entry_bytes, fit_of, is_dot, no_node, AfterEntry}
 use Rattle.server_replies.specs.Entries.{after_entry}
 use Rattle.virtiofsd_fuse.specs.ListingRuns.{ListRun, EntryRun}
 use Rattle.virtiofsd_fuse.specs.Serving.{May}
@@ -46,12 +46,12 @@ pub record PlacedRun {F : Type 0} (may : May F) (b : Bool) (d : Listed) (e : Ent
       ≡ record { calls = map (λ step. step.0) steps; bytes = bytes; error = error }
   pub all : final ≡ written ++ bytes
 
-goes_in : (b : Bool) (d : Listed) (e : Entry ℕ) (undo : List FileCall) (next : Next) (left room : ℕ) (answers : List FileAnswer)
+fits_in : (b : Bool) (d : Listed) (e : Entry ℕ) (undo : List FileCall) (next : Next) (left room : ℕ) (answers : List FileAnswer)
     (w : ListingResult)
-    → fit_of (length d.name) (entry_len b (length d.name)) left room ≡ GoesIn
+    → fit_of (length d.name) (entry_len b (length d.name)) left room ≡ FitsIn
     → next (left - entry_len b (length d.name)) (room - entry_len b (length d.name)) answers ≡ w
     → with_entry b d e undo next left room answers ≡ record { calls = w.calls; bytes = entry_bytes b e d ++ w.bytes; error = w.error }
-goes_in b d e undo next left room answers w h k = rw (h, k) refl
+fits_in b d e undo next left room answers w h k = rw (h, k) refl
 
 is_full : (b : Bool) (d : Listed) (e : Entry ℕ) (undo calls : List FileCall) (next : Next) (left room : ℕ) (answers : List FileAnswer)
     → fit_of (length d.name) (entry_len b (length d.name)) left room ≡ IsFull → calls ≡ undo
@@ -102,13 +102,13 @@ module _ {F : Type 0} (may : F → FileCall → FileAnswer → F → Type 0) whe
       → OnErr (after_entry t left (entry_len b (length d.name))) (written_after ≡ written)
       → OnErr (after_entry t left (entry_len b (length d.name))) (Undone may undo f f_after)
       → PlacedOne may b d e undo left room f written (after_entry t left (entry_len b (length d.name))) room_after f_after written_after
-  placed_by b d e undo left room room_after f f_after written written_after GoesIn h w r k s u = λ l ds final error end rest.
+  placed_by b d e undo left room room_after f f_after written written_after FitsIn h w r k s u = λ l ds final error end rest.
       let place : room_after ≡ room - entry_len b (length d.name) = omega (arith, r) in
       record {
         steps = rest.steps;
         run = subst (λ (x : F). FileRun may x rest.steps end) k rest.run;
         bytes = entry_bytes b e d ++ rest.bytes;
-        gives = goes_in b d e undo (list_entries l ds) left room (map (λ step. step.1) rest.steps) _ h
+        gives = fits_in b d e undo (list_entries l ds) left room (map (λ step. step.1) rest.steps) _ h
             (ap (λ n. list_entries l ds (left - entry_len b (length d.name)) n (map (λ step. step.1) rest.steps)) (sym place) ∙ rest.gives);
         all = rest.all ∙ ap (λ (x : List ℕ). x ++ rest.bytes) w ∙ append_assoc written (entry_bytes b e d) rest.bytes;
       }

@@ -5,7 +5,7 @@ use Rattle.fuse_in.specs.declared.session.InHeader.{InHeader}
 use Rattle.fuse_fs.specs.Calls.{FileCall, BatchForget, Symlink, Mknod, Mkdir, Create}
 use Rattle.fuse_values.specs.declared.call.FileCall as made
 use Rattle.fuse_values.specs.Values.{call_of}
-use Rattle.server_calls.specs.Callers.{CallSays, RequestShape, Made, shape_of, is_plain, is_record}
+use Rattle.server_calls.specs.Callers.{CallShows, RequestShape, Made, shape_of, is_plain, is_record}
 use Rattle.server_calls.specs.Requests.{owns_memory}
 use Rattle.virtiofsd_fuse.specs.Grammar.{Meaning, Asks, One}
 use Rattle.virtiofsd_fuse.specs.RowMeanings.{ReadsAs}
@@ -33,14 +33,14 @@ record_makes_none _ h = refl
 -- a call that is handed no memory of its own
 pub call_read : (splits takes : Bool) (h : InHeader) (call : made.FileCall) (c : FileCall) (m : Meaning) → m ≡ Asks (One h.unique c)
     → call_of [] call ≡ c
-    → is_made (shape_of c) ≡ false → CallSays h c → ReadsAs splits takes h (value.Call call) m
-call_read splits takes h call c m e f s says = (rw f e, rw f says, λ none. rw f (owns_none c says.0 s))
+    → is_made (shape_of c) ≡ false → CallShows h c → ReadsAs splits takes h (value.Call call) m
+call_read splits takes h call c m e f s shows = (rw f e, rw f shows, λ none. rw f (owns_none c shows.0 s))
 
 -- a call that makes a node
 pub made_read : (splits split : Bool) (h : InHeader) (call : made.FileCall) (c : FileCall) (m : Meaning) → m ≡ Asks (One h.unique c)
     → call_of [] call ≡ c
-    → CallSays h c → ReadsAs splits (meaning_owns m || split) h (value.Call call) m
-made_read splits split h call c m e f says = (rw f e, rw f says, λ none. owned_none m split h.unique (call_of [] call) c e f none)
+    → CallShows h c → ReadsAs splits (meaning_owns m || split) h (value.Call call) m
+made_read splits split h call c m e f shows = (rw f e, rw f shows, λ none. owned_none m split h.unique (call_of [] call) c e f none)
 
 -- memory is taken for bytes that are split, whatever is handed over
 pub split_none : (splits owns split : Bool) → (splits && (owns || split)) ≡ false → (splits && split) ≡ false

@@ -7,7 +7,7 @@ use Rattle.fuse_fs.specs.declared.answers.Context.{Context}
 use Rattle.fuse_fs.specs.declared.answers.Entry.{Entry}
 use Rattle.fuse_fs.specs.Answers.{context_of}
 use Rattle.fuse_fs.specs.Calls.{FileCall, FileAnswer, Listed, Lookup, Forget, Readdir, HasEntry, Failed}
-use Rattle.server_replies.specs.Entries.{entry_len, entry_bytes, Fit, GoesIn, IsFull, IsWrong, fit_of, is_dot}
+use Rattle.server_replies.specs.Entries.{entry_len, entry_bytes, Fit, FitsIn, IsFull, IsWrong, fit_of, is_dot}
 use Rattle.server_replies.specs.Entries.{no_node}
 
 -- a listing: its caller, the open directory, the size in bytes, the offset, and whether entries have nodes
@@ -49,7 +49,7 @@ nothing_more calls error = record { calls = calls; bytes = []; error = error }
 -- an entry, and those behind it if it goes in. undo: the FORGET of its node, if it has one and
 -- doesn't go in; next: the result of the entries behind it
 abbrev pub placed : Fit → List ℕ → List FileCall → ListingResult → ListingResult
-placed GoesIn bytes undo next = record { calls = next.calls; bytes = bytes ++ next.bytes; error = next.error }
+placed FitsIn bytes undo next = record { calls = next.calls; bytes = bytes ++ next.bytes; error = next.error }
 placed IsFull bytes undo next = nothing_more undo None
 placed (IsWrong errno) bytes undo next = nothing_more undo (Some errno)
 

@@ -6,7 +6,7 @@ use Rattle.fuse_in.specs.declared.files.ReadIn.{ReadIn}
 use Rattle.fuse_values.specs.Values.{call_of}
 use Rattle.fuse_wire.specs.declared.opcodes.Opcode.{Opcode}
 use Rattle.fuse_wire.specs.declared.opcodes.Opcode.TheVariants as op
-use Rattle.server_calls.specs.Callers.{CallSays}
+use Rattle.server_calls.specs.Callers.{CallShows}
 use Rattle.server_calls.specs.Requests.{owns_memory, read_call}
 use Rattle.server_segments.specs.declared.error.Error.{Error}
 use Rattle.server_segments.specs.Errors.{is_memory}
@@ -39,7 +39,7 @@ is_single _ = true
 abbrev pub ReadsAs : (splits takes : Bool) → InHeader → RequestMeaning → Meaning → Type 0
 ReadsAs splits takes h (value.Call call) m =
     (m ≡ Asks (One h.unique (call_of [] call)))
-    × CallSays h (call_of [] call)
+    × CallShows h (call_of [] call)
     × (takes ≡ false → owns_memory (call_of [] call) ≡ false)
 ReadsAs splits takes h (value.Error errno) m = m ≡ Replies (error_bytes h.unique errno)
 ReadsAs splits takes h value.Silence m = m ≡ IsSilent
@@ -49,9 +49,10 @@ ReadsAs splits takes h (value.Fault e) m =
 -- the result of reading these bytes behind the header by a row, for every room
 abbrev pub RowReads : (splits : Bool) → (takes : Given → Bool) → InHeader → (options : ℕ) →
     (Given → Parser Meaning) → (bytes : List ℕ) → RequestMeaning → Type 0
-RowReads splits takes h options row bytes told =
+RowReads splits takes h options row bytes reported =
     (room : ℕ) →
-    ReadsAs splits (takes (given h options room)) h told (ended h.unique (row (given h options room) bytes))
+    ReadsAs splits (takes (given h options room)) h reported
+    (ended h.unique (row (given h options room) bytes))
 
 -- the result of reading a READ with this meaning and room: its record, or the fault
 abbrev pub ReadIsRead : InHeader → (room : ℕ) → Result ReadIn Error → Meaning → Type 0

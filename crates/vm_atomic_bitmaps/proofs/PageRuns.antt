@@ -115,12 +115,12 @@ clears_bits v w a b found lo hi h low_is high_is settled =
 pub gathers_word : (Change : ℕ → Tally → Tally → Type 0) (l : List Tally) (w found : ℕ)
     → ((p : ℕ) → p < length l → p / 64 ≡ w → Change p (tally_of l p) (after_clearing (bit_at found (p % 64)) (tally_of l p)))
     → ChangesRun Change l (cleared_by (in_word w) found l) (64 * w) (64 * w + 64)
-gathers_word Change l w found says =
+gathers_word Change l w found shows =
     one_run Change (λ p. after_clearing (bit_at found (p % 64))) (in_word w) l (64 * w) (64 * w + 64)
     (λ p low high. eq-eqb (p / 64) w (omega arith))
     (λ p out. ne_eqb (p / 64) w
     (λ e. ⊎_elim (λ (x : p < 64 * w). absurd (omega arith)) (λ (x : 64 * w + 64 ≤ p). absurd (omega arith)) out))
-    (λ p low high within. says p within (omega arith))
+    (λ p low high within. shows p within (omega arith))
 
 -- the words with the bits that were found
 pub is_gathered : (words : List ℕ) (w found p : ℕ) (t : Tally) → w < length words → p / 64 ≡ w →

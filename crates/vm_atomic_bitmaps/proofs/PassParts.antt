@@ -11,7 +11,7 @@ use Rattle.vm_atomic_bitmaps.specs.declared.counts.Tally.{Tally}
 use Rattle.vm_atomic_bitmaps.specs.declared.counts.PageCounts.{PageCounts}
 use Rattle.vm_bitmaps.specs.Words.{bit_of}
 use Rattle.vm_atomic_bitmaps.specs.Counts.{no_tally, tally_of, both_of, only_seen, joined_with, clear_of, seen_of, spent, with_pages}
-use Rattle.vm_atomic_bitmaps.specs.Counts.{kept_half, new_half, telling, both_passes, met_with}
+use Rattle.vm_atomic_bitmaps.specs.Counts.{preserved_half, new_half, telling, both_passes, met_with}
 use Rattle.vm_atomic_bitmaps.specs.Rule.{total_by, marks_at, on_at, off_at, Counted, weight, IsIdle, AddUp, KeepsRule}
 use Rattle.vm_atomic_bitmaps.proofs.PassTotals.{total_set, total_snoc, total_part, total_times, length-each_tally, at_each, at_past}
 use Rattle.vm_atomic_bitmaps.proofs.PassTotals.{each_same}
@@ -97,11 +97,11 @@ finer_total k m views fits whole =
     total_times (2 ^ m) (weight k) (weight (k + m)) views (λ id v e. finer k m v (fits id v e)) ∙ ap (λ (n : ℕ). n * 2 ^ m) whole
     ∙ sym (pow-add 2 k m)
 
-pub halves_allowed : (len id : ℕ) (v : PageCounts) → 0 < v.parts → Splits (KeepsRule len) id v (kept_half v) (new_half v)
+pub halves_allowed : (len id : ℕ) (v : PageCounts) → 0 < v.parts → Splits (KeepsRule len) id v (preserved_half v) (new_half v)
 halves_allowed len id v some_part s q at_id = let r = q.1 in (
   q.0,
   record {
-    counted = counted_fork len s.words s.views id v (kept_half v) (new_half v) at_id (λ p. refl)
+    counted = counted_fork len s.words s.views id v (preserved_half v) (new_half v) at_id (λ p. refl)
         (λ p. let z = at_clear_of v.pages p in
         (ap (λ (t : Tally). bit_of t.marked) z, ap (λ (t : Tally). t.on) z, ap (λ (t : Tally). t.off) z))
         (λ p. let z = at_clear_of v.pages p in
@@ -112,27 +112,28 @@ halves_allowed len id v some_part s q at_id = let r = q.1 in (
     shared = record {
       unit = k + 1;
       fits = λ j u e. ⊎_elim
-          (λ (old : get_elem? (set s.views id (kept_half v)) j ≡ some u). ⊎_elim
-          (λ (z : (j ≡ id) × (kept_half v ≡ u)). let d = deep in subst (λ (q : PageCounts). q.depth ≤ k + 1) z.1 (omega arith))
+          (λ (old : get_elem? (set s.views id (preserved_half v)) j ≡ some u). ⊎_elim
+          (λ (z : (j ≡ id) × (preserved_half v ≡ u)). let d = deep in subst (λ (q : PageCounts). q.depth ≤ k + 1) z.1 (omega arith))
           (λ (z : (j ≢ id) × (get_elem? s.views j ≡ some u)). let f = r.shared.fits j u z.1 in omega arith)
-          (at_set s.views id j (kept_half v) u old))
+          (at_set s.views id j (preserved_half v) u old))
           (λ (new : new_half v ≡ u). let d = deep in subst (λ (q : PageCounts). q.depth ≤ k + 1) new (omega arith))
-          (at_snoc (set s.views id (kept_half v)) (new_half v) u j e);
+          (at_snoc (set s.views id (preserved_half v)) (new_half v) u j e);
       whole =
-          let a = total_snoc (weight (k + 1)) (set s.views id (kept_half v)) (new_half v) in
-          let b = total_set (weight (k + 1)) s.views id v (kept_half v) at_id in
+          let a = total_snoc (weight (k + 1)) (set s.views id (preserved_half v)) (new_half v) in
+          let b = total_set (weight (k + 1)) s.views id v (preserved_half v) at_id in
           let all = finer_total k 1 s.views r.shared.fits r.shared.whole in
           let one = finer k 1 v deep in
           let d = deep in let shift : k + 1 - suc v.depth ≡ k - v.depth = omega arith in
-          let half : weight (k + 1) (kept_half v) ≡ weight k v = ap (λ (n : ℕ). v.parts * 2 ^ n) shift in
+          let half : weight (k + 1) (preserved_half v) ≡ weight k v = ap (λ (n : ℕ). v.parts * 2 ^ n) shift in
           let other : weight (k + 1) (new_half v) ≡ weight k v = ap (λ (n : ℕ). v.parts * 2 ^ n) shift in omega arith;
       idle = λ j u e none. ⊎_elim
-          (λ (old : get_elem? (set s.views id (kept_half v)) j ≡ some u). ⊎_elim
-          (λ (z : (j ≡ id) × (kept_half v ≡ u)). absurd (let y : v.parts ≡ u.parts = ap (λ (q : PageCounts). q.parts) z.1 in omega arith))
+          (λ (old : get_elem? (set s.views id (preserved_half v)) j ≡ some u). ⊎_elim
+          (λ (z : (j ≡ id) × (preserved_half v ≡ u)). absurd (let y : v.parts ≡ u.parts = ap (λ (q : PageCounts). q.parts) z.1 in omega
+          arith))
           (λ (z : (j ≢ id) × (get_elem? s.views j ≡ some u)). r.shared.idle j u z.1 none)
-          (at_set s.views id j (kept_half v) u old))
+          (at_set s.views id j (preserved_half v) u old))
           (λ (new : new_half v ≡ u). absurd (let y : v.parts ≡ u.parts = ap (λ (q : PageCounts). q.parts) new in omega arith))
-          (at_snoc (set s.views id (kept_half v)) (new_half v) u j e);
+          (at_snoc (set s.views id (preserved_half v)) (new_half v) u j e);
     };
   },
 )
@@ -143,11 +144,11 @@ halves_allowed len id v some_part s q at_id = let r = q.1 in (
     deep : v.depth ≤ k
     deep = q.1.shared.fits id v at_id
 
-pub tells_allowed : (len id : ℕ) (v : PageCounts) → 0 < v.parts → Splits (KeepsRule len) id v v (telling v)
-tells_allowed len id v some_part s q at_id = let r = q.1 in (
+pub reports_allowed : (len id : ℕ) (v : PageCounts) → 0 < v.parts → Splits (KeepsRule len) id v v (telling v)
+reports_allowed len id v some_part s q at_id = let r = q.1 in (
   q.0,
   record {
-    counted = counted_fork len s.words s.views id v v (telling v) at_id (λ p. refl) (λ p. idle_told v p)
+    counted = counted_fork len s.words s.views id v v (telling v) at_id (λ p. refl) (λ p. idle_reported v p)
         (λ p. let z = at_seen_of v.pages p in
         let h : (tally_of (seen_of v.pages) p).held ≡ (tally_of v.pages p).held = ap (λ (t : Tally). t.held) z in
         let k : (tally_of (seen_of v.pages) p).seen ≡ (tally_of v.pages p).seen = ap (λ (t : Tally). t.seen) z in
@@ -168,14 +169,14 @@ tells_allowed len id v some_part s q at_id = let r = q.1 in (
       idle = λ j u e none. ⊎_elim
           (λ (old : get_elem? (set s.views id v) j ≡ some u).
           r.shared.idle j u (subst (λ (l : List PageCounts). get_elem? l j ≡ some u) (set_again s.views id v at_id) old) none)
-          (λ (new : telling v ≡ u). subst IsIdle new (idle_told v))
+          (λ (new : telling v ≡ u). subst IsIdle new (idle_reported v))
           (at_snoc (set s.views id v) (telling v) u j e);
     };
   },
 )
   where
-    idle_told : (v : PageCounts) → IsIdle (telling v)
-    idle_told v p =
+    idle_reported : (v : PageCounts) → IsIdle (telling v)
+    idle_reported v p =
         let z = at_seen_of v.pages p in (ap (λ (t : Tally). bit_of t.marked) z, ap (λ (t : Tally). t.on) z, ap (λ (t : Tally). t.off) z)
 
 -- two passes, of which the first takes in the other
@@ -322,9 +323,9 @@ meets v u = λ i. record { pages = pages i; parts = parts i; depth = depth i }
     depth : v.depth + 0 ≡ v.depth
     depth = omega arith
 
-    kept : (b : Bool) → cond b true false ≡ b
-    kept true = refl
-    kept false = refl
+    preserved : (b : Bool) → cond b true false ≡ b
+    preserved true = refl
+    preserved false = refl
 
     one : (t w : Tally) → both_of t (only_seen w) ≡ record {
       marked = t.marked;
@@ -338,7 +339,7 @@ meets v u = λ i. record { pages = pages i; parts = parts i; depth = depth i }
     one t w = let on : t.on + 0 ≡ t.on = omega arith in let off : t.off + 0 ≡ t.off = omega arith in
         let marks : t.mark_steps + 0 ≡ t.mark_steps = omega arith in let clears : t.clear_steps + 0 ≡ t.clear_steps = omega arith in
         λ i. record {
-          marked = kept t.marked i;
+          marked = preserved t.marked i;
           on = on i;
           off = off i;
           held = max t.held w.held;

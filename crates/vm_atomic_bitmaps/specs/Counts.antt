@@ -140,8 +140,8 @@ abbrev pub with_pages : PageCounts → List Tally → PageCounts
 with_pages v pages = record { pages = pages; parts = v.parts; depth = v.depth }
 
 -- a pass after a split: it keeps its tallies and half of its part
-abbrev pub kept_half : PageCounts → PageCounts
-kept_half v = record { pages = v.pages; parts = v.parts; depth = suc v.depth }
+abbrev pub preserved_half : PageCounts → PageCounts
+preserved_half v = record { pages = v.pages; parts = v.parts; depth = suc v.depth }
 
 -- the new pass of a split: it has counted nothing, and has the other half
 abbrev pub new_half : PageCounts → PageCounts

@@ -10,7 +10,7 @@ ghost use lib.ListN.{get_elem?};
 ghost use Rattle.vm_bitmaps.specs.Pages.{pages_of};
 ghost use Rattle.vm_bitmaps.specs.Words.{page_bit};
 ghost use Rattle.vm_atomic_bitmaps.specs.Counts.{first_pass, marked_by, cleared_by, read_by, picks, in_word};
-ghost use Rattle.vm_atomic_bitmaps.specs.Counts.{kept_half, new_half, both_passes, met_with};
+ghost use Rattle.vm_atomic_bitmaps.specs.Counts.{preserved_half, new_half, both_passes, met_with};
 ghost use Rattle.vm_atomic_bitmaps.specs.Rule.{Stands, StandsAt};
 ghost use Rattle.vm_atomic_bitmaps.specs.Steps.{SettlesWord, SettlesAll, NoneBeyond};
 ghost use Rattle.vm_atomic_bitmaps.specs.Passes.{IsPassOf, counting};
@@ -184,7 +184,7 @@ impl AtomicBitmap {
     pub fn split_pass(&self, pass: &mut BitmapPass) -> Option<BitmapPass>
         requires { IsPassOf self.now pass.old }
         ensures some { IsSome result }
-        ensures pass { pass.new ≡ record { name = pass.old.name; counts = kept_half pass.old.counts } }
+        ensures pass { pass.new ≡ record { name = pass.old.name; counts = preserved_half pass.old.counts } }
         ensures second { IfSome result
             (λ p. p ≡ record { name = pass.old.name; counts = new_half pass.old.counts }) }
         ensures own { IsPassOf self.now pass.new }

@@ -77,9 +77,9 @@ impl Play<(), PageCounts> for Read {
 pub(crate) struct Halve;
 
 impl Split<PageCounts> for Halve {
-    ghost use Rattle.vm_atomic_bitmaps.specs.Counts.{kept_half, new_half};
+    ghost use Rattle.vm_atomic_bitmaps.specs.Counts.{preserved_half, new_half};
 
-    ghost left = { kept_half };
+    ghost left = { preserved_half };
 
     ghost right = { new_half };
 }

@@ -73,20 +73,20 @@ range_beyond (suc n) v top s m o h g =
     range_beyond n v top s (written_at v top s m o) (o + 1) h (omega (arith, length-at v top s m o)) ∙ same
 
 -- a page that no byte of the range lies in
-kept_at : (v : Bool) (top s : ℕ) (m : List Bool) (o p : ℕ) (d : Bool) → (o < top → o / s ≡ p → ⊥) →
+preserved_at : (v : Bool) (top s : ℕ) (m : List Bool) (o p : ℕ) (d : Bool) → (o < top → o / s ≡ p → ⊥) →
     get_or (written_at v top s m o) p d ≡ get_or m p d
-kept_at v top s m o p d none = elim (cases_lt o top) [
+preserved_at v top s m o p d none = elim (cases_lt o top) [
   | inl l ↦ ap (λ m'. get_or m' p d) (at_below v top s m o l) ∙ get_or-set_other m (o / s) p v d (λ e. none l (sym e))
   | inr g ↦ ap (λ m'. get_or m' p d) (at_past v top s m o g)
 ]
 
-kept : (n : ℕ) (v : Bool) (top s : ℕ) (m : List Bool) (o p : ℕ) (d : Bool) →
+preserved : (n : ℕ) (v : Bool) (top s : ℕ) (m : List Bool) (o p : ℕ) (d : Bool) →
     ((b : ℕ) → o ≤ b → b < o + n → b < top → b / s ≡ p → ⊥) → get_or (written_range v top s m o n) p d ≡ get_or m p d
 unfolding written_range
-kept zero v top s m o p d none = refl
-kept (suc n) v top s m o p d none =
-    kept n v top s (written_at v top s m o) (o + 1) p d (λ b low high l e. none b (omega arith) (omega arith) l e) ∙
-    kept_at v top s m o p d (λ l e. none o (omega arith) (omega arith) l e)
+preserved zero v top s m o p d none = refl
+preserved (suc n) v top s m o p d none =
+    preserved n v top s (written_at v top s m o) (o + 1) p d (λ b low high l e. none b (omega arith) (omega arith) l e) ∙
+    preserved_at v top s m o p d (λ l e. none o (omega arith) (omega arith) l e)
 
 -- a page once written stays so
 stays_at :
@@ -96,7 +96,7 @@ stays_at v top s m o p d w e = elim (cases_eq (o / s) p) [
     | inl l ↦ ap (λ m'. get_or m' p d) (at_below v top s m o l ∙ ap (λ i. set m i v) same) ∙ get_or-set_same m p v d w
     | inr g ↦ ap (λ m'. get_or m' p d) (at_past v top s m o g) ∙ e
   ]
-  | inr ne ↦ kept_at v top s m o p d (λ l f. ne f) ∙ e
+  | inr ne ↦ preserved_at v top s m o p d (λ l f. ne f) ∙ e
 ]
 
 stays : (n : ℕ) (v : Bool) (top s : ℕ) (m : List Bool) (o p : ℕ) (d : Bool) → p < length m → get_or m p d ≡ v →
@@ -161,10 +161,10 @@ run_is v top s m new o n final h le fits below last count inside before after =
     ext_get_or false new (written_range v top s m o n) (omega arith) (λ p w.
     elim (cases_lt p (o / s)) [
       | inl low ↦ before p (omega arith) low
-          ∙ sym (kept n v top s m o p false (λ b bl bh bt e. let g = div-le-div o b s h bl in absurd (omega arith)))
+          ∙ sym (preserved n v top s m o p false (λ b bl bh bt e. let g = div-le-div o b s h bl in absurd (omega arith)))
       | inr from ↦ elim (cases_lt (final / s) p) [
         | inl high ↦ after p (omega arith) high
-            ∙ sym (kept n v top s m o p false (λ b bl bh bt e. let g = div-le-div b final s h (last b bh bt) in absurd (omega arith)))
+            ∙ sym (preserved n v top s m o p false (λ b bl bh bt e. let g = div-le-div b final s h (last b bh bt) in absurd (omega arith)))
         | inr to ↦
             let b = byte_of o final s p h le from to in
             inside p (omega arith) from to ∙ sym (hit n v top s m o p false b.0 b.1 (omega arith) (omega arith) b.3 (omega arith))

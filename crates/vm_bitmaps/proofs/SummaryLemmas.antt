@@ -42,27 +42,27 @@ same_word old new w fo fn same =
 
 -- ---- what a summary tells
 
-told_one : (n : ℕ) → 0 < n → bit_of (ltb 0 n) ≡ 1
-told_one n h = ap bit_of (lt-ltb 0 n h)
+reported_one : (n : ℕ) → 0 < n → bit_of (ltb 0 n) ≡ 1
+reported_one n h = ap bit_of (lt-ltb 0 n h)
 
-told_none : (n : ℕ) → n ≡ 0 → bit_of (ltb 0 n) ≡ 0
-told_none n e = ap bit_of (le-ltb 0 n (omega arith))
+reported_none : (n : ℕ) → n ≡ 0 → bit_of (ltb 0 n) ≡ 0
+reported_none n e = ap bit_of (le-ltb 0 n (omega arith))
 
 -- of a word that is not told of
-not_told : (words summary : List ℕ) (w : ℕ) → Summarizes words summary w → page_bit summary w ≡ 0 → get_or words w 0 ≡ 0
-not_told words summary w tells none = elim (cases_lt 0 (get_or words w 0)) [
-  | inl l ↦ let one = told_one (get_or words w 0) l in absurd (omega arith)
+not_reported : (words summary : List ℕ) (w : ℕ) → Summarizes words summary w → page_bit summary w ≡ 0 → get_or words w 0 ≡ 0
+not_reported words summary w reports none = elim (cases_lt 0 (get_or words w 0)) [
+  | inl l ↦ let one = reported_one (get_or words w 0) l in absurd (omega arith)
   | inr g ↦ omega arith
 ]
 
 is_some_word : (words summary : List ℕ) (w : ℕ) → Summarizes words summary w → page_bit summary w ≡ 1 → 0 < get_or words w 0
-is_some_word words summary w tells one = elim (cases_lt 0 (get_or words w 0)) [
+is_some_word words summary w reports one = elim (cases_lt 0 (get_or words w 0)) [
   | inl l ↦ l
-  | inr g ↦ let z = told_none (get_or words w 0) (omega arith) in absurd (omega arith)
+  | inr g ↦ let z = reported_none (get_or words w 0) (omega arith) in absurd (omega arith)
 ]
 
-tells_same : (old new summary : List ℕ) (w : ℕ) → Summarizes old summary w → get_or new w 0 ≡ get_or old w 0 → Summarizes new summary w
-tells_same old new summary w tells same = tells ∙ ap (λ n. bit_of (ltb 0 n)) (sym same)
+reports_same : (old new summary : List ℕ) (w : ℕ) → Summarizes old summary w → get_or new w 0 ≡ get_or old w 0 → Summarizes new summary w
+reports_same old new summary w reports same = reports ∙ ap (λ n. bit_of (ltb 0 n)) (sym same)
 
 -- the same run by equal ends
 pub run_moved : (old new : List ℕ) (a b c d : ℕ) (mark : Bool) → a ≡ b → c ≡ d → WritesRun old new a c mark → WritesRun old new b d mark
@@ -74,37 +74,37 @@ run_moved old new a b c d mark from to run = subst (λ i. WritesRun old new i d 
 pub marked_summary : (old new before after : List ℕ) (first last : ℕ) → first ≤ last → WritesRun old new first (last + 1) true →
     ((w : ℕ) → get_or old w 0 < 2 ^ 64) → ((w : ℕ) → get_or new w 0 < 2 ^ 64) → length new ≡ length old → length after ≡ length before →
     WritesRun before after (first / 64) (last / 64 + 1) true → IsSummary old before → IsSummary new after
-marked_summary old new before after first last order run fo fn len room told s = record {
+marked_summary old new before after first last order run fo fn len room reported s = record {
   count = room ∙ s.count ∙ ap (λ n. div_ceil n 64) (sym len);
-  tells = λ w. elim (cases_lt w (first / 64)) [
-    | inl low ↦ told.below w low
-        ∙ tells_same old new before w (s.tells w) (same_word old new w (fo w) (fn w) (λ p at. run.below p (omega arith)))
+  reports = λ w. elim (cases_lt w (first / 64)) [
+    | inl low ↦ reported.below w low
+        ∙ reports_same old new before w (s.reports w) (same_word old new w (fo w) (fn w) (λ p at. run.below p (omega arith)))
     | inr from ↦ elim (cases_lt (last / 64) w) [
-      | inl high ↦ told.above w (omega arith)
-          ∙ tells_same old new before w (s.tells w) (same_word old new w (fo w) (fn w) (λ p at. run.above p (omega arith)))
+      | inl high ↦ reported.above w (omega arith)
+          ∙ reports_same old new before w (s.reports w) (same_word old new w (fo w) (fn w) (λ p at. run.above p (omega arith)))
       | inr to ↦ elim (cases_lt first (64 * w)) [
-        | inl past ↦ told.inside w from (omega arith)
-            ∙ sym (told_one (get_or new w 0) (word_some new (64 * w) w (omega arith) (run.inside (64 * w) (omega arith) (omega arith))))
-        | inr here ↦ told.inside w from (omega arith)
-            ∙ sym (told_one (get_or new w 0) (word_some new first w (omega arith) (run.inside first (omega arith) (omega arith))))
+        | inl past ↦ reported.inside w from (omega arith)
+            ∙ sym (reported_one (get_or new w 0) (word_some new (64 * w) w (omega arith) (run.inside (64 * w) (omega arith) (omega arith))))
+        | inr here ↦ reported.inside w from (omega arith)
+            ∙ sym (reported_one (get_or new w 0) (word_some new first w (omega arith) (run.inside first (omega arith) (omega arith))))
       ]
     ]
   ];
 }
 
 -- the summary after a run of pages was marked in a word that it tells of
-pub told_summary : (old new summary : List ℕ) (first last : ℕ) → first ≤ last → first / 64 ≡ last / 64 → 0 < get_or old (first / 64) 0 →
+pub reported_summary : (old new summary : List ℕ) (first last : ℕ) → first ≤ last → first / 64 ≡ last / 64 → 0 < get_or old (first / 64) 0 →
     WritesRun old new first (last + 1) true → ((w : ℕ) → get_or old w 0 < 2 ^ 64) → ((w : ℕ) → get_or new w 0 < 2 ^ 64) →
     length new ≡ length old →
     IsSummary old summary → IsSummary new summary
-told_summary old new summary first last order one some run fo fn len s = record {
+reported_summary old new summary first last order one some run fo fn len s = record {
   count = s.count ∙ ap (λ n. div_ceil n 64) (sym len);
-  tells = λ w. elim (cases_eq w (first / 64)) [
+  reports = λ w. elim (cases_eq w (first / 64)) [
     | inl is ↦
         let was : 0 < get_or old w 0 = subst (λ i. 0 < get_or old i 0) (sym is) some in
-        s.tells w ∙ told_one (get_or old w 0) was
-        ∙ sym (told_one (get_or new w 0) (word_some new first w (sym is) (run.inside first (omega arith) (omega arith))))
-    | inr ne ↦ tells_same old new summary w (s.tells w) (same_word old new w (fo w) (fn w) (λ p at. elim (cases_lt p first) [
+        s.reports w ∙ reported_one (get_or old w 0) was
+        ∙ sym (reported_one (get_or new w 0) (word_some new first w (sym is) (run.inside first (omega arith) (omega arith))))
+    | inr ne ↦ reports_same old new summary w (s.reports w) (same_word old new w (fo w) (fn w) (λ p at. elim (cases_lt p first) [
       | inl low ↦ run.below p low
       | inr from ↦ run.above p (omega arith)
     ]))
@@ -141,18 +141,18 @@ cleared_summary old new s0 s1 s2 s3 first last order run fo fn len room none tol
     ] in
     record {
       count = room ∙ s.count ∙ ap (λ n. div_ceil n 64) (sym len);
-      tells = λ w. elim (cases_lt w head) [
+      reports = λ w. elim (cases_lt w head) [
         | inl low ↦ others3 w (λ e. absurd (omega arith)) ∙ others2 w (λ e. absurd (omega arith)) ∙ none.below w low ∙
-            tells_same old new s0 w (s.tells w) (same_word old new w (fo w) (fn w) (λ p at. run.below p (omega arith)))
+            reports_same old new s0 w (s.reports w) (same_word old new w (fo w) (fn w) (λ p at. run.below p (omega arith)))
         | inr from ↦ elim (cases_lt tail w) [
           | inl high ↦ others3 w (λ e. absurd (omega arith)) ∙ others2 w (λ e. absurd (omega arith)) ∙ none.above w (omega arith) ∙
-              tells_same old new s0 w (s.tells w) (same_word old new w (fo w) (fn w) (λ p at. run.above p (omega arith)))
+              reports_same old new s0 w (s.reports w) (same_word old new w (fo w) (fn w) (λ p at. run.above p (omega arith)))
           | inr to ↦ elim (cases_eq w tail) [
             | inl is ↦ subst (λ i. Summarizes new s3 i) (sym is) at_tail
             | inr ne ↦ others3 w ne ∙ elim (cases_eq w head) [
               | inl is ↦ subst (λ i. Summarizes new s2 i) (sym is) at_head
               | inr other ↦ others2 w other ∙ none.inside w from (omega arith) ∙
-                  sym (told_none (get_or new w 0) (word_none new w (fn w) (λ p at. run.inside p (omega arith) (omega arith))))
+                  sym (reported_none (get_or new w 0) (word_none new w (fn w) (λ p at. run.inside p (omega arith) (omega arith))))
             ]
           ]
         ]
@@ -163,7 +163,7 @@ cleared_summary old new s0 s1 s2 s3 first last order run fo fn len room none tol
 pub zeros_summary : (n k : ℕ) → k ≡ div_ceil n 64 → IsSummary (replicate n 0) (replicate k 0)
 zeros_summary n k e = record {
   count = length-replicate k 0 ∙ e ∙ ap (λ m. div_ceil m 64) (sym (length-replicate {A = ℕ} n 0));
-  tells = λ w. page_bit-zeros k w ∙ sym (told_none (get_or (replicate n 0) w 0) (get_or-zeros n w));
+  reports = λ w. page_bit-zeros k w ∙ sym (reported_none (get_or (replicate n 0) w 0) (get_or-zeros n w));
 }
 
 -- ---- the next page
@@ -220,7 +220,7 @@ past_words words p g = bit_none words p (p / 64) refl (get_or_past words (p / 64
 
 -- no page of a word that isn't told of
 pub skipped : (words summary : List ℕ) (p : ℕ) → IsSummary words summary → page_bit summary (p / 64) ≡ 0 → page_bit words p ≡ 0
-skipped words summary p s none = bit_none words p (p / 64) refl (not_told words summary (p / 64) (s.tells (p / 64)) none)
+skipped words summary p s none = bit_none words p (p / 64) refl (not_reported words summary (p / 64) (s.reports (p / 64)) none)
 
 -- after the word of a page no word is told of
 pub next_none : (words summary : List ℕ) (from : ℕ) → IsSummary words summary → IsFirstSet words from (64 * (from / 64) + 64) None →
@@ -236,7 +236,7 @@ pub next_some : (words summary : List ℕ) (from w : ℕ) (found : Option ℕ) �
     IsFirstSet words (64 * w) (64 * (64 * w / 64) + 64) found → IsNextSet words from found
 next_some words summary from w None fits s here next first =
     let at : 64 * w / 64 ≡ w = omega arith in
-    let some = is_some_word words summary w (s.tells w) next.1 in
+    let some = is_some_word words summary w (s.reports w) next.1 in
     let none : get_or words w 0 ≡ 0 = word_none words w (fits w) (λ p e. first p (omega arith) (omega arith)) in
     absurd (omega arith)
 next_some words summary from w (Some page) fits s here next first =

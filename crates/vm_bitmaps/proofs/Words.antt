@@ -105,9 +105,9 @@ filled words from to word j low high w =
     get_or-append_right (take from words) (replicate (to - from) word) from j 0 n low ∙
     get_or-replicate (to - from) (j - from) word 0 (omega arith)
 
-kept_before : (words : List ℕ) (from to word j : ℕ) → j < from → from ≤ to → to ≤ length words →
+preserved_before : (words : List ℕ) (from to word j : ℕ) → j < from → from ≤ to → to ≤ length words →
     get_or (take from words ++ replicate (to - from) word ++ drop to words) j 0 ≡ get_or words j 0
-kept_before words from to word j low o w =
+preserved_before words from to word j low o w =
     let n : length (take from words) ≡ from = length-take-le from words (omega arith) in
     let m : length (replicate (to - from) word) ≡ to - from = length-replicate (to - from) word in
     let k : length (take from words ++ replicate (to - from) word) ≡ length (take from words) + length (replicate (to - from) word) =
@@ -116,9 +116,9 @@ kept_before words from to word j low o w =
     get_or_append_left (take from words) (replicate (to - from) word) 0 j (omega arith) ∙
     get_or-take from words j 0 low
 
-kept_after : (words : List ℕ) (from to word j : ℕ) → to ≤ j → from ≤ to → to ≤ length words →
+preserved_after : (words : List ℕ) (from to word j : ℕ) → to ≤ j → from ≤ to → to ≤ length words →
     get_or (take from words ++ replicate (to - from) word ++ drop to words) j 0 ≡ get_or words j 0
-kept_after words from to word j high o w =
+preserved_after words from to word j high o w =
     let n : length (take from words) ≡ from = length-take-le from words (omega arith) in
     let m : length (replicate (to - from) word) ≡ to - from = length-replicate (to - from) word in
     let k : length (take from words ++ replicate (to - from) word) ≡ length (take from words) + length (replicate (to - from) word) =
@@ -133,8 +133,8 @@ unfolding page_bit
 whole_words words from to word mark o w bits = record {
   inside = λ p low high. ap (λ m. bit_at m (p % 64)) (filled words from to word (p / 64) (omega arith) (omega arith) w)
       ∙ bits (p % 64) (omega arith);
-  below = λ p low. ap (λ m. bit_at m (p % 64)) (kept_before words from to word (p / 64) (omega arith) o w);
-  above = λ p high. ap (λ m. bit_at m (p % 64)) (kept_after words from to word (p / 64) (omega arith) o w);
+  below = λ p low. ap (λ m. bit_at m (p % 64)) (preserved_before words from to word (p / 64) (omega arith) o w);
+  above = λ p high. ap (λ m. bit_at m (p % 64)) (preserved_after words from to word (p / 64) (omega arith) o w);
 }
 
 -- the bits of a word that is all ones, or all zeros

@@ -10,7 +10,7 @@ Summarizes words summary w = page_bit summary w ≡ bit_of (nat_lt 0 (slice_inde
 -- the summary has exactly the words needed for a bit a word, and each bit is 1 exactly if its word isn't 0
 pub record IsSummary (words summary : List ℕ) : Type 0 where
   pub count : length summary ≡ div_ceil (length words) 64
-  pub tells : (w : ℕ) → Summarizes words summary w
+  pub reports : (w : ℕ) → Summarizes words summary w
 
 -- the option is the first page from `from` up to `end`, excluded, whose bit is set, or None if there is none
 abbrev pub IsFirstSet : List ℕ → (from end : ℕ) → Option ℕ → Type 0

@@ -25,7 +25,7 @@ pub trait Bitmap {
         ensures base { base self.new ≡ base self.old }
         ensures marks { marks self.new
             ≡ marked_range (page_size self.old) (marks self.old) (base self.old + offset) len }
-        ensures kept { Keeps self.old self.new };
+        ensures preserved { Keeps self.old self.new };
 
     /// Whether the page of the byte at `offset` is marked.
     fn dirty_at(&self, offset: usize) -> bool

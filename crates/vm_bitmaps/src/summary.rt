@@ -84,7 +84,7 @@ fn tell_one(summary: &mut [u64], word: usize)
 fn tell(words: &[u64], summary: &mut [u64], word: usize)
     requires inside { word < length words.now }
     requires room { word < 64 * length summary.old }
-    ensures told { page_bit summary.new word ≡ (if nat_lt 0 (slice_index words.now word) then 1
+    ensures reported { page_bit summary.new word ≡ (if nat_lt 0 (slice_index words.now word) then 1
         else page_bit summary.old word) }
     ensures others { (w : ℕ) → w ≢ word → page_bit summary.new w ≡ page_bit summary.old w }
 {

@@ -4,7 +4,7 @@ use Rattle.std.proofs.lemmas.Bool.{cases_lt, true≢false}
 use Rattle.vm_iotlb.specs.declared.permissions.Permissions.{Permissions}
 use Rattle.vm_iotlb.specs.declared.range.IotlbRange.{IotlbRange}
 use Rattle.vm_iotlb.specs.Table.{Mapping, AreSame}
-use Rattle.vm_iotlb.specs.Ranges.{mapping_in, table_kept, AreRanges}
+use Rattle.vm_iotlb.specs.Ranges.{mapping_in, table_held, AreRanges}
 use Rattle.vm_iotlb.proofs.RangeLemmas.{from_after, table_before, table_inside, table_out}
 use Rattle.vm_iotlb.proofs.RunLemmas.{together_in, apart}
 
@@ -17,7 +17,7 @@ fields_same : (a b c d e f : ℕ) (p q : Permissions) → a ≡ b → c ≡ d �
 fields_same a b c d e f p q x y z w = rw (x, y, z, w) refl
 
 starts_after : (r : IotlbRange) (l : List IotlbRange) (s : IotlbRange) (m : List IotlbRange) → AreRanges (r ∷ l) → AreRanges (s ∷ m) →
-    AreSame (table_kept (r ∷ l)) (table_kept (s ∷ m)) → s.start ≤ r.start
+    AreSame (table_held (r ∷ l)) (table_held (s ∷ m)) → s.start ≤ r.start
 starts_after r l s m are is same =
     elim (cases_lt r.start s.start) [
       | inl low ↦
@@ -28,7 +28,7 @@ starts_after r l s m are is same =
     ]
 
 ends_after : (r : IotlbRange) (l : List IotlbRange) (s : IotlbRange) (m : List IotlbRange) → AreRanges (r ∷ l) → AreRanges (s ∷ m) →
-    AreSame (table_kept (r ∷ l)) (table_kept (s ∷ m)) → r.start ≡ s.start → s.end ≤ r.end
+    AreSame (table_held (r ∷ l)) (table_held (s ∷ m)) → r.start ≡ s.start → s.end ≤ r.end
 ends_after r l s m are is same start =
     elim (cases_lt r.end s.end) [
       | inl low ↦
@@ -37,7 +37,7 @@ ends_after r l s m are is same start =
           let left = table_inside r l (r.end - 1) (omega arith) (omega arith) in
           let right = table_inside s m (r.end - 1) (omega arith) (omega arith) in
           let this : Some (mapping_in r (r.end - 1)) ≡ Some (mapping_in s (r.end - 1)) = sym left ∙ same (r.end - 1) ∙ right in
-          let next : table_kept l r.end ≡ Some (mapping_in s r.end) =
+          let next : table_held l r.end ≡ Some (mapping_in s r.end) =
           sym (table_out r l r.end (omega arith)) ∙ same r.end ∙ table_inside s m r.end (omega arith) low in
           let off = rw (this, next) at (apart r l (r.end - 1) r.end are last refl) in
           let on = rw last at (together_in s (r.end - 1) (omega arith)) in
@@ -46,8 +46,8 @@ ends_after r l s m are is same start =
     ]
 
 tails_same : (r : IotlbRange) (l : List IotlbRange) (s : IotlbRange) (m : List IotlbRange) → AreRanges (r ∷ l) → AreRanges (s ∷ m) →
-    AreSame (table_kept (r ∷ l)) (table_kept (s ∷ m)) →
-    r.end ≡ s.end → AreSame (table_kept l) (table_kept m)
+    AreSame (table_held (r ∷ l)) (table_held (s ∷ m)) →
+    r.end ≡ s.end → AreSame (table_held l) (table_held m)
 tails_same r l s m are is same end = λ a.
     elim (cases_lt a r.end) [
       | inl low ↦ table_before l r.end a are.2 (from_after r l are.1) low
@@ -56,9 +56,9 @@ tails_same r l s m are is same end = λ a.
     ]
 
 heads_same : (r : IotlbRange) (l : List IotlbRange) (s : IotlbRange) (m : List IotlbRange) → AreRanges (r ∷ l) → AreRanges (s ∷ m) →
-    AreSame (table_kept (r ∷ l)) (table_kept (s ∷ m)) → (r ≡ s) × (r.end ≡ s.end)
+    AreSame (table_held (r ∷ l)) (table_held (s ∷ m)) → (r ≡ s) × (r.end ≡ s.end)
 heads_same r l s m are is same =
-    let back : AreSame (table_kept (s ∷ m)) (table_kept (r ∷ l)) = λ a. sym (same a) in
+    let back : AreSame (table_held (s ∷ m)) (table_held (r ∷ l)) = λ a. sym (same a) in
     let low = starts_after r l s m are is same in
     let high = starts_after s m r l is are back in
     let start : r.start ≡ s.start = omega arith in
@@ -73,8 +73,8 @@ heads_same r l s m are is same =
     let perm = ap (λ (m : Mapping). m.perm) one in
     (fields_same r.start s.start r.end s.end r.target s.target r.perm s.perm start end (omega arith) perm, end)
 
-pub canonical : (one other : List IotlbRange) → AreRanges one → AreRanges other → AreSame (table_kept one) (table_kept other) → one ≡ other
-unfolding table_kept
+pub canonical : (one other : List IotlbRange) → AreRanges one → AreRanges other → AreSame (table_held one) (table_held other) → one ≡ other
+unfolding table_held
 canonical [] [] are is same = refl
 canonical [] (s ∷ m) are is same =
     absurd (none_some (mapping_in s s.start) (same s.start ∙ table_inside s m s.start (omega arith) (omega (arith, is.0.0))))

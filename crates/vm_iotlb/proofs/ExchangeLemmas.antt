@@ -6,7 +6,7 @@ use Rattle.std.specs.List.Sorted.{IsStrictlySortedBy}
 use Rattle.std.proofs.lemmas.Bool.{cases_lt, cases_eq}
 use Rattle.vm_iotlb.specs.declared.range.IotlbRange.{IotlbRange}
 use Rattle.vm_iotlb.specs.Keys.{AreKeyed, range_at}
-use Rattle.vm_iotlb.specs.Ranges.{mapping_in, table_kept, IsRange, GoesOnIn, Precedes, AreRanges}
+use Rattle.vm_iotlb.specs.Ranges.{mapping_in, table_held, IsRange, ContinuesIn, Precedes, AreRanges}
 use Rattle.vm_iotlb.proofs.RangeLemmas.{from_after, some_same, table_inside}
 use Rattle.vm_iotlb.proofs.MapLemmas.{after_at, at_here, at_rest, is_at_key, none_at, none_some, pair_at, ranges_from_at, some_one, tail_at}
 
@@ -31,10 +31,10 @@ parts_precede es lo hi j k r s keyed are span one two order =
       | inl less ↦
           let pair = pair_at es one.whole.start two.whole.start one.whole two.whole keyed are one.at two.at less in (
             omega (arith, one.high, pair.0, two.low),
-            λ goes. pair.1 (
-              omega (arith, one.high, pair.0, two.low, goes.0),
-              omega (arith, one.high, one.low, one.some, one.target, two.target, pair.0, two.low, goes.0, goes.1),
-              sym one.perm ∙ goes.2 ∙ two.perm,
+            λ proceeds. pair.1 (
+              omega (arith, one.high, pair.0, two.low, proceeds.0),
+              omega (arith, one.high, one.low, one.some, one.target, two.target, pair.0, two.low, proceeds.0, proceeds.1),
+              sym one.perm ∙ proceeds.2 ∙ two.perm,
             ),
           )
       | inr more ↦ elim (cases_lt two.whole.start one.whole.start) [
@@ -44,7 +44,7 @@ parts_precede es lo hi j k r s keyed are span one two order =
         | inr same ↦ elim two.cut [
           | inl first ↦ absurd (omega (arith, one.low, one.key, two.key, first))
           | inr behind ↦ elim one.out [
-            | inl before ↦ (omega (arith, before, behind), λ goes. absurd (omega (arith, before, behind, goes.0)))
+            | inl before ↦ (omega (arith, before, behind), λ proceeds. absurd (omega (arith, before, behind, proceeds.0)))
             | inr after ↦ absurd (omega (arith, after, behind, one.key, two.key))
           ]
         ]
@@ -60,8 +60,8 @@ part_is es lo hi q r keyed are part =
 -- a new range among the parts: nothing goes on in it, and it goes on in nothing
 abbrev pub Stands : (g : ℕ → Option IotlbRange) → (lo hi : ℕ) → IotlbRange → Type 0
 Stands g lo hi new =
-    IsRange new × (new.start ≡ lo) × (new.end ≡ hi) × ((q : ℕ) (p : IotlbRange) → Part g lo hi q p → p.end ≡ lo → GoesOnIn p new → ⊥) ×
-    ((q : ℕ) (p : IotlbRange) → Part g lo hi q p → p.start ≡ hi → GoesOnIn new p → ⊥)
+    IsRange new × (new.start ≡ lo) × (new.end ≡ hi) × ((q : ℕ) (p : IotlbRange) → Part g lo hi q p → p.end ≡ lo → ContinuesIn p new → ⊥) ×
+    ((q : ℕ) (p : IotlbRange) → Part g lo hi q p → p.start ≡ hi → ContinuesIn new p → ⊥)
 
 -- a range is new, or a part of one that was there
 abbrev pub IsEither : (g : ℕ → Option IotlbRange) → (lo hi : ℕ) → Option IotlbRange → ℕ → IotlbRange → Type 0
@@ -83,14 +83,14 @@ exchanged_ranges es fs lo hi new keyed are span sorted stands either =
             | inl too ↦ let that = stands s too.0 in absurd (omega (arith, is.1, too.1, this.1, that.1))
             | inr part ↦ elim part.out [
               | inl before ↦ absurd (omega (arith, before, part.some, part.key, is.1, this.1))
-              | inr after ↦ (omega (arith, after, this.2), λ goes. this.4 k s part (omega (arith, goes.0, this.2)) goes)
+              | inr after ↦ (omega (arith, after, this.2), λ proceeds. this.4 k s part (omega (arith, proceeds.0, this.2)) proceeds)
             ]
           ]
       | inr part ↦ elim (either k s next) [
         | inl too ↦
             let that = stands s too.0 in
             elim part.out [
-              | inl before ↦ (omega (arith, before, that.1), λ goes. that.3 j r part (omega (arith, goes.0, that.1)) goes)
+              | inl before ↦ (omega (arith, before, that.1), λ proceeds. that.3 j r part (omega (arith, proceeds.0, that.1)) proceeds)
               | inr after ↦ absurd (omega (arith, after, part.key, too.1, that.1))
             ]
         | inr two ↦ parts_precede es lo hi j k r s keyed are span part two order
@@ -101,7 +101,7 @@ exchanged_ranges es fs lo hi new keyed are span sorted stands either =
 
 pub in_at : (es : List (ℕ × IotlbRange)) (k a : ℕ) (r : IotlbRange) → AreKeyed es → AreRanges (values_of es) → range_at es k ≡ Some r →
     r.start ≤ a → a < r.end →
-    table_kept (values_of es) a ≡ Some (mapping_in r a)
+    table_held (values_of es) a ≡ Some (mapping_in r a)
 in_at es k a r keyed are at low high =
     let tail = tail_at es k r keyed are at in
     tail.3 a (omega (arith, tail.2)) ∙ table_inside r tail.0 a low high
@@ -142,7 +142,7 @@ Keeps es fs a = (k : ℕ) (s : IotlbRange) → range_at es k ≡ Some s → s.st
 -- where each range that has an address has it from one that had it, the table stays there
 pub same_at : (es fs : List (ℕ × IotlbRange)) (a : ℕ) → AreKeyed es → AreRanges (values_of es) → AreKeyed fs → AreRanges (values_of fs) →
     Keeps es fs a → (Has fs a → Has es a) →
-    table_kept (values_of fs) a ≡ table_kept (values_of es) a
+    table_held (values_of fs) a ≡ table_held (values_of es) a
 same_at es fs a keyed are locked ranges keeps back =
     elim (find_at es a keyed are) [
       | inl has ↦

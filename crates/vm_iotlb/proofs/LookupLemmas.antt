@@ -13,7 +13,7 @@ use denote.Ref.{Bor}
 use Rattle.vm_iotlb.specs.declared.permissions.Permissions.TheVariants.{No}
 use Rattle.vm_iotlb.specs.Pieces.{AreMapped, pieces_left}
 use Rattle.vm_iotlb.proofs.Covering.{Cover}
-use Rattle.vm_iotlb.specs.Ranges.{mapping_in, table_kept, AreRanges, Agree}
+use Rattle.vm_iotlb.specs.Ranges.{mapping_in, table_held, AreRanges, Agree}
 use Rattle.vm_iotlb.specs.AddressRuns.{may_all, may_pass, pieces}
 use Rattle.vm_iotlb.proofs.RangeLemmas.{table_inside}
 use Rattle.vm_iotlb.proofs.RunLemmas.{agree_rest, may_range, nothing_left, pieces_run, range_run}
@@ -22,7 +22,7 @@ use Rattle.vm_iotlb.proofs.MapLemmas.{is_at_key, none_at, pair_at, some_one, tai
 
 -- an address that is in no range, since the last one that begins up to it ends up to it
 pub last_ended : (es : List (ℕ × IotlbRange)) (iova : ℕ) (r : IotlbRange) → AreKeyed es → AreRanges (values_of es) → IsLastUpTo es iova r →
-    r.end ≤ iova → table_kept (values_of es) iova ≡ None
+    r.end ≤ iova → table_held (values_of es) iova ≡ None
 last_ended es iova r keyed are last ended =
     none_at es iova keyed are (λ k s at low high.
     let is = is_at_key es k s keyed are at in
@@ -33,7 +33,7 @@ last_ended es iova r keyed are last ended =
     ])
 
 pub none_up_to : (es : List (ℕ × IotlbRange)) (iova : ℕ) → AreKeyed es → AreRanges (values_of es) → NoneUpTo es iova →
-    table_kept (values_of es) iova ≡ None
+    table_held (values_of es) iova ≡ None
 none_up_to es iova keyed are none =
     none_at es iova keyed are (λ k s at low high.
     let is = is_at_key es k s keyed are at in
@@ -42,7 +42,7 @@ none_up_to es iova keyed are none =
 -- the addresses that lie in one range
 pub within_one : (es : List (ℕ × IotlbRange)) (iova end : ℕ) (r : IotlbRange) → AreKeyed es → AreRanges (values_of es) →
     IsLastUpTo es iova r → end ≤ r.end →
-    AreRanges (r ∷ []) × Agree (table_kept (values_of es)) (r ∷ []) iova end × Cover (r ∷ []) iova end
+    AreRanges (r ∷ []) × Agree (table_held (values_of es)) (r ∷ []) iova end × Cover (r ∷ []) iova end
 within_one es iova end r keyed are last within =
     let tail = tail_at es r.start r keyed are last.1 in (
       (tail.1.0, tt, tt),
@@ -54,54 +54,54 @@ within_one es iova end r keyed are last within =
 pub may_within : (es : List (ℕ × IotlbRange)) (access : Permissions) (iova end : ℕ) (r : IotlbRange) → AreKeyed es →
     AreRanges (values_of es) → IsLastUpTo es iova r → iova ≤ end → end ≤ r.end →
     allows r.perm access ≡ true →
-    may_all (table_kept (values_of es)) access iova (end - iova) ≡ true
+    may_all (table_held (values_of es)) access iova (end - iova) ≡ true
 may_within es access iova end r keyed are last order within allowed =
     let one = within_one es iova end r keyed are last within in
-    may_range (table_kept (values_of es)) access r [] iova end end one.1 last.0 order within (omega arith) allowed
-    ∙ (nothing_left (table_kept (values_of es)) access end end (omega arith)).3
+    may_range (table_held (values_of es)) access r [] iova end end one.1 last.0 order within (omega arith) allowed
+    ∙ (nothing_left (table_held (values_of es)) access end end (omega arith)).3
 
 -- the first piece, where each address is mapped, and what is left behind it
 pub first_of : (es : List (ℕ × IotlbRange)) (access : Permissions) (iova end : ℕ) (r : IotlbRange) → AreKeyed es →
     AreRanges (values_of es) → IsLastUpTo es iova r → iova < end →
-    may_all (table_kept (values_of es)) access iova (end - iova) ≡ true →
+    may_all (table_held (values_of es)) access iova (end - iova) ≡ true →
     (iova < r.end) × (r.target + (r.end - r.start) < 2 ^ 64)
-    × (may_all (table_kept (values_of es)) access (min r.end end) (end - min r.end end) ≡ true) ×
-    (pieces (table_kept (values_of es)) iova (end - iova)
+    × (may_all (table_held (values_of es)) access (min r.end end) (end - min r.end end) ≡ true) ×
+    (pieces (table_held (values_of es)) iova (end - iova)
     ≡ record { base = record { 0 = r.target + (iova - r.start) }; length = min r.end end - iova }
-    ∷ pieces (table_kept (values_of es)) (min r.end end) (end - min r.end end))
+    ∷ pieces (table_held (values_of es)) (min r.end end) (end - min r.end end))
 first_of es access iova end r keyed are last some all =
     let tail = tail_at es r.start r keyed are last.1 in
     let has : iova < r.end = elim (cases_lt iova r.end) [
       | inl under ↦ under
-      | inr over ↦ absurd (stopped (table_kept (values_of es)) access iova end some (last_ended es iova r keyed are last over) all)
+      | inr over ↦ absurd (stopped (table_held (values_of es)) access iova end some (last_ended es iova r keyed are last over) all)
     ] in
-    let agree : Agree (table_kept (values_of es)) (r ∷ tail.0) iova end = λ x from to. tail.3 x (omega (arith, last.0)) in
-    let covered = cover (table_kept (values_of es)) access (r ∷ tail.0) iova end tail.1 has (omega arith) agree all in
-    let behind : Agree (table_kept (values_of es)) tail.0 (min r.end end) end =
-    agree_rest (table_kept (values_of es)) r tail.0 iova (min r.end end) end agree (omega arith) (λ more. omega arith) in
-    let rest = pieces_cover (table_kept (values_of es)) tail.0 (min r.end end) end tail.1.2 (covered some).3 (omega arith) behind in
+    let agree : Agree (table_held (values_of es)) (r ∷ tail.0) iova end = λ x from to. tail.3 x (omega (arith, last.0)) in
+    let covered = cover (table_held (values_of es)) access (r ∷ tail.0) iova end tail.1 has (omega arith) agree all in
+    let behind : Agree (table_held (values_of es)) tail.0 (min r.end end) end =
+    agree_rest (table_held (values_of es)) r tail.0 iova (min r.end end) end agree (omega arith) (λ more. omega arith) in
+    let rest = pieces_cover (table_held (values_of es)) tail.0 (min r.end end) end tail.1.2 (covered some).3 (omega arith) behind in
     let test : nat_lt iova end ≡ true = lt-ltb iova end some in
-    let whole = pieces_cover (table_kept (values_of es)) (r ∷ tail.0) iova end tail.1 covered (omega arith) agree in
+    let whole = pieces_cover (table_held (values_of es)) (r ∷ tail.0) iova end tail.1 covered (omega arith) agree in
     let first = rw (test, rest) at whole in
-    let held : may_pass access (table_kept (values_of es) iova) ≡ true =
-    may_head (table_kept (values_of es)) access iova (end - iova) (omega arith) all in
-    let here : table_kept (values_of es) iova ≡ Some (mapping_in r iova) =
+    let held : may_pass access (table_held (values_of es) iova) ≡ true =
+    may_head (table_held (values_of es)) access iova (end - iova) (omega arith) all in
+    let here : table_held (values_of es) iova ≡ Some (mapping_in r iova) =
     agree iova (omega arith) some ∙ table_inside r tail.0 iova last.0 has in
     let allowed : allows r.perm access ≡ true = rw here at held in
-    let left = may_range (table_kept (values_of es)) access r tail.0 iova (min r.end end) end agree last.0 (omega arith) (omega arith)
+    let left = may_range (table_held (values_of es)) access r tail.0 iova (min r.end end) end agree last.0 (omega arith) (omega arith)
     (omega arith) allowed in
     (has, (covered some).2, sym left ∙ all, sym first)
 
 -- nothing is left at the end
 pub none_left : (m : Option (Bor (SeenMap ℕ IotlbRange))) (a e : ℕ) → e ≤ a → pieces_left m a e ≡ []
 none_left None a e done = refl
-none_left (Some m) a e done = (nothing_left (table_kept (values_of m.now.entries)) No a e done).2
+none_left (Some m) a e done = (nothing_left (table_held (values_of m.now.entries)) No a e done).2
 
 -- an address is mapped where an access may go through it
 pub not_none : (es : List (ℕ × IotlbRange)) (iova end : ℕ) → AreKeyed es → AreRanges (values_of es) →
-    AreMapped (table_kept (values_of es)) iova end → iova < end → NoneUpTo es iova → ⊥
+    AreMapped (table_held (values_of es)) iova end → iova < end → NoneUpTo es iova → ⊥
 not_none es iova end keyed are mapped some none =
-    stopped (table_kept (values_of es)) mapped.0 iova end some (none_up_to es iova keyed are none) mapped.1
+    stopped (table_held (values_of es)) mapped.0 iova end some (none_up_to es iova keyed are none) mapped.1
 
 -- the first of some pieces
 pub first_given : (res : Option MappedRange) (s t all : List MappedRange) → s ≡ all → (all ≡ [] → ⊥) →
@@ -115,14 +115,14 @@ first_given (Some x) s t all is some gives = (t, sym is ∙ gives.0)
 -- the range that has an address, and what it is mapped to
 pub range_having :
     (es : List (ℕ × IotlbRange)) (a : ℕ) (r : IotlbRange) → AreKeyed es → AreRanges (values_of es) → HasAddress es a (Some r) →
-    (table_kept (values_of es) a ≡ Some (mapping_in r a)) × (r.end < 2 ^ 64) × (r.target + (r.end - r.start) < 2 ^ 64)
+    (table_held (values_of es) a ≡ Some (mapping_in r a)) × (r.end < 2 ^ 64) × (r.target + (r.end - r.start) < 2 ^ 64)
 range_having es a r keyed are has =
     let tail = tail_at es r.start r keyed are has.2 in
     (tail.3 a has.0 ∙ table_inside r tail.0 a has.0 has.1, tail.1.0.1, tail.1.0.2)
 
 -- no range has it
 pub none_having : (es : List (ℕ × IotlbRange)) (a : ℕ) → AreKeyed es → AreRanges (values_of es) → HasAddress es a None →
-    table_kept (values_of es) a ≡ None
+    table_held (values_of es) a ≡ None
 none_having es a keyed are none =
     none_at es a keyed are (λ k s at low high.
     let is = is_at_key es k s keyed are at in
@@ -131,10 +131,10 @@ none_having es a keyed are none =
 -- the first piece from an address on
 pub piece_having : (es : List (ℕ × IotlbRange)) (a most : ℕ) (r : IotlbRange) → 0 < most → AreKeyed es → AreRanges (values_of es) →
     HasAddress es a (Some r) →
-    (rest : List MappedRange) × (pieces (table_kept (values_of es)) a most
+    (rest : List MappedRange) × (pieces (table_held (values_of es)) a most
     ≡ record { base = record { 0 = r.target + (a - r.start) }; length = min (r.end - a) most } ∷ rest)
 piece_having es a most r some keyed are has =
-    let t = table_kept (values_of es) in
+    let t = table_held (values_of es) in
     let tail = tail_at es r.start r keyed are has.2 in
     let e : ℕ = a + most in
     let b : ℕ = min r.end e in

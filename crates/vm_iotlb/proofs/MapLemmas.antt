@@ -16,7 +16,7 @@ use Rattle.std.proofs.lemmas.Bool.{cases_lt, cases_eq, ne_eqb}
 use Rattle.std.proofs.lemmas.Map.Keys.{sorted_head, sorted_tail}
 use Rattle.vm_iotlb.specs.declared.range.IotlbRange.{IotlbRange}
 use Rattle.vm_iotlb.specs.Keys.{AreKeyed, range_at, Divides, HasAddress, IsLastUpTo, NoneUpTo, ReachesFrom, cleared, put_at}
-use Rattle.vm_iotlb.specs.Ranges.{has, table_kept, IsRange, Precedes, PrecedesAll, AreRanges, EndsAbove}
+use Rattle.vm_iotlb.specs.Ranges.{has, table_held, IsRange, Precedes, PrecedesAll, AreRanges, EndsAbove}
 use Rattle.vm_iotlb.proofs.RangeLemmas.{StartFrom, from_after, has_below, has_above, table_out}
 
 pub at_here : (e : ℕ × IotlbRange) (es : List (ℕ × IotlbRange)) (k : ℕ) → k ≡ e.0 → range_at (e ∷ es) k ≡ Some e.1
@@ -45,7 +45,7 @@ after_at (e ∷ es) k b r keyed are from at =
 
 -- a range and those behind it have all mappings from its start on
 pub tail_at : (es : List (ℕ × IotlbRange)) (k : ℕ) (r : IotlbRange) → AreKeyed es → AreRanges (values_of es) → range_at es k ≡ Some r →
-    (l : List IotlbRange) × AreRanges (r ∷ l) × (r.start ≡ k) × ((a : ℕ) → k ≤ a → table_kept (values_of es) a ≡ table_kept (r ∷ l) a)
+    (l : List IotlbRange) × AreRanges (r ∷ l) × (r.start ≡ k) × ((a : ℕ) → k ≤ a → table_held (values_of es) a ≡ table_held (r ∷ l) a)
 tail_at [] k r keyed are at = absurd (none_some r at)
 tail_at (e ∷ es) k r keyed are at =
     elim (cases_eq k e.0) [
@@ -89,8 +89,8 @@ pair_at (e ∷ es) j k r s keyed are at next order =
 
 -- an address that no range has
 pub none_at : (es : List (ℕ × IotlbRange)) (a : ℕ) → AreKeyed es → AreRanges (values_of es) →
-    ((k : ℕ) (r : IotlbRange) → range_at es k ≡ Some r → r.start ≤ a → a < r.end → ⊥) → table_kept (values_of es) a ≡ None
-unfolding table_kept
+    ((k : ℕ) (r : IotlbRange) → range_at es k ≡ Some r → r.start ≤ a → a < r.end → ⊥) → table_held (values_of es) a ≡ None
+unfolding table_held
 none_at [] a keyed are none = refl
 none_at (e ∷ es) a keyed are none =
     let rest = none_at es a keyed.1 are.2 (λ k r at low high.
@@ -209,7 +209,7 @@ from_all (e ∷ es) low keyed are from =
 
 pub from_divided : (es : List (ℕ × IotlbRange)) (low iova : ℕ) → AreKeyed es → AreRanges (values_of es) → Divides es low iova →
     AreRanges (values_of (from_key low es)) × EndsAbove iova (values_of (from_key low es))
-    × ((a : ℕ) → iova ≤ a → table_kept (values_of es) a ≡ table_kept (values_of (from_key low es)) a)
+    × ((a : ℕ) → iova ≤ a → table_held (values_of es) a ≡ table_held (values_of (from_key low es)) a)
 from_divided [] low iova keyed are parts = (tt, tt, λ a high. refl)
 from_divided (e ∷ es) low iova keyed are parts =
     elim (cases_lt e.0 low) [

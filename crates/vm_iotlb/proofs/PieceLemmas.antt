@@ -11,7 +11,7 @@ use Rattle.vm_iotlb.specs.declared.permissions.Permissions.TheVariants.{No}
 use Rattle.vm_iotlb.specs.declared.range.IotlbRange.{IotlbRange}
 use Rattle.vm_iotlb.specs.declared.iova.IovaRange.{IovaRange}
 use Rattle.vm_iotlb.specs.Table.{Mapping, Table, allows}
-use Rattle.vm_iotlb.specs.Ranges.{mapping_in, table_kept, AreRanges, EndsAbove, Agree}
+use Rattle.vm_iotlb.specs.Ranges.{mapping_in, table_held, AreRanges, EndsAbove, Agree}
 use Rattle.vm_iotlb.proofs.Covering.{Cover, pieces_in}
 use Rattle.vm_iotlb.specs.AddressRuns.{may_pass, target_of, may_all, go_together, run_of, led_by, runs, missing, lacking, piece_of, pieces}
 use Rattle.vm_iotlb.specs.AddressRuns.{addresses_joined, targets, between}
@@ -26,7 +26,7 @@ above_rest r [] b are h = tt
 above_rest r (s ∷ l) b are h = omega (arith, are.1.0, are.2.0.0)
 
 pub agree_none : (t : Table) (a e : ℕ) → Agree t [] a e → a < e → t a ≡ None
-unfolding table_kept
+unfolding table_held
 agree_none t a e agree some = agree a (omega arith) some
 
 -- ---- pieces
@@ -202,7 +202,7 @@ covered_end t access a e agree =
 
 pub fails_end :
     (t : Table) (access : Permissions) (a e : ℕ) → Agree t [] a e → (missing t a (e - a) ≡ between a e) × (lacking t access a (e - a) ≡ [])
-unfolding table_kept
+unfolding table_held
 fails_end t access a e agree =
     elim (cases_lt a e) [
       | inl some ↦

@@ -4,7 +4,7 @@ use Rattle.std.proofs.lemmas.Bool.Decides.{nat_tests}
 use Rattle.vm_iotlb.specs.declared.permissions.Permissions.{Permissions}
 use Rattle.vm_iotlb.specs.declared.range.IotlbRange.{IotlbRange}
 use Rattle.vm_iotlb.specs.Table.{Mapping}
-use Rattle.vm_iotlb.specs.Ranges.{has, mapping_in, table_kept, PrecedesAll, AreRanges}
+use Rattle.vm_iotlb.specs.Ranges.{has, mapping_in, table_held, PrecedesAll, AreRanges}
 
 -- ---- one range
 
@@ -40,19 +40,19 @@ from_after r (s ∷ l) p = p.0
 -- ---- tables
 
 -- an address that all ranges begin above has no mapping
-pub table_before : (l : List IotlbRange) (e a : ℕ) → AreRanges l → StartFrom e l → a < e → table_kept l a ≡ None
-unfolding table_kept
+pub table_before : (l : List IotlbRange) (e a : ℕ) → AreRanges l → StartFrom e l → a < e → table_held l a ≡ None
+unfolding table_held
 table_before [] e a are from h = refl
 table_before (r ∷ l) e a are from h =
     let out : has r a ≡ false = has_below r a (omega arith) in
     rw out (table_before l r.end a are.2 (from_after r l are.1) (omega (arith, are.0.0)))
 
-pub table_inside : (r : IotlbRange) (l : List IotlbRange) (a : ℕ) → r.start ≤ a → a < r.end → table_kept (r ∷ l) a ≡ Some (mapping_in r a)
-unfolding table_kept
+pub table_inside : (r : IotlbRange) (l : List IotlbRange) (a : ℕ) → r.start ≤ a → a < r.end → table_held (r ∷ l) a ≡ Some (mapping_in r a)
+unfolding table_held
 table_inside r l a low high = let test : has r a ≡ true = has_in r a low high in rw test refl
 
-pub table_out : (r : IotlbRange) (l : List IotlbRange) (a : ℕ) → r.end ≤ a → table_kept (r ∷ l) a ≡ table_kept l a
-unfolding table_kept
+pub table_out : (r : IotlbRange) (l : List IotlbRange) (a : ℕ) → r.end ≤ a → table_held (r ∷ l) a ≡ table_held l a
+unfolding table_held
 table_out r l a h = let test : has r a ≡ false = has_above r a h in rw test refl
 
 -- ---- parts of ranges

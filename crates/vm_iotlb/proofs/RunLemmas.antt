@@ -8,7 +8,7 @@ use Rattle.vm_iotlb.specs.declared.permissions.Permissions.TheVariants.{No, Read
 use Rattle.vm_iotlb.specs.declared.range.IotlbRange.{IotlbRange}
 use Rattle.vm_iotlb.specs.declared.iova.IovaRange.{IovaRange}
 use Rattle.vm_iotlb.specs.Table.{Mapping, Table, allows}
-use Rattle.vm_iotlb.specs.Ranges.{has, mapping_in, table_kept, AreRanges, Agree}
+use Rattle.vm_iotlb.specs.Ranges.{has, mapping_in, table_held, AreRanges, Agree}
 use Rattle.vm_iotlb.specs.AddressRuns.{may_pass, may_all, go_together, run_of, runs, missing, lacking, pieces}
 use Rattle.vm_iotlb.proofs.RangeLemmas.{has_in, table_before, table_inside, table_out}
 
@@ -96,8 +96,8 @@ together_in r x low =
 
 -- the last address of a range and the one that follows the range
 pub apart : (r : IotlbRange) (l : List IotlbRange) (x b : ℕ) → AreRanges (r ∷ l) → x + 1 ≡ b → b ≡ r.end →
-    go_together (Some (mapping_in r x)) (table_kept l b) ≡ false
-unfolding table_kept
+    go_together (Some (mapping_in r x)) (table_held l b) ≡ false
+unfolding table_held
 apart r [] x b are next end = refl
 apart r (s ∷ l) x b are next end =
     elim (cases_lt b s.start) [

@@ -8,7 +8,7 @@ use Rattle.std.proofs.lemmas.Bool.{cases_lt}
 use Rattle.vm_iotlb.specs.declared.range.IotlbRange.{IotlbRange}
 use Rattle.vm_iotlb.specs.Keys.{AreKeyed, HasAddress, JoinsLeft, JoinsRight, ReachesFrom, cleared, end_joined, joined, left_over, put_at}
 use Rattle.vm_iotlb.specs.Keys.{range_at, right_over, start_joined, target_joined}
-use Rattle.vm_iotlb.specs.Ranges.{has, mapping_in, table_kept, AreRanges, IsRange}
+use Rattle.vm_iotlb.specs.Ranges.{has, mapping_in, table_held, AreRanges, IsRange}
 use Rattle.vm_iotlb.proofs.RangeLemmas.{has_above, has_below, has_in, some_same}
 use Rattle.vm_iotlb.proofs.MapLemmas.{clear_above, clear_below, clear_within, none_some, put_apart, put_here, put_same, some_one}
 use Rattle.vm_iotlb.proofs.ExchangeLemmas.{Has, IsEither, Stands, exchanged_ranges, in_at, same_at}
@@ -85,9 +85,10 @@ module _ (es fs : List (ℕ × IotlbRange)) (r : IotlbRange) (before after left 
     (omega (arith, low.0, high.0, is.0), high.1, omega (arith, low.0, low.1, high.0, high.2, is.0)),
     refl,
     refl,
-    (λ q p part end goes. left_stops es r keyed are is before reaches left (end_joined r right) q p lefts part end goes.1 goes.2),
-    λ q p part start goes. right_stops es r keyed are is after behind right (start_joined r left) q p rights part start
-        (omega (arith, low.0, low.1, high.0, is.0, goes.1)) goes.2,
+    (λ q p part end proceeds. left_stops es r keyed are is before reaches left (end_joined r right) q p lefts part end proceeds.1
+        proceeds.2),
+    λ q p part start proceeds. right_stops es r keyed are is after behind right (start_joined r left) q p rights part start
+        (omega (arith, low.0, low.1, high.0, is.0, proceeds.1)) proceeds.2,
   )
 
   pub set_ranges : AreKeyed fs × AreRanges (values_of fs)
@@ -112,7 +113,7 @@ module _ (es fs : List (ℕ × IotlbRange)) (r : IotlbRange) (before after left 
             ]
       ]
 
-  pub set_table : (a : ℕ) → table_kept (values_of fs) a ≡ (if has r a then Some (mapping_in r a) else table_kept (values_of es) a)
+  pub set_table : (a : ℕ) → table_held (values_of fs) a ≡ (if has r a then Some (mapping_in r a) else table_held (values_of es) a)
   set_table a =
       elim (cases_lt a r.start) [
         | inl below ↦
@@ -120,8 +121,15 @@ module _ (es fs : List (ℕ × IotlbRange)) (r : IotlbRange) (before after left 
             rw test (same_at es fs a keyed are set_ranges.0 set_ranges.1 (λ k s at from to.
             elim (left_stays es r keyed are is before reaches left (put_at (right_over right after r.end) (range_at es)) a k s lefts below
             (λ q less. right_apart es r keyed are is after behind right q (omega (arith, is.0))) at from to) [
-              | inl kept ↦
-                  (kept.0, kept.1, at_low kept.0 kept.2 ∙ skip_new kept.0 kept.2 ∙ kept.3.0, kept.3.1, kept.3.2, kept.3.3, kept.3.4)
+              | inl preserved ↦ (
+                preserved.0,
+                preserved.1,
+                at_low preserved.0 preserved.2 ∙ skip_new preserved.0 preserved.2 ∙ preserved.3.0,
+                preserved.3.1,
+                preserved.3.2,
+                preserved.3.3,
+                preserved.3.4,
+              )
               | inr in_new ↦ (start_joined r left, joined r left right, at_new, in_new.0, omega (arith, high.0, is.0), in_new.1, in_new.2)
             ]) (back a (λ x y. omega arith)))
         | inr above ↦ elim (cases_lt a r.end) [
@@ -134,7 +142,15 @@ module _ (es fs : List (ℕ × IotlbRange)) (r : IotlbRange) (before after left 
               let test : has r a ≡ false = has_above r a over in
               rw test (same_at es fs a keyed are set_ranges.0 set_ranges.1 (λ k s at from to.
               elim (right_stays es r keyed are is after behind right a k s rights over at from to) [
-                | inl kept ↦ (kept.0, kept.1, at_high kept.0 kept.2 ∙ kept.3.0, kept.3.1, kept.3.2, kept.3.3, kept.3.4)
+                | inl preserved ↦ (
+                  preserved.0,
+                  preserved.1,
+                  at_high preserved.0 preserved.2 ∙ preserved.3.0,
+                  preserved.3.1,
+                  preserved.3.2,
+                  preserved.3.3,
+                  preserved.3.4,
+                )
                 | inr in_new ↦ (
                   start_joined r left,
                   joined r left right,

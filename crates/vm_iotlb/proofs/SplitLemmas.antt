@@ -6,17 +6,17 @@ use Rattle.std.proofs.lemmas.Bool.{cases_eq, cases_lt, false_from_ne_true, le-lt
 use Rattle.vm_iotlb.specs.declared.range.IotlbRange.{IotlbRange}
 use Rattle.vm_iotlb.specs.Keys.{AreKeyed, HasAddress, IsKey, JoinsLeft, JoinsRight, ReachesFrom, joined, part_from, range_at, right_over}
 use Rattle.vm_iotlb.specs.Table.{Mapping, Table}
-use Rattle.vm_iotlb.specs.Ranges.{AreRanges, IsRange, mapping_in, table_kept, with_range}
-use Rattle.vm_iotlb.specs.AddressRuns.{begins_anew, begins_anew_about, begins_at, go_together, goes_on_at, misses}
+use Rattle.vm_iotlb.specs.Ranges.{AreRanges, IsRange, mapping_in, table_held, with_range}
+use Rattle.vm_iotlb.specs.AddressRuns.{begins_anew, begins_anew_about, begins_at, go_together, carries_on_at, misses}
 use Rattle.vm_iotlb.proofs.RangeLemmas.{has_above, has_below, has_in}
 use Rattle.vm_iotlb.proofs.RunLemmas.{together_in, together_parts}
 use Rattle.vm_iotlb.proofs.MapLemmas.{is_at_key, none_at, none_some, some_is}
 use Rattle.vm_iotlb.proofs.ExchangeLemmas.{find_at, in_at}
 
 -- an address that lies in a range behind its first is mapped as one with the one before it
-goes_inside : (t : Table) (r : IotlbRange) (a : ℕ) → r.start < a → t a ≡ Some (mapping_in r a) → t (a - 1) ≡ Some (mapping_in r (a - 1)) →
-    goes_on_at t a ≡ true
-goes_inside t r a low here before =
+proceeds_inside : (t : Table) (r : IotlbRange) (a : ℕ) → r.start < a → t a ≡ Some (mapping_in r a) → t (a - 1) ≡ Some (mapping_in r (a - 1))
+    → carries_on_at t a ≡ true
+proceeds_inside t r a low here before =
     let last : a - 1 + 1 ≡ a = omega arith in
     rw (here, before) (rw last at (together_in r (a - 1) (omega arith)))
 
@@ -30,8 +30,8 @@ true_both x y e f = rw (e, f) refl
 begins_apart : (t : Table) (a : ℕ) (to : Mapping) → t a ≡ Some to → go_together (t (a - 1)) (Some to) ≡ false → begins_at t a ≡ true
 begins_apart t a to here apart = rw here (ap not apart)
 
-begins_in : (t : Table) (a : ℕ) → goes_on_at t a ≡ true → begins_at t a ≡ false
-begins_in t a on = false_before (not (misses (t a))) (goes_on_at t a) on
+begins_in : (t : Table) (a : ℕ) → carries_on_at t a ≡ true → begins_at t a ≡ false
+begins_in t a on = false_before (not (misses (t a))) (carries_on_at t a) on
 
 begins_none : (t : Table) (a : ℕ) → t a ≡ None → begins_at t a ≡ false
 begins_none t a none = rw none refl
@@ -40,20 +40,20 @@ anew : (t m : Table) (a : ℕ) → begins_at m a ≡ true → begins_at t a ≡ 
 anew t m a new old = true_both (begins_at m a) (begins_at t a) new old
 
 -- what is left behind an address of the range that has it is under a new key only if the address is mapped as one with the one before it
-pub split_goes_on :
+pub split_carries_on :
     (es : List (ℕ × IotlbRange)) (e : ℕ) (after : Option IotlbRange) → AreKeyed es → AreRanges (values_of es) → HasAddress es e after →
-    (IsKey (range_at es) (part_from after e) → ⊥) → goes_on_at (table_kept (values_of es)) e ≡ true
-split_goes_on es e None keyed are has new = absurd (new tt)
-split_goes_on es e (Some a) keyed are has new =
+    (IsKey (range_at es) (part_from after e) → ⊥) → carries_on_at (table_held (values_of es)) e ≡ true
+split_carries_on es e None keyed are has new = absurd (new tt)
+split_carries_on es e (Some a) keyed are has new =
     elim (cases_lt a.start e) [
-      | inl less ↦ goes_inside (table_kept (values_of es)) a e less (in_at es a.start e a keyed are has.2 has.0 has.1)
+      | inl less ↦ proceeds_inside (table_held (values_of es)) a e less (in_at es a.start e a keyed are has.2 has.0 has.1)
           (in_at es a.start (e - 1) a keyed are has.2 (omega arith) (omega (arith, has.1)))
       | inr more ↦ let test : nat_lt a.start e ≡ false = le-ltb a.start e more in absurd (new (rw test tt))
     ]
 
 module _ (es : List (ℕ × IotlbRange)) (r : IotlbRange) (keyed : AreKeyed es) (are : AreRanges (values_of es)) (is : IsRange r) where
   abbrev t : Table
-  t = table_kept (values_of es)
+  t = table_held (values_of es)
 
   abbrev m : Table
   m = with_range r t
@@ -78,7 +78,7 @@ module _ (es : List (ℕ × IotlbRange)) (r : IotlbRange) (keyed : AreKeyed es) 
             let parts = together_parts (mapping_in r (r.end - 1)) (mapping_in a r.end) one in
             joins a refl (omega (arith, parts.0, is.0), parts.1)) in
             inr (anew t m r.end (begins_apart m r.end (mapping_in a r.end) new_here (rw new_before apart))
-            (begins_in t r.end (goes_inside t a r.end less here before)))
+            (begins_in t r.end (proceeds_inside t a r.end less here before)))
         | inr more ↦ let test : nat_lt a.start r.end ≡ false = le-ltb a.start r.end more in inl (rw test tt)
       ]
 
@@ -120,7 +120,7 @@ module _ (es : List (ℕ × IotlbRange)) (r : IotlbRange) (keyed : AreKeyed es) 
         | inl one ↦
             let key = is_at_key es one.0 one.1 keyed are one.2 in
             elim (cases_lt one.1.start a) [
-              | inl less ↦ begins_in t a (goes_inside t one.1 a less (in_at es one.0 a one.1 keyed are one.2 one.3 one.4)
+              | inl less ↦ begins_in t a (proceeds_inside t one.1 a less (in_at es one.0 a one.1 keyed are one.2 one.3 one.4)
                   (in_at es one.0 (a - 1) one.1 keyed are one.2 (omega arith) (omega (arith, one.4))))
               | inr more ↦ let same : a ≡ one.0 = omega (arith, key.0, one.3) in
                   absurd (none_some one.1 (sym none ∙ ap (range_at es) same ∙ one.2))
@@ -146,7 +146,7 @@ module _ (es : List (ℕ × IotlbRange)) (r : IotlbRange) (keyed : AreKeyed es) 
   pub map_begins : (before after left right : Option IotlbRange) → ReachesFrom es r.start before → HasAddress es r.end after →
       JoinsLeft r before left → JoinsRight r after right →
       (IsKey (range_at es) (right_over right after r.end) → IsKey (range_at es) (Some (joined r left right)) → ⊥) →
-      begins_anew_about (table_kept (values_of es)) (with_range r (table_kept (values_of es))) r.start r.end ≡ true
+      begins_anew_about (table_held (values_of es)) (with_range r (table_held (values_of es))) r.start r.end ≡ true
   map_begins before after left right reaches has lefts rights new =
       elim (right_begins after right has rights) [
         | inr end ↦ or_right (begins_anew t m r.start) (begins_anew t m r.end) end

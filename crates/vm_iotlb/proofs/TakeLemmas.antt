@@ -8,7 +8,7 @@ use Rattle.std.proofs.lemmas.Bool.{cases_lt}
 use Rattle.std.proofs.lemmas.Bool.Decides.{nat_tests}
 use Rattle.vm_iotlb.specs.declared.range.IotlbRange.{IotlbRange}
 use Rattle.vm_iotlb.specs.Keys.{AreKeyed, HasAddress, ReachesFrom, cleared, part_from, part_up_to, put_at, range_at}
-use Rattle.vm_iotlb.specs.Ranges.{table_kept, AreRanges}
+use Rattle.vm_iotlb.specs.Ranges.{table_held, AreRanges}
 use Rattle.vm_iotlb.proofs.MapLemmas.{clear_above, clear_below, clear_within, none_at, none_some}
 use Rattle.vm_iotlb.proofs.ExchangeLemmas.{Part, Has, exchanged_ranges, same_at}
 use Rattle.vm_iotlb.proofs.CutLemmas.{head_apart, left_keep, left_part, right_keep, right_part, tail_apart}
@@ -47,16 +47,23 @@ module _ (es fs : List (ℕ × IotlbRange)) (start end : ℕ) (before after : Op
       let part = each_part one.0 one.1 one.2 in
       (part.whole.start, part.whole, part.at, omega (arith, part.low, one.3), omega (arith, part.high, one.4))
 
-  pub taken_table : (a : ℕ) → table_kept (values_of fs) a ≡ (if nat_le start a && nat_lt a end then None else table_kept (values_of es) a)
+  pub taken_table : (a : ℕ) → table_held (values_of fs) a ≡ (if nat_le start a && nat_lt a end then None else table_held (values_of es) a)
   taken_table a =
       let all = both_put (range_at es) start end before after in
       elim (cases_lt a start) [
         | inl below ↦
             let test : (nat_le start a && nat_lt a end) ≡ false = grind (arith, nat_tests) in
             rw test (same_at es fs a keyed are taken_ranges.0 taken_ranges.1 (λ k s at low under.
-            let kept = left_keep es start a k before (put_at (part_from after end) (range_at es)) s keyed are reaches below
-            (λ q less. tail_apart after (range_at es) end q (λ same. omega arith)) at low under in
-            (kept.0, kept.1, now kept.0 ∙ clear_below start end all kept.0 kept.2 ∙ kept.3.0, kept.3.1, kept.3.2, kept.3.3, kept.3.4))
+            let preserved = left_keep es start a k before (put_at (part_from after end) (range_at es)) s keyed are reaches below
+            (λ q less. tail_apart after (range_at es) end q (λ same. omega arith)) at low under in (
+              preserved.0,
+              preserved.1,
+              now preserved.0 ∙ clear_below start end all preserved.0 preserved.2 ∙ preserved.3.0,
+              preserved.3.1,
+              preserved.3.2,
+              preserved.3.3,
+              preserved.3.4,
+            ))
             (back a))
         | inr low ↦ elim (cases_lt a end) [
           | inl within ↦
@@ -68,16 +75,17 @@ module _ (es fs : List (ℕ × IotlbRange)) (start end : ℕ) (before after : Op
           | inr above ↦
               let test : (nat_le start a && nat_lt a end) ≡ false = grind (arith, nat_tests) in
               rw test (same_at es fs a keyed are taken_ranges.0 taken_ranges.1 (λ k s at from under.
-              let kept = right_keep es end a k after s keyed are has above at from under in (
-                kept.0,
-                kept.1,
-                now kept.0 ∙ clear_above start end all kept.0 kept.2
-                    ∙ head_apart es before (put_at (part_from after end) (range_at es)) start kept.0 reaches (omega (arith, kept.2)) ∙
-                    kept.3.0,
-                kept.3.1,
-                kept.3.2,
-                kept.3.3,
-                kept.3.4,
+              let preserved = right_keep es end a k after s keyed are has above at from under in (
+                preserved.0,
+                preserved.1,
+                now preserved.0 ∙ clear_above start end all preserved.0 preserved.2
+                    ∙ head_apart es before (put_at (part_from after end) (range_at es)) start preserved.0 reaches
+                    (omega (arith, preserved.2)) ∙
+                    preserved.3.0,
+                preserved.3.1,
+                preserved.3.2,
+                preserved.3.3,
+                preserved.3.4,
               )) (back a))
         ]
       ]

@@ -45,12 +45,12 @@ go_together (Some this) (Some next) =
 
 -- whether an address is mapped as one with the address before it: both have a mapping, and they go together.
 -- Address 0 isn't, since none is before it
-abbrev pub goes_on_at : Table → ℕ → Bool
-goes_on_at table a = not (misses (table a)) && go_together (table (a - 1)) (table a)
+abbrev pub carries_on_at : Table → ℕ → Bool
+carries_on_at table a = not (misses (table a)) && go_together (table (a - 1)) (table a)
 
 -- whether a run begins at an address: it has a mapping, and is not mapped as one with the address before it
 abbrev pub begins_at : Table → ℕ → Bool
-begins_at table a = not (misses (table a)) && not (goes_on_at table a)
+begins_at table a = not (misses (table a)) && not (carries_on_at table a)
 
 -- whether a run begins at an address in the new table, and none does in the old one
 abbrev pub begins_anew : (old new : Table) → ℕ → Bool

@@ -6,8 +6,8 @@ use Rattle.vm_iotlb.specs.declared.error.IommuError.{IommuError}
 use Rattle.vm_iotlb.specs.declared.error.IommuError.TheVariants.{CannotResolve, Fragmented}
 use Rattle.vm_iotlb.specs.declared.error.IommuError.TheVariants.{IommuMisconfigured, OutOfMemory}
 use Rattle.vm_iotlb.specs.Table.{AreSame, mapped, unmapped}
-use Rattle.vm_iotlb.specs.Ranges.{table_kept}
-use Rattle.vm_iotlb.specs.AddressRuns.{begins_anew_about, goes_on_at}
+use Rattle.vm_iotlb.specs.Ranges.{table_held}
+use Rattle.vm_iotlb.specs.AddressRuns.{begins_anew_about, carries_on_at}
 
 -- n addresses from iova on are mapped to those from target on, or an error changes nothing.
 -- IommuMisconfigured: an end doesn't fit 64 bits. OutOfMemory: an allocation failed. That can be only if a
@@ -17,14 +17,14 @@ abbrev pub SetsMapping : (iova target n : ℕ) → Permissions → (old new : Li
 SetsMapping iova target n perm old new (Ok done) =
     (iova + n < 2 ^ 64)
     × (target + n < 2 ^ 64)
-    × AreSame (table_kept new) (mapped iova target n perm (table_kept old))
+    × AreSame (table_held new) (mapped iova target n perm (table_held old))
 SetsMapping iova target n perm old new (Err IommuMisconfigured) =
     ((2 ^ 64 ≤ iova + n) ⊎ (2 ^ 64 ≤ target + n)) × (new ≡ old)
 SetsMapping iova target n perm old new (Err OutOfMemory) =
     (iova + n < 2 ^ 64)
     × (target + n < 2 ^ 64)
     × (0 < n)
-    × (begins_anew_about (table_kept old) (mapped iova target n perm (table_kept old)) iova (iova + n) ≡ true)
+    × (begins_anew_about (table_held old) (mapped iova target n perm (table_held old)) iova (iova + n) ≡ true)
     × (new ≡ old)
 SetsMapping iova target n perm old new (Err (CannotResolve range)) = ⊥
 SetsMapping iova target n perm old new (Err Fragmented) = ⊥
@@ -35,9 +35,9 @@ SetsMapping iova target n perm old new (Err Fragmented) = ⊥
 abbrev pub InvalidatesMapping :
     (iova n : ℕ) → (old new : List IotlbRange) → {X : Type 0} → Result X IommuError → Type 0
 InvalidatesMapping iova n old new (Ok done) =
-    (iova + n < 2 ^ 64) × AreSame (table_kept new) (unmapped iova n (table_kept old))
+    (iova + n < 2 ^ 64) × AreSame (table_held new) (unmapped iova n (table_held old))
 InvalidatesMapping iova n old new (Err IommuMisconfigured) = (2 ^ 64 ≤ iova + n) × (new ≡ old)
 InvalidatesMapping iova n old new (Err OutOfMemory) =
-    (iova + n < 2 ^ 64) × (0 < n) × (goes_on_at (table_kept old) (iova + n) ≡ true) × (new ≡ old)
+    (iova + n < 2 ^ 64) × (0 < n) × (carries_on_at (table_held old) (iova + n) ≡ true) × (new ≡ old)
 InvalidatesMapping iova n old new (Err (CannotResolve range)) = ⊥
 InvalidatesMapping iova n old new (Err Fragmented) = ⊥

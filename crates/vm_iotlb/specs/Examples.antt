@@ -4,7 +4,8 @@ use Rattle.std.specs.Prelude.{◌≡◌, ℕ, true, false, [], ◌∷◌, map, r
 use Rattle.vm_iotlb.specs.declared.permissions.Permissions.TheVariants.{Read, Write, ReadWrite}
 use Rattle.vm_iotlb.specs.declared.iova.MappedRange.{MappedRange}
 use Rattle.vm_iotlb.specs.Table.{Table, nothing_mapped, mapped, unmapped}
-use Rattle.vm_iotlb.specs.AddressRuns.{run_of, runs, pieces, missing, lacking, may_all, goes_on_at, begins_at}
+use Rattle.vm_iotlb.specs.AddressRuns.{run_of, runs, pieces, missing, lacking, may_all, carries_on_at}
+use Rattle.vm_iotlb.specs.AddressRuns.{begins_at}
 use Rattle.vm_iotlb.specs.AddressRuns.{begins_anew_about}
 
 -- the table of these examples
@@ -45,7 +46,7 @@ middle_misses = refl
 
 -- the addresses 0, right before the eight, the first two, the two in the middle, the two behind those, and
 -- right behind the eight
-some_go_on : map (goes_on_at table) (0 ∷ 0xf ∷ 0x10 ∷ 0x11 ∷ 0x14 ∷ 0x15 ∷ 0x16 ∷ 0x17 ∷ 0x18 ∷ [])
+some_go_on : map (carries_on_at table) (0 ∷ 0xf ∷ 0x10 ∷ 0x11 ∷ 0x14 ∷ 0x15 ∷ 0x16 ∷ 0x17 ∷ 0x18 ∷ [])
     ≡ false ∷ false ∷ false ∷ true ∷ false ∷ true ∷ false ∷ true ∷ false ∷ []
 some_go_on = refl
 

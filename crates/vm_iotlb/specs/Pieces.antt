@@ -7,7 +7,7 @@ use Rattle.vm_iotlb.specs.declared.permissions.Permissions.{Permissions}
 use Rattle.vm_iotlb.specs.declared.range.IotlbRange.{IotlbRange}
 use Rattle.vm_iotlb.specs.declared.iova.MappedRange.{MappedRange}
 use Rattle.vm_iotlb.specs.Table.{Table}
-use Rattle.vm_iotlb.specs.Ranges.{table_kept, AreRanges}
+use Rattle.vm_iotlb.specs.Ranges.{table_held, AreRanges}
 use Rattle.vm_iotlb.specs.Keys.{AreKeyed, IsLastUpTo}
 use Rattle.vm_iotlb.specs.AddressRuns.{may_all, pieces}
 
@@ -18,7 +18,7 @@ AreMapped table a e = (access : Permissions) × (may_all table access a (e - a) 
 -- the mapped ranges of the addresses from a up to e, excluded; none without a table
 abbrev pub pieces_left : Option (Bor (SeenMap ℕ IotlbRange)) → ℕ → ℕ → List MappedRange
 pieces_left None a e = []
-pieces_left (Some m) a e = pieces (table_kept (values_of m.now.entries)) a (e - a)
+pieces_left (Some m) a e = pieces (table_held (values_of m.now.entries)) a (e - a)
 
 -- the range, if there is one, has the greatest start that is at most a
 abbrev pub IsFoundAt : List (ℕ × IotlbRange) → Option (Bor IotlbRange) → ℕ → Type 0
@@ -31,5 +31,5 @@ CanGoOn None found a e = Unit {0}
 CanGoOn (Some m) found a e =
     AreKeyed m.now.entries
     × AreRanges (values_of m.now.entries)
-    × AreMapped (table_kept (values_of m.now.entries)) a e
+    × AreMapped (table_held (values_of m.now.entries)) a e
     × IsFoundAt m.now.entries found a

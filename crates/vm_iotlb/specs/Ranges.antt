@@ -13,21 +13,21 @@ abbrev pub mapping_in : IotlbRange → ℕ → Mapping
 mapping_in r a = record { target = r.target + (a - r.start); perm = r.perm }
 
 -- the table that ranges keep: an address has the mapping of the first range that contains it
-unfoldable pub table_kept : List IotlbRange → ℕ → Option Mapping
-table_kept [] a = None
-table_kept (r ∷ rs) a = if has r a then Some (mapping_in r a) else table_kept rs a
+unfoldable pub table_held : List IotlbRange → ℕ → Option Mapping
+table_held [] a = None
+table_held (r ∷ rs) a = if has r a then Some (mapping_in r a) else table_held rs a
 
 -- a range isn't empty, and its end and the end of its targets fit 64 bits
 abbrev pub IsRange : IotlbRange → Type 0
 IsRange r = (r.start < r.end) × (r.end < 2 ^ 64) × (r.target + (r.end - r.start) < 2 ^ 64)
 
 -- one range goes on in another, so that one range could replace both
-abbrev pub GoesOnIn : IotlbRange → IotlbRange → Type 0
-GoesOnIn r s = (r.end ≡ s.start) × (r.target + (r.end - r.start) ≡ s.target) × (r.perm ≡ s.perm)
+abbrev pub ContinuesIn : IotlbRange → IotlbRange → Type 0
+ContinuesIn r s = (r.end ≡ s.start) × (r.target + (r.end - r.start) ≡ s.target) × (r.perm ≡ s.perm)
 
 -- one range ends before another, and doesn't go on in it
 abbrev pub Precedes : IotlbRange → IotlbRange → Type 0
-Precedes r s = (r.end ≤ s.start) × (GoesOnIn r s → ⊥)
+Precedes r s = (r.end ≤ s.start) × (ContinuesIn r s → ⊥)
 
 -- a range precedes the first of others, if there are any
 abbrev pub PrecedesAll : IotlbRange → List IotlbRange → Type 0
@@ -50,8 +50,8 @@ with_range r table = λ a. if has r a then Some (mapping_in r a) else table a
 
 -- the new ranges keep the old ranges' table with one range added
 abbrev pub AddsRange : IotlbRange → (old new : List IotlbRange) → Type 0
-AddsRange r old new = (a : ℕ) → table_kept new a ≡ with_range r (table_kept old) a
+AddsRange r old new = (a : ℕ) → table_held new a ≡ with_range r (table_held old) a
 
 -- ranges map each address from a up to e, excluded, as a table does
 abbrev pub Agree : Table → List IotlbRange → ℕ → ℕ → Type 0
-Agree table l a e = (x : ℕ) → a ≤ x → x < e → table x ≡ table_kept l x
+Agree table l a e = (x : ℕ) → a ≤ x → x < e → table x ≡ table_held l x

@@ -4,7 +4,7 @@ ghost use Rattle.std.specs.Prelude.{◌≡◌, ℕ, ◌+◌, ◌<◌, ◌≤◌,
 ghost use Rattle.std.specs.Prelude.{MatchOption, true, false};
 ghost use Rattle.std.specs.Map.{values_of};
 ghost use Rattle.vm_iotlb.specs.Changes.{InvalidatesMapping, SetsMapping};
-ghost use Rattle.vm_iotlb.specs.Ranges.{AreRanges, EndsAbove, table_kept};
+ghost use Rattle.vm_iotlb.specs.Ranges.{AreRanges, EndsAbove, table_held};
 ghost use Rattle.vm_iotlb.specs.AddressRuns.{LooksUp, may_all, may_pass, missing, pieces};
 ghost use Rattle.vm_iotlb.specs.Table.{AreSame};
 ghost use Rattle.vm_iotlb.specs.declared.iova.IovaRange.{IovaRange};
@@ -24,7 +24,7 @@ use std::marker::Model;
 use vm_values::GuestAddress;
 
 /// The target and the permission of each mapped I/O address (vm-memory's `Iotlb`). Lengths count bytes.
-/// In contracts a table is the list of its ranges, and `table_kept` is the mapping of each address.
+/// In contracts a table is the list of its ranges, and `table_held` is the mapping of each address.
 #[derive(Drop)]
 pub struct Iotlb {
     alloc: Global,
@@ -141,7 +141,7 @@ impl Iotlb {
         length: usize,
         access: Permissions,
     ) -> Result<IotlbIterator<'_>, LookupError>
-        ensures found { LooksUp (table_kept self.now) iova.0 length access result }
+        ensures found { LooksUp (table_held self.now) iova.0 length access result }
         ensures ranges { AreRanges self.now }
     {
         let Some(end) = iova.0.checked_add(length as u64) else {
@@ -164,7 +164,7 @@ impl Iotlb {
         access: Permissions,
     ) -> Result<IotlbIterator<'_>, LookupError>
         requires { end ≡ iova.0 + length }
-        ensures { LooksUp (table_kept self.now) iova.0 length access result }
+        ensures { LooksUp (table_held self.now) iova.0 length access result }
     {
         if is_covered(self.ranges_from(iova.0), iova.0, end, access) {
             return Ok(IotlbIterator::over(&self.ranges, iova.0, end));
@@ -182,9 +182,9 @@ impl Iotlb {
         requires some { 0 < length }
         requires ends { iova.0 + length < 2 ^ 64 }
         requires mapped { (access : Permissions)
-            × (may_all (table_kept self.now) access iova.0 length ≡ true) }
+            × (may_all (table_held self.now) access iova.0 length ≡ true) }
         ensures { MatchOption result ⊥ (λ p. (rest : List MappedRange)
-            × (pieces (table_kept self.now) iova.0 length ≡ p ∷ rest)) }
+            × (pieces (table_held self.now) iova.0 length ≡ p ∷ rest)) }
     {
         IotlbIterator::over(&self.ranges, iova.0, iova.0 + length as u64).next()
     }
@@ -199,10 +199,10 @@ impl Iotlb {
         access: Permissions,
     ) -> Option<MappedRange>
         requires some { 0 < most }
-        ensures none { result ≡ None → may_pass access (table_kept self.now iova.0) ≡ false }
-        ensures some { OnSome result (may_pass access (table_kept self.now iova.0) ≡ true) }
+        ensures none { result ≡ None → may_pass access (table_held self.now iova.0) ≡ false }
+        ensures some { OnSome result (may_pass access (table_held self.now iova.0) ≡ true) }
         ensures piece { IfSome result (λ p. (rest : List MappedRange)
-            × (pieces (table_kept self.now) iova.0 most ≡ p ∷ rest)) }
+            × (pieces (table_held self.now) iova.0 most ≡ p ∷ rest)) }
         ensures fits { IfSome result (λ p. (p.base.0 + p.length < 2 ^ 64) × (iova.0 + p.length < 2 ^ 64)) }
     {
         let Some(range) = having(&self.ranges, iova.0) else {
@@ -222,8 +222,8 @@ impl Iotlb {
     /// has a mapping, with any permission. It allocates nothing.
     pub fn first_miss(&self, iova: GuestAddress, length: usize) -> Option<IovaRange>
         requires ends { iova.0 + length < 2 ^ 64 }
-        ensures { MatchOption result (missing (table_kept self.now) iova.0 length ≡ [])
-            (λ r. (rest : List IovaRange) × (missing (table_kept self.now) iova.0 length ≡ r ∷ rest)) }
+        ensures { MatchOption result (missing (table_held self.now) iova.0 length ≡ [])
+            (λ r. (rest : List IovaRange) × (missing (table_held self.now) iova.0 length ≡ r ∷ rest)) }
     {
         first_gap(self.ranges_from(iova.0), iova.0, iova.0 + length as u64)
     }
@@ -232,7 +232,7 @@ impl Iotlb {
     #[inline]
     fn ranges_from(&self, iova: u64) -> Range<'_, u64, IotlbRange>
         ensures ranges { AreRanges (values_of result) }
-        ensures table { (a : ℕ) → iova ≤ a → table_kept self.now a ≡ table_kept (values_of result) a }
+        ensures table { (a : ℕ) → iova ≤ a → table_held self.now a ≡ table_held (values_of result) a }
         ensures first { EndsAbove iova (values_of result) }
     {
         self.ranges.range(key_from(&self.ranges, iova)..)
@@ -240,7 +240,7 @@ impl Iotlb {
 
     /// Two tables that map each address alike have the same ranges. This is a theorem: the call does nothing.
     pub fn law_canonical(&self, other: &Iotlb)
-        ensures { AreSame (table_kept self.now) (table_kept other.now) → self.now ≡ other.now }
+        ensures { AreSame (table_held self.now) (table_held other.now) → self.now ≡ other.now }
     {
         let Iotlb { ranges: _mine, .. } = self;
         let Iotlb {

@@ -4,7 +4,7 @@ ghost use Rattle.std.specs.Prelude.{◌≡◌, ◌+◌, ◌^◌, ◌-◌, ◌≤
 ghost use Rattle.std.specs.Prelude.{MatchOption, length};
 ghost use Rattle.std.specs.Iterator.{at_most};
 ghost use Rattle.std.specs.Map.{values_of};
-ghost use Rattle.vm_iotlb.specs.Ranges.{Agree, AreRanges, EndsAbove, table_kept};
+ghost use Rattle.vm_iotlb.specs.Ranges.{Agree, AreRanges, EndsAbove, table_held};
 ghost use Rattle.vm_iotlb.specs.Keys.{AreKeyed, IsLastUpTo, NoneUpTo};
 ghost use Rattle.vm_iotlb.specs.Table.{Table};
 ghost use Rattle.vm_iotlb.specs.Pieces.{AreMapped, IsFoundAt};
@@ -86,8 +86,8 @@ impl<'a> IotlbIterator<'a> {
     pub(crate) fn over(ranges: &'a Ranges, iova: u64, end: u64) -> IotlbIterator<'a>
         requires keyed { AreKeyed ranges.now.entries }
         requires ranges { AreRanges (values_of ranges.now.entries) }
-        requires mapped { AreMapped (table_kept (values_of ranges.now.entries)) iova end }
-        ensures { result ≡ pieces (table_kept (values_of ranges.now.entries)) iova (end - iova) }
+        requires mapped { AreMapped (table_held (values_of ranges.now.entries)) iova end }
+        ensures { result ≡ pieces (table_held (values_of ranges.now.entries)) iova (end - iova) }
     {
         IotlbIterator {
             ranges: Some(ranges),
@@ -107,9 +107,9 @@ impl<'a> IotlbIterator<'a> {
     ) -> IotlbIterator<'a>
         requires keyed { AreKeyed ranges.now.entries }
         requires ranges { AreRanges (values_of ranges.now.entries) }
-        requires mapped { AreMapped (table_kept (values_of ranges.now.entries)) iova end }
+        requires mapped { AreMapped (table_held (values_of ranges.now.entries)) iova end }
         requires found { IsLastUpTo ranges.now.entries iova range.now }
-        ensures { result ≡ pieces (table_kept (values_of ranges.now.entries)) iova (end - iova) }
+        ensures { result ≡ pieces (table_held (values_of ranges.now.entries)) iova (end - iova) }
     {
         IotlbIterator {
             ranges: Some(ranges),

@@ -32,7 +32,7 @@ impl IotlbRange {
     }
 
     // Whether `next` maps the addresses from this range's end on as this range would, extended that far.
-    pub(crate) fn goes_on_in(&self, next: &IotlbRange) -> bool
+    pub(crate) fn carries_on_in(&self, next: &IotlbRange) -> bool
         requires range { IsRange self.now × IsRange next.now }
         requires order { (next.now.start ≤ self.now.end) × (self.now.end < next.now.end) }
         ensures yes { OnTrue result (AlignsBehind next.now self.now) }

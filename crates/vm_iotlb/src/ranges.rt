@@ -5,8 +5,8 @@ ghost use Rattle.std.specs.Prelude.{if◌then◌else◌, OnOk, OnErr, MatchOptio
 ghost use Rattle.std.specs.Map.{values_of};
 ghost use Rattle.std.specs.BTreeMap.{BTreeMap as SeenMap, IsOrdered};
 ghost use Rattle.std.specs.Ordering.{nat_cmp};
-ghost use Rattle.vm_iotlb.specs.AddressRuns.{begins_anew_about, goes_on_at};
-ghost use Rattle.vm_iotlb.specs.Ranges.{AddsRange, AreRanges, IsRange, table_kept, with_range};
+ghost use Rattle.vm_iotlb.specs.AddressRuns.{begins_anew_about, carries_on_at};
+ghost use Rattle.vm_iotlb.specs.Ranges.{AddsRange, AreRanges, IsRange, table_held, with_range};
 ghost use Rattle.vm_iotlb.specs.Keys.{AreKeyed, Divides, HasAddress, IsNoKey, IsLastUpTo, IsKey, JoinsLeft};
 ghost use Rattle.vm_iotlb.specs.Keys.{JoinsRight, NoneUpTo};
 ghost use Rattle.vm_iotlb.specs.Keys.{ReachesFrom, cleared, joined, left_over, part_from, part_up_to, put_at};
@@ -223,7 +223,7 @@ fn joined_right(range: &IotlbRange, after: Option<IotlbRange>) -> Option<IotlbRa
     ensures { JoinsRight range.now after result }
 {
     match after {
-        Some(after) if range.goes_on_in(&after) => Some(after),
+        Some(after) if range.carries_on_in(&after) => Some(after),
         Some(_) => None,
         None => None,
     }
@@ -280,8 +280,8 @@ pub(crate) fn map_range(ranges: &mut Ranges, range: &IotlbRange) -> Result<(), A
     ensures table { OnOk result
         (AddsRange range.now (values_of ranges.old.entries) (values_of ranges.new.entries)) }
     ensures err { OnErr result (ranges.new.entries ≡ ranges.old.entries) }
-    ensures memory { OnErr result (begins_anew_about (table_kept (values_of ranges.old.entries))
-        (with_range range.now (table_kept (values_of ranges.old.entries))) range.now.start range.now.end
+    ensures memory { OnErr result (begins_anew_about (table_held (values_of ranges.old.entries))
+        (with_range range.now (table_held (values_of ranges.old.entries))) range.now.start range.now.end
         ≡ true) }
 {
     let before = reaching_from(ranges, range.start);
@@ -304,10 +304,10 @@ pub(crate) fn take_out(ranges: &mut Ranges, start: u64, end: u64) -> Result<(), 
     requires order { start < end }
     ensures keyed { AreKeyed ranges.new.entries }
     ensures ranges { AreRanges (values_of ranges.new.entries) }
-    ensures table { OnOk result ((a : ℕ) → table_kept (values_of ranges.new.entries) a
-        ≡ (if nat_le start a && nat_lt a end then None else table_kept (values_of ranges.old.entries) a)) }
+    ensures table { OnOk result ((a : ℕ) → table_held (values_of ranges.new.entries) a
+        ≡ (if nat_le start a && nat_lt a end then None else table_held (values_of ranges.old.entries) a)) }
     ensures err { OnErr result (ranges.new.entries ≡ ranges.old.entries) }
-    ensures memory { OnErr result (goes_on_at (table_kept (values_of ranges.old.entries)) end ≡ true) }
+    ensures memory { OnErr result (carries_on_at (table_held (values_of ranges.old.entries)) end ≡ true) }
 {
     let before = reaching_from(ranges, start);
     let after = having(ranges, end);

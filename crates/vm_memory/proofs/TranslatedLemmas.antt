@@ -15,7 +15,7 @@ use Rattle.vm_memory.specs.Layout.{Region, left_at, place}
 use Rattle.vm_memory.specs.Memory.{addresses, for_io, located, place_behind}
 use Rattle.vm_memory.specs.Translated.{run_len, translated, translated_left, AreLeft, MappedLeft}
 use Rattle.vm_iotlb.specs.declared.range.IotlbRange.{IotlbRange}
-use Rattle.vm_iotlb.specs.Ranges.{table_kept}
+use Rattle.vm_iotlb.specs.Ranges.{table_held}
 use Rattle.vm_memory.proofs.Places.{Where, parts}
 use Rattle.vm_memory.proofs.Translations.{nothing_passes}
 
@@ -334,6 +334,6 @@ left_step table addr done len n piece rest left =
 
 -- what is mapped has a table
 pub no_table : (t : Option (List IotlbRange)) (a n : ℕ) (access : Permissions) → t ≡ None → 0 < n →
-    may_all (table_kept (unwrap_or t [])) access a n ≡ true → ⊥
+    may_all (table_held (unwrap_or t [])) access a n ≡ true → ⊥
 no_table t a n access none some all =
     let not = nothing_passes t a n access none some in let same : false ≡ true = sym not ∙ all in absurd (cc)

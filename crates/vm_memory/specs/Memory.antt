@@ -8,7 +8,7 @@ use Rattle.vm_iotlb.specs.declared.permissions.Permissions.{Permissions}
 use Rattle.vm_iotlb.specs.declared.permissions.Permissions.TheVariants.{Read, Write}
 use Rattle.vm_iotlb.specs.Table.{Mapping, Table, allows}
 use Rattle.vm_iotlb.specs.AddressRuns.{may_all}
-use Rattle.vm_iotlb.specs.Ranges.{table_kept}
+use Rattle.vm_iotlb.specs.Ranges.{table_held}
 use Rattle.vm_memory_core.specs.Host.{Host, Place, byte_at}
 use Rattle.vm_memory_core.specs.Window.{put_byte}
 use Rattle.vm_memory.specs.Layout.{Region, place}
@@ -27,7 +27,7 @@ pub record Memory : Type 0 where
 
 -- the table of this number in a host; without one, nothing is mapped
 abbrev pub table_in : Host → ℕ → Table
-table_in h number = table_kept (unwrap_or (slice_get h.tables number) [])
+table_in h number = table_held (unwrap_or (slice_get h.tables number) [])
 
 -- a memory's table
 abbrev pub table_of : Memory → Table

@@ -6,7 +6,7 @@ use Rattle.vm_iotlb.specs.declared.permissions.Permissions.{Permissions}
 use Rattle.vm_iotlb.specs.declared.range.IotlbRange.{IotlbRange}
 use Rattle.vm_iotlb.specs.declared.iova.MappedRange.{MappedRange}
 use Rattle.vm_iotlb.specs.AddressRuns.{go_together, may_all, pieces, target_of}
-use Rattle.vm_iotlb.specs.Ranges.{table_kept}
+use Rattle.vm_iotlb.specs.Ranges.{table_held}
 use Rattle.vm_iotlb.specs.Table.{Table}
 use Rattle.std.proofs.Common.{ap, arith}
 use Rattle.std.proofs.lemmas.List.{length-map}
@@ -58,8 +58,8 @@ pub record TranslatedSlices : Type 0 where
 -- windows of I/O addresses, with the places of their layout and table
 abbrev pub slices_translated : TranslatedSlices → Slices
 slices_translated s = record {
-  where_is = translated s.layout (table_kept s.ranges) s.set s.access;
-  longest = translated_left s.layout (table_kept s.ranges);
+  where_is = translated s.layout (table_held s.ranges) s.set s.access;
+  longest = translated_left s.layout (table_held s.ranges);
   left = s.left;
 }
 

@@ -30,7 +30,7 @@ pub struct IommuMemorySliceIterator<'a, M: GuestMemoryBackend> {
 impl<'a, M: GuestMemoryBackend> Model for IommuMemorySliceIterator<'a, M> {
     ghost use Rattle.std.specs.Prelude.{◌≡◌, ◌+◌, ◌<◌, ◌^◌, true};
     ghost use Rattle.vm_iotlb.specs.AddressRuns.{may_all};
-    ghost use Rattle.vm_iotlb.specs.Ranges.{table_kept};
+    ghost use Rattle.vm_iotlb.specs.Ranges.{table_held};
     ghost use Rattle.vm_memory.specs.Memory.{circular};
     ghost use Rattle.vm_memory.specs.Translated.{TranslatedSlices, ranges_of};
 
@@ -45,7 +45,7 @@ impl<'a, M: GuestMemoryBackend> Model for IommuMemorySliceIterator<'a, M> {
     } };
 
     ghost invariant = { λ i. (i.addr + i.count < 2 ^ 64)
-        × (may_all (table_kept (ranges_of i.table)) i.access i.addr i.count ≡ true) };
+        × (may_all (table_held (ranges_of i.table)) i.access i.addr i.count ≡ true) };
 }
 
 impl<'a, M: GuestMemoryBackend> IommuMemorySliceIterator<'a, M> {

@@ -5,7 +5,7 @@ ghost use Rattle.std.specs.Prelude.{true};
 ghost use Rattle.vm_iotlb.specs.Table.{Table};
 ghost use Rattle.vm_iotlb.specs.AddressRuns.{may_all, pieces};
 ghost use Rattle.vm_iotlb.specs.declared.permissions.Permissions.{Permissions};
-ghost use Rattle.vm_iotlb.specs.Ranges.{table_kept};
+ghost use Rattle.vm_iotlb.specs.Ranges.{table_held};
 ghost use Rattle.vm_memory_core.specs.Window.{LiesIn};
 ghost use Rattle.vm_memory.specs.Layout.{AreHeld};
 ghost use Rattle.vm_memory.specs.Slices.{IsWindowAt};
@@ -28,13 +28,13 @@ pub(crate) fn translated_window<M: GuestMemoryBackend>(
 ) -> Option<VolatileSlice>
     requires some { 0 < most }
     requires ends { addr + most < 2 ^ 64 }
-    requires mapped { may_all (table_kept table.now) access addr most ≡ true }
+    requires mapped { may_all (table_held table.now) access addr most ≡ true }
     ensures none { result ≡ None
-        → translated (M.layout backend.now) (table_kept table.now) set access addr ≡ None }
+        → translated (M.layout backend.now) (table_held table.now) set access addr ≡ None }
     ensures some { IfSome result
-        (IsWindowAt (translated (M.layout backend.now) (table_kept table.now) set access) addr most) }
+        (IsWindowAt (translated (M.layout backend.now) (table_held table.now) set access) addr most) }
     ensures longest { IfSome result
-        (λ w. w.len ≡ min most (translated_left (M.layout backend.now) (table_kept table.now) addr)) }
+        (λ w. w.len ≡ min most (translated_left (M.layout backend.now) (table_held table.now) addr)) }
     ensures held { (lengths : List ℕ)
         → AreHeld lengths (M.layout backend.now)
         → IfSome result (LiesIn lengths) }

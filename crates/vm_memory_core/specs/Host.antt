@@ -22,7 +22,7 @@ pub record Block : Type 0 where
   pub bytes : List ℕ
   pub marks : List Bool
 
--- a host: its blocks, its tables and its sets of I/O pages. A table is the list of its ranges (`table_kept`),
+-- a host: its blocks, its tables and its sets of I/O pages. A table is the list of its ranges (`table_held`),
 -- since a value in a contract can't hold a function
 pub record Host : Type 0 where
   pub blocks : List Block

@@ -56,11 +56,11 @@ abbrev pub by_of : Option IoMarks → ℕ
 by_of None = 0
 by_of (Some m) = by_from m.base m.from
 
-abbrev told : Option IoMarks → Marking × ℕ × ℕ
-told io = (marking_of io, set_of io, by_of io)
+abbrev reported : Option IoMarks → Marking × ℕ × ℕ
+reported io = (marking_of io, set_of io, by_of io)
 
 pub marking_back :
-    (m : Marking) (offset set by : ℕ) → BeginsBy offset m set by → told (io_of m set by) ≡ (m, set, by)
+    (m : Marking) (offset set by : ℕ) → BeginsBy offset m set by → reported (io_of m set by) ≡ (m, set, by)
 marking_back InBlock offset set by begins = rw (begins.0, begins.1) refl
 marking_back IoAbove offset set by begins = refl
 marking_back IoBelow offset set zero begins = absurd (omega (arith, begins.0))

@@ -161,7 +161,7 @@ impl<'a, M: GuestMemory + Drop, L: MemoryLaw<M>> GuestMemoryExclusiveGuard<'a, M
         requires { L.allows memory ≡ true }
         ensures put { IfOk result (λ guard. arc_value (write_guard_value guard.newest).snapshot ≡ memory) }
         ensures lock { IfOk result (λ guard. guard.lock.now ≡ self.entry.newest.now) }
-        ensures kept { IfErr result (λ m. m ≡ memory) }
+        ensures preserved { IfErr result (λ m. m ≡ memory) }
         ensures refused { OnErr result (RoomWasRefused 1) }
     {
         let GuestMemoryExclusiveGuard { newest: lock, turn } = self;

@@ -3,11 +3,11 @@ use Rattle.std.proofs.Common.{arith, ◌≡◌, ◌<◌, ◌+◌, ℕ, zero, suc
 use Rattle.std.proofs.Common.{refl, sym, ap, subst, ◌∙◌, inl, inr, Result, Err, IfErr}
 use Rattle.std.proofs.lemmas.List.{reverse-append}
 use Rattle.std.specs.Borrow.{Bor}
-use Rattle.fs_chain.specs.Loads.{GoesSo, IsSame, RefusesWalk}
+use Rattle.fs_chain.specs.Loads.{ProceedsSo, IsSame, RefusesWalk}
 use Rattle.fs_chain.specs.Pops.{WalksBy, WantsBytes}
 use Rattle.fs_chain.specs.declared.chain_handle.ChainHandle.{ChainHandle}
 use Rattle.fs_chain.specs.declared.error.ChainError.{ChainError}
-use Rattle.fs_chain.specs.declared.loads.LoadOutcome as went
+use Rattle.fs_chain.specs.declared.loads.LoadOutcome as outcome
 use Rattle.fs_chain.specs.declared.queue.QueueState.{QueueState}
 use Rattle.worked_callers.specs.Notified.{IsRefusedCall, WalksPast, given_so_far}
 use Rattle.worked_callers.specs.Refusals.{FailsPastRefusals, FailsBy, IsFailedPastRefusals, IsFailedBy, TakesOthers}
@@ -40,19 +40,19 @@ calls_next bytes k bs within is =
 
 -- one call more, before which another was refused
 pub amid_more : (bytes : List (Bor (List ℕ))) (k : ℕ) (bs wrong : List ℕ) (old w v new : ChainHandle) (before q found after : QueueState)
-    (earlier told : went.LoadOutcome) → k < length bytes → WalksPast wrong (given_so_far k bytes) old w before q earlier →
+    (earlier reported : outcome.LoadOutcome) → k < length bytes → WalksPast wrong (given_so_far k bytes) old w before q earlier →
     WantsBytes earlier
-    → IsRefusedCall w q wrong → IsSame w v → found ≡ q → GoesSo v found bs told new after → bs ≡ (get_or bytes k none).now
-    → WalksPast wrong (given_so_far (k + 1) bytes) old new before after told
-amid_more bytes k bs wrong old w v new before q found after earlier told within walks wants refused same left goes is =
-    subst (λ (given : List (List ℕ)). WalksPast wrong given old new before after told) (sym (calls_next bytes k bs within is)) (
-      (w, v, q, earlier, walks.0, wants, same, subst (λ (j : QueueState). GoesSo v j bs told new after) left goes),
+    → IsRefusedCall w q wrong → IsSame w v → found ≡ q → ProceedsSo v found bs reported new after → bs ≡ (get_or bytes k none).now
+    → WalksPast wrong (given_so_far (k + 1) bytes) old new before after reported
+amid_more bytes k bs wrong old w v new before q found after earlier reported within walks wants refused same left proceeds is =
+    subst (λ (given : List (List ℕ)). WalksPast wrong given old new before after reported) (sym (calls_next bytes k bs within is)) (
+      (w, v, q, earlier, walks.0, wants, same, subst (λ (j : QueueState). ProceedsSo v j bs reported new after) left proceeds),
       (walks.1, refused),
     )
 
 -- the next call is refused
 pub fails_next : (bytes : List (Bor (List ℕ))) (k : ℕ) (bs : List ℕ) (old w new : ChainHandle) (before q after : QueueState)
-    (earlier : went.LoadOutcome) (e : ChainError) → k < length bytes → WalksBy (given_so_far k bytes) old w before q earlier
+    (earlier : outcome.LoadOutcome) (e : ChainError) → k < length bytes → WalksBy (given_so_far k bytes) old w before q earlier
     → WantsBytes earlier → RefusesWalk w q bs e → IsSame w new → after ≡ q → bs ≡ (get_or bytes k none).now
     → IsFailedBy bytes old new before after e
 fails_next bytes k bs old w new before q after earlier e within walks wants refused same left is = (
@@ -70,7 +70,7 @@ fails_next bytes k bs old w new before q after earlier e within walks wants refu
 -- the next call, which was refused with other bytes before, is refused too
 pub fails_past_refusals : (bytes : List (Bor (List ℕ))) (k : ℕ) (bs wrong : List ℕ) (old w v new : ChainHandle)
     (before q found after : QueueState)
-    (earlier : went.LoadOutcome) (e : ChainError) → k < length bytes → WalksPast wrong (given_so_far k bytes) old w before q earlier
+    (earlier : outcome.LoadOutcome) (e : ChainError) → k < length bytes → WalksPast wrong (given_so_far k bytes) old w before q earlier
     → WantsBytes earlier → IsRefusedCall w q wrong → IsSame w v → found ≡ q → RefusesWalk v found bs e → IsSame v new → after ≡ found
     → bs ≡ (get_or bytes k none).now → IsFailedPastRefusals wrong bytes old new before after e
 fails_past_refusals bytes k bs wrong old w v new before q found after earlier e within walks wants refused same left why last stays is = (
@@ -87,7 +87,7 @@ fails_past_refusals bytes k bs wrong old w v new before q found after earlier e 
 
 -- a call with other bytes isn't refused
 pub takes_amid : (bytes : List (Bor (List ℕ))) (k : ℕ) (bs wrong : List ℕ) (old w new : ChainHandle) (before q after : QueueState)
-    (earlier : went.LoadOutcome) (e : ChainError) → k < length bytes → WalksPast wrong (given_so_far k bytes) old w before q earlier
+    (earlier : outcome.LoadOutcome) (e : ChainError) → k < length bytes → WalksPast wrong (given_so_far k bytes) old w before q earlier
     → WantsBytes earlier → TakesOthers wrong w new q after e → bs ≡ (get_or bytes k none).now
     → IsFailedPastRefusals wrong bytes old new before after e
 takes_amid bytes k bs wrong old w new before q after earlier e within walks wants takes is = (

@@ -4,19 +4,20 @@ use Rattle.fs_regions.specs.Places.{places_in}
 use Rattle.fs_regions.specs.Walks.{nothing}
 use Rattle.fs_chain.specs.Holds.{BeginsAPop, HoldsPop, IsQueue, Machine, PopsBy}
 use Rattle.fs_chain.specs.declared.chain_handle.ChainHandle.{ChainHandle}
-use Rattle.fs_chain.specs.declared.loads.LoadOutcome as went
-use Rattle.fs_chain.specs.declared.loads.LoadOutcome.TheVariants as wents
-use Rattle.fs_chain.specs.declared.popping.PopOutcome.TheVariants as says
+use Rattle.fs_chain.specs.declared.loads.LoadOutcome as outcome
+use Rattle.fs_chain.specs.declared.loads.LoadOutcome.TheVariants as outcomes
+use Rattle.fs_chain.specs.declared.popping.PopOutcome.TheVariants as shows
 use Rattle.fs_chain.specs.declared.queue.QueueState.{QueueState}
 use Rattle.fs_chain.specs.declared.state.ChainState as state
 use Rattle.fs_chain.specs.declared.state.ChainState.TheVariants as at
 
-pub held_first : (old new : ChainHandle) (q q' : QueueState) (told : went.LoadOutcome) (n : ℕ) (s : Machine) (i : ℕ)
-    → old.state ≡ at.Free → told ≡ wents.On (says.Load n) → PopsBy old.state old new q q' [] told
+pub held_first : (old new : ChainHandle) (q q' : QueueState) (reported : outcome.LoadOutcome) (n : ℕ) (s : Machine) (i : ℕ)
+    → old.state ≡ at.Free → reported ≡ outcomes.On (shows.Load n) → PopsBy old.state old new q q' [] reported
     → IsQueue s i q → s.places ≡ places_in old.regions → s.limit ≡ old.limit → s.limit ≤ 2 ^ 31
     → HoldsPop s.limit (record { loaded = nothing; event_index = q.event_index }) new
 unfolding BeginsAPop
-held_first old new q q' told n s i free is pops there places limit small =
-    let begins : BeginsAPop old new q q' told = subst (λ (st : state.ChainState). PopsBy st old new q q' [] told) free pops in
-    let asks : BeginsAPop old new q q' (wents.On (says.Load n)) = subst (λ (t : went.LoadOutcome). BeginsAPop old new q q' t) is begins in
+held_first old new q q' reported n s i free is pops there places limit small =
+    let begins : BeginsAPop old new q q' reported = subst (λ (st : state.ChainState). PopsBy st old new q q' [] reported) free pops in
+    let asks : BeginsAPop old new q q' (outcomes.On (shows.Load n)) =
+    subst (λ (t : outcome.LoadOutcome). BeginsAPop old new q q' t) is begins in
     (asks s i there places limit small).0

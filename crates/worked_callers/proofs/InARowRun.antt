@@ -36,7 +36,7 @@ first_walks f = record {
   w = at_positions 0 0;
   there = refl;
   room = refl;
-  goes = refl;
+  proceeds = refl;
   mapped = first_mapped;
   ends = (first_fetches, refl, tt);
 }
@@ -44,7 +44,7 @@ first_walks f = record {
 first_asks : {F : Type 0} (f : F) →
     DecodesRequestSo (state f (at_positions 1 0) 1 (first ∷ [])) first unknown [] (state f (at_positions 1 0) 1 (first_asked ∷ []))
 unfolding addresses meaning record_parser meant row reply_bytes error_bytes fields.field_bytes
-first_asks f = record { before = []; behind = []; out = refl; fresh = refl; whole = refl; tells = refl; state = refl }
+first_asks f = record { before = []; behind = []; out = refl; fresh = refl; whole = refl; reports = refl; state = refl }
 
 first_returns : {F : Type 0} (f : F) → PushesChainSo (state f (at_positions 1 0) 1 (first_asked ∷ [])) first_asked first_exchange true 0
     first_used (le16 0) (state f (at_positions 1 1) 1 [])
@@ -55,10 +55,10 @@ first_returns f = record {
   out = refl;
   w = at_positions 1 0;
   there = refl;
-  goes = (refl, refl);
+  proceeds = (refl, refl);
   used_is = refl;
   two = refl;
-  told = refl;
+  reported = refl;
   state = refl;
 }
 
@@ -68,7 +68,7 @@ second_walks f = record {
   w = at_positions 1 1;
   there = refl;
   room = refl;
-  goes = refl;
+  proceeds = refl;
   mapped = second_mapped;
   ends = (second_fetches, refl, tt);
 }
@@ -77,7 +77,7 @@ second_asks : {F : Type 0} (f : F) →
     DecodesRequestSo (state f (at_positions 2 1) 1 (second ∷ [])) second destroy (Destroy ∷ [])
     (state f (at_positions 2 1) 1 (second_asked ∷ []))
 unfolding addresses meaning record_parser meant row reply_bytes error_bytes fields.field_bytes
-second_asks f = record { before = []; behind = []; out = refl; fresh = refl; whole = refl; tells = refl; state = refl }
+second_asks f = record { before = []; behind = []; out = refl; fresh = refl; whole = refl; reports = refl; state = refl }
 
 second_answers : {F : Type 0} (may : May F) (before after : F) → may before Destroy Done after →
     ReceivesAnswerSo may (state before (at_positions 2 1) 1 (second_asked ∷ [])) second_asked Destroy Done
@@ -108,10 +108,10 @@ second_returns f = record {
   out = refl;
   w = at_positions 2 1;
   there = refl;
-  goes = (refl, refl);
+  proceeds = (refl, refl);
   used_is = refl;
   two = refl;
-  told = refl;
+  reported = refl;
   state = refl;
 }
 

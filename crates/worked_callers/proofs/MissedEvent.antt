@@ -3,7 +3,7 @@ use Rattle.std.proofs.Common.{arith, ◌≡◌, ℕ, ◌+◌, ◌≤◌, Bool, L
 use Rattle.std.specs.Prelude.{◌&&◌, ◌^◌, false, true, nat_le, nat_lt}
 use Rattle.std.proofs.lemmas.Bool.Decides.{nat_tests}
 use Rattle.vm_iotlb.specs.AddressRuns.{missing, run_of, runs}
-use Rattle.vm_iotlb.specs.Ranges.{table_kept}
+use Rattle.vm_iotlb.specs.Ranges.{table_held}
 use Rattle.vm_iotlb.specs.declared.permissions.Permissions.TheVariants.{Read, Write}
 use Rattle.vm_memory.specs.Layout.{Region, place}
 use Rattle.vm_memory.specs.Memory.{addresses, reach}
@@ -23,11 +23,11 @@ never false = refl
 
 first_missed : (layout : List Region) (a : ℕ) (rest : List Area) → nat_le (a + 2) last_page ≡ true
     → first_miss (places_in (behind_none layout)) (record { from = a; len = 2; access = Read } ∷ rest) ≡ Some (run_of a 2, Read)
-unfolding missing runs table_kept
+unfolding missing runs table_held
 first_missed layout a rest low = rw low refl
 
 none_reached : (layout : List Region) (a : ℕ) → reach (places_in (behind_none layout)) Read a 2 ≡ false
-unfolding addresses table_kept
+unfolding addresses table_held
 none_reached layout a = never (nat_lt (a + 2) (2 ^ 64))
 
 pub missed_event : (layout : List Region) (q : QueueState) → q.event_index ≡ true → used_event_at q.layout + 2 ≤ last_page

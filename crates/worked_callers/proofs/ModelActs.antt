@@ -13,13 +13,13 @@ use Rattle.fs_chain.specs.Loads.{RefusesWalk}
 use Rattle.fs_chain.specs.Orders.{begin_error, give_up_error, is_out, load_len, return_error, walk_error}
 use Rattle.fs_chain.specs.Pushes.{IfHasReply, PushesBy}
 use Rattle.fs_chain.specs.Queues.{gave, took, gave_up}
-use Rattle.fs_chain.specs.Walks.{queue_after, told_of}
+use Rattle.fs_chain.specs.Walks.{queue_after, reported_of}
 use Rattle.fs_chain.specs.Pops.{IsWalked, WalksBy}
 use Rattle.fs_chain.specs.declared.error.ChainError.TheVariants as error
 use Rattle.fs_chain.specs.declared.event_index.NotificationStore.{NotificationStore}
-use Rattle.fs_chain.specs.declared.loads.LoadOutcome.TheVariants as wents
+use Rattle.fs_chain.specs.declared.loads.LoadOutcome.TheVariants as outcomes
 use Rattle.fs_chain.specs.declared.popping.PopOutcome as walked
-use Rattle.fs_chain.specs.declared.popping.PopOutcome.TheVariants as says
+use Rattle.fs_chain.specs.declared.popping.PopOutcome.TheVariants as shows
 use Rattle.fs_chain.specs.declared.pushing.PushStores.{PushStores}
 use Rattle.fs_chain.specs.declared.queue.QueueState.{QueueState}
 use Rattle.fs_chain.specs.declared.state.InFlight.{InFlight}
@@ -33,7 +33,7 @@ use Rattle.notify.specs.Kicks as kicks
 use Rattle.notify.specs.Kicks.{NotifyState}
 use Rattle.notify.specs.Threads.{DropsOne, Loads, SleepsNow, TakesOne, ThreadedQueue, Walker, WishIsThere, Wishes, after_act, walks}
 use Rattle.fs_notify.specs.Givers.{PublishesByStore, rules_of}
-use Rattle.fs_notify.specs.Takers.{RearmsByStore, DropIsAnAct, FindsNoneByWalk, HasU16Numbers, IsModelOf, SaysWish, TakesByWalk, ways_of}
+use Rattle.fs_notify.specs.Takers.{RearmsByStore, DropIsAnAct, FindsNoneByWalk, HasU16Numbers, IsModelOf, ShowsWish, TakesByWalk, ways_of}
 use Rattle.worked_callers.specs.Notified.{ActsTo, IsStoredWish, PopsWithIndex}
 
 -- ---- the wish
@@ -51,7 +51,7 @@ wish_is law q (Some n) is counted s of walker =
     let wished : ThreadedQueue = after_act (ways_of q) (after_act (ways_of q) s Wishes) WishIsThere in
     let same : store_of n ≡ asked.0 = same_some (store_of n) asked.0 (is ∙ asked.1) in (
       ap (λ (st : Store). st.address) same ∙ asked.2,
-      subst (λ (st : Store). SaysWish q.event_index st.bytes wished.event wished.muted) (sym same) asked.5,
+      subst (λ (st : Store). ShowsWish q.event_index st.bytes wished.event wished.muted) (sym same) asked.5,
       (asked.3, (asked.4, refl)),
       asked.6,
     )
@@ -60,16 +60,16 @@ wish_is law q (Some n) is counted s of walker =
 
 pub sleeps_so : RearmsByStore → FindsNoneByWalk → (given : List (List ℕ)) (old new : ChainHandle) (before after : QueueState)
     → HasU16Numbers before
-    → before.stopped ≡ None → WalksBy given old new before after (wents.On says.Idle) → (s : ThreadedQueue) → IsModelOf before s
+    → before.stopped ≡ None → WalksBy given old new before after (outcomes.On shows.Idle) → (s : ThreadedQueue) → IsModelOf before s
     → s.holder ≡ Walker → s.index < 2 ^ 16
-    → PopsWithIndex given old new before after says.Idle
+    → PopsWithIndex given old new before after shows.Idle
     (ActsTo before s (Wishes ∷ WishIsThere ∷ SleepsNow ∷ [])
     (after_act (ways_of before) (after_act (ways_of before) (after_act (ways_of before) s Wishes) WishIsThere) SleepsNow) after)
-sleeps_so asks finds given old new before after counted goes by s of walker fits =
+sleeps_so asks finds given old new before after counted proceeds by s of walker fits =
     let ways = ways_of before in
     let asked = asks before s counted of walker in
     let wished : ThreadedQueue = after_act ways (after_act ways s Wishes) WishIsThere in
-    let none = finds given old new before after wished counted fits goes by asked.6 refl refl in (
+    let none = finds given old new before after wished counted fits proceeds by asked.6 refl refl in (
       by,
       none.0,
       none.1,
@@ -81,33 +81,33 @@ sleeps_so asks finds given old new before after counted goes by s of walker fits
 -- ---- a pop that takes a chain
 
 abbrev IsAChain : walked.PopOutcome → Type 0
-IsAChain (says.Chain head n r) = Unit {0}
+IsAChain (shows.Chain head n r) = Unit {0}
 IsAChain _ = ⊥
 
-chain_took : (q : QueueState) (ds : List Descriptor) (came : comes.CourseStep) (head n r : ℕ) → says.Chain head n r ≡ told_of ds came →
+chain_took : (q : QueueState) (ds : List Descriptor) (came : comes.CourseStep) (head n r : ℕ) → shows.Chain head n r ≡ reported_of ds came →
     queue_after q came ≡ took q
-chain_took q ds (step.Load walk) head n r told = absurd (subst IsAChain told tt)
-chain_took q ds step.Idle head n r told = absurd (subst IsAChain told tt)
-chain_took q ds (step.Missing range access) head n r told = absurd (subst IsAChain told tt)
-chain_took q ds (step.Refused e) head n r told = absurd (subst IsAChain told tt)
-chain_took q ds (step.Chain h fault) head n r told = refl
+chain_took q ds (step.Load walk) head n r reported = absurd (subst IsAChain reported tt)
+chain_took q ds step.Idle head n r reported = absurd (subst IsAChain reported tt)
+chain_took q ds (step.Missing range access) head n r reported = absurd (subst IsAChain reported tt)
+chain_took q ds (step.Refused e) head n r reported = absurd (subst IsAChain reported tt)
+chain_took q ds (step.Chain h fault) head n r reported = refl
 
 pub took_is : (old new : ChainHandle) (before after : QueueState) (head n r : ℕ) → before.stopped ≡ None
-    → IsWalked old new before after (wents.On (says.Chain head n r)) → after ≡ took before
-took_is old new before after head n r goes walked =
-    let came = walk_comes walked.0 old new before after (says.Chain head n r) goes tt walked.1 in
+    → IsWalked old new before after (outcomes.On (shows.Chain head n r)) → after ≡ took before
+took_is old new before after head n r proceeds walked =
+    let came = walk_comes walked.0 old new before after (shows.Chain head n r) proceeds tt walked.1 in
     came.2.1.2 ∙ chain_took before new.descriptors.items came.2.0 head n r came.2.1.0
 
 pub takes_so : TakesByWalk → (given : List (List ℕ)) (old new : ChainHandle) (before after : QueueState) (head n r : ℕ)
     → HasU16Numbers before
-    → before.stopped ≡ None → WalksBy given old new before after (wents.On (says.Chain head n r)) → (s : ThreadedQueue)
+    → before.stopped ≡ None → WalksBy given old new before after (outcomes.On (shows.Chain head n r)) → (s : ThreadedQueue)
     → IsModelOf before s → s.holder ≡ Walker
-    → PopsWithIndex given old new before after (says.Chain head n r)
+    → PopsWithIndex given old new before after (shows.Chain head n r)
     (ActsTo before s (Loads ∷ TakesOne ∷ [])
     (after_act (ways_of before) (after_act (ways_of before) s Loads) TakesOne) after)
-takes_so law given old new before after head n r counted goes by s of walker =
+takes_so law given old new before after head n r counted proceeds by s of walker =
     let loaded : ThreadedQueue = after_act (ways_of before) s Loads in
-    let t = law given old new before after (says.Chain head n r) loaded counted goes tt by of walker in
+    let t = law given old new before after (shows.Chain head n r) loaded counted proceeds tt by of walker in
     (by, t.0, t.1, t.2, t.3, λ is. ((ap walks walker, ((t.4 is).0, refl)), (t.4 is).1))
 
 taken_out : (st : state.ChainState) (P : InFlight → Type 0) → FromTaken st P → (out : InFlight) × (st ≡ at.Taken out)
@@ -125,20 +125,20 @@ took_counted p = omega arith
 -- a chain that was taken is dropped
 pub drops_so : TakesByWalk → DropIsAnAct → (given : List (List ℕ)) (old one : ChainHandle) (before mid last : QueueState)
     (head n r : ℕ) → HasU16Numbers before
-    → before.stopped ≡ None → WalksBy given old one before mid (wents.On (says.Chain head n r))
+    → before.stopped ≡ None → WalksBy given old one before mid (outcomes.On (shows.Chain head n r))
     → FromTaken one.state (λ out. out.request_len ≡ n) → give_up_error one.state mid ≡ None
     → last ≡ (if is_out one.state then gave_up mid else mid) → (s : ThreadedQueue) → IsModelOf before s → s.holder ≡ Walker
-    → PopsWithIndex given old one before mid (says.Chain head n r)
+    → PopsWithIndex given old one before mid (shows.Chain head n r)
     (ActsTo before s (Loads ∷ TakesOne ∷ DropsOne ∷ [])
     (after_act (ways_of before) (after_act (ways_of before) (after_act (ways_of before) s Loads) TakesOne) DropsOne) last)
-drops_so takes drops given old one before mid last head n r counted goes by taken clear left s of walker =
+drops_so takes drops given old one before mid last head n r counted proceeds by taken clear left s of walker =
     let ways = ways_of before in
     let loaded : ThreadedQueue = after_act ways s Loads in
     let two : ThreadedQueue = after_act ways loaded TakesOne in
     let three : ThreadedQueue = after_act ways two DropsOne in
-    let t = takes given old one before mid (says.Chain head n r) loaded counted goes tt by of walker in
+    let t = takes given old one before mid (shows.Chain head n r) loaded counted proceeds tt by of walker in
     let out = taken_out one.state (λ out. out.request_len ≡ n) taken in
-    let mid_is = took_is old one before mid head n r goes (given, by) in
+    let mid_is = took_is old one before mid head n r proceeds (given, by) in
     let clear' : give_up_error (at.Taken out.0) (took before) ≡ None =
     subst (λ (q : QueueState). give_up_error (at.Taken out.0) q ≡ None) mid_is
     (subst (λ (st : state.ChainState). give_up_error st mid ≡ None) out.1 clear) in

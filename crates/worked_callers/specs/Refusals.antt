@@ -1,13 +1,13 @@
 -- Pops that fail: a call of the handle is refused, or doesn't do what its caller needs.
 use Rattle.std.specs.Prelude.{◌≡◌, ◌⊎◌, ℕ, List, [], ◌∷◌, length}
 use Rattle.std.specs.Borrow.{Bor}
-use Rattle.fs_chain.specs.Loads.{GoesSo, IsSame, RefusesWalk}
+use Rattle.fs_chain.specs.Loads.{ProceedsSo, IsSame, RefusesWalk}
 use Rattle.fs_chain.specs.Pops.{WalksBy, WantsBytes}
 use Rattle.fs_chain.specs.declared.chain_handle.ChainHandle.{ChainHandle}
 use Rattle.fs_chain.specs.declared.error.ChainError.{ChainError}
 use Rattle.fs_chain.specs.declared.error.ChainError.TheVariants.{BadArgument}
-use Rattle.fs_chain.specs.declared.loads.LoadOutcome as went
-use Rattle.fs_chain.specs.declared.loads.LoadOutcome.TheVariants as wents
+use Rattle.fs_chain.specs.declared.loads.LoadOutcome as outcome
+use Rattle.fs_chain.specs.declared.loads.LoadOutcome.TheVariants as outcomes
 use Rattle.fs_chain.specs.declared.queue.QueueState.{QueueState}
 use Rattle.worked_callers.specs.Notified.{IsRefusedCall, WalksPast, given_so_far}
 
@@ -16,7 +16,7 @@ abbrev pub FailsBy :
     (given : List (List ℕ)) → (old new : ChainHandle) → (before after : QueueState) → ChainError → Type 0
 FailsBy [] old new before after e = RefusesWalk old before [] e × IsSame old new × (after ≡ before)
 FailsBy (bs ∷ given) old new before after e =
-    (w : ChainHandle) × (earlier : went.LoadOutcome)
+    (w : ChainHandle) × (earlier : outcome.LoadOutcome)
     × WalksBy given old w before after earlier
     × WantsBytes earlier
     × RefusesWalk w after bs e
@@ -32,13 +32,13 @@ abbrev pub FailsToEnd : List (Bor (List ℕ)) → (old new : ChainHandle) → (b
     ChainError → Type 0
 FailsToEnd bytes old new before after e =
     IsFailedBy bytes old new before after e
-    ⊎ ((e ≡ BadArgument) × WalksBy (given_so_far (length bytes) bytes) old new before after wents.Part)
+    ⊎ ((e ≡ BadArgument) × WalksBy (given_so_far (length bytes) bytes) old new before after outcomes.Part)
 
 -- a call of a pop with these other bytes isn't refused, which is the error `BadArgument`
 abbrev pub TakesOthers :
     (wrong : List ℕ) → (w new : ChainHandle) → (q after : QueueState) → ChainError → Type 0
 TakesOthers wrong w new q after e =
-    (e ≡ BadArgument) × (told : went.LoadOutcome) × GoesSo w q wrong told new after
+    (e ≡ BadArgument) × (reported : outcome.LoadOutcome) × ProceedsSo w q wrong reported new after
 
 -- a call with other bytes is refused, and then one with these bytes, with this error. Both change nothing
 abbrev pub RefusesBoth :
@@ -60,7 +60,7 @@ FailsPastRefusals wrong [] old new before after e =
     × IsSame old new
     × (after ≡ before)
 FailsPastRefusals wrong (bs ∷ given) old new before after e =
-    (w : ChainHandle) × (q : QueueState) × (earlier : went.LoadOutcome)
+    (w : ChainHandle) × (q : QueueState) × (earlier : outcome.LoadOutcome)
     × WalksPast wrong given old w before q earlier
     × WantsBytes earlier
     × (RefusesBoth wrong bs w new q after e ⊎ TakesOthers wrong w new q after e)

@@ -15,7 +15,7 @@ ghost use Rattle.notify.specs.Kicks as kicks;
 ghost use Rattle.notify.specs.Kicks.{NotifyState, Runs, ahead};
 ghost use Rattle.notify.specs.Threads.{ReturnsChains, ThreadedQueue, Walker, after_act, may_act};
 ghost use Rattle.fs_notify.specs.Givers.{rules_of};
-ghost use Rattle.fs_notify.specs.Takers.{IsModelOf, SaysWish, ways_of};
+ghost use Rattle.fs_notify.specs.Takers.{IsModelOf, ShowsWish, ways_of};
 
 use crate::takers::have_u16_numbers;
 use fs_chain::{ChainError, ChainHandle, PushStores, QueueState};
@@ -33,27 +33,27 @@ pub fn push_one(
     ensures again { OnOk result (handle.new.state ≡ at.Free) }
     ensures freed { OnOk result (handle.new ≡ freed handle.old) }
     ensures queue { OnOk result (queue.new ≡ gave queue.old) }
-    ensures event { IfOk result (λ told. queue.old.event_index ≡ true
-        → told.0 ≡ passes seen queue.old.next_used (next_position (returning (live_of queue.old)))) }
-    ensures stores { IfOk result (λ told. IfHasReply handle.old.state
-        (λ out reply. PushesBy queue.old out reply told.1)) }
+    ensures event { IfOk result (λ reported. queue.old.event_index ≡ true
+        → reported.0 ≡ passes seen queue.old.next_used (next_position (returning (live_of queue.old)))) }
+    ensures stores { IfOk result (λ reported. IfHasReply handle.old.state
+        (λ out reply. PushesBy queue.old out reply reported.1)) }
     ensures returns { OnOk result ((s : ThreadedQueue)
         → IsModelOf queue.old s
         → s.holder ≡ Walker
         → IsTrue (may_act (ways_of queue.old) s (ReturnsChains 1))
         × IsModelOf queue.new (after_act (ways_of queue.old) s (ReturnsChains 1))) }
-    ensures publishes { IfOk result (λ told. (u : NotifyState)
+    ensures publishes { IfOk result (λ reported. (u : NotifyState)
         → u.published ≡ queue.old.next_used
         → (let published = (kicks.after (rules_of queue.old) u (kicks.Publishes 1)).published in
         (first : List Store) × (index : Store)
-        × (stores_of told.1.used ≡ first ++ index ∷ [])
+        × (stores_of reported.1.used ≡ first ++ index ∷ [])
         × (index.bytes ≡ to_le_bytes w16 published)
         × (queue.new.next_used ≡ published))) }
-    ensures checks { IfOk result (λ told. (u : NotifyState)
+    ensures checks { IfOk result (λ reported. (u : NotifyState)
         → u.published ≡ queue.new.next_used
         → u.unchecked ≡ 1
-        → SaysWish queue.old.event_index (to_le_bytes w16 seen) u.event u.muted
-        → (kicks.after (rules_of queue.old) u kicks.ChecksWish).owes ≡ (u.owes || told.0)) }
+        → ShowsWish queue.old.event_index (to_le_bytes w16 seen) u.event u.muted
+        → (kicks.after (rules_of queue.old) u kicks.ChecksWish).owes ≡ (u.owes || reported.0)) }
     ensures order { OnOk result ((u : NotifyState)
         → u.published ≡ queue.old.next_used
         → u.index ≡ u.published

@@ -27,11 +27,11 @@ pub fn miss_used_event(
     regions: GuestRegions,
 ) -> Result<LoadOutcome, ChainError>
     requires free { handle.old.state ≡ at.Free }
-    requires goes { queue.old.stopped ≡ None }
+    requires proceeds { queue.old.stopped ≡ None }
     requires event_index { queue.old.event_index ≡ true }
     requires low { used_event_at queue.old.layout + 2 ≤ last_page }
-    ensures missed { IfOk result (λ told.
-        (told ≡ LoadOutcome.On
+    ensures missed { IfOk result (λ reported.
+        (reported ≡ LoadOutcome.On
         (PopOutcome.Missing (run_of (used_event_at queue.old.layout) 2) Permissions.Read))
         × (queue.new ≡ queue.old)
         × (handle.new.state ≡ at.Free)
@@ -56,10 +56,10 @@ pub fn pop_without_regions(
     queue: &mut QueueState,
 ) -> Result<LoadOutcome, ChainError>
     requires free { handle.old.state ≡ at.Free }
-    requires goes { queue.old.stopped ≡ None }
+    requires proceeds { queue.old.stopped ≡ None }
     requires event_index { queue.old.event_index ≡ true }
-    ensures refused { IfOk result (λ told.
-        (told ≡ LoadOutcome.On (PopOutcome.Refused QueueError.AvailFlagsUnreachable))
+    ensures refused { IfOk result (λ reported.
+        (reported ≡ LoadOutcome.On (PopOutcome.Refused QueueError.AvailFlagsUnreachable))
         × (queue.new ≡ record queue.old { stopped = Some QueueError.AvailFlagsUnreachable })
         × (handle.new.state ≡ at.Free)
         × (handle.new.descriptors.items ≡ [])

@@ -27,14 +27,14 @@ pub fn pop_or_miss(
     given: &[&[u8]],
 ) -> Result<LoadOutcome, ChainError>
     requires free { handle.old.state ≡ at.Free }
-    requires goes { queue.old.stopped ≡ None }
-    ensures given { IfOk result (λ told.
-        IsWalkedBy given.now handle.old handle.new queue.old queue.new told) }
-    ensures all { IfOk result (λ told. WantsBytes told
+    requires proceeds { queue.old.stopped ≡ None }
+    ensures given { IfOk result (λ reported.
+        IsWalkedBy given.now handle.old handle.new queue.old queue.new reported) }
+    ensures all { IfOk result (λ reported. WantsBytes reported
         → WalksBy (given_so_far (length given.now) given.now) handle.old handle.new queue.old
-        queue.new told) }
-    ensures missed { IfOk result (λ told. (range : IovaRange) (access : Permissions)
-        → told ≡ LoadOutcome.On (PopOutcome.Missing range access)
+        queue.new reported) }
+    ensures missed { IfOk result (λ reported. (range : IovaRange) (access : Permissions)
+        → reported ≡ LoadOutcome.On (PopOutcome.Missing range access)
         → HasEvents handle.old queue.old
         → (queue.new ≡ queue.old)
         × (handle.new.state ≡ at.Free)
@@ -42,18 +42,19 @@ pub fn pop_or_miss(
         × (handle.new.session ≡ handle.old.session)
         × (handle.new.part.items ≡ [])
         × (loaded : Loaded)
-        × ArePopLoads given.now handle.old queue.old told loaded
+        × ArePopLoads given.now handle.old queue.old reported loaded
         × Misses (places_in handle.old.regions) handle.old.limit
         (queue_of (course_of queue.old handle.old.limit)) loaded handle.new.descriptors.items range access) }
-    ensures mapped { IfOk result (λ told. (range : IovaRange) (access : Permissions)
-        → told ≡ LoadOutcome.On (PopOutcome.Missing range access)
+    ensures mapped { IfOk result (λ reported. (range : IovaRange) (access : Permissions)
+        → reported ≡ LoadOutcome.On (PopOutcome.Missing range access)
         → HasEvents handle.old queue.old
         → (0 < range.length) × (range.base.0 + range.length ≤ last_page)) }
     ensures events { IfOk result
-        (λ told. (e : QueueError) (range : IovaRange) (access : Permissions)
+        (λ reported. (e : QueueError) (range : IovaRange) (access : Permissions)
         → event_fault (places_in handle.old.regions) queue.old ≡ Some e
         → event_miss (places_in handle.old.regions) queue.old ≡ Some (range, access)
-        → (told ≡ LoadOutcome.On (PopOutcome.Missing range access)) × DropsDescriptors handle.old handle.new
+        → (reported ≡ LoadOutcome.On (PopOutcome.Missing range access))
+        × DropsDescriptors handle.old handle.new
         × (handle.new.part.items ≡ [])
         × (queue.new ≡ queue.old)) }
 {

@@ -14,9 +14,9 @@ ghost use Rattle.fs_regions.specs.declared.step.CourseStep.{CourseStep};
 ghost use Rattle.fs_regions.specs.declared.entries.EntriesWalk.{EntriesWalk};
 ghost use Rattle.fs_regions.specs.declared.walk.QueueWalk.{QueueWalk};
 ghost use Rattle.fs_regions.specs.declared.walk.QueueWalk.TheVariants as asks;
-ghost use Rattle.fs_chain.specs.Laws.{GoesOnByLoads, TellsOffer};
-ghost use Rattle.fs_chain.specs.Loads.{GoesSo, IsSame, RefusesWalk, whole};
-ghost use Rattle.fs_chain.specs.Walks.{RefusalHasEvents, course_of, told_of};
+ghost use Rattle.fs_chain.specs.Laws.{ContinuesByLoads, ReportsOffer};
+ghost use Rattle.fs_chain.specs.Loads.{ProceedsSo, IsSame, RefusesWalk, whole};
+ghost use Rattle.fs_chain.specs.Walks.{RefusalHasEvents, course_of, reported_of};
 ghost use Rattle.fs_chain.specs.declared.state.ChainState.TheVariants as at;
 ghost use Rattle.fs_chain.specs.declared.state.PopId.{PopId};
 
@@ -29,24 +29,24 @@ pub fn begin_pop_as_offer(
     handle: &mut ChainHandle,
     queue: &mut QueueState,
 ) -> Result<Option<PopOutcome>, ChainError>
-    ensures goes { IfOk result (λ on. IfSome on (λ told.
-        GoesSo handle.old queue.old [] (LoadOutcome.On told) handle.new queue.new)) }
+    ensures proceeds { IfOk result (λ on. IfSome on (λ reported.
+        ProceedsSo handle.old queue.old [] (LoadOutcome.On reported) handle.new queue.new)) }
     ensures part { IfOk result (λ on. IfNone on
-        (GoesSo handle.old queue.old [] LoadOutcome.Part handle.new queue.new)) }
+        (ProceedsSo handle.old queue.old [] LoadOutcome.Part handle.new queue.new)) }
     ensures error { IfErr result (RefusesWalk handle.old queue.old []) }
     ensures same { OnErr result (IsSame handle.old handle.new × (queue.new ≡ queue.old)) }
-    ensures offered { IfOk result (λ on. IfSome on (λ told. (h : Host)
+    ensures offered { IfOk result (λ on. IfSome on (λ reported. (h : Host)
         → queue.old.stopped ≡ None
-        → RefusalHasEvents told handle.old queue.old
+        → RefusalHasEvents reported handle.old queue.old
         → handle.old.state ≡ at.Free
         → HasLoaded (memory_over h handle.old.regions)
         (queue_of (course_of queue.old handle.old.limit)) nothing []
-        → TellsOffer (memory_over h handle.old.regions) (course_of queue.old handle.old.limit)
-        handle.new told [])) }
+        → ReportsOffer (memory_over h handle.old.regions) (course_of queue.old handle.old.limit)
+        handle.new reported [])) }
 {
     law_walks();
     match handle.pop(queue, &[]) {
-        Ok(LoadOutcome::On(told)) => Ok(Some(told)),
+        Ok(LoadOutcome::On(reported)) => Ok(Some(reported)),
         Ok(LoadOutcome::Part) => Ok(None),
         Err(error) => Err(error),
     }
@@ -60,21 +60,21 @@ pub fn continue_pop_as_offer(
     queue: &mut QueueState,
     bytes: &[u8],
 ) -> Result<Option<PopOutcome>, ChainError>
-    ensures goes { IfOk result (λ on. IfSome on (λ told.
-        GoesSo handle.old queue.old bytes.now (LoadOutcome.On told) handle.new queue.new)) }
+    ensures proceeds { IfOk result (λ on. IfSome on (λ reported.
+        ProceedsSo handle.old queue.old bytes.now (LoadOutcome.On reported) handle.new queue.new)) }
     ensures part { IfOk result (λ on. IfNone on
-        (GoesSo handle.old queue.old bytes.now LoadOutcome.Part handle.new queue.new)) }
+        (ProceedsSo handle.old queue.old bytes.now LoadOutcome.Part handle.new queue.new)) }
     ensures error { IfErr result (RefusesWalk handle.old queue.old bytes.now) }
     ensures same { OnErr result (IsSame handle.old handle.new × (queue.new ≡ queue.old)) }
     ensures offered { IfOk result
-        (λ on. IfSome on (λ told. (loaded : Loaded) (course : Course) (pop_id : PopId) (walk : QueueWalk)
+        (λ on. IfSome on (λ reported. (loaded : Loaded) (course : Course) (pop_id : PopId) (walk : QueueWalk)
         → queue.old.stopped ≡ None
         → handle.old.state ≡ at.Walking course pop_id walk
         → IsWalkAt (places_in handle.old.regions) (queue_of course) loaded handle.old.descriptors.items walk
-        → GoesOnByLoads loaded course walk (whole handle.old bytes.now) handle.old handle.new told)) }
+        → ContinuesByLoads loaded course walk (whole handle.old bytes.now) handle.old handle.new reported)) }
     ensures read_out { IfOk result
         (λ on. IfSome on
-        (λ told. (loaded : Loaded) (course : Course) (pop_id : PopId) (walk : EntriesWalk) (m : Memory)
+        (λ reported. (loaded : Loaded) (course : Course) (pop_id : PopId) (walk : EntriesWalk) (m : Memory)
         → queue.old.stopped ≡ None
         → handle.old.state ≡ at.Walking course pop_id (asks.Entries walk)
         → IsWalkAt (places_in handle.old.regions) (queue_of course) loaded handle.old.descriptors.items
@@ -84,7 +84,7 @@ pub fn continue_pop_as_offer(
           came = Some (whole handle.old bytes.now);
         })
         → (came : CourseStep) × (after : Loaded)
-        × (told ≡ told_of handle.new.descriptors.items came)
+        × (reported ≡ reported_of handle.new.descriptors.items came)
         × (adds : AddsEntries (entry_address (visit_of walk.walk)) (whole handle.old bytes.now) came loaded
         after)
         × AreEntriesOf m adds.reads)) }
@@ -92,7 +92,7 @@ pub fn continue_pop_as_offer(
     law_read_out();
     law_walks();
     match handle.pop(queue, bytes) {
-        Ok(LoadOutcome::On(told)) => Ok(Some(told)),
+        Ok(LoadOutcome::On(reported)) => Ok(Some(reported)),
         Ok(LoadOutcome::Part) => Ok(None),
         Err(error) => Err(error),
     }

@@ -10,42 +10,42 @@ ghost use Rattle.worked_callers.specs.Refusals.{FailsToEnd, IsFailedBy};
 use fs_chain::{ChainError, ChainHandle, LoadOutcome, PopOutcome, QueueState};
 
 /// Whether a call of `pop` with this result asks for bytes.
-pub fn wants_bytes(told: &LoadOutcome) -> bool
-    ensures yes { result ≡ true → WantsBytes told.now }
-    ensures no { result ≡ false → WantsBytes told.now → ⊥ }
+pub fn wants_bytes(reported: &LoadOutcome) -> bool
+    ensures yes { result ≡ true → WantsBytes reported.now }
+    ensures no { result ≡ false → WantsBytes reported.now → ⊥ }
 {
     matches!(
-        told,
+        reported,
         LoadOutcome::Part | LoadOutcome::On(PopOutcome::Load(_))
     )
 }
 
 /// A pop with these bytes, one call for each, as long as it asks for bytes. If it asks for more in the end,
 /// it was given all of them. Fails with the error of the first call that is refused.
-#[tactic(auto, using(fs_chain::proofs::PopWalks::begins_by, fs_chain::proofs::PopWalks::goes_on_by))]
+#[tactic(auto, using(fs_chain::proofs::PopWalks::begins_by, fs_chain::proofs::PopWalks::carries_on_by))]
 pub fn walk_by(
     handle: &mut ChainHandle,
     queue: &mut QueueState,
     given: &[&[u8]],
 ) -> Result<LoadOutcome, ChainError>
     requires free { handle.old.state ≡ at.Free }
-    ensures walks { IfOk result (λ told. IsWalked handle.old handle.new queue.old queue.new told) }
-    ensures given { IfOk result (λ told.
-        IsWalkedBy given.now handle.old handle.new queue.old queue.new told) }
-    ensures all { IfOk result (λ told. WantsBytes told
+    ensures walks { IfOk result (λ reported. IsWalked handle.old handle.new queue.old queue.new reported) }
+    ensures given { IfOk result (λ reported.
+        IsWalkedBy given.now handle.old handle.new queue.old queue.new reported) }
+    ensures all { IfOk result (λ reported. WantsBytes reported
         → WalksBy (given_so_far (length given.now) given.now) handle.old handle.new queue.old
-        queue.new told) }
+        queue.new reported) }
     ensures error { IfErr result
         (IsFailedBy given.now handle.old handle.new queue.old queue.new) }
 {
-    let mut told = handle.pop(queue, &[])?;
+    let mut reported = handle.pop(queue, &[])?;
     for bytes in given {
-        if !wants_bytes(&told) {
-            return Ok(told);
+        if !wants_bytes(&reported) {
+            return Ok(reported);
         }
-        told = handle.pop(queue, bytes)?;
+        reported = handle.pop(queue, bytes)?;
     }
-    Ok(told)
+    Ok(reported)
 }
 
 /// Pops a queue by these bytes, a call for each. Fails with `BadArgument` if the last call got only a part of
@@ -57,17 +57,17 @@ pub fn walk_to_end(
 ) -> Result<PopOutcome, ChainError>
     requires free { handle.old.state ≡ at.Free }
     ensures walked { IfOk result
-        (λ told. IsWalked handle.old handle.new queue.old queue.new (LoadOutcome.On told)) }
-    ensures given { IfOk result (λ told.
-        IsWalkedBy given.now handle.old handle.new queue.old queue.new (LoadOutcome.On told)) }
-    ensures all { IfOk result (λ told. WantsBytes (LoadOutcome.On told)
+        (λ reported. IsWalked handle.old handle.new queue.old queue.new (LoadOutcome.On reported)) }
+    ensures given { IfOk result (λ reported.
+        IsWalkedBy given.now handle.old handle.new queue.old queue.new (LoadOutcome.On reported)) }
+    ensures all { IfOk result (λ reported. WantsBytes (LoadOutcome.On reported)
         → WalksBy (given_so_far (length given.now) given.now) handle.old handle.new queue.old queue.new
-        (LoadOutcome.On told)) }
+        (LoadOutcome.On reported)) }
     ensures error { IfErr result
         (FailsToEnd given.now handle.old handle.new queue.old queue.new) }
 {
     match walk_by(handle, queue, given)? {
-        LoadOutcome::On(told) => Ok(told),
+        LoadOutcome::On(reported) => Ok(reported),
         LoadOutcome::Part => Err(ChainError::BadArgument),
     }
 }

@@ -3,9 +3,9 @@
 
 ghost use Rattle.std.specs.Prelude.{◌≡◌, ◌<◌, ◌^◌, ℕ, false, IfErr, IfOk, IsTrue, None, OnOk};
 ghost use Rattle.std.specs.Prelude.{length};
-ghost use Rattle.fs_chain.specs.Loads.{GoesSo, IsSame};
+ghost use Rattle.fs_chain.specs.Loads.{ProceedsSo, IsSame};
 ghost use Rattle.fs_chain.specs.Pops.{WantsBytes};
-ghost use Rattle.fs_chain.specs.declared.loads.LoadOutcome as went;
+ghost use Rattle.fs_chain.specs.declared.loads.LoadOutcome as outcome;
 ghost use Rattle.fs_chain.specs.declared.popping.PopOutcome.{PopOutcome};
 ghost use Rattle.fs_chain.specs.declared.state.ChainState.TheVariants as at;
 ghost use Rattle.notify.specs.Threads.{Rearmer, SleepsNow, TakesOne, ThreadedQueue, Walker, after_act};
@@ -29,8 +29,8 @@ pub fn call_refused(
     ensures refused { OnOk result (IsRefusedCall handle.old queue.old wrong.now) }
     ensures same { OnOk result (IsSame handle.old handle.new) }
     ensures queue { OnOk result (queue.new ≡ queue.old) }
-    ensures taken { IfErr result (λ e. (e ≡ ChainError.BadArgument) × ((told : went.LoadOutcome)
-        × GoesSo handle.old queue.old wrong.now told handle.new queue.new)) }
+    ensures taken { IfErr result (λ e. (e ≡ ChainError.BadArgument) × ((reported : outcome.LoadOutcome)
+        × ProceedsSo handle.old queue.old wrong.now reported handle.new queue.new)) }
 {
     match handle.pop(queue, wrong) {
         Ok(_) => Err(ChainError::BadArgument),
@@ -49,23 +49,23 @@ pub fn pop_past_refusals(
     given: &[&[u8]],
 ) -> Result<LoadOutcome, ChainError>
     requires free { handle.old.state ≡ at.Free }
-    ensures walks { IfOk result (λ told.
-        IsWalkedPastRefusals wrong.now given.now handle.old handle.new queue.old queue.new told) }
-    ensures all { IfOk result (λ told. WantsBytes told
+    ensures walks { IfOk result (λ reported.
+        IsWalkedPastRefusals wrong.now given.now handle.old handle.new queue.old queue.new reported) }
+    ensures all { IfOk result (λ reported. WantsBytes reported
         → WalksPast wrong.now (given_so_far (length given.now) given.now) handle.old handle.new queue.old
-        queue.new told) }
+        queue.new reported) }
     ensures error { IfErr result
         (IsFailedPastRefusals wrong.now given.now handle.old handle.new queue.old queue.new) }
 {
-    let mut told = handle.pop(queue, &[])?;
+    let mut reported = handle.pop(queue, &[])?;
     for bytes in given {
-        if !wants_bytes(&told) {
-            return Ok(told);
+        if !wants_bytes(&reported) {
+            return Ok(reported);
         }
         call_refused(handle, queue, wrong)?;
-        told = handle.pop(queue, bytes)?;
+        reported = handle.pop(queue, bytes)?;
     }
-    Ok(told)
+    Ok(reported)
 }
 
 /// A pop past refused calls finds no chain: the model's thread, which stored its wish, sleeps. Fails with
@@ -77,7 +77,7 @@ pub fn sleep_past_refusals(
     given: &[&[u8]],
 ) -> Result<(), ChainError>
     requires free { handle.old.state ≡ at.Free }
-    requires goes { queue.old.stopped ≡ None }
+    requires proceeds { queue.old.stopped ≡ None }
     ensures { OnOk result ((n : ℕ)
         × ((s : ThreadedQueue)
         → IsModelOf queue.old s
@@ -107,7 +107,7 @@ pub fn take_past_refusals(
     given: &[&[u8]],
 ) -> Result<(u16, usize, usize), ChainError>
     requires free { handle.old.state ≡ at.Free }
-    requires goes { queue.old.stopped ≡ None }
+    requires proceeds { queue.old.stopped ≡ None }
     ensures { IfOk result (λ c. (n : ℕ)
         × ((s : ThreadedQueue)
         → IsModelOf queue.old s

@@ -4,7 +4,7 @@
 ghost use Rattle.std.specs.Prelude.{◌≡◌, ◌<◌, ◌^◌, ℕ, false, IfOk, IsTrue, [], ◌∷◌, None, OnOk, option_map};
 ghost use Rattle.std.specs.Prelude.{Err, IfErr, OnErr};
 ghost use Rattle.fs_chain.specs.Events.{store_of};
-ghost use Rattle.fs_chain.specs.Loads.{GoesSo, IsSame, RefusesWalk};
+ghost use Rattle.fs_chain.specs.Loads.{ProceedsSo, IsSame, RefusesWalk};
 ghost use Rattle.fs_chain.specs.Pops.{IsWalked};
 ghost use Rattle.fs_chain.specs.Queues.{gave_up, took};
 ghost use Rattle.fs_chain.specs.Serials.{freed};
@@ -80,7 +80,7 @@ pub fn sleep_if_idle(
     given: &[&[u8]],
 ) -> Result<Option<NotificationStore>, ChainError>
     requires free { handle.old.state ≡ at.Free }
-    requires goes { queue.old.stopped ≡ None }
+    requires proceeds { queue.old.stopped ≡ None }
     ensures wish { IfOk result (λ store. (s : ThreadedQueue)
         → IsModelOf queue.old s
         → s.holder ≡ Walker
@@ -143,7 +143,7 @@ pub fn take_one(
     given: &[&[u8]],
 ) -> Result<(u16, usize, usize), ChainError>
     requires free { handle.old.state ≡ at.Free }
-    requires goes { queue.old.stopped ≡ None }
+    requires proceeds { queue.old.stopped ≡ None }
     ensures takes { IfOk result (λ c. (n : ℕ)
         × ((s : ThreadedQueue)
         → IsModelOf queue.old s
@@ -166,7 +166,7 @@ pub fn drop_one(
     given: &[&[u8]],
 ) -> Result<(), ChainError>
     requires free { handle.old.state ≡ at.Free }
-    requires goes { queue.old.stopped ≡ None }
+    requires proceeds { queue.old.stopped ≡ None }
     ensures popped { OnOk result ((popped : ChainHandle) × (after : QueueState) × (head : ℕ)
         × (lens : ℕ × ℕ)
         × IsWalkedBy given.now handle.old popped queue.old after
@@ -197,7 +197,8 @@ pub fn begin_pop_at_maximum(
     queue: &mut QueueState,
 ) -> Result<LoadOutcome, ChainError>
     requires free { handle.old.state ≡ at.Free }
-    ensures goes { IfOk result (λ told. GoesSo handle.old queue.old [] told handle.new queue.new) }
+    ensures proceeds { IfOk result (λ reported. ProceedsSo handle.old queue.old [] reported handle.new
+        queue.new) }
     ensures error { IfErr result (RefusesWalk handle.old queue.old []) }
     ensures same { OnErr result (IsSame handle.old handle.new × (queue.new ≡ queue.old)) }
     ensures full { result ≡ Err ChainError.ChainInFlight

@@ -2,7 +2,7 @@
 
 ghost use Rattle.std.specs.Prelude.{◌≡◌, false, true, All, Ok};
 ghost use Rattle.vm_iotlb.specs.Changes.{InvalidatesMapping, SetsMapping};
-ghost use Rattle.vm_iotlb.specs.Ranges.{table_kept};
+ghost use Rattle.vm_iotlb.specs.Ranges.{table_held};
 ghost use Rattle.fs_regions.specs.Using.{IsUntouched, StaysFor};
 ghost use Rattle.fs_chain.specs.Orders.{is_out};
 
@@ -25,7 +25,7 @@ pub fn unmap_unused(
     ensures removed { (result ≡ Ok false → ⊥)
         → InvalidatesMapping iova.0 len table.old table.new result }
     ensures stays { result ≡ Ok true
-        → All (StaysFor (table_kept table.old) (table_kept table.new)) handle.now.descriptors.items }
+        → All (StaysFor (table_held table.old) (table_held table.new)) handle.now.descriptors.items }
     ensures used { result ≡ Ok false
         → (All (IsUntouched iova.0 len) handle.now.descriptors.items → ⊥) × (table.new ≡ table.old) }
 {
@@ -52,7 +52,7 @@ pub fn map_unused(
     ensures mapped { (result ≡ Ok false → ⊥)
         → SetsMapping iova.0 target.0 len access table.old table.new result }
     ensures stays { result ≡ Ok true
-        → All (StaysFor (table_kept table.old) (table_kept table.new)) handle.now.descriptors.items }
+        → All (StaysFor (table_held table.old) (table_held table.new)) handle.now.descriptors.items }
     ensures used { result ≡ Ok false
         → (All (IsUntouched iova.0 len) handle.now.descriptors.items → ⊥) × (table.new ≡ table.old) }
 {

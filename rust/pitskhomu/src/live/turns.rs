@@ -80,7 +80,7 @@ impl<Q: Queued> Locked<Q> {
     /// Whether a chain is available, as a hint: the driver may write to the ring at any time. The
     /// ring's index is loaded only if the last one shows no available chain.
     fn has_more(&self, server: &mut impl Server<Q>) -> bool {
-        // the look once more of [GoesBusy] and [CallsOne]: a load of the available index
+        // the look once more of [ProceedsBusy] and [CallsOne]: a load of the available index
         self.queue().knows_more() || server.available_index(self) != Some(self.next_chain().1)
     }
 
@@ -89,9 +89,9 @@ impl<Q: Queued> Locked<Q> {
     /// looks again later. Returns whether the caller must wake a thread after it has released the
     /// lock: if they can't be enabled, or a chain is available. One at a time is enough: it pops a
     /// chain, and wakes the next. (In the model the threads' event is pending from here on until
-    /// that thread has the lock, so others are `GoesBusy` without a call of their own.) Nor is one
-    /// woken while another thread `comes` from its call to the lock: it looks for a chain, and does
-    /// the same then.
+    /// that thread has the lock, so others are `ProceedsBusy` without a call of their own.) Nor is
+    /// one woken while another thread `comes` from its call to the lock: it looks for a chain, and
+    /// does the same then.
     fn hand_on(&mut self, server: &mut impl Server<Q>, comes: bool) -> bool {
         let is_for_another = self.sleeping > 0 && self.has_room();
         if !is_for_another && matches!(self.told, Some((_, false, _))) {
@@ -100,8 +100,8 @@ impl<Q: Queued> Locked<Q> {
         // [Wishes] or [OmitsWish]; with nobody asleep [Silences]
         let told =
             self.tell(is_for_another, |queued| server.set_notification(queued, is_for_another));
-        // [GoesBusy] if no chain is left, or a thread is woken already. Else [Signals], and then
-        // [GoesBusy]. With nobody asleep [Unlocks].
+        // [ProceedsBusy] if no chain is left, or a thread is woken already. Else [Signals], and
+        // then [ProceedsBusy]. With nobody asleep [Unlocks].
         let is_due = is_for_another && !self.is_woken && !comes;
         let wakes = is_due && (told.is_err() || self.has_more(server));
         self.is_woken |= wakes;

@@ -4,8 +4,8 @@ use Rattle.plain_machine.specs.Step.{Idle, Refused, Exchanged}
 use Rattle.call_log.proofs.StepLemmas.{leaves}
 use Rattle.call_log.proofs.step.used_length.Goals as goal
 
-pub returns-in-Ok-Some-clause-told : goal.returns-in-Ok-Some-clause-told
-returns-in-Ok-Some-clause-told g c =
+pub returns-in-Ok-Some-clause-reported : goal.returns-in-Ok-Some-clause-reported
+returns-in-Ok-Some-clause-reported g c =
     leaves _ c.args.queue _ (exchange_of c.in-Ok-Some.exchanged.0) _ (omega (arith, c.len.ensures, c.in-Ok-Some.exchanged.0.reply.ok.0))
     (c.law_used_length.ensures _ _ c.args.queue _ (exchange_of c.in-Ok-Some.exchanged.0) _
     (rw c.in-Ok-Some.field-0-is at c.in-Ok-Some.ensures.step.1))

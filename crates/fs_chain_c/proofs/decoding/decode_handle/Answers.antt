@@ -9,10 +9,10 @@ returns-in-Ok c =
         c.resume-session.result,
         search rules,
         c.decode.new.self,
-        c.in-Ok.told,
+        c.in-Ok.reported,
         record {
           can = search rules;
-          tells = search rules;
+          reports = search rules;
           wanted = search rules;
           step = search rules;
           session = search rules;

@@ -1,5 +1,5 @@
 use Rattle.std.proofs.Common.{rules}
-use Rattle.fs_chain_c.proofs.HandleLemmas.{goes_along}
+use Rattle.fs_chain_c.proofs.HandleLemmas.{proceeds_along}
 use Rattle.fs_chain_c.proofs.setting.made.Goals as goal
 
 pub returns-in-Ok-clause-ok : goal.returns-in-Ok-clause-ok
@@ -8,7 +8,7 @@ returns-in-Ok-clause-ok c =
     let set = c.in_ok-set_memory.ensures.set in (
       b,
       search rules,
-      goes_along b c.args.device.now c.args.regions.now c.set_memory.new.self c.in-Ok.handle.value (search rules) (
+      proceeds_along b c.args.device.now c.args.regions.now c.set_memory.new.self c.in-Ok.handle.value (search rules) (
         c.in_ok-set_memory.ensures.ok,
         search rules,
         search rules,

@@ -3,10 +3,10 @@ use Rattle.fs_confinement.proofs.HiddenLemmas.{agree_outside, no_copies, touches
 use Rattle.fs_confinement.proofs.laws.law_hidden_blocks.Goals as goal
 
 pub returns : goal.returns
-returns g c block a after events tolds ran hidden =
-    let none = touches_nothing_of g.F.FileSystemBase.may block a after events tolds ran hidden in (
+returns g c block a after events all_reported ran hidden =
+    let none = touches_nothing_of g.F.FileSystemBase.may block a after events all_reported ran hidden in (
       none,
       λ b differ.
-          c.law_confinement.ensures a b after events tolds ran (no_copies block events hidden.1) differ.rest
-          (agree_outside block a b (read_set g.F.FileSystemBase.may a events tolds after ran) differ none.unread),
+          c.law_confinement.ensures a b after events all_reported ran (no_copies block events hidden.1) differ.rest
+          (agree_outside block a b (read_set g.F.FileSystemBase.may a events all_reported after ran) differ none.unread),
     )

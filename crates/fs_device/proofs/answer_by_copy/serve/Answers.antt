@@ -6,8 +6,8 @@ use Rattle.fs_device.proofs.answer_by_copy.serve.Goals as goal
 pub returns-in-Some-clause-exchange : goal.returns-in-Some-clause-exchange
 returns-in-Some-clause-exchange g c m q fetched taken read =
     let held : HoldsChain m fetched (Ok c.in-Ok.field-0.now) = rw (← c.in-Ok.ensures) taken.chain in
-    let told = rw (c.of_slice.ensures.left, c.deref.ensures.value, c.requires, c.in-Ok.ensures) at c.in-Some.ensures.answered.0 in (
-      told.0,
-      served_chain g.F.FileSystemBase.may _ _ _ m fetched c.in-Ok.field-0.now c.args.taken.now.head c.head-head.result _ _ _ told.0 held
-          c.head-head.ensures read told.1,
+    let reported = rw (c.of_slice.ensures.left, c.deref.ensures.value, c.requires, c.in-Ok.ensures) at c.in-Some.ensures.answered.0 in (
+      reported.0,
+      served_chain g.F.FileSystemBase.may _ _ _ m fetched c.in-Ok.field-0.now c.args.taken.now.head c.head-head.result _ _ _ reported.0 held
+          c.head-head.ensures read reported.1,
     )

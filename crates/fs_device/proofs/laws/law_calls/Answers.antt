@@ -1,5 +1,5 @@
-use Rattle.fs_device.proofs.TellingLemmas.{run_tells}
+use Rattle.fs_device.proofs.TellingLemmas.{run_reports}
 use Rattle.fs_device.proofs.laws.law_calls.Goals as goal
 
 pub returns : goal.returns
-returns g c s after events tolds ran = run_tells g.F.FileSystemBase.may s events tolds after ran
+returns g c s after events all_reported ran = run_reports g.F.FileSystemBase.may s events all_reported after ran

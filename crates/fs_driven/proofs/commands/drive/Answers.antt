@@ -1,5 +1,5 @@
 use Rattle.std.proofs.Common.{◌<◌, length, rules, subst, sym}
-use Rattle.fs_driven.specs.Told.{DrivesOne}
+use Rattle.fs_driven.specs.Reported.{DrivesOne}
 use Rattle.fs_chain.specs.declared.chain_handle.ChainHandle.{ChainHandle}
 use Rattle.fs_driven.proofs.Lists.{at_place, got}
 use Rattle.fs_driven.proofs.commands.drive.Goals as goal

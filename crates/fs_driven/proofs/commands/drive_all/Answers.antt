@@ -1,5 +1,5 @@
 use Rattle.std.proofs.Common.{◌<◌, ◌∷◌, [], get_or, length, rules, subst, sym}
-use Rattle.fs_driven.specs.Told.{Drives, call_of}
+use Rattle.fs_driven.specs.Reported.{Drives, call_of}
 use Rattle.fs_driven.specs.declared.commands.Command.{Command}
 use Rattle.fs_driven.proofs.Lists.{more_so_far, none_so_far, number_at}
 use Rattle.fs_driven.proofs.commands.drive_all.Goals as goal

@@ -6,5 +6,5 @@ returns c =
     let e = c.pop.ensures in
     record {
       step = pop_result c.args.handle.now c.pop.new.self c.args.queue.now c.pop.new.queue c.args.loaded c.pop.result
-          e.goes e.error e.same e.step;
+          e.proceeds e.error e.same e.step;
     }

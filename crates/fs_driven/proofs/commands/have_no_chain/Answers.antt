@@ -2,7 +2,7 @@ use Rattle.std.proofs.Common.{All, List, ◌<◌, ◌≤◌, length, rules, subs
 use Rattle.std.proofs.lemmas.List.{take_all}
 use Rattle.std.proofs.lemmas.List.Elements.{All-more}
 use Rattle.fs_chain.specs.declared.chain_handle.ChainHandle.{ChainHandle}
-use Rattle.fs_driven.specs.Told.{HasNoChain}
+use Rattle.fs_driven.specs.Reported.{HasNoChain}
 use Rattle.fs_driven.proofs.commands.have_no_chain.Goals as goal
 
 pub loop-handle-preserved : goal.loop-handle-preserved

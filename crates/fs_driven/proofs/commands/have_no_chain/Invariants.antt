@@ -1,5 +1,5 @@
 use Rattle.std.proofs.Common.{All, take}
-use Rattle.fs_driven.specs.Told.{HasNoChain}
+use Rattle.fs_driven.specs.Reported.{HasNoChain}
 use Rattle.fs_driven.proofs.commands.have_no_chain.Given as goal
 
 -- each that was looked at has none

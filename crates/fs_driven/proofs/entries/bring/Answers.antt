@@ -8,5 +8,5 @@ returns-in-Some c =
     record {
       one = brings_found c.args.handle.now c.add_with_node.new.self c.args.serial c.args.list.now c.add_with_node.new.list
           c.args.entry.now c.args.name.now c.in-Some.node c.copied.result c.add_with_node.result (search rules)
-          c.copied.ensures.node c.copied.ensures.number e.told e.stays e.step;
+          c.copied.ensures.node c.copied.ensures.number e.reported e.stays e.step;
     }

@@ -22,5 +22,5 @@ returns-clause-guest g c =
     let after = machine_of c.run.new.self in
     let events = zip (map command_of c.args.commands.items) (map answer_of answers.items) in
     run_gives before after events ran.0 ran.1 c.args.machine.now.held.0
-    (λ end part told way. (c.law_calls.ensures before end part told way).0))
+    (λ end part reported way. (c.law_calls.ensures before end part reported way).0))
     c.run.ensures.run

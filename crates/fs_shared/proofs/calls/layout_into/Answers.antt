@@ -9,8 +9,8 @@ returns-then-is_err-clause-layout g c = λ start. (
   Prim.search rules,
 )
 
-pub layout_kept-requires : goal.layout_kept-requires
-layout_kept-requires g c =
+pub layout_recorded-requires : goal.layout_recorded-requires
+layout_recorded-requires g c =
     layout_held (machine_of c.args.machine.now) c.args.layout (c.if-not-holds.ensures.held.0 refl) c.holds.ensures.sound
 
 pub returns-in-Err-clause-layout : goal.returns-in-Err-clause-layout

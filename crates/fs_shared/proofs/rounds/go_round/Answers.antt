@@ -11,9 +11,9 @@ use Rattle.fs_shared.specs.declared.entry.Receipt.{Receipt}
 use Rattle.fs_shared.specs.Audit.{AreAllReceipts}
 use Rattle.fs_shared.specs.Marks.{Harvest, HasMarked, HasMarkedSince, first_of}
 use Rattle.fs_shared.specs.Replay.{forget}
-use Rattle.fs_shared.specs.Rounds.{IsGreatest, LeavesSince, TellsPages, following}
-use Rattle.fs_shared.proofs.MarksKept.{meets_keep}
-use Rattle.fs_shared.proofs.RoundPages.{all_earlier, leaves_since, tells}
+use Rattle.fs_shared.specs.Rounds.{IsGreatest, LeavesSince, ReportsPages, following}
+use Rattle.fs_shared.proofs.MarksPreserved.{meets_keep}
+use Rattle.fs_shared.proofs.RoundPages.{all_earlier, leaves_since, reports}
 use Rattle.fs_shared.proofs.RoundReceipts.{below_following}
 use Rattle.fs_shared.proofs.rounds.go_round.Goals as goal
 
@@ -50,15 +50,15 @@ returns-clause-pages g c audited =
     let mine = c.kick_often-2.ensures.pass ∙ ap (λ (q : Pass). counting q share.counts.pages)
     (ap (λ (s : Portion). s.pass) c.meet.ensures.share
     ∙ ap (λ (q : Pass). counting q met) (c.kick_often.ensures.pass ∙ ap (λ (s : Portion). counting s.pass first) c.requires.share)) in
-    let told = subst (λ (xs : List JournalEntry). AreAllReceipts xs c.deref-3.result.now) c.deref-2.ensures.value
+    let reported = subst (λ (xs : List JournalEntry). AreAllReceipts xs c.deref-3.result.now) c.deref-2.ensures.value
     (c.audit-is_audited.ensures.0 audited) in
-    let all = subst (λ (xs : List Receipt). AreAllReceipts parts.journal.items xs) c.deref-3.ensures.value told in
-    let pages = tells b share h parts.journal.items receipts parts.start.host parts.machine.host gathered left is taken mine
+    let all = subst (λ (xs : List Receipt). AreAllReceipts parts.journal.items xs) c.deref-3.ensures.value reported in
+    let pages = reports b share h parts.journal.items receipts parts.start.host parts.machine.host gathered left is taken mine
     c.in-Ok.ensures.gathered all c.kick_often-2.ensures.marked in
     let back = with_items_is c.args.room.gathered gathered (c.gather_all.auto.words ∙ c.deref_mut.ensures.len) in
     let back_left = with_items_is c.args.room.left left (c.into_parts_and_pages.auto.words ∙ c.deref_mut-2.ensures.len) in
-    subst (λ (ws : List ℕ). TellsPages b.len ws (with_items c.args.room.left left).items parts.start.host parts.machine.host) (sym back)
-    (subst (λ (ws : List ℕ). TellsPages b.len gathered ws parts.start.host parts.machine.host) (sym back_left) pages)
+    subst (λ (ws : List ℕ). ReportsPages b.len ws (with_items c.args.room.left left).items parts.start.host parts.machine.host) (sym back)
+    (subst (λ (ws : List ℕ). ReportsPages b.len gathered ws parts.start.host parts.machine.host) (sym back_left) pages)
 
 pub returns-clause-since : goal.returns-clause-since
 returns-clause-since g c audited =
@@ -81,9 +81,9 @@ returns-clause-since g c audited =
     let mine = c.kick_often-2.ensures.pass ∙ ap (λ (q : Pass). counting q share.counts.pages)
     (ap (λ (s : Portion). s.pass) c.meet.ensures.share
     ∙ ap (λ (q : Pass). counting q met) (c.kick_often.ensures.pass ∙ ap (λ (s : Portion). counting s.pass first) c.requires.share)) in
-    let told = subst (λ (xs : List JournalEntry). AreAllReceipts xs c.deref-3.result.now) c.deref-2.ensures.value
+    let reported = subst (λ (xs : List JournalEntry). AreAllReceipts xs c.deref-3.result.now) c.deref-2.ensures.value
     (c.audit-is_audited.ensures.0 audited) in
-    let all = subst (λ (xs : List Receipt). AreAllReceipts parts.journal.items xs) c.deref-3.ensures.value told in
+    let all = subst (λ (xs : List Receipt). AreAllReceipts parts.journal.items xs) c.deref-3.ensures.value reported in
     let early = below_following earlier last (subst (IsGreatest last) c.deref.ensures.value c.greatest_number-last_before.ensures) in
     let since : (word : ℕ) → HasMarkedSince word (following last) h.pass.counts.pages share.counts.pages receipts =
     λ word. subst (λ (n : Harvest). HasMarkedSince word (following last) n.pass.counts.pages share.counts.pages receipts) (sym same)

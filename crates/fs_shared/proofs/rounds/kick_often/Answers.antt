@@ -1,7 +1,7 @@
 use Rattle.std.proofs.Common.{ap, ◌∙◌, arith}
 use Rattle.vm_atomic_bitmaps.specs.Passes.{Pass, counting}
 use Rattle.fs_shared.proofs.RoundPages.{since_then}
-use Rattle.fs_shared.proofs.RoundReceipts.{goes_on, none_more}
+use Rattle.fs_shared.proofs.RoundReceipts.{carries_on, none_more}
 use Rattle.fs_shared.proofs.rounds.kick_often.Goals as goal
 
 pub returns-then-not-kick_once-clause-since : goal.returns-then-not-kick_once-clause-since
@@ -12,22 +12,22 @@ returns-then-not-kick_once-clause-since g c =
 
 pub returns-then-not-kick_once-clause-more : goal.returns-then-not-kick_once-clause-more
 returns-then-not-kick_once-clause-more g c =
-    goes_on c.args.receipts.now.items c.loop.receipts.items c.kick_once.new.receipts.items c.loop.invariant.more c.kick_once.ensures.more
+    carries_on c.args.receipts.now.items c.loop.receipts.items c.kick_once.new.receipts.items c.loop.invariant.more c.kick_once.ensures.more
 
 pub loop-preserved : goal.loop-preserved
 loop-preserved g c =
-    let kept = c.loop.invariant in
+    let recorded = c.loop.invariant in
     let done = c.kick_once.ensures in
     let new = c.kick_once.new.share.pass.counts.pages in
     record {
       own = done.own;
       marked = done.marked;
       since = since_then c.args.share.now.pass.counts.pages c.loop.share.pass.counts.pages new c.args.receipts.now.items
-          c.loop.receipts.items c.kick_once.new.receipts.items kept.since done.since;
-      more = goes_on c.args.receipts.now.items c.loop.receipts.items c.kick_once.new.receipts.items kept.more done.more;
-      parts = done.parts ∙ kept.parts;
-      pass = done.pass ∙ ap (λ (q : Pass). counting q new) kept.pass;
+          c.loop.receipts.items c.kick_once.new.receipts.items recorded.since done.since;
+      more = carries_on c.args.receipts.now.items c.loop.receipts.items c.kick_once.new.receipts.items recorded.more done.more;
+      parts = done.parts ∙ recorded.parts;
+      pass = done.pass ∙ ap (λ (q : Pass). counting q new) recorded.pass;
       most = let more = c.loop-test.true in omega arith;
-      len = let more = done.len in let before = kept.len in omega arith;
-      capacity = done.capacity ∙ kept.capacity;
+      len = let more = done.len in let before = recorded.len in omega arith;
+      capacity = done.capacity ∙ recorded.capacity;
     }

@@ -4,8 +4,8 @@ use Rattle.fs_shared.specs.declared.entry.Kicked as kicked
 use Rattle.fs_shared.specs.declared.entry.Receipt.{Receipt}
 use Rattle.fs_shared.specs.Marks.{HasMarked, kicked_pages}
 use Rattle.fs_shared.specs.Rounds.{KeepsSince}
-use Rattle.fs_shared.proofs.MarksKept.{calls_keep}
-use Rattle.fs_shared.proofs.RoundPages.{none_since, one_since, one_told}
+use Rattle.fs_shared.proofs.MarksPreserved.{calls_keep}
+use Rattle.fs_shared.proofs.RoundPages.{none_since, one_since, one_reported}
 use Rattle.fs_shared.proofs.rounds.kick_once.Goals as goal
 
 pub returns-in-Ok-Done-clause-marked : goal.returns-in-Ok-Done-clause-marked
@@ -15,7 +15,7 @@ returns-in-Ok-Done-clause-marked g c =
     let pages = subst (λ (k : kicked.Kicked). MarksPages (kicked_pages (Ok k)) old new) c.in-Ok-Done.field-0-is
     c.in-Ok-Done.ensures.pages in
     subst (λ (receipts : List Receipt). HasMarked new receipts) (sym c.push_reserved.ensures.items)
-    (one_told c.args.receipts.now.items c.in-Ok-Done.receipt old new pages c.requires.marked)
+    (one_reported c.args.receipts.now.items c.in-Ok-Done.receipt old new pages c.requires.marked)
 
 pub returns-in-Ok-Idle-clause-marked : goal.returns-in-Ok-Idle-clause-marked
 returns-in-Ok-Idle-clause-marked g c =

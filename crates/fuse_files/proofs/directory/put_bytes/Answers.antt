@@ -4,7 +4,7 @@ use Rattle.std.proofs.lemmas.List.{length-take, take_min}
 use Rattle.fuse_fs.specs.Calls as call
 use Rattle.fuse_files.proofs.WholeReads.{all_comes, whole}
 use Rattle.fuse_files.specs.declared.directory.ContentsReader.{ContentsReader}
-use Rattle.fuse_files.proofs.ContentsLemmas.{goes_in, stays_out}
+use Rattle.fuse_files.proofs.ContentsLemmas.{fits_in, stays_out}
 use Rattle.fuse_files.proofs.directory.put_bytes.Goals as goal
 
 pub returns : goal.returns
@@ -22,7 +22,7 @@ returns g c =
     let came = whole held _ _ c.args.offset c.min-wanted.result r.0 c.read_from_file_at.result _ r.5 is in
     let all : r.0 ≡ take c.args.size there = came.1 ∙ ap (λ (n : ℕ). take n there) count ∙ take_min c.args.size there in
     let low : length (take c.args.size there) ≤ room = subst (λ (l : List ℕ). length l ≤ room) all (omega (arith, r.2)) in
-    rw is (r.0, r.1, r.2, came.0, ap call.Bytes all ∙ goes_in room (take c.args.size there) low, tt)
+    rw is (r.0, r.1, r.2, came.0, ap call.Bytes all ∙ fits_in room (take c.args.size there) low, tt)
 
 pub returns-then-available_bytes-wanted : goal.returns-then-available_bytes-wanted
 returns-then-available_bytes-wanted g c =

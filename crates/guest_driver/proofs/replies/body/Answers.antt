@@ -14,19 +14,19 @@ joined_again : (reply front back : List ℕ) (len unique : ℕ) (error : ℤ) (n
 joined_again reply front back len unique error n u halves is long own good = cc
 
 -- a header that says so, and nothing behind it
-alone_again : (reply front back : List ℕ) (len unique : ℕ) (error told : ℤ) (u : ℕ) → reply ≡ front ++ back → back ≡ [] →
-    front ≡ spelled (out_header (record { len = len; error = error; unique = unique })) → len ≡ 16 → unique ≡ u → told ≡ error →
-    reply ≡ reply_header 16 told u
-alone_again reply front back len unique error told u halves none is long own same = cc (append-nil front)
+alone_again : (reply front back : List ℕ) (len unique : ℕ) (error reported : ℤ) (u : ℕ) → reply ≡ front ++ back → back ≡ [] →
+    front ≡ spelled (out_header (record { len = len; error = error; unique = unique })) → len ≡ 16 → unique ≡ u → reported ≡ error →
+    reply ≡ reply_header 16 reported u
+alone_again reply front back len unique error reported u halves none is long own same = cc (append-nil front)
 
 -- the bits of a signed number of 32 bits tell it
-told_again : (error : ℤ) → Fits (i error) → to_z w32 (of_z w32 error) ≡ error
+reported_again : (error : ℤ) → Fits (i error) → to_z w32 (of_z w32 error) ≡ error
 unfolding Fits
-told_again error fits = to_z-of_z w32 error fits
+reported_again error fits = to_z-of_z w32 error fits
 
 -- it is 0 if they are
 no_error : (error : ℤ) → Fits (i error) → of_z w32 error ≡ 0 → error ≡ pos 0
-no_error error fits is = sym (told_again error fits) ∙ ap (to_z w32) is
+no_error error fits is = sym (reported_again error fits) ∙ ap (to_z w32) is
 
 pub returns-then-header-eq0-clause-good : goal.returns-then-header-eq0-clause-good
 returns-then-header-eq0-clause-good c =
@@ -49,5 +49,5 @@ returns-then-is_empty-clause-failed c =
       alone_again c.args.reply.now c.in_ok-header.header.now c.in_ok-header.body.now header.len header.unique header.error _
           c.args.unique halves none
           c.in_ok-header-2.ensures.bytes.0 (omega (arith, cases, empty, c.if-header-reply.false)) c.if-header-unique.false
-          (told_again header.error c.in_ok-header-2.ensures.bytes.1.1.0),
+          (reported_again header.error c.in_ok-header-2.ensures.bytes.1.1.0),
     )

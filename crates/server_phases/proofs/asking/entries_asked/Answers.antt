@@ -5,8 +5,8 @@ use Rattle.virtiofsd_fuse.specs.Grammar.{Lists}
 use Rattle.virtiofsd_fuse.specs.Listings.{listing_of}
 use Rattle.server_phases.proofs.asking.entries_asked.Goals as goal
 
-pub returns-clause-told : goal.returns-clause-told
-returns-clause-told c = λ page_size options bytes. (
+pub returns-clause-reported : goal.returns-clause-reported
+returns-clause-reported c = λ page_size options bytes. (
   Lists c.args.head.now.unique (listing_of c.args.with_nodes c.args.head.now c.args.request.now),
   refl,
   ap (λ (who : Context). Readdir who c.args.head.now.nodeid c.args.request.now.fh c.args.request.now.size c.args.request.now.offset)

@@ -1,5 +1,5 @@
 use Rattle.std.proofs.Common.{◌≡◌, ◌++◌, [], Err, arith, rules}
-use Rattle.fuse_fs.proofs.SegmentReads.{Offered, so_far_none, so_far_whole, so_far_past, so_far_stops, so_far_goes, so_far_fails}
+use Rattle.fuse_fs.proofs.SegmentReads.{Offered, so_far_none, so_far_whole, so_far_past, so_far_stops, so_far_proceeds, so_far_fails}
 use Rattle.server_segments.proofs.Fillings.{added, all_put, filling}
 use Rattle.server_segments.proofs.file_reads.read_segments.Goals as goal
 
@@ -50,7 +50,7 @@ loop-done-preserved g c =
       put = (
         l.put.0 ++ e.0,
         g.met.B.SegmentBuffer.puts_more _ _ _ l.put.0 e.0 l.put.1 e.1,
-        so_far_goes g.F.PositionedFile.read_gives _ _ _ _ _ _ _ _ _ _ e.0 _ _ l.offered l.put.2 e.4 (added l.put.0 e.0 e.2 e.3)
+        so_far_proceeds g.F.PositionedFile.read_gives _ _ _ _ _ _ _ _ _ _ e.0 _ _ l.offered l.put.2 e.4 (added l.put.0 e.0 e.2 e.3)
             c.if-n-eq0.false c.in-Some.ensures.1,
       );
     }

@@ -4,5 +4,6 @@ use Rattle.virtiofsd_fuse.proofs.meanings.header_row.Goals as goal
 
 pub returns : goal.returns
 returns g c = λ room.
-    let says = g.R.PlainValue.says c.args.head.now in
-    call_read g.S.Source.splits _ c.args.head.now _ (g.R.PlainValue.call c.args.head.now) _ refl c.value.ensures (ap is_made says.0) says.1
+    let shows = g.R.PlainValue.shows c.args.head.now in
+    call_read g.S.Source.splits _ c.args.head.now _ (g.R.PlainValue.call c.args.head.now) _ refl c.value.ensures (ap is_made shows.0)
+    shows.1

@@ -7,11 +7,11 @@ use Rattle.virtiofsd_fuse.proofs.meanings.name_row.Goals as goal
 
 pub returns-in-Ok-last_name : goal.returns-in-Ok-last_name
 returns-in-Ok-last_name g c = λ room.
-    let says = g.R.NameValue.says c.args.head.now c.in-Ok-last_name.name.now in
+    let shows = g.R.NameValue.shows c.args.head.now c.in-Ok-last_name.name.now in
     call_read g.S.Source.splits _ c.args.head.now _ (g.R.NameValue.call c.args.head.now c.in-Ok-last_name.name.now) _
     (name_read (given c.args.head.now c.args.options.0 room) g.R.NameValue.call _ _ c.in-Ok.ensures.bytes
     ∙ ap (ask_of c.args.head.now.unique (g.R.NameValue.call c.args.head.now)) (sym c.in-Ok-last_name.ensures.ok))
-    c.value.ensures (ap is_made says.0) says.1
+    c.value.ensures (ap is_made shows.0) shows.1
 
 pub returns-in-Err-last_name : goal.returns-in-Err-last_name
 returns-in-Err-last_name g c = λ room. (

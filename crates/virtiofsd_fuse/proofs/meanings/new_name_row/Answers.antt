@@ -10,12 +10,12 @@ use Rattle.virtiofsd_fuse.proofs.meanings.new_name_row.Goals as goal
 pub returns-in-Ok-new_name : goal.returns-in-Ok-new_name
 returns-in-Ok-new_name g c = λ room.
     let front = λ (x : Given). with_bytes g.R.Record.InRecord.shape g.R.Record.ByteValued.SIZE x.header.len in
-    let says = g.R.NewNameValue.says c.args.head.now c.in-Ok.front.record _ in
+    let shows = g.R.NewNameValue.shows c.args.head.now c.in-Ok.front.record _ in
     made_read g.S.Source.splits _ c.args.head.now _ (g.R.NewNameValue.call c.args.head.now c.in-Ok.front.record _) _
     (bytes_read (given c.args.head.now c.args.options.0 room) front (λ x r. new_name x.options) g.R.NewNameValue.call _ c.in-Ok.front.record
     _ c.in-Ok.ensures.reads
     ∙ ap (ask_of c.args.head.now.unique (g.R.NewNameValue.call c.args.head.now c.in-Ok.front.record)) (sym c.in-Ok-new_name.ensures.reads))
-    c.value-call.ensures says.1
+    c.value-call.ensures shows.1
 
 pub returns-in-Err-new_name : goal.returns-in-Err-new_name
 returns-in-Err-new_name g c = λ room.

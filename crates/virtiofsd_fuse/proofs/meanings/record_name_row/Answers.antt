@@ -10,13 +10,13 @@ use Rattle.virtiofsd_fuse.proofs.meanings.record_name_row.Goals as goal
 pub returns-in-Ok-last_name : goal.returns-in-Ok-last_name
 returns-in-Ok-last_name g c = λ room.
     let front = λ (x : Given). with_bytes g.R.Record.InRecord.shape g.R.Record.ByteValued.SIZE x.header.len in
-    let says = g.R.RecordNameValue.says c.args.head.now c.in-Ok.front.record _ in
+    let shows = g.R.RecordNameValue.shows c.args.head.now c.in-Ok.front.record _ in
     call_read g.S.Source.splits _ c.args.head.now _
     (g.R.RecordNameValue.call c.args.head.now c.in-Ok.front.record c.in-Ok-last_name.name.now) _
     (bytes_read (given c.args.head.now c.args.options.0 room) front (λ x r. last_name) g.R.RecordNameValue.call _ c.in-Ok.front.record _
     c.in-Ok.ensures.reads
     ∙ ap (ask_of c.args.head.now.unique (g.R.RecordNameValue.call c.args.head.now c.in-Ok.front.record)) (sym c.in-Ok-last_name.ensures.ok))
-    c.value.ensures (ap is_made says.0) says.1
+    c.value.ensures (ap is_made shows.0) shows.1
 
 pub returns-in-Err-last_name : goal.returns-in-Err-last_name
 returns-in-Err-last_name g c = λ room.

@@ -8,10 +8,10 @@ use Rattle.virtiofsd_fuse.proofs.meanings.record_row.Goals as goal
 
 pub returns-in-Ok : goal.returns-in-Ok
 returns-in-Ok g c = λ room.
-    let says = g.R.RecordValue.says c.args.head.now c.in-Ok.request in
+    let shows = g.R.RecordValue.shows c.args.head.now c.in-Ok.request in
     call_read g.S.Source.splits _ c.args.head.now _ (g.R.RecordValue.call c.args.head.now c.in-Ok.request) _
     (record_asks (given c.args.head.now c.args.options.0 room) g.R.Record.InRecord.shape g.R.RecordValue.call _ _ _ c.in-Ok.ensures.reads)
-    c.value.ensures (record_makes_none _ says.0) says.1
+    c.value.ensures (record_makes_none _ shows.0) shows.1
 
 pub returns : goal.returns
 returns g c = λ room. (

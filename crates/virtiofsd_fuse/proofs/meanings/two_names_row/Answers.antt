@@ -10,12 +10,12 @@ use Rattle.virtiofsd_fuse.proofs.meanings.two_names_row.Goals as goal
 pub returns-in-Ok-two_names : goal.returns-in-Ok-two_names
 returns-in-Ok-two_names g c = λ room.
     let front = λ (x : Given). with_bytes g.R.Record.InRecord.shape g.R.Record.ByteValued.SIZE x.header.len in
-    let says = g.R.TwoPartsValue.says c.args.head.now c.in-Ok.front.record _ in
+    let shows = g.R.TwoPartsValue.shows c.args.head.now c.in-Ok.front.record _ in
     call_read g.S.Source.splits _ c.args.head.now _ (g.R.TwoPartsValue.call c.args.head.now c.in-Ok.front.record _) _
     (bytes_read (given c.args.head.now c.args.options.0 room) front (λ x r. two_names) g.R.TwoPartsValue.call _ c.in-Ok.front.record _
     c.in-Ok.ensures.reads
     ∙ ap (ask_of c.args.head.now.unique (g.R.TwoPartsValue.call c.args.head.now c.in-Ok.front.record)) (sym c.in-Ok-two_names.ensures.ok))
-    c.value.ensures (ap is_made says.0) says.1
+    c.value.ensures (ap is_made shows.0) shows.1
 
 pub returns-in-Err-two_names : goal.returns-in-Err-two_names
 returns-in-Err-two_names g c = λ room.

@@ -8,4 +8,5 @@ returns-clause-summary c =
     c.tell-2.new.summary c.args.first c.args.last c.requires.ordered
     c.write_run.ensures.run c.write_run.ensures.old_fits c.write_run.ensures.fits c.write_run.auto.words
     (c.tell-2.auto.summary ∙ c.tell.auto.summary ∙ c.write_run-2.auto.words)
-    c.write_run-2.ensures.run c.tell.ensures.told c.tell.ensures.others c.tell-2.ensures.told c.tell-2.ensures.others c.requires.summary
+    c.write_run-2.ensures.run c.tell.ensures.reported c.tell.ensures.others c.tell-2.ensures.reported c.tell-2.ensures.others
+    c.requires.summary

@@ -1,5 +1,5 @@
 use Rattle.std.proofs.Common.{◌≡◌, ◌+◌, ◌/◌, ◌<◌, get_or, ap, refl, arith, true}
-use Rattle.vm_bitmaps.proofs.SummaryLemmas.{marked_summary, told_summary, run_moved}
+use Rattle.vm_bitmaps.proofs.SummaryLemmas.{marked_summary, reported_summary, run_moved}
 use Rattle.vm_bitmaps.proofs.summary.mark_run.Goals as goal
 
 pub returns-then-head-tail-clause-summary : goal.returns-then-head-tail-clause-summary
@@ -21,6 +21,6 @@ returns-then-was-eq0-clause-summary c =
 pub returns-else-was-eq0-clause-summary : goal.returns-else-was-eq0-clause-summary
 returns-else-was-eq0-clause-summary c =
     let some : 0 < get_or c.args.words.now (c.args.first / 64) 0 = omega (arith, c.if-was-eq0.false) in
-    told_summary c.args.words.now c.write_run-2.new.words c.args.summary.now c.args.first c.args.last c.requires.ordered
+    reported_summary c.args.words.now c.write_run-2.new.words c.args.summary.now c.args.first c.args.last c.requires.ordered
     c.if-head-tail.false some c.write_run-2.ensures.run
     c.write_run-2.ensures.old_fits c.write_run-2.ensures.fits c.write_run-2.auto.words c.requires.summary

@@ -4,7 +4,7 @@ use Rattle.std.proofs.lemmas.Result.{on_err_weaker, on_ok_weaker}
 use Rattle.vm_iotlb.specs.Keys.{AreKeyed}
 use Rattle.vm_iotlb.specs.Ranges.{AreRanges}
 use Rattle.vm_iotlb.proofs.CutLemmas.{has_range, head_taken, tail_free}
-use Rattle.vm_iotlb.proofs.SplitLemmas.{split_goes_on}
+use Rattle.vm_iotlb.proofs.SplitLemmas.{split_carries_on}
 use Rattle.vm_iotlb.proofs.TakeLemmas.{settled, taken_ranges, taken_table}
 use Rattle.vm_iotlb.proofs.ranges.take_out.Goals as goal
 
@@ -52,5 +52,5 @@ returns-clause-table c =
 pub returns-clause-memory : goal.returns-clause-memory
 returns-clause-memory c =
     let memory = rw c.part_from.ensures at c.exchange.ensures.memory in
-    on_err_weaker c.exchange.result (λ new. split_goes_on c.args.ranges.now.entries c.args.end c.having-after.result c.requires.keyed
+    on_err_weaker c.exchange.result (λ new. split_carries_on c.args.ranges.now.entries c.args.end c.having-after.result c.requires.keyed
     c.requires.ranges c.having-after.ensures (λ taken. new taken tt)) memory

@@ -1,7 +1,7 @@
 use Rattle.std.proofs.Common.{◌≡◌, ◌∙◌, ◌+◌, ◌<◌, ◌≤◌, ◌^◌, Bor, List, [], Option, Some, ap, subst, sym}
 use Rattle.std.specs.Prelude.{IfSome, option_map, slice_get, unwrap_or}
 use Rattle.vm_iotlb.specs.declared.range.IotlbRange.{IotlbRange}
-use Rattle.vm_iotlb.specs.Ranges.{table_kept}
+use Rattle.vm_iotlb.specs.Ranges.{table_held}
 use Rattle.vm_memory_core.specs.Window.{Window, places_of}
 use Rattle.vm_memory.specs.Memory.{addresses, located}
 use Rattle.vm_memory.specs.Translated.{ranges_in, translated}
@@ -21,6 +21,6 @@ returns-clause-some g c =
     ∙ c.table.ensures) in
     subst (λ (ranges : List IotlbRange). IfSome c.translated_window.result
     (λ (w : Window). (0 < w.len) × (w.len ≤ c.args.most) × (c.args.addr + w.len ≤ 2 ^ 64)
-    × (located (translated (g.M.GuestMemoryBackend.layout c.args.backend.now) (table_kept ranges) c.args.set c.args.access)
+    × (located (translated (g.M.GuestMemoryBackend.layout c.args.backend.now) (table_held ranges) c.args.set c.args.access)
     (addresses c.args.addr w.len) ≡ Some (places_of w))))
     same c.translated_window.ensures.some

@@ -24,9 +24,9 @@ returns c =
     let miss = subst (λ (g : Mapped). event_miss (places_in g) q ≡ Some (at, Read)) (sym is) events.1 in
     record {
       missed = if_ok c.pop.result _ _
-          (λ told goes.
-          let m = c.law_misses.ensures.events [] AvailFlagsUnreachable at Read old new q after told c.requires.goes fault miss
-          (free, goes) in (
+          (λ reported proceeds.
+          let m = c.law_misses.ensures.events [] AvailFlagsUnreachable at Read old new q after reported c.requires.proceeds fault miss
+          (free, proceeds) in (
             m.0,
             m.5,
             m.3.0.3 ∙ free,
@@ -38,5 +38,5 @@ returns c =
             m.3.0.0.2 ∙ set.5,
             m.3.0.0.3 ∙ set.6,
           ))
-          c.pop.ensures.goes;
+          c.pop.ensures.proceeds;
     }

@@ -13,7 +13,7 @@ returns c =
     let new = c.walk_by.new.handle in
     let q = c.args.queue.now in
     let after = c.walk_by.new.queue in
-    let goes = c.requires.goes in
+    let proceeds = c.requires.proceeds in
     let is = set.0 ∙ c.none.ensures in
     let events = unmapped_event q c.requires.event_index in
     let fault = subst (λ (g : Mapped). event_fault (places_in g) q ≡ Some AvailFlagsUnreachable) (sym is) events.0 in
@@ -21,8 +21,8 @@ returns c =
     let unplaced = c.law_misses.ensures.refused in
     record {
       refused = if_ok c.walk_by.result _ _
-          (λ told walks.
-          let m = unplaced walks.0 AvailFlagsUnreachable old new q after told goes fault miss walks.1 in (
+          (λ reported walks.
+          let m = unplaced walks.0 AvailFlagsUnreachable old new q after reported proceeds fault miss walks.1 in (
             m.0,
             m.5,
             m.3.0.3 ∙ set.2 ∙ c.requires.free,

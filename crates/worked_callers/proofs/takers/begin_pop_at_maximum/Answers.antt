@@ -16,7 +16,7 @@ returns c =
     let q = c.args.queue.now in
     let after = c.pop.new.queue in
     record {
-      goes = c.pop.ensures.goes;
+      proceeds = c.pop.ensures.proceeds;
       error = c.pop.ensures.error;
       same = c.pop.ensures.same;
       full = λ is s of asker shown.

@@ -11,7 +11,7 @@ returns c =
       sleeps = (
         by.0,
         sleeps_so c.law_takers.ensures.rearms c.law_takers.ensures.none _ c.args.handle.now c.walk_idle.new.handle q
-            c.walk_idle.new.queue counted c.requires.goes by.1,
+            c.walk_idle.new.queue counted c.requires.proceeds by.1,
       );
       order = λ s of walker at.
           let law = c.law_takers.ensures.order q s of walker at in

@@ -11,7 +11,7 @@ returns c =
           (λ k by. (
             by.0,
             takes_so c.law_takers.ensures.takes _ c.args.handle.now c.walk_chain.new.handle q c.walk_chain.new.queue k.0 k.1 k.2
-                counted c.requires.goes by.1,
+                counted c.requires.proceeds by.1,
           ))
           c.walk_chain.ensures.given;
     }

@@ -1,7 +1,7 @@
 use Rattle.std.proofs.Common.{subst, ap, ◌∙◌}
 use Rattle.fs_chain.specs.Pops.{IsWalked}
-use Rattle.fs_chain.specs.declared.loads.LoadOutcome as went
-use Rattle.fs_chain.specs.declared.loads.LoadOutcome.TheVariants as wents
+use Rattle.fs_chain.specs.declared.loads.LoadOutcome as outcome
+use Rattle.fs_chain.specs.declared.loads.LoadOutcome.TheVariants as outcomes
 use Rattle.fs_chain.specs.declared.popping.PopOutcome as walked
 use Rattle.worked_callers.proofs.TookQueue.{took_chain}
 use Rattle.worked_callers.proofs.takers.walk_chain.Goals as goal
@@ -14,5 +14,5 @@ returns-in-On-Chain-clause-queue c =
     let after = c.walk_by.new.queue in
     let end = c.in-On-Chain in
     took_chain old new before after end.head end.request_len end.room_len
-    (subst (λ (told : went.LoadOutcome). IsWalked old new before after told)
-    (end.is ∙ ap (λ (k : walked.PopOutcome). wents.On k) end.field-0-is) c.in_ok-head.ensures.walks)
+    (subst (λ (reported : outcome.LoadOutcome). IsWalked old new before after reported)
+    (end.is ∙ ap (λ (k : walked.PopOutcome). outcomes.On k) end.field-0-is) c.in_ok-head.ensures.walks)

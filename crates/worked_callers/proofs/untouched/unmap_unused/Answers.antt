@@ -1,13 +1,13 @@
 use Rattle.vm_iotlb.specs.declared.permissions.Permissions.TheVariants.{Read}
-use Rattle.vm_iotlb.specs.Ranges.{table_kept}
+use Rattle.vm_iotlb.specs.Ranges.{table_held}
 use Rattle.vm_iotlb.specs.Table.{unmapped}
 use Rattle.worked_callers.proofs.StaysAlike.{stays_alike}
 use Rattle.worked_callers.proofs.untouched.unmap_unused.Goals as goal
 
 pub returns : goal.returns
 returns c =
-    let old = table_kept c.args.table.now in
-    let new = table_kept c.invalidate_mapping.new.self in
+    let old = table_held c.args.table.now in
+    let new = table_held c.invalidate_mapping.new.self in
     let iova = c.args.iova.0 in
     let n = c.args.len in
     let ds = c.args.handle.now.descriptors.items in

@@ -1,4 +1,5 @@
 use Rattle.fs_chain.proofs.chain_handle.ChainHandle.keep_asked.Goals as goal
 
-pub returns-in-Call-clause-tells : goal.returns-in-Call-clause-tells
-returns-in-Call-clause-tells c = λ s m bytes told. c.waiting_state-self.ensures.keeps s m bytes c.in-Call.call (rw c.in-Call.is at told)
+pub returns-in-Call-clause-reports : goal.returns-in-Call-clause-reports
+returns-in-Call-clause-reports c =
+    λ s m bytes reported. c.waiting_state-self.ensures.keeps s m bytes c.in-Call.call (rw c.in-Call.is at reported)

@@ -2,8 +2,8 @@ use Rattle.std.proofs.Common.{rules, refl, sym}
 use Rattle.fs_chain.proofs.LoadLemmas.{due, refuses_walk, walks_apart}
 use Rattle.fs_chain.proofs.chain_handle.ChainHandle.walk_whole.Goals as goal
 
-pub returns-in-Ok-clause-goes : goal.returns-in-Ok-clause-goes
-returns-in-Ok-clause-goes c = (
+pub returns-in-Ok-clause-proceeds : goal.returns-in-Ok-clause-proceeds
+returns-in-Ok-clause-proceeds c = (
   due c.args.self.now c.args.loaded.now c.requires.due,
   search rules,
   search rules,

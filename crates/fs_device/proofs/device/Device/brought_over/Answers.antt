@@ -10,7 +10,7 @@ returns-in-Ok-clause-options g c =
     c.save.new.sink.inner.items c.new-source.result.inner.now
     c.restore_record.new.source.inner.now got.0 c.new-sink.result.failed c.save.new.sink.failed c.law_record.ensures.reading
     (Prim.search rules)
-    (Prim.search rules) c.save.ensures.goes_out c.save.ensures.savable
+    (Prim.search rules) c.save.ensures.leaves c.save.ensures.savable
     (Prim.search rules) (Prim.search rules) (Prim.search rules) got.1 got.2).0
 
 pub returns-in-Ok-clause-queues : goal.returns-in-Ok-clause-queues
@@ -21,5 +21,5 @@ returns-in-Ok-clause-queues g c =
     c.save.new.sink.inner.items c.new-source.result.inner.now
     c.restore_record.new.source.inner.now got.0 c.new-sink.result.failed c.save.new.sink.failed c.law_record.ensures.reading
     (Prim.search rules)
-    (Prim.search rules) c.save.ensures.goes_out c.save.ensures.savable
+    (Prim.search rules) c.save.ensures.leaves c.save.ensures.savable
     (Prim.search rules) (Prim.search rules) (Prim.search rules) got.1 got.2).1

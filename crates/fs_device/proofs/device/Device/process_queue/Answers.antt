@@ -5,7 +5,7 @@ use Rattle.std.proofs.lemmas.List.{map-append}
 use Rattle.fs_device.specs.CommandView.{exchanged_of}
 use Rattle.fs_device.specs.DevicePartsView.{DeviceParts}
 use Rattle.fs_device.specs.DeviceView.{state_of}
-use Rattle.fs_device.proofs.KickLemmas.{ends_idle, ends_refused, ends_full, ends_stopped, goes_on, room_wanted}
+use Rattle.fs_device.proofs.KickLemmas.{ends_idle, ends_refused, ends_full, ends_stopped, carries_on, room_wanted}
 use Rattle.fs_device.proofs.device.Device.process_queue.Goals.{else-is_stopped-via-then-is_stopped+else-most-gt0}
 use Rattle.fs_device.proofs.device.Device.process_queue.Goals.{else-is_stopped-via-else-is_stopped}
 use Rattle.fs_device.proofs.device.Device.process_queue.Goals as goal
@@ -33,8 +33,8 @@ loop-preserved g c =
       count = Prim.search rules;
       most = omega arith;
       room = Prim.search rules;
-      kept = Prim.search rules;
-      run = rw turns (goes_on g.F.FileSystemBase.may _ _ _ c.args.queue c.args.most _ _ (map exchanged_of c.loop.done.items)
+      preserved = Prim.search rules;
+      run = rw turns (carries_on g.F.FileSystemBase.may _ _ _ c.args.queue c.args.most _ _ (map exchanged_of c.loop.done.items)
           (exchanged_of c.in-Ok-Some.exchanged) _ c.loop.invariant.run
           (omega (arith, c.loop-test.true)) (rw c.in-Ok-Some.field-0-is at c.in-Ok-Some.ensures.step.1));
     }
@@ -47,7 +47,7 @@ returns-clause-run g c = (
 
 pub process_one-requires : goal.process_one-requires
 process_one-requires g c = g.met.M.GuestMemory.by_shape c.args.mem.now (g.H.HostBlocks.host c.args.host.now)
-    (g.H.HostBlocks.host c.loop.host) c.loop.invariant.kept c.requires
+    (g.H.HostBlocks.host c.loop.host) c.loop.invariant.preserved c.requires
 
 pub returns-then-most-gt0-clause-run : goal.returns-then-most-gt0-clause-run
 returns-then-most-gt0-clause-run g c =

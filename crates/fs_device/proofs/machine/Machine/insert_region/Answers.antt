@@ -4,7 +4,7 @@ use Rattle.vm_memory_core.specs.Host.{lengths}
 use Rattle.vm_memory.specs.Layout.{Region, overlap}
 use Rattle.plain_machine.specs.Run.{effect}
 use Rattle.fs_device.specs.MachineView.{machine_of}
-use Rattle.fs_device.proofs.LayoutLemmas.{held_with, unknown, known, past_end, within, goes, has_block}
+use Rattle.fs_device.proofs.LayoutLemmas.{held_with, unknown, known, past_end, within, proceeds, has_block}
 use Rattle.fs_device.proofs.machine.Machine.insert_region.Goals as goal
 use Rattle.vm_memory.proofs.LayoutLemmas.{HasBlock}
 
@@ -61,7 +61,8 @@ pub returns-in_default-new-2 : goal.returns-in_default-new-2
 returns-in_default-new-2 g c =
     let apart = subst (λ (l : List Region). list_any (overlap c.in-Some-new.region) l ≡ false) c.get_backend.ensures
     (sym c.overlaps_any.ensures ∙ c.if-overlaps_any.false) in (
-      goes c.args.self.now.host c.args.self.now.mem.backend c.args.base c.args.block c.in-Some.region c.in-Some-new.region c.in-Some.ensures
+      proceeds c.args.self.now.host c.args.self.now.mem.backend c.args.base c.args.block c.in-Some.region c.in-Some-new.region
+          c.in-Some.ensures
           c.in-Some-new.ensures apart,
       refl,
     )
@@ -70,7 +71,8 @@ pub returns-in-Err : goal.returns-in-Err
 returns-in-Err g c =
     let apart = subst (λ (l : List Region). list_any (overlap c.in-Some-new.region) l ≡ false) c.get_backend.ensures
     (sym c.overlaps_any.ensures ∙ c.if-overlaps_any.false) in (
-      goes c.args.self.now.host c.args.self.now.mem.backend c.args.base c.args.block c.in-Some.region c.in-Some-new.region c.in-Some.ensures
+      proceeds c.args.self.now.host c.args.self.now.mem.backend c.args.base c.args.block c.in-Some.region c.in-Some-new.region
+          c.in-Some.ensures
           c.in-Some-new.ensures apart,
       refl,
     )

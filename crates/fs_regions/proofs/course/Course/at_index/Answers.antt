@@ -7,7 +7,7 @@ use Rattle.fs_queue.specs.RingingView.{by_index, stage_of}
 use Rattle.fs_queue.specs.WalkingView.{at_position}
 use Rattle.fs_regions.specs.Places.{places_in}
 use Rattle.fs_regions.specs.Walks.{IsCourseStep, nothing, queue_of}
-use Rattle.fs_regions.proofs.Steps.{entry_asked, index_came, tells_alone}
+use Rattle.fs_regions.proofs.Steps.{entry_asked, index_came, reports_alone}
 use Rattle.fs_regions.proofs.course.Course.at_index.Goals as goal
 
 pub returns-then-reaches : goal.returns-then-reaches
@@ -41,5 +41,6 @@ returns-else-reaches c = λ index stands none.
 
 pub returns-in_default : goal.returns-in_default
 returns-in_default c = λ index stands none.
-    let tells = tells_alone (places_in c.args.regions.now) (queue_of c.args.self.now) index c.args.walk stands c.in_default.not-RingEntry in
-    c.told.ensures (record nothing { index = index }) tells none
+    let reports =
+    reports_alone (places_in c.args.regions.now) (queue_of c.args.self.now) index c.args.walk stands c.in_default.not-RingEntry in
+    c.reported.ensures (record nothing { index = index }) reports none

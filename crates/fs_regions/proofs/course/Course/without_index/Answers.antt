@@ -5,7 +5,7 @@ use Rattle.fs_regions.specs.Misses.{OfIndex}
 use Rattle.fs_regions.specs.Places.{places_in}
 use Rattle.fs_regions.specs.Walks.{nothing, queue_of}
 use Rattle.fs_regions.proofs.Missing.{first_of_one}
-use Rattle.fs_regions.proofs.Steps.{after_index, tells_alone, without_entry}
+use Rattle.fs_regions.proofs.Steps.{after_index, reports_alone, without_entry}
 use Rattle.fs_regions.proofs.course.Course.without_index.Goals as goal
 
 pub returns-in-Some : goal.returns-in-Some
@@ -26,4 +26,4 @@ returns-in-None c = λ none.
     let no_miss = first_of_one m (avail_index_at q) c.address.result 2 Read c.miss.result at c.miss.ensures ∙ c.in-None.is in
     let stands = after_index m q w.layout w.position None c.give.result c.requires.at refl (λ _. c.requires.away) (λ _. no_miss)
     c.give.ensures.stage c.give.ensures.same c.give.ensures.chain in
-    c.told.ensures nothing (tells_alone m q None c.give.result stands (without_entry q c.give.result stands.stage)) none
+    c.reported.ensures nothing (reports_alone m q None c.give.result stands (without_entry q c.give.result stands.stage)) none

@@ -35,14 +35,14 @@ loop-word-preserved c =
     let first = c.args.self.now.pass.counts in
     let cur = c.loop-word.self.pass.counts in
     let new = c.gather.new.self.pass.counts.pages in
-    let kept = c.loop-word.invariant in
+    let recorded = c.loop-word.invariant in
     let step = c.gather.ensures.harvest in
     let taken = cleared_by (in_word w) bits cur.pages in
     let there = c.words-word-end.ensures
     ∙ ap (λ (b : SharedPages). div_ceil b.len 64) (c.deref.ensures ∙ ap (λ (h : Harvest). h.bitmap) c.self.view_is) in
-    let inside : w < length before = let t = c.loop-word-test.true in let r = kept.room in let room = c.requires in omega arith in
+    let inside : w < length before = let t = c.loop-word-test.true in let r = recorded.room in let room = c.requires in omega arith in
     let runs = run_as (ByGathering before) (ByGathering after) first.pages cur.pages 0 (64 * w)
-    (λ p t u low e. into_before before w bits p t u low e) kept.pages in
+    (λ p t u low e. into_before before w bits p t u low e) recorded.pages in
     let word = gathers_word (ByGathering after) cur.pages w bits (λ p within here. is_gathered before w bits p _ inside here) in
     let word' = subst (λ (l : List Tally). ChangesRun (ByGathering after) cur.pages l (64 * w) (64 * w + 64))
     (sym (ap (λ (h : Harvest). h.pass.counts.pages) c.gather.ensures.harvest)) word in
@@ -50,19 +50,19 @@ loop-word-preserved c =
     (omega arith) (λ p a b. b) (omega arith) in
     let next : 64 * w + 64 ≡ 64 * (w + 1) = omega arith in
     record {
-      room = length-set before w bits ∙ kept.room;
+      room = length-set before w bits ∙ recorded.room;
       self =
-          step ∙ ap (λ (h : Harvest). record h { pass = counting h.pass taken }) kept.self
+          step ∙ ap (λ (h : Harvest). record h { pass = counting h.pass taken }) recorded.self
           ∙ ap (λ (l : List Tally). record c.args.self.now { pass = counting c.args.self.now.pass l })
           (sym (ap (λ (h : Harvest). h.pass.counts.pages) step));
       pages = subst (ChangesRun (ByGathering after) first.pages new 0) next run;
-      settled = λ whole p within low. settles_more first.pages cur.pages before w bits inside kept.pages
-          (λ q here short. c.gather.ensures.word (subst (λ (h : Harvest). IsWhole h.pass.counts) (sym kept.self) whole) q short here)
-          (kept.settled whole) p within (omega arith);
+      settled = λ whole p within low. settles_more first.pages cur.pages before w bits inside recorded.pages
+          (λ q here short. c.gather.ensures.word (subst (λ (h : Harvest). IsWhole h.pass.counts) (sym recorded.self) whole) q short here)
+          (recorded.settled whole) p within (omega arith);
       past = λ p beyond low. past_more before w bits c.args.self.now.bitmap.len inside
           (λ q short here. c.gather.ensures.past q
-          (subst (λ (n : ℕ). n ≤ q) (sym (ap (λ (h : Harvest). h.bitmap.len) kept.self)) short) here)
-          kept.past p beyond (omega arith);
+          (subst (λ (n : ℕ). n ≤ q) (sym (ap (λ (h : Harvest). h.bitmap.len) recorded.self)) short) here)
+          recorded.past p beyond (omega arith);
     }
 
 pub returns-clause-past : goal.returns-clause-past

@@ -1,7 +1,7 @@
 use Rattle.std.proofs.Common.{◌≡◌, ◌+◌, ◌≤◌, ◌++◌, length, take, arith, sym, ap, ◌∙◌}
 use Rattle.std.proofs.lemmas.Grind.{common_steps}
 use Rattle.std.proofs.lemmas.List.{length-take-le}
-use Rattle.fuse_fs.proofs.Appending.{kept}
+use Rattle.fuse_fs.proofs.Appending.{preserved}
 use Rattle.fuse_fs.proofs.zero_copy.PositionedFile.append_at.Goals as goal
 
 pub returns-in-Ok-clause-ok : goal.returns-in-Ok-clause-ok
@@ -14,7 +14,7 @@ returns-in-Ok-clause-ok g c =
     let whole : c.len-from.result + c.in-Ok.n ≤ c.resize.new.self.len = grind (arith, common_steps) in
     let asked = sym c.read_at.auto.buf ∙ size in (
       take c.in-Ok.n c.read_at.new.buf,
-      c.truncate.ensures.items ∙ kept _ _ _ _ _ _ _ long fits whole ∙ ap (λ s. s ++ take c.in-Ok.n c.read_at.new.buf) front,
+      c.truncate.ensures.items ∙ preserved _ _ _ _ _ _ _ long fits whole ∙ ap (λ s. s ++ take c.in-Ok.n c.read_at.new.buf) front,
       sym (length-take-le _ _ fits),
       within,
       rw

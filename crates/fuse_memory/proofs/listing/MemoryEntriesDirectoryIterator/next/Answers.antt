@@ -1,12 +1,12 @@
 use Rattle.std.proofs.Common.{refl, ap, ◌∙◌, Some, arith}
 use Rattle.fuse_memory.specs.Listing.{listed_of}
-use Rattle.fuse_memory.proofs.ListingLemmas.{entry_there, listing_goes_on}
+use Rattle.fuse_memory.proofs.ListingLemmas.{entry_there, listing_carries_on}
 use Rattle.fuse_memory.proofs.listing.MemoryEntriesDirectoryIterator.next.Goals as goal
 
 pub returns : goal.returns
 returns c =
     let list = c.args.self.now in (
-      (refl, (λ e. tt), listing_goes_on list.at list.entries.items),
+      (refl, (λ e. tt), listing_carries_on list.at list.entries.items),
       record {
         entry =
             ap (λ name. Some (record {

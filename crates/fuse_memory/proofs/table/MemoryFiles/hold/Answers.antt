@@ -18,9 +18,15 @@ returns-in-Some-index_mut c =
     arm.node (record arm.node { lookups = c.saturating_add-node.result }) held_more arm.is (grind arith) in
     let here = file_here nodes entries m.made m.most_nodes c.in-Some.place c.args.number slot place.0 (omega (arith, place.1))
     c.index_mut.ensures.value ∙ ap slot_file arm.is in
-    let told = c.entry.ensures.told in
+    let reported = c.entry.ensures.reported in
     record {
-      may = (file_of arm.node, here, c.entry.ensures.inode, record { size = told.size; mode = told.mode; links = told.links }, done);
+      may = (
+        file_of arm.node,
+        here,
+        c.entry.ensures.inode,
+        record { size = reported.size; mode = reported.mode; links = reported.links },
+        done,
+      );
     }
 
 pub returns-in-None : goal.returns-in-None

@@ -50,4 +50,4 @@ returns c =
       made = offset;
       most = keeps.rest.most;
     })
-    (subst (λ f. HasAttrOf f c.entry-entry.result.attr) file c.entry-entry.ensures.told))
+    (subst (λ f. HasAttrOf f c.entry-entry.result.attr) file c.entry-entry.ensures.reported))

@@ -2,7 +2,7 @@ use Rattle.std.proofs.Common.{◌≡◌, ℕ, List, [], ◌∷◌, true, sym, su
 use Rattle.fuse_values.specs.Answers.{answer_of}
 use Rattle.virtiofsd_fuse.specs.Serving.{setting, commanded}
 use Rattle.server_phases.specs.Waiting.{first_call}
-use Rattle.server_phases.specs.Answering.{TellsBytes, takes, leaves_options, served_by, forget_calls}
+use Rattle.server_phases.specs.Answering.{ReportsBytes, takes, leaves_options, served_by, forget_calls}
 use Rattle.server_phases.proofs.Suiting.{no_data, single_gives}
 use Rattle.server_phases.proofs.session.Session.answer_single.Goals as goal
 
@@ -18,6 +18,6 @@ returns-clause-gives c = λ command bytes waits t taken.
     λ b. commanded s command (answer_of b answer ∷ []) ≡ served_by (first_call command ∷ forget_calls given.forget) options given.sent b in
     let gives : P [] = single_gives s w command [] answer
     (served_by (first_call command ∷ forget_calls given.forget) options given.sent []) waits
-    (subst (λ (b : List ℕ). TellsBytes b answer) none t) (subst (λ (b : List ℕ). takes w.awaits (answer_of b answer) ≡ true) none taken)
+    (subst (λ (b : List ℕ). ReportsBytes b answer) none t) (subst (λ (b : List ℕ). takes w.awaits (answer_of b answer) ≡ true) none taken)
     c.requires.without_data c.requires.single (c.answered_without_data.ensures options (first_call command)) in
     rw c.left_options-self.ensures.options (subst P (sym none) gives)

@@ -1,5 +1,5 @@
 use Rattle.std.proofs.Common.{◌≡◌, Err, min, ap, ◌∙◌, arith, rules, option_map}
-use Rattle.server_segments.proofs.Spending.{Lent, spent_none, spent_whole, spent_past, spent_stops, spent_goes, spent_fails}
+use Rattle.server_segments.proofs.Spending.{Lent, spent_none, spent_whole, spent_past, spent_stops, spent_proceeds, spent_fails}
 use Rattle.server_segments.proofs.zero_copy.ZcReaderZeroCopyReader.write_to_file_at.Goals as goal
 
 pub loop-done-init : goal.loop-done-init
@@ -37,7 +37,7 @@ loop-done-preserved g c =
     let l = c.loop-done.invariant in
     record {
       lent = l.lent;
-      spent = spent_goes g.F.PositionedFile.write_gives _ _ _ _ _ _ _ _ _ _ _ _ _ l.lent l.spent e.once e.left e.segments e.read
+      spent = spent_proceeds g.F.PositionedFile.write_gives _ _ _ _ _ _ _ _ _ _ _ _ _ l.lent l.spent e.once e.left e.segments e.read
           c.if-n-eq0.false c.in-Some.ensures.1;
     }
 

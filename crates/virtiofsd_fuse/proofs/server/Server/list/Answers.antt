@@ -5,14 +5,14 @@ use Rattle.virtiofsd_fuse.specs.ListingRuns.{ListRun}
 use Rattle.virtiofsd_fuse.specs.Serving.{setting}
 use Rattle.virtiofsd_fuse.proofs.Serve.{handles_list, handles_unlisted}
 use Rattle.virtiofsd_fuse.proofs.ListingLemmas.{entries_fit, place_stays}
-use Rattle.virtiofsd_fuse.proofs.Rows.{listing_told, listing_suits}
+use Rattle.virtiofsd_fuse.proofs.Rows.{listing_reported, listing_suits}
 use Rattle.virtiofsd_fuse.proofs.server.Server.list.Goals as goal
 
 pub reply_listing-requires-clause-behind : goal.reply_listing-requires-clause-behind
 reply_listing-requires-clause-behind g c =
     let front : length c.append.new.w.written ≡ 16 = rw (c.append.ensures.written, c.requires.fresh) refl in
-    let went = c.list_entries-error.ensures.run c.args.request.now in
-    place_stays c.append.new.w.written c.list_entries-error.new.w.written went.bytes front went.all
+    let outcome = c.list_entries-error.ensures.run c.args.request.now in
+    place_stays c.append.new.w.written c.list_entries-error.new.w.written outcome.bytes front outcome.all
 
 pub returns-in-Ok-clause-handles : goal.returns-in-Ok-clause-handles
 returns-in-Ok-clause-handles g c =
@@ -20,7 +20,7 @@ returns-in-Ok-clause-handles g c =
     let place = c.append.ensures.free in
     let front : length c.append.new.w.written ≡ 16 = rw (c.append.ensures.written, c.requires.fresh) refl in
     let left : c.append.new.w.free ≡ c.args.w.now.free - 16 = omega (arith, place) in
-    let went = subst (λ (n : ℕ). ListRun g.F.FileSystemBase.may l (g.F.DirIter.DirectoryIterator.rest c.in-Ok.entries)
+    let outcome = subst (λ (n : ℕ). ListRun g.F.FileSystemBase.may l (g.F.DirIter.DirectoryIterator.rest c.in-Ok.entries)
     c.args.request.now.size n c.make_readdir_call.new.fs
     c.append.new.w.written c.list_entries-error.new.w.written c.list_entries-error.result c.list_entries-error.new.self.fs) left
     (c.list_entries-error.ensures.run c.args.request.now) in
@@ -29,13 +29,13 @@ returns-in-Ok-clause-handles g c =
     (g.F.DirIter.DirectoryIterator.rest c.in-Ok.entries) c.args.self.now.fs c.make_readdir_call.new.fs _ _ _ c.list_entries-error.result
     (Ok c.reply_listing.result) _ _
     refl
-    c.in-Ok.ensures.may went
+    c.in-Ok.ensures.may outcome
     (ap (λ (o : FsOptions). o.0) c.list_entries-error.ensures.options)
-    (listing_told c.args.w.now.free c.args.head.now.unique c.reply_listing.result c.args.with_nodes c.append.new.w.written
-    c.list_entries-error.new.w.written _ went.bytes
-    c.list_entries-error.result front went.all
-    (entries_fit c.append.new.w.written c.list_entries-error.new.w.written went.bytes c.append.new.w.free c.list_entries-error.new.w.free
-    c.args.w.now.free front went.all
+    (listing_reported c.args.w.now.free c.args.head.now.unique c.reply_listing.result c.args.with_nodes c.append.new.w.written
+    c.list_entries-error.new.w.written _ outcome.bytes
+    c.list_entries-error.result front outcome.all
+    (entries_fit c.append.new.w.written c.list_entries-error.new.w.written outcome.bytes c.append.new.w.free c.list_entries-error.new.w.free
+    c.args.w.now.free front outcome.all
     c.list_entries-error.ensures.room place)
     c.reply_listing.ensures.reply)
 

@@ -3,7 +3,7 @@ use Rattle.fuse_fs.specs.Answers.{data_answer}
 use Rattle.server_calls.specs.Requests.{read_call}
 use Rattle.virtiofsd_fuse.specs.Serving.{setting}
 use Rattle.virtiofsd_fuse.proofs.Serve.{handles_one}
-use Rattle.virtiofsd_fuse.proofs.Rows.{read_suits, read_told}
+use Rattle.virtiofsd_fuse.proofs.Rows.{read_suits, read_reported}
 use Rattle.virtiofsd_fuse.proofs.server.Server.read_data.Goals as goal
 
 pub returns-clause-handles : goal.returns-clause-handles
@@ -26,6 +26,6 @@ returns-clause-handles g c =
     (rw left at h.4)
     refl
     refl
-    (read_told c.args.w.now.free c.args.head.now.unique c.args.head.now
+    (read_reported c.args.w.now.free c.args.head.now.unique c.args.head.now
     (c.args.w.now.free - 16) c.args.request.now c.make_read_call-answer.result _ _ _ h.0 c.reply_data.result front h.1 fits
     c.reply_data.ensures.reply)

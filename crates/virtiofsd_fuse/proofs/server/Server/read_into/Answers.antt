@@ -3,7 +3,7 @@ use Rattle.fuse_fs.specs.Answers.{data_answer}
 use Rattle.server_calls.specs.Requests.{read_call}
 use Rattle.virtiofsd_fuse.specs.Serving.{setting}
 use Rattle.virtiofsd_fuse.proofs.Serve.{handles_one}
-use Rattle.virtiofsd_fuse.proofs.Rows.{moved_all, read_suits, read_told_apart}
+use Rattle.virtiofsd_fuse.proofs.Rows.{moved_all, read_suits, read_reported_apart}
 use Rattle.virtiofsd_fuse.proofs.server.Server.read_into.Goals as goal
 
 pub returns-clause-handles : goal.returns-clause-handles
@@ -28,6 +28,7 @@ returns-clause-handles g c =
           c.make_read_call-answer.new.fs) (sym left) h.4)
           refl
           refl
-          (read_told_apart (16 + free) head.unique head (16 + free - 16) asked answer _ h.0 (16 + c.moved-len.result) c.data_header.ensures
+          (read_reported_apart (16 + free) head.unique head (16 + free - 16) asked answer _ h.0 (16 + c.moved-len.result)
+          c.data_header.ensures
           h.3 none (omega (arith, h.2))),
     )

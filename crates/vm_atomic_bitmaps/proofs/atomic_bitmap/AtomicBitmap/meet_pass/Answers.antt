@@ -4,13 +4,13 @@ use Rattle.vm_atomic_bitmaps.specs.Counts.{met_of, tally_of, met_with, telling, 
 use Rattle.vm_atomic_bitmaps.specs.Passes.{counting}
 use Rattle.vm_atomic_bitmaps.proofs.PassTotals.{length-each_tally}
 use Rattle.vm_atomic_bitmaps.proofs.PassSeats.{seat_of, own_after}
-use Rattle.vm_atomic_bitmaps.proofs.PassParts.{joins_allowed, tells_allowed, meets}
+use Rattle.vm_atomic_bitmaps.proofs.PassParts.{joins_allowed, reports_allowed, meets}
 use Rattle.vm_atomic_bitmaps.proofs.atomic_bitmap.AtomicBitmap.meet_pass.Goals as goal
 
 pub split_seat-seat-requires : goal.split_seat-seat-requires
 split_seat-seat-requires c =
     let other = seat_of _ _ _ _ _ _ _ _ _ c.other.view_is c.self.view_is c.self.invariant.2 c.self.invariant.3 c.requires.other in
-    (other.table, other.some_word, tells_allowed _ _ _ c.other.invariant.1)
+    (other.table, other.some_word, reports_allowed _ _ _ c.other.invariant.1)
 
 pub join_seat-requires : goal.join_seat-requires
 join_seat-requires c =

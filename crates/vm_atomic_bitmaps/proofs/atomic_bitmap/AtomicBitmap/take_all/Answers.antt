@@ -20,10 +20,11 @@ loop-i-preserved c =
     let inside : i < length before = c.loop-i-test.true in
     let count = c.loop-i.invariant.0 in
     let same : length c.take_into.new.words ≡ length before = ap length is ∙ length-set before i bits in
-    let kept = run_as (ByGathering before) (ByGathering (set before i bits)) old cur 0 (64 * i)
+    let preserved = run_as (ByGathering before) (ByGathering (set before i bits)) old cur 0 (64 * i)
     (λ p t u low e. into_before before i bits p t u low e) c.loop-i.invariant.3 in
-    let kept' = subst (λ (l : List ℕ). ChangesRun (ByGathering l) old cur 0 (64 * i)) (sym is) kept in
-    let run = run_then (ByGathering c.take_into.new.words) old cur new 0 (64 * i) (64 * i) (64 * i + 64) kept' c.take_into.ensures.pages
+    let preserved' = subst (λ (l : List ℕ). ChangesRun (ByGathering l) old cur 0 (64 * i)) (sym is) preserved in
+    let run = run_then (ByGathering c.take_into.new.words) old cur new 0 (64 * i) (64 * i) (64 * i + 64) preserved'
+    c.take_into.ensures.pages
     (omega arith) (omega arith) (λ p a b. b) (omega arith) in
     let next : 64 * i + 64 ≡ 64 * (i + 1) = omega arith in (
       omega arith,

@@ -6,5 +6,5 @@ pub returns-in_default-clause-marks : goal.returns-in_default-clause-marks
 returns-in_default-clause-marks g c =
     marked_past c.args.len _ _ _ (omega (arith, c.in_default.ensures))
 
-pub returns-in_default-clause-kept : goal.returns-in_default-clause-kept
-returns-in_default-clause-kept g c = (refl, g.met.B.Bitmap.keeps_same c.args.self.now.inner)
+pub returns-in_default-clause-preserved : goal.returns-in_default-clause-preserved
+returns-in_default-clause-preserved g c = (refl, g.met.B.Bitmap.keeps_same c.args.self.now.inner)

@@ -1,5 +1,5 @@
 use Rattle.std.proofs.Common.{◌≡◌, ◌-◌, sym, arith}
-use Rattle.vm_iotlb.specs.Ranges.{table_kept}
+use Rattle.vm_iotlb.specs.Ranges.{table_held}
 use Rattle.vm_iotlb.specs.AddressRuns.{pieces}
 use Rattle.vm_iotlb.proofs.PieceLemmas.{joined_pieces}
 use Rattle.vm_iotlb.proofs.LookupLemmas.{may_within}
@@ -13,13 +13,13 @@ returns-in-Some-last_up_to-clause-found c =
     (may_within c.self.inside.ranges.entries c.args.access c.args.iova.0 end c.in-Some-last_up_to.range.now c.self.invariant.0
     c.self.invariant.1 c.in-Some-last_up_to.ensures
     (omega (arith, c.in-Some.ensures)) (omega arith) (sym c.if-allow.ensures)) in
-    let whole : c.from_range.result ≡ pieces (table_kept c.args.self.now) c.args.iova.0 (end - c.args.iova.0) =
+    let whole : c.from_range.result ≡ pieces (table_held c.args.self.now) c.args.iova.0 (end - c.args.iova.0) =
     rw c.self.view_is at c.from_range.ensures in
     rw count (
       omega (arith, c.in-Some.ensures),
       all,
       whole,
-      rw whole (joined_pieces (table_kept c.args.self.now) c.args.access (end - c.args.iova.0) c.args.iova.0 all),
+      rw whole (joined_pieces (table_held c.args.self.now) c.args.access (end - c.args.iova.0) c.args.iova.0 all),
     )
 
 pub from_range-requires-clause-mapped : goal.from_range-requires-clause-mapped

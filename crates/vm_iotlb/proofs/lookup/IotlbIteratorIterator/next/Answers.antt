@@ -2,7 +2,7 @@ use Rattle.std.proofs.Common.{◌≡◌, ◌+◌, ◌-◌, ◌∙◌, List, leng
 use Rattle.std.specs.Prelude.{min}
 use Rattle.std.specs.Map.{values_of}
 use Rattle.vm_iotlb.specs.declared.iova.MappedRange.{MappedRange}
-use Rattle.vm_iotlb.specs.Ranges.{table_kept}
+use Rattle.vm_iotlb.specs.Ranges.{table_held}
 use Rattle.vm_iotlb.specs.AddressRuns.{pieces}
 use Rattle.vm_iotlb.specs.Pieces.{CanGoOn}
 use Rattle.vm_iotlb.proofs.LookupLemmas.{first_of, none_left, not_none}
@@ -59,15 +59,15 @@ returns-clause-steps c =
       omega (arith, first.0, first.1, c.in-Some-found_or_last.ensures.0),
     )
 
-pub returns-clause-goes : goal.returns-clause-goes
-returns-clause-goes c =
+pub returns-clause-proceeds : goal.returns-clause-proceeds
+returns-clause-proceeds c =
     let inv : CanGoOn (Some c.in-Some.ranges) c.self.inside.found c.self.inside.next c.self.inside.end =
     rw c.in-Some.is at c.self.invariant in
     let first = first_of c.in-Some.ranges.now.entries inv.2.0 c.self.inside.next c.self.inside.end
     c.in-Some-found_or_last.range.now inv.0 inv.1
     c.in-Some-found_or_last.ensures (omega arith) inv.2.1 in
     let all : List MappedRange =
-    pieces (table_kept (values_of c.in-Some.ranges.now.entries)) (min c.in-Some-found_or_last.range.now.end c.self.inside.end)
+    pieces (table_held (values_of c.in-Some.ranges.now.entries)) (min c.in-Some-found_or_last.range.now.end c.self.inside.end)
     (c.self.inside.end - min c.in-Some-found_or_last.range.now.end c.self.inside.end) in
     let fewer : length c.args.self.now ≡ length all + 1 = ap length (sym (rw c.in-Some.is at c.self.view_is) ∙ first.3) ∙ omega arith in
     rw (c.in-Some.is, c.min-stop.ensures) (record { on = λ finite. (tt, tt, omega (arith, fewer)); keeps = tt; rests = λ finite. tt })

@@ -1,7 +1,7 @@
 use Rattle.std.proofs.Common.{◌≡◌, ◌+◌, ◌-◌, Bor, List, ap, arith, length}
 use Rattle.std.specs.Prelude.{option_map}
 use Rattle.vm_iotlb.specs.declared.range.IotlbRange.{IotlbRange}
-use Rattle.vm_iotlb.specs.Ranges.{table_kept}
+use Rattle.vm_iotlb.specs.Ranges.{table_held}
 use Rattle.vm_memory.specs.Translated.{TranslatedSlices, ranges_of}
 use Rattle.vm_memory.proofs.Places.{length-circular}
 use Rattle.vm_memory.proofs.SliceLemmas.{end_given, error_given, window_taken_low}
@@ -24,12 +24,12 @@ invariant_of-self g c =
     rw (c.len.ensures.len, c.len-in-Some-translated_window.ensures.len) (
       omega (arith, le, c.self.invariant.0),
       may_all-rest c.in-Some-translated_window.window.len c.self.inside.count c.self.inside.addr
-          (table_kept (ranges_of c.self.inside.table)) c.self.inside.access le c.self.invariant.1,
+          (table_held (ranges_of c.self.inside.table)) c.self.inside.access le c.self.invariant.1,
     )
 
 pub invariant_of-self-in-None : goal.invariant_of-self-in-None
 invariant_of-self-in-None g c =
-    (omega (arith, c.self.invariant.0), may_all-none c.self.inside.addr (table_kept (ranges_of c.self.inside.table)) c.self.inside.access)
+    (omega (arith, c.self.invariant.0), may_all-none c.self.inside.addr (table_held (ranges_of c.self.inside.table)) c.self.inside.access)
 
 pub returns-in-Some-translated_window-clause-steps : goal.returns-in-Some-translated_window-clause-steps
 returns-in-Some-translated_window-clause-steps g c =
@@ -40,8 +40,8 @@ returns-in-Some-translated_window-clause-steps g c =
     c.in-Some-translated_window.ensures.some.0 c.in-Some-translated_window.ensures.longest
     (omega (arith, le, c.self.invariant.0)) c.in-Some-translated_window.ensures.some.3)
 
-pub returns-in-Some-translated_window-clause-goes : goal.returns-in-Some-translated_window-clause-goes
-returns-in-Some-translated_window-clause-goes g c =
+pub returns-in-Some-translated_window-clause-proceeds : goal.returns-in-Some-translated_window-clause-proceeds
+returns-in-Some-translated_window-clause-proceeds g c =
     let before = ap (λ (s : TranslatedSlices). length s.left) c.self.view_is in
     let all = length-circular c.self.inside.count c.self.inside.addr in
     let after = length-circular (c.self.inside.count - c.len-in-Some-translated_window.result) (c.self.inside.addr + c.len.result) in
@@ -59,8 +59,8 @@ returns-in-None-clause-steps g c =
     (error_given _ _ c.self.inside.addr c.self.inside.count (omega (arith, c.self.invariant.0)) (omega arith)
     (c.translated_window.ensures.none c.in-None.is))
 
-pub returns-in-None-clause-goes : goal.returns-in-None-clause-goes
-returns-in-None-clause-goes g c =
+pub returns-in-None-clause-proceeds : goal.returns-in-None-clause-proceeds
+returns-in-None-clause-proceeds g c =
     let before = ap (λ (s : TranslatedSlices). length s.left) c.self.view_is in
     let all = length-circular c.self.inside.count c.self.inside.addr in
     let after = length-circular 0 c.self.inside.addr in

@@ -22,36 +22,36 @@ pub(crate) struct Event {
 
 /// The event of a call, for its entry in the journal and again for its receipt.
 #[derive(Drop)]
-pub(crate) struct Kept {
+pub(crate) struct Recorded {
     pub entry: Event,
     pub receipt: Event,
 }
 
 /// Adds a call's entry to the journal, with the options after the call, and returns the receipt. The journal
 /// has spare capacity.
-pub(crate) fn journal_kept<L: Ledger>(
+pub(crate) fn journal_recorded<L: Ledger>(
     journal: &mut Vec<JournalEntry>,
     calls: &mut Book<L>,
     share: &mut Share<L>,
     options: FsOptions,
-    kept: Kept,
+    recorded: Recorded,
 ) -> Receipt
     requires { vec_len journal.old < vec_capacity journal.old }
     ensures journal { journal_of journal.new.items ≡ journal_of journal.old.items ++ record {
-      command = command_of kept.entry.command;
-      outcome = came_of kept.entry.outcome;
+      command = command_of recorded.entry.command;
+      outcome = came_of recorded.entry.outcome;
       options = options.0;
-      pages = kept.entry.pages.items;
+      pages = recorded.entry.pages.items;
     } ∷ [] }
     ensures len { vec_len journal.new ≡ vec_len journal.old + 1 }
     ensures total { calls.new.total ≡ calls.old.total + 1 }
     ensures share { share.new ≡ counted share.old true }
     ensures number { result.number ≡ length (journal_of journal.old.items) }
-    ensures command { result.command ≡ kept.receipt.command }
-    ensures outcome { result.outcome ≡ kept.receipt.outcome }
-    ensures pages { result.pages.items ≡ kept.receipt.pages.items }
+    ensures command { result.command ≡ recorded.receipt.command }
+    ensures outcome { result.outcome ≡ recorded.receipt.outcome }
+    ensures pages { result.pages.items ≡ recorded.receipt.pages.items }
 {
-    let Kept { entry, receipt } = kept;
+    let Recorded { entry, receipt } = recorded;
     let entry = JournalEntry {
         command: entry.command,
         outcome: entry.outcome,

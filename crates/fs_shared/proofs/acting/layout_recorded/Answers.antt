@@ -3,7 +3,7 @@ use Rattle.fs_device.specs.CommandView.{answer_of}
 use Rattle.fs_device.specs.MachineView.{machine_of}
 use Rattle.plain_machine.specs.Run.{SetLayout}
 use Rattle.fs_shared.proofs.ActLemmas.{layout_keeps, layout_performed}
-use Rattle.fs_shared.proofs.acting.layout_kept.Goals as goal
+use Rattle.fs_shared.proofs.acting.layout_recorded.Goals as goal
 
 pub returns-clause-keeps : goal.returns-clause-keeps
 returns-clause-keeps g c =

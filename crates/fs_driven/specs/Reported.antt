@@ -26,11 +26,11 @@ use Rattle.live_machine.specs.Live.{StoresNotification, asked_chain}
 use Rattle.fs_chain.specs.Ahead.{PopsAhead, ahead_error}
 use Rattle.fs_driven.specs.Ahead.{AddsAhead}
 use Rattle.fs_chain.specs.Answers.{IfWaits, IsGiven, IsNotTaken}
-use Rattle.fs_chain.specs.Decoding.{IfUndecoded, TellsMeaning, wanted_after, wanted_by}
+use Rattle.fs_chain.specs.Decoding.{IfUndecoded, ReportsMeaning, wanted_after, wanted_by}
 use Rattle.fs_driven.specs.Desks.{Begun, Desk, Driven, In, Leads, desk, lost, own}
 use Rattle.fs_chain.specs.Holds.{Machine, Pop, calls_decoded, live_of, served_so}
 use Rattle.fs_chain.specs.Listings.{EndsByEntries, EndsByError}
-use Rattle.fs_chain.specs.Loads.{GoesSo, RefusesWalk, whole}
+use Rattle.fs_chain.specs.Loads.{ProceedsSo, RefusesWalk, whole}
 use Rattle.fs_chain.specs.Orders.{ask_error, end_error, front_of, give_up_error, has_ring, is_out}
 use Rattle.fs_chain.specs.Orders.{push_error, return_error}
 use Rattle.fs_chain.specs.OwnReplies.{own_error}
@@ -53,10 +53,10 @@ use Rattle.fs_chain.specs.declared.decoding.Decoded.{Decoded}
 use Rattle.fs_chain.specs.declared.event_index.NotificationStore.{NotificationStore}
 use Rattle.fs_chain.specs.declared.decoding.Decoded.TheVariants as asks
 use Rattle.fs_chain.specs.declared.error.ChainError.{ChainError}
-use Rattle.fs_chain.specs.declared.loads.LoadOutcome as went
-use Rattle.fs_chain.specs.declared.loads.LoadOutcome.TheVariants as wents
+use Rattle.fs_chain.specs.declared.loads.LoadOutcome as outcome
+use Rattle.fs_chain.specs.declared.loads.LoadOutcome.TheVariants as outcomes
 use Rattle.fs_chain.specs.declared.popping.PopOutcome as walked
-use Rattle.fs_chain.specs.declared.popping.PopOutcome.TheVariants as says
+use Rattle.fs_chain.specs.declared.popping.PopOutcome.TheVariants as shows
 use Rattle.fs_chain.specs.declared.pushing.PushStores.{PushStores}
 use Rattle.fs_chain.specs.declared.queue.QueueState.{QueueState}
 use Rattle.fs_chain.specs.declared.state.ChainReply.{ChainReply}
@@ -65,7 +65,7 @@ use Rattle.fs_chain.specs.declared.state.ChainState.TheVariants as at
 use Rattle.fs_chain.specs.declared.state.InFlight.{InFlight}
 use Rattle.fs_driven.specs.Adding.{BringsSo, EndsSo}
 use Rattle.fs_driven.specs.Entries.{IsOfLast, all_brought, answers_of, ending_of}
-use Rattle.fs_driven.specs.Kept.{IsSameHeld}
+use Rattle.fs_driven.specs.Preserved.{IsSameHeld}
 use Rattle.fs_driven.specs.declared.entries.ListedEntry.{ListedEntry}
 
 -- ---- calls
@@ -126,43 +126,48 @@ turn i page_size k d d' w w' =
 -- the loads of a pop, by the state of its handle: none as it begins; with these bytes, if it goes on and
 -- the queue isn't stopped
 abbrev pub IsLoadedBy : state.ChainState → Turn → (bytes : List ℕ) → walked.PopOutcome → Loaded → Type 0
-IsLoadedBy at.Free t bytes told loaded = loaded ≡ nothing
-IsLoadedBy st t bytes told loaded =
+IsLoadedBy at.Free t bytes reported loaded = loaded ≡ nothing
+IsLoadedBy st t bytes reported loaded =
     t.old.queue.stopped ≡ None →
-    AddsSo st (wents.On told) t.now.descriptors.items (t.old.pops t.handle).loaded (whole t.was bytes) loaded
+    AddsSo st (outcomes.On reported) t.now.descriptors.items (t.old.pops t.handle).loaded (whole t.was bytes)
+    loaded
 
 -- the events of a pop's call with this result, after these loads
-abbrev pub PopTells : Turn → Loaded → walked.PopOutcome → List LiveEvent → Type 0
-PopTells t loaded (says.Load n) es = (es ≡ []) × ((t.new.pops t.handle).loaded ≡ loaded)
-PopTells t loaded (says.Missing range access) es = es ≡ []
-PopTells t loaded says.Idle es = es ≡ EndsPop t.queue loaded t.now.descriptors.items step.Idle ∷ []
-PopTells t loaded (says.Refused e) es =
+abbrev pub PopReports : Turn → Loaded → walked.PopOutcome → List LiveEvent → Type 0
+PopReports t loaded (shows.Load n) es = (es ≡ []) × ((t.new.pops t.handle).loaded ≡ loaded)
+PopReports t loaded (shows.Missing range access) es = es ≡ []
+PopReports t loaded shows.Idle es = es ≡ EndsPop t.queue loaded t.now.descriptors.items step.Idle ∷ []
+PopReports t loaded (shows.Refused e) es =
     (es ≡ EndsPop t.queue loaded t.now.descriptors.items (step.Refused e) ∷ [])
     ⊎ (es ≡ RefusesPop t.queue e ∷ [])
-PopTells t loaded (says.Chain head request_len room_len) es =
+PopReports t loaded (shows.Chain head request_len room_len) es =
     (es ≡ EndsPop t.queue loaded t.now.descriptors.items (step.Chain head None) ∷ [])
     × (request_len ≡ count false t.now.descriptors.items)
     × (room_len ≡ count true t.now.descriptors.items)
-PopTells t loaded (says.Faulty head fault) es =
+PopReports t loaded (shows.Faulty head fault) es =
     es ≡ EndsPop t.queue loaded t.now.descriptors.items (step.Chain head (Some fault)) ∷ []
 
-abbrev pub TellsPop : Turn → (bytes : List ℕ) → Result went.LoadOutcome ChainError → List LiveEvent → Type 0
-TellsPop t bytes (Err e) es = (es ≡ []) × RefusesWalk t.was t.old.queue bytes e
-TellsPop t bytes (Ok wents.Part) es = (es ≡ []) × GoesSo t.was t.old.queue bytes wents.Part t.now t.new.queue
-TellsPop t bytes (Ok (wents.On told)) es =
-    GoesSo t.was t.old.queue bytes (wents.On told) t.now t.new.queue
+abbrev pub ReportsPop : Turn → (bytes : List ℕ) → Result outcome.LoadOutcome ChainError → List LiveEvent
+    → Type 0
+ReportsPop t bytes (Err e) es = (es ≡ []) × RefusesWalk t.was t.old.queue bytes e
+ReportsPop t bytes (Ok outcomes.Part) es =
+    (es ≡ []) × ProceedsSo t.was t.old.queue bytes outcomes.Part t.now t.new.queue
+ReportsPop t bytes (Ok (outcomes.On reported)) es =
+    ProceedsSo t.was t.old.queue bytes (outcomes.On reported) t.now t.new.queue
     × (loaded : Loaded)
-    × IsLoadedBy t.was.state t bytes told loaded
-    × PopTells t loaded told es
+    × IsLoadedBy t.was.state t bytes reported loaded
+    × PopReports t loaded reported es
 
 -- a pop by loads ahead has the loads that it took of them
-abbrev pub TellsAhead : Turn → List AheadBytes → Result walked.PopOutcome ChainError → List LiveEvent → Type 0
-TellsAhead t ahead (Err e) es = (es ≡ []) × (ahead_error t.was.state t.old.queue ≡ Some e)
-TellsAhead t ahead (Ok told) es =
-    (pop : PopsAhead ahead t.was t.now t.old.queue t.new.queue (wents.On told))
+abbrev pub ReportsAhead : Turn → List AheadBytes → Result walked.PopOutcome ChainError → List LiveEvent
+    → Type 0
+ReportsAhead t ahead (Err e) es = (es ≡ []) × (ahead_error t.was.state t.old.queue ≡ Some e)
+ReportsAhead t ahead (Ok reported) es =
+    (pop : PopsAhead ahead t.was t.now t.old.queue t.new.queue (outcomes.On reported))
     × (loaded : Loaded)
-    × AddsAhead (last_first pop.first []) t.was t.now t.old.queue t.new.queue (wents.On told) pop.walks loaded
-    × PopTells t loaded told es
+    × AddsAhead (last_first pop.first []) t.was t.now t.old.queue t.new.queue (outcomes.On reported) pop.walks
+    loaded
+    × PopReports t loaded reported es
 
 -- ---- decodes and answers
 
@@ -171,38 +176,39 @@ abbrev pub setting_of : (options now : ℕ) → List LiveEvent
 setting_of options now = if options == now then [] else SetsOptions options ∷ []
 
 -- the events of a decoding with this result: none if it needs more bytes
-abbrev pub DecodeTells : Turn → Session → (request : List ℕ) → Decoded → List LiveEvent → Type 0
-DecodeTells t session request (asks.More n) es = es ≡ []
-DecodeTells t session request told es =
+abbrev pub DecodeReports : Turn → Session → (request : List ℕ) → Decoded → List LiveEvent → Type 0
+DecodeReports t session request (asks.More n) es = es ≡ []
+DecodeReports t session request reported es =
     (c : InFlightChain)
     × In (own t.handle c) t.old.owned
     × (es ≡ setting_of session.options.0 t.old.run.options
-    ++ DecodesRequest c request (calls_decoded (drop 80 request) told) ∷ [])
+    ++ DecodesRequest c request (calls_decoded (drop 80 request) reported) ∷ [])
     × In (own t.handle (asked_chain c request session.options.0 [])) t.new.owned
 
-abbrev pub TellsDecode : Turn → Session → (front : List ℕ) → Unseen → Result Decoded ChainError →
+abbrev pub ReportsDecode : Turn → Session → (front : List ℕ) → Unseen → Result Decoded ChainError →
     List LiveEvent → Type 0
-TellsDecode t session front u (Err e) es = (es ≡ []) × (ask_error t.was.state (length front) ≡ Some e)
-TellsDecode t session front u (Ok told) es =
+ReportsDecode t session front u (Err e) es = (es ≡ []) × (ask_error t.was.state (length front) ≡ Some e)
+ReportsDecode t session front u (Ok reported) es =
     let request = request_of front u (asked_len_of t.was.state) in
-    (wanted_by told ≡ wanted_after front (asked_len_of t.was.state))
-    × IfUndecoded t.was.state (λ out. TellsMeaning (setting session.page_size session.options.0 out.room_len)
-    (meaning session.options.0 request out.room_len) (drop 80 request) out told t.now.state)
-    × DecodeTells t session request told es
+    (wanted_by reported ≡ wanted_after front (asked_len_of t.was.state))
+    × IfUndecoded t.was.state (λ out. ReportsMeaning
+    (setting session.page_size session.options.0 out.room_len)
+    (meaning session.options.0 request out.room_len) (drop 80 request) out reported t.now.state)
+    × DecodeReports t session request reported es
 
 -- the answer to a FORGET that is owed
 abbrev pub forgetting : InFlightChain → Option (Context × ℕ) → List LiveEvent
 forgetting c None = []
 forgetting c (Some node) = ReceivesAnswer c (Forget node.0 node.1 1) Done ∷ []
 
-abbrev pub TellsAnswer : Turn → (serial : ℕ) → made_answer.FileAnswer → Unseen → Result Replied ChainError →
+abbrev pub ReportsAnswer : Turn → (serial : ℕ) → made_answer.FileAnswer → Unseen → Result Replied ChainError →
     List LiveEvent → Type 0
-TellsAnswer t serial answer u (Err e) es = (es ≡ []) × IsNotTaken t.was serial answer e
-TellsAnswer t serial answer u (Ok told) es =
+ReportsAnswer t serial answer u (Err e) es = (es ≡ []) × IsNotTaken t.was serial answer e
+ReportsAnswer t serial answer u (Ok reported) es =
     let given = answer_of (data_of answer u) answer in
     IfWaits t.was.state (λ out waiting.
     IsGiven (setting t.was.session.page_size t.was.session.options.0 waiting.room) waiting answer out
-    t.now.session.options.0 told t.now.state)
+    t.now.session.options.0 reported t.now.state)
     × (c : InFlightChain)
     × (call : FileCall)
     × (request : List ℕ)
@@ -210,18 +216,18 @@ TellsAnswer t serial answer u (Ok told) es =
     × In (own t.handle c) t.old.owned
     × (c.phase ≡ Asked request options [])
     × (es ≡ ReceivesAnswer c call given
-    ∷ forgetting (asked_chain c request options ((call, given) ∷ [])) told.forget)
+    ∷ forgetting (asked_chain c request options ((call, given) ∷ [])) reported.forget)
 
 -- the request that a reply of the caller's own bytes is for
 abbrev pub replied_to : Phase → Unseen → (len : ℕ) → List ℕ
 replied_to (Asked request options calls) u len = request
 replied_to phase u len = exactly len u.request
 
-abbrev pub TellsReply : Turn → (serial len : ℕ) → Unseen → Result (Unit {0}) ChainError → List LiveEvent →
+abbrev pub ReportsReply : Turn → (serial len : ℕ) → Unseen → Result (Unit {0}) ChainError → List LiveEvent →
     Type 0
-TellsReply t serial len u (Err e) es =
+ReportsReply t serial len u (Err e) es =
     (es ≡ []) × (own_error t.was.state t.was.serial serial len ≡ Some e)
-TellsReply t serial len u (Ok done) es =
+ReportsReply t serial len u (Ok done) es =
     (own_error t.was.state t.was.serial serial len ≡ None)
     × (c : InFlightChain)
     × In (own t.handle c) t.old.owned
@@ -229,13 +235,13 @@ TellsReply t serial len u (Ok done) es =
     t.old.run.options ∷ [])
 
 -- a listing to which no entry was added ends, by this answer to the reading of its directory
-abbrev pub TellsListing : Turn → (serial : ℕ) → FileAnswer → (Result ℕ ChainError → Type 0) →
+abbrev pub ReportsListing : Turn → (serial : ℕ) → FileAnswer → (Result ℕ ChainError → Type 0) →
     Result ℕ ChainError → List LiveEvent → Type 0
-TellsListing t serial answer Replies (Err e) es =
+ReportsListing t serial answer Replies (Err e) es =
     (es ≡ [])
     × UnlessRefused {A = ℕ} (serial_error t.was.state t.was.serial serial) (Err e) (t.now ≡ t.was)
     (Replies (Err e))
-TellsListing t serial answer Replies (Ok len) es =
+ReportsListing t serial answer Replies (Ok len) es =
     (c : InFlightChain)
     × (call : FileCall)
     × (request : List ℕ)
@@ -254,15 +260,15 @@ RefusesEntries was now serial list (entry ∷ entries) names failure last e =
 
 -- entries were brought to a listing, and it ended: its calls are answered now. The first bytes of the list
 -- are behind the reply's front
-abbrev pub GatherTells : Turn → (serial : ℕ) → List ListedEntry → (names : List ℕ) → (failure : Option ℕ) →
+abbrev pub GatherReports : Turn → (serial : ℕ) → List ListedEntry → (names : List ℕ) → (failure : Option ℕ) →
     (added : ℕ) →
     (last : Result Added ChainError) → Result ℕ ChainError → (list : List ℕ) → List LiveEvent → Type 0
-GatherTells t serial entries names failure added last (Err e) list es =
+GatherReports t serial entries names failure added last (Err e) list es =
     (es ≡ [])
     × (added ≡ 0)
     × IsSameHeld t.was t.now
     × RefusesEntries t.was t.now serial list entries names failure last e
-GatherTells t serial entries names failure added last (Ok len) list es =
+GatherReports t serial entries names failure added last (Ok len) list es =
     let left = drop added (all_brought entries names) in
     (added ≤ length entries)
     × IsOfLast last left
@@ -272,25 +278,25 @@ GatherTells t serial entries names failure added last (Ok len) list es =
     × (out : InFlight)
     × (unique : ℕ)
     × (asked : ListRequest)
-    × (kept : ChainReply)
+    × (preserved : ChainReply)
     × In (own t.handle c) t.old.owned
     × (c.phase ≡ Asked request options [])
     × (meaning options request out.room_len ≡ Asks (Lists unique asked))
-    × (t.now.state ≡ at.HasReply out kept)
+    × (t.now.state ≡ at.HasReply out preserved)
     × let calls = listing_calls (readdir_call asked) asked.with_nodes (take added (all_brought entries names))
     (ending_of last left failure) in
     (es ≡ answers_of c request options [] calls)
     × ((served_so t.old.run.page_size options request out.room_len calls).reply
-    ≡ front_of kept ++ take len list)
+    ≡ front_of preserved ++ take len list)
 
 -- ---- pushes, and chains that are given up
 
 -- a push begins: no event yet, but its stores are kept
-abbrev pub TellsPush : Turn → Result PushStores ChainError → (front : List ℕ) → List LiveEvent → Type 0
-TellsPush t (Err e) front es =
+abbrev pub ReportsPush : Turn → Result PushStores ChainError → (front : List ℕ) → List LiveEvent → Type 0
+ReportsPush t (Err e) front es =
     (es ≡ [])
     × (push_error (has_ring t.was.state t.was.regions) t.was.state t.old.queue (length front) ≡ Some e)
-TellsPush t (Ok stores) front es =
+ReportsPush t (Ok stores) front es =
     (es ≡ [])
     × (return_error t.was.state t.old.queue (length front) ≡ None)
     × IfHasReply t.was.state (λ out reply. PushesBy t.old.queue out reply stores
@@ -299,9 +305,9 @@ TellsPush t (Ok stores) front es =
     × (t.new.push ≡ Some (record { handle = t.handle; stores = stores; front = front }))
 
 -- a push ends: its stores are those that its begin returned, and its reply begins with that front
-abbrev pub TellsPushed : Turn → (seen : List ℕ) → Unseen → Result Bool ChainError → List LiveEvent → Type 0
-TellsPushed t seen u (Err e) es = (es ≡ []) × (end_error t.was.state t.old.queue ≡ Some e)
-TellsPushed t seen u (Ok notice) es =
+abbrev pub ReportsPushed : Turn → (seen : List ℕ) → Unseen → Result Bool ChainError → List LiveEvent → Type 0
+ReportsPushed t seen u (Err e) es = (es ≡ []) × (end_error t.was.state t.old.queue ≡ Some e)
+ReportsPushed t seen u (Ok notice) es =
     (c : InFlightChain)
     × (x : Exchange)
     × (b : Begun)
@@ -311,53 +317,54 @@ TellsPushed t seen u (Ok notice) es =
     × ((behind : List ℕ) × (x.reply ≡ take b.stores.front_len b.front ++ behind))
     × (es ≡ PushesChain c x notice u.last (stores_of b.stores.used) seen ∷ [])
 
-abbrev pub GiveUpTells : Turn → (is_out : Bool) → List LiveEvent → Type 0
-GiveUpTells t false es = es ≡ []
-GiveUpTells t true es = (c : InFlightChain) × In (own t.handle c) t.old.owned × (es ≡ GivesUpChain c ∷ [])
+abbrev pub GiveUpReports : Turn → (is_out : Bool) → List LiveEvent → Type 0
+GiveUpReports t false es = es ≡ []
+GiveUpReports t true es = (c : InFlightChain) × In (own t.handle c) t.old.owned × (es ≡ GivesUpChain c ∷ [])
 
-abbrev pub TellsGiveUp : Turn → Result (Unit {0}) ChainError → List LiveEvent → Type 0
-TellsGiveUp t (Err e) es = (es ≡ []) × (give_up_error t.was.state t.old.queue ≡ Some e)
-TellsGiveUp t (Ok done) es =
-    (give_up_error t.was.state t.old.queue ≡ None) × GiveUpTells t (is_out t.was.state) es
+abbrev pub ReportsGiveUp : Turn → Result (Unit {0}) ChainError → List LiveEvent → Type 0
+ReportsGiveUp t (Err e) es = (es ≡ []) × (give_up_error t.was.state t.old.queue ≡ Some e)
+ReportsGiveUp t (Ok done) es =
+    (give_up_error t.was.state t.old.queue ≡ None) × GiveUpReports t (is_out t.was.state) es
 
 -- a handle is freed: its chain stays in flight, without a handle
-abbrev pub AbandonTells : Turn → (is_out : Bool) → List LiveEvent → Type 0
-AbandonTells t false es = es ≡ []
-AbandonTells t true es =
+abbrev pub AbandonReports : Turn → (is_out : Bool) → List LiveEvent → Type 0
+AbandonReports t false es = es ≡ []
+AbandonReports t true es =
     (c : InFlightChain)
     × In (own t.handle c) t.old.owned
     × (es ≡ Abandons c ∷ [])
     × In (lost (abandoned_chain c)) t.new.owned
 
-abbrev pub TellsAbandon : Turn → List LiveEvent → Type 0
-TellsAbandon t es = IsFreed t.was t.now × AbandonTells t (is_out t.was.state) es
+abbrev pub ReportsAbandon : Turn → List LiveEvent → Type 0
+ReportsAbandon t es = IsFreed t.was t.now × AbandonReports t (is_out t.was.state) es
 
 -- ---- each call
 
 -- the events of a command of a handle, by what it returned. A request isn't decoded in a session of another
 -- page size, and a call of the queue is none of a handle
-abbrev pub Tells : Turn → Command → Unseen → Returned → List LiveEvent → Type 0
-Tells t (does.Pop bytes) u (gives.Popped r) es = TellsPop t bytes.now r es
-Tells t (does.PopAhead ahead bytes) u (gives.PoppedAhead r) es =
-    TellsAhead t (loads_ahead ahead.now bytes.now) r es
-Tells t (does.Decode session front) u (gives.Decoded r) es = TellsDecode t session front.now u r es
-Tells t (does.Decode session front) u gives.OtherSession es =
+abbrev pub Reports : Turn → Command → Unseen → Returned → List LiveEvent → Type 0
+Reports t (does.Pop bytes) u (gives.Popped r) es = ReportsPop t bytes.now r es
+Reports t (does.PopAhead ahead bytes) u (gives.PoppedAhead r) es =
+    ReportsAhead t (loads_ahead ahead.now bytes.now) r es
+Reports t (does.Decode session front) u (gives.Decoded r) es = ReportsDecode t session front.now u r es
+Reports t (does.Decode session front) u gives.OtherSession es =
     (es ≡ []) × (t.now ≡ t.was) × (session.page_size ≡ t.page_size → ⊥)
-Tells t (does.Answer serial answer) u (gives.Answered r) es = TellsAnswer t serial answer u r es
-Tells t (does.Reply serial len) u (gives.Replied r) es = TellsReply t serial len u r es
-Tells t (does.EndListing serial) u (gives.Listed r) es =
-    TellsListing t serial (Entries []) (λ told. EndsByEntries t.was.state t.now.state told) r es
-Tells t (does.FailListing serial errno) u (gives.Listed r) es =
-    TellsListing t serial (Failed errno) (λ told. EndsByError errno t.was.state t.now.state told) r es
-Tells t (does.Gather serial entries names failure) u (gives.Gathered added last ended list) es =
-    GatherTells t serial entries.now names.now failure added last ended list es
-Tells t does.Push u (gives.Began r front) es = TellsPush t r front es
-Tells t (does.Pushed seen) u (gives.Ended r) es = TellsPushed t seen u r es
-Tells t does.GiveUp u (gives.GaveUp r) es = TellsGiveUp t r es
-Tells t does.Abandon u gives.Abandoned es = TellsAbandon t es
-Tells t (does.Reset layout position) u gives.NotOfOne es = (es ≡ []) × (t.now ≡ t.was)
-Tells t (does.Notify wanted) u gives.NotOfOne es = (es ≡ []) × (t.now ≡ t.was)
-Tells t _ u _ es = ⊥
+Reports t (does.Answer serial answer) u (gives.Answered r) es = ReportsAnswer t serial answer u r es
+Reports t (does.Reply serial len) u (gives.Replied r) es = ReportsReply t serial len u r es
+Reports t (does.EndListing serial) u (gives.Listed r) es =
+    ReportsListing t serial (Entries []) (λ reported. EndsByEntries t.was.state t.now.state reported) r es
+Reports t (does.FailListing serial errno) u (gives.Listed r) es =
+    ReportsListing t serial (Failed errno) (λ reported. EndsByError errno t.was.state t.now.state reported) r
+    es
+Reports t (does.Gather serial entries names failure) u (gives.Gathered added last ended list) es =
+    GatherReports t serial entries.now names.now failure added last ended list es
+Reports t does.Push u (gives.Began r front) es = ReportsPush t r front es
+Reports t (does.Pushed seen) u (gives.Ended r) es = ReportsPushed t seen u r es
+Reports t does.GiveUp u (gives.GaveUp r) es = ReportsGiveUp t r es
+Reports t does.Abandon u gives.Abandoned es = ReportsAbandon t es
+Reports t (does.Reset layout position) u gives.NotOfOne es = (es ≡ []) × (t.now ≡ t.was)
+Reports t (does.Notify wanted) u gives.NotOfOne es = (es ≡ []) × (t.now ≡ t.was)
+Reports t _ u _ es = ⊥
 
 -- a call of a handle is a step of the run, among any other handles, whatever it doesn't see
 unfoldable pub DrivesOne : (page_size : ℕ) → (w new : ChainHandle) → (q q' : QueueState) →
@@ -367,7 +374,7 @@ DrivesOne page_size w new q q' command returned =
     (u : Unseen) (s : Machine) (i : ℕ) (os : List Owned) (pops : ℕ → Pop) (push : Option Begun) →
     Driven s i page_size q ws os pops push →
     Leads s i page_size q' (with_handle ws k new)
-    (λ es d. Tells (turn i page_size k (desk s ws q os pops push) d w new) command u returned es)
+    (λ es d. Reports (turn i page_size k (desk s ws q os pops push) d w new) command u returned es)
 
 -- no handle has a chain in flight, and as many as may be in flight fit in the new layout
 abbrev pub HasNoChain : ChainHandle → Type 0
@@ -378,15 +385,15 @@ MayReset ws q layout = All HasNoChain ws × (1 ≤ q.max_in_flight) × (q.max_in
 
 -- the events of a reset: its own, by which no chain is in flight any more, also none without a handle; or
 -- none, if it isn't done
-abbrev pub ResetTells :
+abbrev pub ResetReports :
     (i : ℕ) → (d d' : Desk) → QueueLayout → (position : ℕ) → Bool → List LiveEvent → Type 0
-ResetTells i d d' layout position true es =
+ResetReports i d d' layout position true es =
     (es ≡ ResetsQueue i (live_of d'.queue) ∷ [])
     × MayReset d.handles d.queue layout
     × (d'.queue ≡ reset_to d.queue layout position)
     × (d'.handles ≡ d.handles)
     × (d'.owned ≡ [])
-ResetTells i d d' layout position false es =
+ResetReports i d d' layout position false es =
     (es ≡ []) × (d' ≡ d) × (MayReset d.handles d.queue layout → ⊥)
 
 -- the event of a store that enables or disables notifications, if its address is mapped
@@ -396,40 +403,40 @@ storing i places (Some store) =
     if reach places Write store.address 2 then StoresNotification i (store_of store) ∷ [] else []
 
 -- the events of a call of the queue, which is none of a handle
-abbrev pub TellsOfQueue : (i : ℕ) → (d d' : Desk) → Command → Returned → List LiveEvent → Type 0
-TellsOfQueue i d d' (does.Reset layout position) (gives.Reset done) es =
-    ResetTells i d d' layout position done es
-TellsOfQueue i d d' (does.Notify wanted) (gives.Store store) es =
+abbrev pub ReportsOfQueue : (i : ℕ) → (d d' : Desk) → Command → Returned → List LiveEvent → Type 0
+ReportsOfQueue i d d' (does.Reset layout position) (gives.Reset done) es =
+    ResetReports i d d' layout position done es
+ReportsOfQueue i d d' (does.Notify wanted) (gives.Store store) es =
     (option_map store_of store ≡ notification_store d.queue wanted)
     × (es ≡ storing i d.run.places store)
     × (d' ≡ d)
-TellsOfQueue i d d' _ _ es = ⊥
+ReportsOfQueue i d d' _ _ es = ⊥
 
 -- the events of a call of one of the handles, of none if there is no such handle, or of the queue
-abbrev pub TellsCall : (i page_size : ℕ) → (d d' : Desk) → Called → Unseen → List LiveEvent → Type 0
-TellsCall i page_size d d' call u es =
+abbrev pub ReportsCall : (i page_size : ℕ) → (d d' : Desk) → Called → Unseen → List LiveEvent → Type 0
+ReportsCall i page_size d d' call u es =
     ((w : ChainHandle)
     × (w' : ChainHandle)
     × (slice_get d.handles call.place ≡ Some w)
     × (d'.handles ≡ with_handle d.handles call.place w')
-    × Tells (turn i page_size call.place d d' w w') call.command u call.returned es)
+    × Reports (turn i page_size call.place d d' w w') call.command u call.returned es)
     ⊎ ((slice_get d.handles call.place ≡ None)
     × (call.returned ≡ gives.NoHandle)
     × (es ≡ [])
     × (d' ≡ d))
-    ⊎ TellsOfQueue i d d' call.command call.returned es
+    ⊎ ReportsOfQueue i d d' call.command call.returned es
 
 -- the events of calls one behind another
-abbrev pub TellsAll :
+abbrev pub ReportsAll :
     (i page_size : ℕ) → (d : Desk) → List (Called × Unseen) → List LiveEvent → (d' : Desk) → Type 0
-TellsAll i page_size d [] es d' = (es ≡ []) × (d' ≡ d)
-TellsAll i page_size d (z ∷ zs) es d' =
+ReportsAll i page_size d [] es d' = (es ≡ []) × (d' ≡ d)
+ReportsAll i page_size d (z ∷ zs) es d' =
     (first : List LiveEvent)
     × (later : List LiveEvent)
     × (mid : Desk)
     × (es ≡ first ++ later)
-    × TellsCall i page_size d mid z.0 z.1 first
-    × TellsAll i page_size mid zs later d'
+    × ReportsCall i page_size d mid z.0 z.1 first
+    × ReportsAll i page_size mid zs later d'
 
 -- calls, without what they don't see
 abbrev pub seen_of : List (Called × Unseen) → List Called
@@ -444,7 +451,7 @@ Drives page_size ws ws' q q' calls =
     seen_of zs ≡ calls →
     (s : Machine) (i : ℕ) (os : List Owned) (pops : ℕ → Pop) (push : Option Begun) →
     Driven s i page_size q ws os pops push →
-    Leads s i page_size q' ws' (λ es d. TellsAll i page_size (desk s ws q os pops push) zs es d)
+    Leads s i page_size q' ws' (λ es d. ReportsAll i page_size (desk s ws q os pops push) zs es d)
 
 -- ---- lists of commands
 

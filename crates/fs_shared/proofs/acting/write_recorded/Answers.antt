@@ -1,7 +1,7 @@
 use Rattle.fs_device.specs.CommandView.{answer_of}
 use Rattle.fs_device.specs.MachineView.{machine_of}
 use Rattle.fs_shared.proofs.ActLemmas.{write_keeps, write_performed}
-use Rattle.fs_shared.proofs.acting.write_kept.Goals as goal
+use Rattle.fs_shared.proofs.acting.write_recorded.Goals as goal
 
 pub returns-clause-keeps : goal.returns-clause-keeps
 returns-clause-keeps g c =
@@ -10,6 +10,7 @@ returns-clause-keeps g c =
     let done = write_performed g.F.FileSystemBase.may before after c.args.addr c.args.bytes.now (answer_of c.guest_write.result)
     c.requires.reaches c.guest_write.ensures in
     let pages = rw c.get_backend-layout.ensures at c.in_ok-pages.ensures in
-    let kept = c.in_ok-kept.ensures in
-    write_keeps g.F.FileSystemBase.may before after c.args.addr c.args.bytes.now c.in_ok-pages.pages.items c.in_ok-kept.kept done pages
-    kept.entry kept.receipt
+    let recorded = c.in_ok-recorded.ensures in
+    write_keeps g.F.FileSystemBase.may before after c.args.addr c.args.bytes.now c.in_ok-pages.pages.items c.in_ok-recorded.recorded done
+    pages
+    recorded.entry recorded.receipt

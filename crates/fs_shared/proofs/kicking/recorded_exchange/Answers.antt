@@ -1,5 +1,5 @@
 use Rattle.std.proofs.Common.{arith}
-use Rattle.fs_shared.proofs.kicking.kept_exchange.Goals as goal
+use Rattle.fs_shared.proofs.kicking.recorded_exchange.Goals as goal
 
 pub returns-clause-pages : goal.returns-clause-pages
 returns-clause-pages c m q fetched t head reply runs taken ten same =
