@@ -59,8 +59,8 @@ returns-clause-steps c =
       omega (arith, first.0, first.1, c.in-Some-found_or_last.ensures.0),
     )
 
-pub returns-clause-proceeds : goal.returns-clause-proceeds
-returns-clause-proceeds c =
+pub returns-clause-goes : goal.returns-clause-goes
+returns-clause-goes c =
     let inv : CanGoOn (Some c.in-Some.ranges) c.self.inside.found c.self.inside.next c.self.inside.end =
     rw c.in-Some.is at c.self.invariant in
     let first = first_of c.in-Some.ranges.now.entries inv.2.0 c.self.inside.next c.self.inside.end

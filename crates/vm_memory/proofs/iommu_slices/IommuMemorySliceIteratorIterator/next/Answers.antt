@@ -40,8 +40,8 @@ returns-in-Some-translated_window-clause-steps g c =
     c.in-Some-translated_window.ensures.some.0 c.in-Some-translated_window.ensures.longest
     (omega (arith, le, c.self.invariant.0)) c.in-Some-translated_window.ensures.some.3)
 
-pub returns-in-Some-translated_window-clause-proceeds : goal.returns-in-Some-translated_window-clause-proceeds
-returns-in-Some-translated_window-clause-proceeds g c =
+pub returns-in-Some-translated_window-clause-goes : goal.returns-in-Some-translated_window-clause-goes
+returns-in-Some-translated_window-clause-goes g c =
     let before = ap (λ (s : TranslatedSlices). length s.left) c.self.view_is in
     let all = length-circular c.self.inside.count c.self.inside.addr in
     let after = length-circular (c.self.inside.count - c.len-in-Some-translated_window.result) (c.self.inside.addr + c.len.result) in
@@ -59,8 +59,8 @@ returns-in-None-clause-steps g c =
     (error_given _ _ c.self.inside.addr c.self.inside.count (omega (arith, c.self.invariant.0)) (omega arith)
     (c.translated_window.ensures.none c.in-None.is))
 
-pub returns-in-None-clause-proceeds : goal.returns-in-None-clause-proceeds
-returns-in-None-clause-proceeds g c =
+pub returns-in-None-clause-goes : goal.returns-in-None-clause-goes
+returns-in-None-clause-goes g c =
     let before = ap (λ (s : TranslatedSlices). length s.left) c.self.view_is in
     let all = length-circular c.self.inside.count c.self.inside.addr in
     let after = length-circular 0 c.self.inside.addr in

@@ -16,8 +16,8 @@ returns-in-Some-clause-steps g c =
           c.in-Some.ensures.longest c.in-Some.ensures.some.2 c.in-Some.ensures.some.3,
     )
 
-pub returns-in-Some-clause-proceeds : goal.returns-in-Some-clause-proceeds
-returns-in-Some-clause-proceeds g c =
+pub returns-in-Some-clause-goes : goal.returns-in-Some-clause-goes
+returns-in-Some-clause-goes g c =
     let before = ap (λ (s : PhysicalSlices). length s.left) c.self.view_is in
     let all = length-circular c.self.inside.count c.self.inside.addr in
     let after = length-circular (c.self.inside.count - c.len-in-Some.result) ((c.self.inside.addr + c.len.result) % 2 ^ 64) in
@@ -29,8 +29,8 @@ returns-in-None-clause-steps g c =
     rw (← c.self.view_is)
     (refl, error_given _ _ c.self.inside.addr c.self.inside.count (omega arith) (omega arith) (c.window_at.ensures.none c.in-None.is))
 
-pub returns-in-None-clause-proceeds : goal.returns-in-None-clause-proceeds
-returns-in-None-clause-proceeds g c =
+pub returns-in-None-clause-goes : goal.returns-in-None-clause-goes
+returns-in-None-clause-goes g c =
     let before = ap (λ (s : PhysicalSlices). length s.left) c.self.view_is in
     let all = length-circular c.self.inside.count c.self.inside.addr in
     let after = length-circular 0 c.self.inside.addr in
