@@ -1,2 +1,0 @@
-pub mod LogLemmas
-pub mod StepLemmas

@@ -1,4 +1,0 @@
-pub mod Log
-pub mod LogProof
-pub mod Runs
-pub mod Steps
