@@ -6,4 +6,5 @@ pub mod ModelActs
 pub mod Results
 pub mod StaysAlike
 pub mod TookQueue
+pub mod TwoPasses
 pub mod WorkedReturns

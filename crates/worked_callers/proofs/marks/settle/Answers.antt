@@ -6,11 +6,11 @@ use Rattle.vm_atomic_bitmaps.specs.Counts.{tally_of, both_passes, both_of, IsWho
 use Rattle.vm_atomic_bitmaps.specs.Steps.{Settles}
 use Rattle.vm_atomic_bitmaps.specs.Passes.{Pass}
 use Rattle.vm_atomic_bitmaps.proofs.PassTotals.{at_each}
-use Rattle.page_marks_demo.proofs.Halves.{halves_whole}
-use Rattle.page_marks_demo.proofs.accounts.settle.Goals as goal
+use Rattle.worked_callers.proofs.TwoPasses.{halves_whole}
+use Rattle.worked_callers.proofs.marks.settle.Goals as goal
 
-pub returns-in-Ok-clause-pages : goal.returns-in-Ok-clause-pages
-returns-in-Ok-clause-pages c p l =
+pub returns-in-Ok : goal.returns-in-Ok
+returns-in-Ok c p l =
     let a = c.args.first.counts in
     let b = c.args.second.counts in
     let both : c.join_pass.new.pass.counts ≡ both_passes a b = ap (λ (q : Pass). q.counts) c.join_pass.ensures.pass in

@@ -2,7 +2,7 @@ use Rattle.std.proofs.Common.{◌≡◌, suc, ap, ◌∙◌, rules}
 use Rattle.vm_atomic_bitmaps.specs.Counts.{first_pass, tally_of}
 use Rattle.vm_atomic_bitmaps.specs.Passes.{Pass}
 use Rattle.vm_atomic_bitmaps.proofs.PassParts.{at_clear_of}
-use Rattle.page_marks_demo.proofs.accounts.open.Goals as goal
+use Rattle.worked_callers.proofs.marks.open.Goals as goal
 
 pub returns-clause-second : goal.returns-clause-second
 returns-clause-second c =
