@@ -34,7 +34,7 @@ use Rattle.live_machine.proofs.Refusals.{refusal_stops}
 use Rattle.fs_chain.specs.Events.{event_fault, event_miss}
 use Rattle.fs_chain.specs.Events as chain_events
 use Rattle.fs_chain.specs.Holds.{BeginsAPop, ContinuesAPop, EndsBy, HasPopped, HoldsPop, IsOutAs, IsQueue, KeepsReplyOf, Machine, Pop}
-use Rattle.fs_chain.specs.Holds.{PopIs}
+use Rattle.fs_chain.specs.Holds.{MissesUnless, PopIs}
 use Rattle.fs_chain.specs.Holds.{IsHeldIn, PopContinues, PopsBy, RefusedBy, any_files, live_of, queue_with}
 use Rattle.fs_chain.specs.Loads.{ProceedsSo, whole}
 use Rattle.fs_chain.specs.Orders.{begin_error, give_error, load_len, walk_error}
@@ -98,6 +98,12 @@ lacks_stop true false avail e is = ap (λ (x : Option QueueError). stops_queue (
 lacks_stop true true false e is = ap (λ (x : Option QueueError). stops_queue (unwrap_or x stop.UsedUnreachable)) (sym is)
 lacks_stop true true true e is = absurd (none_some e is)
 
+declined_by : (s : Machine) (q : QueueState) (e : QueueError) (old : ChainHandle) → s.places ≡ places_in old.regions
+    → q.stopped ≡ None → event_fault (places_in old.regions) q ≡ Some e → pop_refusal s.places (live_of q) ≡ Some e
+declined_by s q e old places proceeds fault =
+    ap (λ (x : Option QueueError). if is_some x then Some stop.Stopped else event_fault s.places q) proceeds
+    ∙ ap (λ (k : Memory). event_fault k q) places ∙ fault
+
 refused_event : (s : Machine) (i : ℕ) (q q' : QueueState) (p : Pop) (old new : ChainHandle) (reported : walked.PopOutcome) (e : QueueError)
     → IsQueue s i q → may_take q ≡ true → q.stopped ≡ None → s.places ≡ places_in old.regions
     → event_fault (places_in old.regions) q ≡ Some e → event_miss (places_in old.regions) q ≡ None
@@ -108,9 +114,7 @@ refused_event s i q q' p old new reported e there may proceeds places fault none
     let v : LiveQueue = record (live_of q) { queue = after_refusal (live_of q).queue e } in
     let stops = lacks_stop q.event_index (reach m Read (chain_events.used_event_at q.layout) 2)
     (reach m Write (chain_events.avail_event_at q.layout) 2) e fault in
-    let declined : pop_refusal s.places (live_of q) ≡ Some e =
-    ap (λ (x : Option QueueError). if is_some x then Some stop.Stopped else event_fault s.places q) proceeds
-    ∙ ap (λ (k : Memory). event_fault k q) places ∙ fault in
+    let declined = declined_by s q e old places proceeds fault in
     let by : RefusedBy s i q q' new (shows.Refused e) = record {
       error = e;
       reported_is = refl;
@@ -157,16 +161,23 @@ EndsHere s i q q' loaded new came =
     × IsQueue (after_pop s i (live_of q) loaded ds came) i q'
     × HasPopped s i (live_of q) loaded came new
 
+-- used_event and avail_event are mapped, in the run
+events_there : (s : Machine) (i : ℕ) (q q' : QueueState) (course : Course) (pop_id : PopId) (p : Pop) (came : comes.CourseStep)
+    (new : ChainHandle) (reported : walked.PopOutcome) → CameTo s i q q' course pop_id p came new reported
+    → pop_refusal s.places (live_of q) ≡ None
+events_there s i q q' course pop_id p came new reported c =
+    let m = places_in new.regions in
+    let f : Memory → Queue → Bool → Option QueueError = λ m k b. pop_refusal m (queue_with k b) in
+    ap (λ (k : Memory). f k (live_of q).queue q.event_index) c.places ∙ ap (λ (k : Queue). f m k q.event_index) c.laid
+    ∙ ap (λ (b : Bool). f m (queue_of course) b) (sym c.index) ∙ c.events
+
 -- the event of a pop that ended
 ends_by : (s : Machine) (i : ℕ) (q q' : QueueState) (course : Course) (pop_id : PopId) (p : Pop) (came : comes.CourseStep)
     (new : ChainHandle) (reported : walked.PopOutcome) (c : CameTo s i q q' course pop_id p came new reported)
     → EndsHere s i q q' p.loaded new came → EndsBy s i q q' p.loaded new (reported_of new.descriptors.items came)
 ends_by s i q q' course pop_id p came new reported c ends =
     let m = places_in new.regions in
-    let f : Memory → Queue → Bool → Option QueueError = λ m k b. pop_refusal m (queue_with k b) in
-    let proceeds : pop_refusal s.places (live_of q) ≡ None =
-    ap (λ (k : Memory). f k (live_of q).queue q.event_index) c.places ∙ ap (λ (k : Queue). f m k q.event_index) c.laid
-    ∙ ap (λ (b : Bool). f m (queue_of course) b) (sym c.index) ∙ c.events in
+    let proceeds = events_there s i q q' course pop_id p came new reported c in
     let mapped : LoadsAreMapped s.places (live_of q).queue p.loaded =
     subst (λ (k : Memory). LoadsAreMapped k (live_of q).queue p.loaded) (sym c.places)
     (subst (λ (k : Queue). LoadsAreMapped m k p.loaded) (sym c.laid) c.mapped) in
@@ -215,7 +226,13 @@ comes_to s i q q' course pop_id p (step.Load walk) new reported c = (
   },
   c.keeps.2,
 )
-comes_to s i q q' course pop_id p (step.Missing range access) new reported c = (c.keeps.1, c.keeps.2)
+comes_to s i q q' course pop_id p (step.Missing range access) new reported c =
+    let came : comes.CourseStep = step.Missing range access in (
+      c.keeps.1,
+      c.keeps.2,
+      subst (λ (fault : Option QueueError). MissesUnless fault s (live_of q) p.loaded new.descriptors.items range access)
+          (sym (events_there s i q q' course pop_id p came new reported c)) (run_step s i q q' course pop_id p came new reported c),
+    )
 comes_to s i q q' course pop_id p step.Idle new reported c =
     let here : EndsHere s i q q' p.loaded new step.Idle = (
       (run_step s i q q' course pop_id p step.Idle new reported c, refl),
@@ -287,7 +304,7 @@ in_new old new course pop_id came q q' reported k = (k.0, k.1, k.2, k.3, (refl, 
 
 -- ---- a pop that begins
 
-begins_none : (old : ChainHandle) (q : QueueState) (bytes : List ℕ) (new : ChainHandle) (q' : QueueState) → old.state ≡ at.Free →
+pub begins_none : (old : ChainHandle) (q : QueueState) (bytes : List ℕ) (new : ChainHandle) (q' : QueueState) → old.state ≡ at.Free →
     ProceedsSo old q bytes outcomes.Part new q' → ⊥
 begins_none old q bytes new q' free call =
     let none : load_len old.state ≡ 0 = ap load_len free in
@@ -335,9 +352,16 @@ begun_where s i old new q q' reported (Some e) there places limit small may proc
         refused_event s i q q' (record { loaded = nothing; event_index = q.event_index }) old new reported e there may proceeds places is
         none
         lacks.0 (lacks.1.0.3 ∙ free) lacks.2
-    by_miss (Some r) some lacks =
+    by_miss (Some (range, access)) some lacks =
+        let declined = declined_by s q e old places proceeds is in
+        let miss : event_miss_of s.places (live_of q) ≡ Some (range, access) =
+        ap (λ (k : Memory). event_miss_of k (live_of q)) places ∙ some in
+        let ds = new.descriptors.items in
+        let misses : MissesUnless (pop_refusal s.places (live_of q)) s (live_of q) nothing ds range access =
+        subst (λ (fault : Option QueueError). MissesUnless fault s (live_of q) nothing ds range access) (sym declined)
+        (miss, refl, lacks.1.1) in
         subst (λ (t : walked.PopOutcome). PopIs s i q q' (record { loaded = nothing; event_index = q.event_index }) new t) (sym lacks.0)
-        (lacks.1.0.3 ∙ free, lacks.2)
+        (lacks.1.0.3 ∙ free, lacks.2, misses)
 
 begun_unless : (s : Machine) (i : ℕ) (old new : ChainHandle) (q q' : QueueState) (reported : walked.PopOutcome)
     (stopped : Option QueueError)

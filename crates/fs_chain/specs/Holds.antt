@@ -4,7 +4,10 @@
 use Rattle.std.specs.Prelude.{◌≡◌, ◌⊎◌, ◌≤◌, ◌^◌, ℕ, Bool, List, [], ◌∷◌, ◌++◌, length, take}
 use Rattle.std.specs.Prelude.{drop, is_some, Option, Some, None}
 use Rattle.std.specs.Prelude.{slice_get}
+use Rattle.vm_iotlb.specs.declared.iova.IovaRange.{IovaRange}
+use Rattle.vm_iotlb.specs.declared.permissions.Permissions.{Permissions}
 use Rattle.fs_queue.specs.declared.fault.QueueError.{QueueError}
+use Rattle.fs_queue.specs.Chain.{Descriptor}
 use Rattle.fs_queue.specs.Queue.{Queue}
 use Rattle.fs_queue.specs.Returning.{stores_after_reply}
 use Rattle.fs_queue.specs.ReturningView.{stores_of}
@@ -15,7 +18,7 @@ use Rattle.fs_regions.specs.declared.step.CourseStep as comes
 use Rattle.fs_regions.specs.declared.step.CourseStep.TheVariants as step
 use Rattle.fs_regions.specs.declared.walk.QueueWalk.{QueueWalk}
 use Rattle.fs_regions.specs.Places.{places_in}
-use Rattle.fs_regions.specs.Walks.{IsLongestStretch, IsThere, IsWalkAt, Loaded, nothing, queue_of}
+use Rattle.fs_regions.specs.Walks.{IsLongestStretch, IsThere, IsWalkAt, Loaded, Misses, nothing, queue_of}
 use Rattle.fuse_fs.specs.Calls.{Done, FileAnswer, FileCall, Forget}
 use Rattle.fuse_fs.specs.declared.answers.Context.{Context}
 use Rattle.fuse_values.specs.Answers.{answer_of}
@@ -37,7 +40,7 @@ use Rattle.live_machine.specs.Live.{LiveState, LoadsAreMapped, Own, Phase, Poppe
 use Rattle.live_machine.specs.Live.{PushesChain}
 use Rattle.live_machine.specs.Live.{ReceivesAnswer, RefusesPop, after_answer, after_decoding, after_pop}
 use Rattle.live_machine.specs.Live.{after_push}
-use Rattle.live_machine.specs.Live.{asked_chain, new_chain, pop_refusal}
+use Rattle.live_machine.specs.Live.{asked_chain, event_miss_of, new_chain, pop_refusal}
 use Rattle.fs_chain.specs.Decoding.{AsksListing, WaitsForNoListing}
 use Rattle.fs_chain.specs.Loads.{whole}
 use Rattle.fs_chain.specs.Orders.{front_of, reply_len}
@@ -337,12 +340,25 @@ pub record RefusedBy (s : Machine) (i : ℕ) (q q' : QueueState) (new : ChainHan
   pub queue : IsQueue after i q'
   pub free : new.state ≡ at.Free
 
--- a call of a pop came to this after these loads: it asks for more, and nothing happens; it misses addresses,
--- and nothing happened; it ended; or the queue refused it
+-- which addresses a pop misses after these loads. If used_event and avail_event of its queue are mapped, it
+-- misses the first addresses that it needs next, for this access. If they aren't (`fault`), it misses the
+-- first of theirs, before any load
+abbrev pub MissesUnless : (fault : Option QueueError) → (s : Machine) → LiveQueue → Loaded → List Descriptor →
+    IovaRange → Permissions → Type 0
+MissesUnless None s w loaded ds range access = Misses s.places s.limit w.queue loaded ds range access
+MissesUnless (Some fault) s w loaded ds range access =
+    (event_miss_of s.places w ≡ Some (range, access)) × (loaded ≡ nothing) × (ds ≡ [])
+
+-- a call of a pop came to this after these loads: it asks for more, and nothing happens; it misses these
+-- addresses, and nothing happened; it ended; or the queue refused it
 abbrev pub PopIs : (s : Machine) (i : ℕ) (q q' : QueueState) (p : Pop) (new : ChainHandle) →
     walked.PopOutcome → Type 0
 PopIs s i q q' p new (shows.Load n) = HoldsPop s.limit p new × (q' ≡ q)
-PopIs s i q q' p new (shows.Missing range access) = (new.state ≡ at.Free) × (q' ≡ q)
+PopIs s i q q' p new (shows.Missing range access) =
+    (new.state ≡ at.Free)
+    × (q' ≡ q)
+    × MissesUnless (pop_refusal s.places (live_of q)) s (live_of q) p.loaded new.descriptors.items range
+    access
 PopIs s i q q' p new reported = EndsBy s i q q' p.loaded new reported ⊎ RefusedBy s i q q' new reported
 
 -- a pop that begins
