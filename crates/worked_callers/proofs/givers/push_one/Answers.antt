@@ -30,7 +30,7 @@ returns-in-Ok c =
     let last_is : c.pushed.new.queue ≡ gave pushing = c.in-Ok.ensures.queue ∙ ap gave queue_is in
     let ok : end_error st pushing ≡ None = subst (λ (k : QueueState). end_error st k ≡ None) queue_is c.in-Ok.ensures.ok in
     let reported : c.in-Ok.notice ≡ notifies_of pushing bytes =
-    c.in-Ok.ensures.reports ∙ ap (λ (k : QueueState). notifies_of k c.to_le_bytes-bytes.result) queue_is
+    c.in-Ok.ensures.notifies ∙ ap (λ (k : QueueState). notifies_of k c.to_le_bytes-bytes.result) queue_is
     ∙ ap (λ (bs : List ℕ). notifies_of pushing bs) c.to_le_bytes-bytes.ensures in
     record {
       again = ap (λ (w : ChainHandle). w.state) c.in-Ok.ensures.free;
