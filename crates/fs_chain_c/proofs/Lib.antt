@@ -1,7 +1,6 @@
 pub mod CalledLemmas
 pub mod CalledLogs
 pub mod CalledMoves
-pub mod CalledSpans
 mod ChainValues
 mod IotlbValues
 pub mod IotlbLemmas

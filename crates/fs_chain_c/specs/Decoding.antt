@@ -1,5 +1,5 @@
 -- The result of decoding a request, as C gets it, and the result of an answer.
-use Rattle.std.specs.Prelude.{◌≡◌, ◌==◌, ◌⊎◌, ℕ, List, length, drop, bit_and, Option, Some, None}
+use Rattle.std.specs.Prelude.{◌≡◌, ◌==◌, ◌⊎◌, ◌<◌, ◌^◌, ℕ, List, length, drop, bit_and, Option, Some, None}
 use Rattle.std.specs.Prelude.{Result, Ok, Err, IfOk, IfErr, OnOk, OnErr, if◌then◌else◌}
 use Rattle.fuse_values.specs.declared.answer.FileAnswer.{FileAnswer}
 use Rattle.fuse_values.specs.declared.answer.FileAnswer.TheVariants as answer
@@ -26,6 +26,7 @@ use Rattle.fs_chain.specs.Walks.{IsAllBut, IsAllButPlace}
 use Rattle.fs_chain_c.specs.declared.call.FsCall.{FsCall}
 use Rattle.fs_chain_c.specs.declared.device.FsDevice.{FsDevice}
 use Rattle.fs_chain_c.specs.Calls.{call_fields, low, empty_call, numbered}
+use Rattle.fs_chain_c.specs.Spans.{CallHasNames}
 use Rattle.fs_chain_c.specs.Memory.{IsDevice}
 
 -- ---- an answer
@@ -123,7 +124,8 @@ ReportsAsked b request reports.Nothing call status b' =
 ReportsAsked b request (reports.Fault e) call status b' =
     (status ≡ 0) × (call ≡ numbered request (record empty_call { fault = error_number e })) × (b' ≡ b)
 
--- a request is decoded in the device's session, and the call has the ticket of the chain
+-- a request is decoded in the device's session, and the call has the ticket of the chain. In a request of
+-- less than 2^32 bytes each span of the call holds its name, its value, its pairs or its label
 abbrev pub DecodesSo :
     ChainHandle → FsDevice → (request : List ℕ) → FsCall → (status : ℕ) → ChainHandle → Type 0
 DecodesSo b d request call status b' =
@@ -134,6 +136,7 @@ DecodesSo b d request call status b' =
     × (fields : FsCall)
     × ReportsAsked asked request made fields status b'
     × (call ≡ record fields { ticket = b.serial })
+    × (length request < 2 ^ 32 → CallHasNames request made call)
 
 -- a `ChainHandle` decodes the first bytes of a request; `BadArgument`, if the numbers aren't a device's
 abbrev pub DecodesHandle :

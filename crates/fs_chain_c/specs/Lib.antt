@@ -5,7 +5,6 @@ pub mod Notifications
 pub mod LawsCalled
 pub mod LogsCalled
 pub mod MovesCalled
-pub mod SpansCalled
 pub mod Listing
 pub mod Memory
 pub mod Names

@@ -1,20 +1,14 @@
 -- The bytes of a request at the spans that C gets.
-use Rattle.std.specs.Prelude.{◌≡◌, ◌+◌, ◌<◌, ◌^◌, ℕ, All, List, Option, Some, None}
-use Rattle.std.specs.Prelude.{length, take, drop, slice_get}
+use Rattle.std.specs.Prelude.{◌≡◌, ◌+◌, ℕ, All, List, Option, Some, None, take, drop, slice_get}
 use Rattle.fuse_values.specs.declared.call.FileCall.{FileCall}
 use Rattle.fuse_values.specs.declared.call.FileCall.TheVariants as value
 use Rattle.fuse_values.specs.declared.received.Label.{Label}
-use Rattle.fuse_values.specs.Values.{call_of, pairs_in}
-use Rattle.server_phases.specs.Waiting.{first_call}
-use Rattle.virtiofsd_fuse.specs.Grammar.{Asks, FileCommand, meaning}
+use Rattle.fuse_values.specs.Values.{pairs_in}
 use Rattle.fs_chain.specs.declared.decoding.Decoded.{Decoded}
 use Rattle.fs_chain.specs.declared.decoding.Decoded.TheVariants as reports
-use Rattle.fs_chain.specs.declared.chain_handle.ChainHandle.{ChainHandle}
 use Rattle.fs_chain_c.specs.declared.call.FsCall.{FsCall}
 use Rattle.fs_chain_c.specs.declared.call.FsSpan.{FsSpan}
-use Rattle.fs_chain_c.specs.declared.device.FsDevice.{FsDevice}
-use Rattle.fs_chain_c.specs.Decoding.{DecodesSo}
-use Rattle.fs_chain_c.specs.Calls.{call_fields, label_in}
+use Rattle.fs_chain_c.specs.Calls.{label_in}
 
 -- the bytes of a span of a request
 abbrev pub bytes_at : List ℕ → FsSpan → List ℕ
@@ -63,26 +57,7 @@ HasNames request made reported =
     AreNames request made reported.name reported.name2 reported.value
     × IsLabelAt request (label_in made) reported.label_name reported.label
 
--- for each request of less than 2^32 bytes, with any agreed options: the spans in its call's fields hold the
--- call's names and its label
-abbrev pub SpansHoldNames : Type 0
-SpansHoldNames =
-    (request bytes : List ℕ) (options room : ℕ) (command : FileCommand) (made : FileCall)
-    → length request < 2 ^ 32
-    → meaning options request room ≡ Asks command
-    → call_of bytes made ≡ first_call command
-    → HasNames request made (call_fields request options room made)
-
--- a property of the call, if decoding returned one
-abbrev pub IfCall : Decoded → (FileCall → Type 0) → Type 0
-IfCall (reports.Call made) P = P made
-IfCall _ P = Unit {0}
-
--- the spans that pk_decode returns, from all of a request's bytes or a WRITE's first ones, hold the names
--- and the label within the bytes that C passed
-abbrev pub AskedSpansHoldNames : Type 0
-AskedSpansHoldNames =
-    (b : ChainHandle) (d : FsDevice) (request : List ℕ) (call : FsCall) (status : ℕ) (b' : ChainHandle)
-    → length request < 2 ^ 32
-    → (so : DecodesSo b d request call status b')
-    → IfCall so.3 (λ (made : FileCall). HasNames request made call)
+-- and if decoding returned a call
+abbrev pub CallHasNames : (request : List ℕ) → Decoded → FsCall → Type 0
+CallHasNames request (reports.Call made) reported = HasNames request made reported
+CallHasNames request _ reported = Unit {0}

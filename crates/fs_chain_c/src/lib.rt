@@ -36,7 +36,6 @@ mod replies;
 mod saved_bytes;
 mod setting;
 mod sizes;
-pub mod spans_called;
 mod windows;
 
 pub use exports::{

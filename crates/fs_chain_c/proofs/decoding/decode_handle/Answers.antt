@@ -1,26 +1,35 @@
 use Rattle.std.proofs.Common.{rules, ℕ, inl, inr, ap, ◌∙◌}
+use Rattle.fs_chain_c.specs.Decoding as asking
+use Rattle.fs_chain_c.proofs.SpanCalls.{decoded_named}
 use Rattle.fs_chain_c.proofs.decoding.decode_handle.Goals as goal
 
 pub returns-in-Ok : goal.returns-in-Ok
 returns-in-Ok c =
+    let s = c.resume-session.result in
+    let asked = c.decode.new.self in
+    let asks : asking.Decodes c.args.handle.now s c.args.request.now c.in-Ok.reported asked = record {
+      can = search rules;
+      reports = search rules;
+      wanted = search rules;
+      step = search rules;
+      session = search rules;
+      stays = search rules;
+    } in
+    let fields = c.tell-status.new.call in
+    let ticket = ap (λ (n : ℕ). record fields { ticket = n }) (c.serial-ticket.ensures ∙ c.decode.ensures.same.0.2) in
     inr (inr (
       search rules,
       (
-        c.resume-session.result,
+        s,
         search rules,
-        c.decode.new.self,
+        asked,
         c.in-Ok.reported,
-        record {
-          can = search rules;
-          reports = search rules;
-          wanted = search rules;
-          step = search rules;
-          session = search rules;
-          stays = search rules;
-        },
-        c.tell-status.new.call,
+        asks,
+        fields,
         c.tell-status.ensures,
-        ap (λ (n : ℕ). record c.tell-status.new.call { ticket = n }) (c.serial-ticket.ensures ∙ c.decode.ensures.same.0.2),
+        ticket,
+        decoded_named c.args.handle.now asked c.tell-status.new.handle s c.args.request.now c.in-Ok.reported fields _ _ _ asks
+            c.tell-status.ensures ticket,
       ),
     ))
 
