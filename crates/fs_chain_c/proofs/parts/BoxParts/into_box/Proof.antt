@@ -58,7 +58,7 @@ module _ (E : Bx) where
   abbrev From : RattleType
   From = parts.the_row (R E) (P E) E.al.g
 
-  abbrev stayed : Stays ended.signature.params ended.preserved
+  abbrev stayed : Stays ended.signature.params ended.kept
   stayed = (stay_dropped (plain (λ _. From)) no, tt)
 
   module _ {M : Type 1} {𝓤 : Ura M} (𝓛 : Logic 𝓤) (at_mem : Memory → SProp 𝓤) (run : Routine → Fun 𝓤) (𝓣 : Tables 𝓤 𝓛.H) where

@@ -57,7 +57,7 @@ module _ (E : Bx) (dx : Dict) where
   abbrev ended : Ended
   ended = F.ended E.row E.al.row E.al.g E.al.d E.al.drops dx
 
-  abbrev stayed : Stays ended.signature.params ended.preserved
+  abbrev stayed : Stays ended.signature.params ended.kept
   stayed = (stay_dropped (plain (λ _. B E)) no, tt)
 
   abbrev To : RattleType
