@@ -25,7 +25,7 @@ use Rattle.fs_driven.specs.declared.commands.Returned.TheVariants as gives
 use Rattle.fs_chain.specs.declared.queue.QueueState.{QueueState}
 use Rattle.fs_chain.specs.declared.state.ChainState as state
 use Rattle.fs_chain.specs.declared.state.ChainState.TheVariants as at
-use Rattle.fs_driven.proofs.Calls.{no_error, refuses, same_held}
+use Rattle.fs_driven.proofs.Calls.{no_error, refuses, same_all, same_held}
 use Rattle.fs_driven.proofs.Pops.{Popping, begun_keeps, gone_keeps, no_part, part_keeps, popped}
 
 proceeds_at : (old new : ChainHandle) (q q' : QueueState) (bytes : List ℕ) (reported : outcome.LoadOutcome)
@@ -112,4 +112,8 @@ ahead_result old new q q' ahead bytes (Err e) err ok same by page_size =
     (gives.PoppedAhead (Err e))) (sym same.1)
     (refuses page_size old new q (does.PopAhead ahead bytes) (gives.PoppedAhead (Err e))
     (same_held old new same.0)
-    (λ i k d d' u is. (refl, subst (λ (r : QueueState). ahead_error old.state r ≡ Some e) (sym is) err)))
+    (λ i k d d' u is now. (
+      refl,
+      (same_all old new same.0, now ∙ sym is),
+      subst (λ (r : QueueState). ahead_error old.state r ≡ Some e) (sym is) err,
+    )))

@@ -1,7 +1,7 @@
 -- An answer drives the run.
 use Rattle.std.proofs.Common.{◌≡◌, ℕ, true, List, [], ◌∷◌, ◌++◌, length, Option, Some, None}
 use Rattle.std.proofs.Common.{slice_get}
-use Rattle.std.proofs.Common.{refl, subst, sym, ap}
+use Rattle.std.proofs.Common.{refl, subst, sym, ap, ◌∙◌}
 use Rattle.std.specs.Prelude.{Result, Ok, Err, IfErr, IfOk, OnOk, OnErr}
 use Rattle.fs_chain.specs.declared.error.ChainError.{ChainError}
 use Rattle.fs_chain.specs.Walks.{IsAllBut}
@@ -43,7 +43,7 @@ use Rattle.fs_chain.specs.declared.state.ChainState.TheVariants as at
 use Rattle.fs_driven.proofs.Handles.{Moves, has_own, held_out, keeps, others_same}
 use Rattle.fs_chain.proofs.Together.{chains_of}
 use Rattle.fs_driven.proofs.Calls.{HasNoPush, done_ready, fits_out, length_exactly, refuses}
-use Rattle.fs_driven.proofs.Calls.{replied_no_push, same_held}
+use Rattle.fs_driven.proofs.Calls.{replied_no_push, same_all, same_held}
 
 -- ---- answer
 
@@ -183,12 +183,18 @@ GivenSo old new a reported =
     IfWaits old.state (λ out w. IsGiven (setting old.session.page_size old.session.options.0 w.room) w a out
     new.session.options.0 reported new.state)
 
+-- what an answer leaves of its handle
+abbrev KeepsAnswered : (old new : ChainHandle) → Type 0
+KeepsAnswered old new =
+    (IsAllBut old new × (new.descriptors ≡ old.descriptors) × (new.part ≡ old.part))
+    × (new.session.page_size ≡ old.session.page_size)
+
 answer_drives : (page_size : ℕ) (old new : ChainHandle) (q : QueueState) (serial : ℕ)
     (a : made_answer.FileAnswer) (reported : Replied)
-    → IsWaiting old.state → GivenSo old new a reported → Answers old new a reported → KeepsMemory old new
+    → IsWaiting old.state → GivenSo old new a reported → Answers old new a reported → KeepsAnswered old new
     → DrivesOne page_size old new q q (does.Answer serial a) (gives.Answered (Ok reported))
 unfolding DrivesOne Answers
-answer_drives page_size old new q serial a reported waits given answers same ws k there u s i os pops push all =
+answer_drives page_size old new q serial a reported waits given answers kept ws k there u s i os pops push all =
     let own_one = all.outs k old there (waits_out old.state waits) in
     let c = own_one.0 in
     let has = has_own s i page_size q ws os k old c pops push all there own_one.1 in
@@ -201,12 +207,12 @@ answer_drives page_size old new q serial a reported waits given answers same ws 
     (λ es d. Reports (turn i page_size k (desk s ws q os pops push) d old new) (does.Answer serial a) u
     (gives.Answered (Ok reported)) es)
     has.driven there
-    (all.mine k old c there own_one.1).0 same an.1.0 an.1.1
+    (all.mine k old c there own_one.1).0 (kept.0.0.0, kept.0.0.1) an.1.0 an.1.1
     (replied_no_push (served_so s.page_size asked.1 asked.0
     (length (addresses_of (writable c.descriptors))) ((an.0, answer_of bytes a) ∷ [])).reply bytes new.state
     an.1.4)
     an.1.2 an.1.5
-    (λ after os' loads'. (given, c, an.0, asked.0, asked.1, own_one.1, asked.2, refl))
+    (λ after os' loads'. (given, (kept.0, refl), kept.1, c, an.0, asked.0, asked.1, own_one.1, asked.2, refl))
 
 -- ---- by what the call ensures
 
@@ -216,11 +222,12 @@ pub answer_result : (old new : ChainHandle) (q : QueueState) (serial : ℕ) (a :
     → OnOk result (IsWaiting old.state × IfWaits old.state (λ out w. CanBeGiven w a))
     → IfErr result (λ e. IsNotTaken old serial a e)
     → OnErr result (new ≡ old)
-    → IsAllBut old new
+    → new.session.page_size ≡ old.session.page_size
+    → IsAllBut old new × (new.descriptors ≡ old.descriptors) × (new.part ≡ old.part)
     → IfOk result (λ reported. Answers old new a reported)
     → (page_size : ℕ) → DrivesOne page_size old new q q (does.Answer serial a) (gives.Answered result)
-answer_result old new q serial a (Ok reported) given taken err same stay step page_size =
-    answer_drives page_size old new q serial a reported taken.0 given step (stay.0, stay.1)
-answer_result old new q serial a (Err e) given taken err same stay step page_size =
+answer_result old new q serial a (Ok reported) given taken err same page stay step page_size =
+    answer_drives page_size old new q serial a reported taken.0 given step (stay, page)
+answer_result old new q serial a (Err e) given taken err same page stay step page_size =
     refuses page_size old new q (does.Answer serial a) (gives.Answered (Err e)) (same_held old new same)
-    (λ i k d d' u is. (refl, err))
+    (λ i k d d' u is now. (refl, (same_all old new same, now ∙ sym is), err))

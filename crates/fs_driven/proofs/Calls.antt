@@ -27,6 +27,7 @@ use Rattle.fs_chain.specs.Holds.{HoldsChain, IsRepliedWith}
 use Rattle.fs_chain.specs.Holds.{HoldsPop, IsHeldIn, IsOutAs, IsQueue}
 use Rattle.fs_chain.specs.Holds.{Machine, Pop}
 use Rattle.fs_chain.specs.Holds.{live_of, queue_with}
+use Rattle.fs_chain.specs.Loads.{IsSame}
 use Rattle.fs_chain.specs.Orders.{is_out}
 use Rattle.fs_chain.specs.Rings.{ring_of}
 use Rattle.fs_chain.specs.Together.{Owned, with_handle}
@@ -178,7 +179,7 @@ stays s i page_size k q ws os pops push old new T all there same reports = by_ou
 pub refuses : (page_size : ℕ) (old new : ChainHandle) (q : QueueState) (command : Command)
     (returned : Returned)
     → IsSameHeld old new
-    → ((i k : ℕ) (d d' : Desk) (u : Unseen) → d.queue ≡ q →
+    → ((i k : ℕ) (d d' : Desk) (u : Unseen) → d.queue ≡ q → d'.queue ≡ q →
     Reports (turn i page_size k d d' old new) command u returned [])
     → DrivesOne page_size old new q q command returned
 unfolding DrivesOne
@@ -187,7 +188,7 @@ refuses page_size old new q command returned same reports ws k there u s i os po
     (λ es d. Reports (turn i page_size k (desk s ws q os pops push) d old new) command u returned es) all there
     same
     (λ after loads'. reports i k (desk s ws q os pops push) (desk s (with_handle ws k new) q after loads' push) u
-    refl)
+    refl refl)
 
 pub same_held : (old new : ChainHandle) → new ≡ old → IsSameHeld old new
 same_held old new same = (
@@ -197,6 +198,11 @@ same_held old new same = (
   ap (λ (w : ChainHandle). w.limit) same,
   ap (λ (w : ChainHandle). w.descriptors.items) same,
 )
+
+-- nothing of the handle changed
+pub same_all : (old new : ChainHandle) → new ≡ old → IsSame old new
+same_all old new same =
+    subst (λ (w : ChainHandle). IsSame old w) (sym same) ((refl, refl, refl, refl), refl, refl, refl, refl)
 
 -- ---- decode
 

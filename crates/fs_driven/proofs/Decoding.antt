@@ -238,33 +238,39 @@ ReportsRequest session request reported new out =
     ReportsMeaning (setting session.page_size session.options.0 out.room_len)
     (meaning session.options.0 request out.room_len) (drop 80 request) out reported new.state
 
+-- what a decoding leaves of its handle
+abbrev pub KeepsAsked : Session → (old new : ChainHandle) → Type 0
+KeepsAsked session old new =
+    (IsAllBut old new × (new.descriptors ≡ old.descriptors) × (new.part ≡ old.part)) × (new.session ≡ session)
+
 decode_reports : (s : Machine) (i page_size k : ℕ) (q : QueueState) (ws ws' : List ChainHandle) (os : List Owned)
     (pops : ℕ → Pop) (push : Option Begun) (old new : ChainHandle) (c : InFlightChain) (session : Session)
     (front : Bor (List ℕ)) (u : Unseen) (reported : Decoded)
     → In (own k c) os → wanted_by reported ≡ wanted_after front.now (asked_len_of old.state)
     → IfUndecoded old.state
     (ReportsRequest session (request_of front.now u (asked_len_of old.state)) reported new)
+    → KeepsAsked session old new
     → DecodingReports s q ws' k push c (request_of front.now u (asked_len_of old.state)) session.options.0 reported
     (λ es d. Reports (turn i page_size k (desk s ws q os pops push) d old new) (does.Decode session front) u
     (gives.Decoded (Ok reported)) es)
-decode_reports s i page_size k q ws ws' os pops push old new c session front u (asks.More n) mine wanted means =
-    λ after loads'. (wanted, means, refl)
+decode_reports s i page_size k q ws ws' os pops push old new c session front u (asks.More n) mine wanted means kept =
+    λ after loads'. (wanted, means, (kept.0, refl), kept.1, refl)
 decode_reports s i page_size k q ws ws' os pops push old new c session front u (asks.Call made) mine wanted
-    means = λ after os' loads' is. (wanted, means, (c, mine, refl, is))
-decode_reports s i page_size k q ws ws' os pops push old new c session front u asks.Nothing mine wanted means =
-    λ after os' loads' is. (wanted, means, (c, mine, refl, is))
-decode_reports s i page_size k q ws ws' os pops push old new c session front u (asks.Fault e) mine wanted means =
-    λ after os' loads' is. (wanted, means, (c, mine, refl, is))
+    means kept = λ after os' loads' is. (wanted, means, (kept.0, refl), kept.1, (c, mine, refl, is))
+decode_reports s i page_size k q ws ws' os pops push old new c session front u asks.Nothing mine wanted means kept =
+    λ after os' loads' is. (wanted, means, (kept.0, refl), kept.1, (c, mine, refl, is))
+decode_reports s i page_size k q ws ws' os pops push old new c session front u (asks.Fault e) mine wanted means kept =
+    λ after os' loads' is. (wanted, means, (kept.0, refl), kept.1, (c, mine, refl, is))
 
 decode_taken : (old new : ChainHandle) (q : QueueState) (session : Session) (front : Bor (List ℕ))
     (reported : Decoded) (out : InFlight) → old.state ≡ at.Taken out → length front.now ≤ out.request_len
     → ReportsWhole session front.now reported new out
     → wanted_by reported ≡ wanted_after front.now out.request_len
-    → KeepsMemory old new
+    → KeepsAsked session old new
     → Decodes old new session front.now reported
     → DrivesOne session.page_size old new q q (does.Decode session front) (gives.Decoded (Ok reported))
 unfolding DrivesOne Decodes
-decode_taken old new q session front reported out is fits means wanted same decodes ws k there u s i os pops push
+decode_taken old new q session front reported out is fits means wanted kept decodes ws k there u s i os pops push
     all =
     let own_one = all.outs k old there (ap is_out is) in
     let c = own_one.0 in
@@ -291,15 +297,15 @@ decode_taken old new q session front reported out is fits means wanted same deco
     (meaning options request out.room_len) (drop 80 request) out
     (λ es d. Reports (turn i session.page_size k (desk s ws q os pops push) d old new)
     (does.Decode session front) u (gives.Decoded (Ok reported)) es)
-    has.driven there (all.mine k old c there own_one.1).0 o.0 same (all.fits k old there) d has.chains so
+    has.driven there (all.mine k old c there own_one.1).0 o.0 (kept.0.0.0, kept.0.0.1) (all.fits k old there) d has.chains so
     (decode_reports s i session.page_size k q ws (with_handle ws k new) os pops push old new c session front u
-    reported own_one.1 wanted_if so_if)
+    reported own_one.1 wanted_if so_if kept)
 
 decode_at : (old new : ChainHandle) (q : QueueState) (session : Session) (front : Bor (List ℕ))
     (reported : Decoded) (st : state.ChainState) → old.state ≡ st → DecodesAt st (length front.now)
     → IfUndecoded st (ReportsWhole session front.now reported new)
     → IfUndecoded st (λ out. wanted_by reported ≡ wanted_after front.now out.request_len)
-    → KeepsMemory old new
+    → KeepsAsked session old new
     → Decodes old new session front.now reported
     → DrivesOne session.page_size old new q q (does.Decode session front) (gives.Decoded (Ok reported))
 decode_at old new q session front reported (at.Taken out) is fits means wanted same decodes =
@@ -318,6 +324,9 @@ pub items_same : (old new : ChainHandle) → new.descriptors ≡ old.descriptors
     new.descriptors.items ≡ old.descriptors.items
 items_same old new e = cc
 
+part_same : (old new : ChainHandle) → new.part ≡ old.part → new.part.items ≡ old.part.items
+part_same old new e = cc
+
 pub decode_result : (old new : ChainHandle) (q : QueueState) (session : Session) (front : Bor (List ℕ))
     (result : Result Decoded ChainError)
     → IfErr result (λ e. ask_error old.state (length front.now) ≡ Some e)
@@ -327,20 +336,26 @@ pub decode_result : (old new : ChainHandle) (q : QueueState) (session : Session)
     (λ reported. IfUndecoded old.state (λ out. wanted_by reported ≡ wanted_after front.now out.request_len))
     → IsAllBut old new × (new.descriptors ≡ old.descriptors) × (new.part ≡ old.part)
     → OnErr result ((new.state ≡ old.state) × (new.session ≡ old.session))
+    → OnOk result (new.session ≡ session)
     → IfOk result (λ reported. Decodes old new session front.now reported)
     → (page_size : ℕ) → session.page_size ≡ page_size
     → DrivesOne page_size old new q q (does.Decode session front) (gives.Decoded result)
-decode_result old new q session front (Ok reported) err ok reports wanted same stay step page_size page =
+decode_result old new q session front (Ok reported) err ok reports wanted same stay kept step page_size page =
     subst (λ (n : ℕ). DrivesOne n old new q q (does.Decode session front) (gives.Decoded (Ok reported))) page
     (decode_at old new q session front reported old.state refl (may_decode old.state (length front.now) ok) reports
-    wanted (same.0.0, same.0.1) step)
-decode_result old new q session front (Err e) err ok reports wanted same stay step page_size page =
+    wanted (same, kept) step)
+decode_result old new q session front (Err e) err ok reports wanted same stay kept step page_size page =
     refuses page_size old new q (does.Decode session front) (gives.Decoded (Err e))
-    (stay.0, stay.1, same.0.0, same.0.1, items_same old new same.1) (λ i k d d' u is. (refl, err))
+    (stay.0, stay.1, same.0.0, same.0.1, items_same old new same.1)
+    (λ i k d d' u is now. (
+      refl,
+      ((same.0, stay.0, items_same old new same.1, part_same old new same.2, stay.1), now ∙ sym is),
+      err,
+    ))
 
 pub other_session : (page_size : ℕ) (old : ChainHandle) (q : QueueState) (session : Session)
     (front : Bor (List ℕ)) → (session.page_size ≡ page_size → ⊥)
     → DrivesOne page_size old old q q (does.Decode session front) gives.OtherSession
 other_session page_size old q session front other =
     refuses page_size old old q (does.Decode session front) gives.OtherSession (same_held old old refl)
-    (λ i k d d' u is. (refl, refl, other))
+    (λ i k d d' u is now. (refl, (refl, now ∙ sym is), other))

@@ -47,7 +47,7 @@ use Rattle.fs_chain.specs.declared.state.ChainState.TheVariants as at
 use Rattle.fs_chain.specs.declared.state.InFlight.{InFlight}
 use Rattle.fs_driven.proofs.Handles.{IsOnlyOf, Moves, has_own, idles, keeps, leaves, not_free, others_none, others_same}
 use Rattle.fs_chain.proofs.Together.{chains_of}
-use Rattle.fs_driven.proofs.Calls.{fits_out, length_exactly, no_error, refuses, same_held, stays_put}
+use Rattle.fs_driven.proofs.Calls.{fits_out, length_exactly, no_error, refuses, same_all, same_held, stays_put}
 
 -- ---- push and pushed
 
@@ -99,7 +99,7 @@ only_none k push is = subst (λ (p : Option Begun). IsOnlyOf k p) (sym is) tt
 -- what a push returns, by the reply that the handle kept
 abbrev PushedSo : QueueState → PushStores → (front : List ℕ) → InFlight → ChainReply → Type 0
 PushedSo q s front out reply =
-    PushesBy q out reply s × (behind : List ℕ) × (front ≡ front_of reply ++ behind)
+    PushesBy q out reply s × ((behind : List ℕ) × (front ≡ front_of reply ++ behind))
 
 push_drives : (page_size : ℕ) (old new : ChainHandle) (q q' : QueueState) (front : List ℕ)
     (stores : PushStores) (out : InFlight) (preserved : ChainReply)
@@ -153,7 +153,15 @@ push_drives page_size old new q q' front stores out preserved is idle ok so made
             subst (λ (st : state.ChainState). IsReady page_size k q' (Some b) c st) (sym state_is)
                 (x.0, x.1, under),
           ),
-      (refl, ok, subst (λ (st : state.ChainState). IfHasReply st (PushedSo q stores front)) (sym is) so, refl),
+      (
+        refl,
+        ok,
+        subst (λ (st : state.ChainState). IfHasReply st (λ o r. PushesBy q o r stores
+            × ((behind : List ℕ) × (front ≡ front_of r ++ behind))
+            × (new ≡ record old { state = at.Pushing o }))) (sym is) (so.0, so.1, made),
+        pushing,
+        refl,
+      ),
     )
 
 -- the push under way
@@ -223,6 +231,8 @@ end_drives page_size old new q q' seen notice out is free gave ends ws k there u
         under.mine,
         under.reply,
         ap (λ (stores : List Store). PushesChain c x.0 notice u.last stores seen ∷ []) (sym under.used),
+        free,
+        gave,
       ),
     )
 
@@ -276,6 +286,8 @@ give_up_drives page_size old new q q' clear free left gives_up ws k there u s i 
               (ap is_out state_is),
           (
             clear,
+            free,
+            left,
             subst (λ (b : Bool). GiveUpReports (turn i page_size k (desk s ws q os pops push)
                 (desk s (with_handle ws k new) q' os (with_pop pops k no_pop) push) old new) b []) (sym none) refl,
           ),
@@ -310,6 +322,8 @@ give_up_drives page_size old new q q' clear free left gives_up ws k there u s i 
               moves refl (ap is_out state_is),
           (
             clear,
+            free,
+            left,
             subst (λ (b : Bool). GiveUpReports (turn i page_size k (desk s ws q os pops push)
                 (desk after (with_handle ws k new) q' (has.ob ++ has.oh) (with_pop pops k no_pop) push) old new) b
                 (GivesUpChain c ∷ [])) (sym some) (c, own_one.1, refl),
@@ -364,13 +378,19 @@ without_out (at.Walking course pop_id walk) is = absurd is
 without_out (at.HasReply out preserved) is = absurd is
 without_out (at.Pushing out) is = absurd is
 
+-- the handle keeps a reply of the caller's own bytes
+abbrev RepliedSo : (old new : ChainHandle) → (len : ℕ) → Type 0
+RepliedSo old new len =
+    IfUnanswered old.state (λ out. new ≡ record old { state = at.HasReply out (own_reply len) })
+
 reply_drives : (page_size : ℕ) (old new : ChainHandle) (q : QueueState) (serial len : ℕ) (out : InFlight)
     → IsWithoutReply old.state → own_error old.state old.serial serial len ≡ None
+    → RepliedSo old new len
     → new ≡ record old { state = at.HasReply out (own_reply len) }
     → RepliesOwn old new len
     → DrivesOne page_size old new q q (does.Reply serial len) (gives.Replied (Ok tt))
 unfolding DrivesOne RepliesOwn
-reply_drives page_size old new q serial len out without clear made replies ws k there u s i os pops push all =
+reply_drives page_size old new q serial len out without clear kept made replies ws k there u s i os pops push all =
     let own_one = all.outs k old there (without_out old.state without) in
     let c = own_one.0 in
     let has = has_own s i page_size q ws os k old c pops push all there own_one.1 in
@@ -406,34 +426,35 @@ reply_drives page_size old new q serial len out without clear made replies ws k 
       keeps s after i page_size q q ws has.ob has.oh k old new c c' (pops k) pops push push has.driven there
           moves refl r.1
           (mine.0, own_ready page_size k q push c request reply new.state out (own_reply len) state_is),
-      (clear, c, own_one.1, refl),
+      (clear, kept, refl, c, own_one.1, refl),
     )
 
 -- ---- by what each call ensures
 
 reply_at : (old new : ChainHandle) (q : QueueState) (serial len : ℕ) (st : state.ChainState) → old.state ≡ st
     → own_error st old.serial serial len ≡ None
+    → RepliedSo old new len
     → IfUnanswered st (λ out. new ≡ record old { state = at.HasReply out (own_reply len) })
     → RepliesOwn old new len
     → (page_size : ℕ) → DrivesOne page_size old new q q (does.Reply serial len) (gives.Replied (Ok tt))
-reply_at old new q serial len (at.Taken out) is clear made step page_size =
+reply_at old new q serial len (at.Taken out) is clear kept made step page_size =
     reply_drives page_size old new q serial len out
     (subst (λ (s : state.ChainState). IsWithoutReply s) (sym is) tt)
-    (ap (λ (s : state.ChainState). own_error s old.serial serial len) is ∙ clear) made step
-reply_at old new q serial len (at.Waits out w) is clear made step page_size =
+    (ap (λ (s : state.ChainState). own_error s old.serial serial len) is ∙ clear) kept made step
+reply_at old new q serial len (at.Waits out w) is clear kept made step page_size =
     reply_drives page_size old new q serial len out
     (subst (λ (s : state.ChainState). IsWithoutReply s) (sym is) tt)
-    (ap (λ (s : state.ChainState). own_error s old.serial serial len) is ∙ clear) made step
-reply_at old new q serial len (at.Lists out l) is clear made step page_size =
+    (ap (λ (s : state.ChainState). own_error s old.serial serial len) is ∙ clear) kept made step
+reply_at old new q serial len (at.Lists out l) is clear kept made step page_size =
     reply_drives page_size old new q serial len out
     (subst (λ (s : state.ChainState). IsWithoutReply s) (sym is) tt)
-    (ap (λ (s : state.ChainState). own_error s old.serial serial len) is ∙ clear) made step
-reply_at old new q serial len at.Free is clear made step page_size = absurd (no_error WrongOrder clear)
-reply_at old new q serial len (at.Walking course pop_id walk) is clear made step page_size =
+    (ap (λ (s : state.ChainState). own_error s old.serial serial len) is ∙ clear) kept made step
+reply_at old new q serial len at.Free is clear kept made step page_size = absurd (no_error WrongOrder clear)
+reply_at old new q serial len (at.Walking course pop_id walk) is clear kept made step page_size =
     absurd (no_error WrongOrder clear)
-reply_at old new q serial len (at.HasReply out preserved) is clear made step page_size =
+reply_at old new q serial len (at.HasReply out preserved) is clear kept made step page_size =
     absurd (no_error WrongOrder clear)
-reply_at old new q serial len (at.Pushing out) is clear made step page_size =
+reply_at old new q serial len (at.Pushing out) is clear kept made step page_size =
     absurd (no_error WrongOrder clear)
 
 pub reply_result : (old new : ChainHandle) (q : QueueState) (serial len : ℕ)
@@ -446,10 +467,10 @@ pub reply_result : (old new : ChainHandle) (q : QueueState) (serial len : ℕ)
     → OnOk result (RepliesOwn old new len)
     → (page_size : ℕ) → DrivesOne page_size old new q q (does.Reply serial len) (gives.Replied result)
 reply_result old new q serial len (Ok done) err clear same made step page_size =
-    reply_at old new q serial len old.state refl clear made step page_size
+    reply_at old new q serial len old.state refl clear made made step page_size
 reply_result old new q serial len (Err e) err clear same made step page_size =
     refuses page_size old new q (does.Reply serial len) (gives.Replied (Err e)) (same_held old new same)
-    (λ i k d d' u is. (refl, err))
+    (λ i k d d' u is now. (refl, (same_all old new same, now ∙ sym is), err))
 
 pub give_up_result : (old new : ChainHandle) (q q' : QueueState) (result : Result (Unit {0}) ChainError)
     → IfErr result (λ e. give_up_error old.state q ≡ Some e)
@@ -465,7 +486,11 @@ give_up_result old new q q' (Err e) err clear same free left step page_size =
     subst (λ (r : QueueState). DrivesOne page_size old new q r does.GiveUp (gives.GaveUp (Err e)))
     (sym same.1)
     (refuses page_size old new q does.GiveUp (gives.GaveUp (Err e)) (same_held old new same.0)
-    (λ i k d d' u is. (refl, subst (λ (r : QueueState). give_up_error old.state r ≡ Some e) (sym is) err)))
+    (λ i k d d' u is now. (
+      refl,
+      (same_all old new same.0, now ∙ sym is),
+      subst (λ (r : QueueState). give_up_error old.state r ≡ Some e) (sym is) err,
+    )))
 
 push_at : (old new : ChainHandle) (q q' : QueueState) (front front' : List ℕ) (s : PushStores)
     (st : state.ChainState) → old.state ≡ st → HasFree st q → length front' ≡ length front
@@ -479,7 +504,7 @@ push_at : (old new : ChainHandle) (q q' : QueueState) (front front' : List ℕ) 
 push_at old new q q' front front' s (at.HasReply out preserved) is free len ok made pushing by put step page_size =
     push_drives page_size old new q q' front' s out preserved is free
     (subst (λ (n : ℕ). return_error old.state q n ≡ None) (sym len) ok)
-    (by, drop (front_len preserved) front, put) made pushing step
+    (by, (drop (front_len preserved) front, put)) made pushing step
 push_at old new q q' front front' s at.Free is free len ok made pushing by put step page_size = absurd free
 push_at old new q q' front front' s (at.Walking course pop_id walk) is free len ok made pushing by put step
     page_size = absurd free
@@ -511,8 +536,9 @@ push_result old new q q' front front' (Err e) len err ok same made pushing by pu
     subst (λ (r : QueueState). DrivesOne page_size old new q r does.Push (gives.Began (Err e) front'))
     (sym same.2)
     (refuses page_size old new q does.Push (gives.Began (Err e) front') (same_held old new same.0)
-    (λ i k d d' u is. (
+    (λ i k d d' u is now. (
       refl,
+      (same_all old new same.0, now ∙ sym is),
       subst (λ (r : QueueState). push_error (has_ring old.state old.regions) old.state r (length front') ≡ Some e)
           (sym is) (subst (λ (n : ℕ). push_error (has_ring old.state old.regions) old.state q n ≡ Some e) (sym len) err),
     )))
@@ -559,4 +585,8 @@ pushed_result old new q q' seen (Err e) err ok same free gives_it step page_size
     subst (λ (r : QueueState). DrivesOne page_size old new q r (does.Pushed seen) (gives.Ended (Err e)))
     (sym same.1)
     (refuses page_size old new q (does.Pushed seen) (gives.Ended (Err e)) (same_held old new same.0)
-    (λ i k d d' u is. (refl, subst (λ (r : QueueState). end_error old.state r ≡ Some e) (sym is) err)))
+    (λ i k d d' u is now. (
+      refl,
+      (same_all old new same.0, now ∙ sym is),
+      subst (λ (r : QueueState). end_error old.state r ≡ Some e) (sym is) err,
+    )))

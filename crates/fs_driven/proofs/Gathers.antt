@@ -241,7 +241,7 @@ refused_drives : (old mid new : ChainHandle) (q : QueueState) (serial : ℕ) (be
 refused_drives old mid new q serial before list entries names failure n reported e nothing ends page_size =
     let r = nothing_reported old mid serial before list entries.now names.now failure n reported new e nothing ends in
     refuses page_size old new q (does.Gather serial entries names failure) (gives.Gathered n reported (Err e) list) r.1
-    (λ i k d d' u is. (refl, r.0, r.1, r.2))
+    (λ i k d d' u is now. (refl, r.0, r.1, now ∙ sym is, r.2))
 
 -- ---- by what the calls ensure
 

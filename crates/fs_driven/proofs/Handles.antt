@@ -374,7 +374,8 @@ reports_both i page_size d mid end (x ∷ xs) ys es later first more = (
   first.2,
   ap (λ (l : List LiveEvent). l ++ later) first.3 ∙ append_assoc first.0 first.1 later,
   first.4,
-  reports_both i page_size first.2 mid end xs ys first.1 later first.5 more,
+  first.5,
+  reports_both i page_size first.2 mid end xs ys first.1 later first.6 more,
 )
 
 pub carries_on : (page_size : ℕ) (one two three : List ChainHandle) (q q' q'' : QueueState)

@@ -1,6 +1,6 @@
 -- The end of a listing without entries drives the run: the reading of its directory is answered.
 use Rattle.std.proofs.Common.{◌≡◌, ◌≤◌, ℕ, Bool, true, false, List, [], ◌∷◌, Option, Some, arith}
-use Rattle.std.proofs.Common.{refl, subst, sym, ap, lt-ltb, slice_get}
+use Rattle.std.proofs.Common.{refl, subst, sym, ap, lt-ltb, slice_get, ◌∙◌}
 use Rattle.std.specs.Prelude.{IsTrue, Result, Ok, Err, IfOk, OnOk, OnErr, nat_lt, ◌&&◌}
 use Rattle.fuse_fs.specs.Calls.{Entries, Failed, FileAnswer, FileCall, suits}
 use Rattle.plain_machine.specs.Step.{Calls}
@@ -26,13 +26,12 @@ use Rattle.fs_chain.specs.declared.state.InFlight.{InFlight}
 use Rattle.fs_driven.specs.declared.commands.Command.TheVariants as does
 use Rattle.fs_driven.specs.declared.commands.Returned.TheVariants as gives
 use Rattle.fs_driven.specs.Desks.{Begun, Driven, Leads, desk}
-use Rattle.fs_driven.specs.Preserved.{KeepsMemory}
 use Rattle.fs_driven.specs.Reported.{DrivesOne, ReportsListing, turn}
 use Rattle.fs_chain.proofs.HoldsListed.{begins_listing, reads_directory}
 use Rattle.fs_chain.proofs.Together.{chains_of}
 use Rattle.fs_driven.proofs.Handles.{has_own}
 use Rattle.fs_driven.proofs.Answering.{answered_all}
-use Rattle.fs_driven.proofs.Calls.{HasNoPush, refuses, same_held}
+use Rattle.fs_driven.proofs.Calls.{HasNoPush, refuses, same_all, same_held}
 
 -- ---- a listing that has its reply
 
@@ -100,7 +99,7 @@ HasRead new answer len old =
 
 listing_drives : (page_size : ℕ) (old new : ChainHandle) (q : QueueState) (serial : ℕ) (answer : FileAnswer)
     (P : Result ℕ ChainError → Type 0) (len : ℕ)
-    → WasListing old.state → KeepsMemory old new
+    → WasListing old.state → IsAllButPlace old new
     → ((page_size : ℕ) (c : InFlightChain) (h : HoldsListing page_size c [] [] [] old) →
     IsTrue (suits (readdir_call h.asked) answer))
     → HasRead new answer len old → P (Ok len)
@@ -125,9 +124,9 @@ listing_drives page_size old new q serial answer P len was same suited listed re
     answered_all s i page_size k q ws has.ob has.oh pops push old new c h.request h.options calls after
     (ReceivesAnswer c call answer ∷ [])
     (λ es d. ReportsListing (turn i page_size k (desk s ws q os pops push) d old new) serial answer P (Ok len) es)
-    has.driven there mine.0 same r.holds (no_push new.state h.out r.preserved r.state) r.none_pending
+    has.driven there mine.0 (same.0.0, same.0.1) r.holds (no_push new.state h.out r.preserved r.state) r.none_pending
     (after, reads.0, refl) refl refl refl refl refl
-    (λ after' os' pops'. (c, call, h.request, h.options, own_one.1, h.phase, refl, reported))
+    (λ after' os' pops'. (c, call, h.request, h.options, own_one.1, h.phase, refl, same, refl, reported))
 
 -- ---- by what each call ensures
 
@@ -138,7 +137,7 @@ ended_not : (old new : ChainHandle) (q : QueueState) (serial : ℕ) (e : ChainEr
     → (page_size : ℕ) → DrivesOne page_size old new q q (does.EndListing serial) (gives.Listed (Err e))
 ended_not old new q serial e reported same page_size =
     refuses page_size old new q (does.EndListing serial) (gives.Listed (Err e)) (same_held old new same)
-    (λ i k d d' u is. (refl, reported))
+    (λ i k d d' u is now. (refl, (same_all old new same, now ∙ sym is), reported))
 
 pub ended : (old new : ChainHandle) (q : QueueState) (serial : ℕ) (result : Result ℕ ChainError)
     → UnlessRefused (serial_error old.state old.serial serial) result (new ≡ old)
@@ -151,7 +150,7 @@ pub ended : (old new : ChainHandle) (q : QueueState) (serial : ℕ) (result : Re
 unfolding DrivesOne EndsListing has_read
 ended old new q serial (Ok len) reported ends same stays step page_size ws k there u s i os pops push all =
     listing_drives page_size old new q serial (Entries []) (λ r. EndsByEntries old.state new.state r) len
-    (was_listing _ old.state new.state len ends) (stays.0.0, stays.0.1)
+    (was_listing _ old.state new.state len ends) stays
     (λ page c h. refl)
     (λ page c h. step page (asked_chain c h.request h.options (read_calls (readdir_call h.asked) (Entries []))) []
     EndsThere (read_calls (readdir_call h.asked) (Entries [])) [] (has_read page c old (Entries []) h) tt refl)
@@ -178,7 +177,7 @@ failed_not : (old new : ChainHandle) (q : QueueState) (serial errno : ℕ) (e : 
     → (page_size : ℕ) → DrivesOne page_size old new q q (does.FailListing serial errno) (gives.Listed (Err e))
 failed_not old new q serial errno e reported same page_size =
     refuses page_size old new q (does.FailListing serial errno) (gives.Listed (Err e)) (same_held old new same)
-    (λ i k d d' u is. (refl, reported))
+    (λ i k d d' u is now. (refl, (same_all old new same, now ∙ sym is), reported))
 
 pub failed : (old new : ChainHandle) (q : QueueState) (serial errno : ℕ) (result : Result ℕ ChainError)
     → 1 ≤ errno → errno ≤ 4095
@@ -193,7 +192,7 @@ unfolding DrivesOne FailsListing has_read
 failed old new q serial errno (Ok len) low high reported ends same stays step page_size ws k there u s i os pops push
     all =
     listing_drives page_size old new q serial (Failed errno) (λ r. EndsByError errno old.state new.state r) len
-    (was_listing _ old.state new.state len ends) (stays.0.0, stays.0.1)
+    (was_listing _ old.state new.state len ends) stays
     (λ page c h. errno_suits errno low high)
     (λ page c h. step page (asked_chain c h.request h.options (read_calls (readdir_call h.asked) (Failed errno))) []
     (Unreadable errno) (read_calls (readdir_call h.asked) (Failed errno)) [] (has_read page c old (Failed errno) h)

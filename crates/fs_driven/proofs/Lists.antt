@@ -1,5 +1,6 @@
 -- A call of one of the handles in a list, and calls one behind another.
 use Rattle.std.proofs.Common.{inl, inr, ◌≡◌, ◌⊎◌, ◌<◌, ◌≤◌, ◌+◌, ℕ, zero, suc, List, [], ◌∷◌, ◌++◌, Some, None, arith}
+use Rattle.std.proofs.Common.{false}
 use Rattle.std.proofs.Common.{get_or}
 use Rattle.std.proofs.Common.{length, slice_get, refl}
 use Rattle.std.proofs.Common.{subst, sym, ap, ◌∙◌, append-nil}
@@ -9,7 +10,8 @@ use Rattle.fs_driven.proofs.Handles.{Seen, carries_on, none_some, not_free, same
 use Rattle.fs_driven.proofs.Pops.{idle_may}
 use Rattle.vm_memory_core.specs.Host.{changed_at}
 use Rattle.fs_driven.specs.Desks.{BeginsDriven, Desk, Leads, desk, no_pop}
-use Rattle.fs_driven.specs.Reported.{Called, Drives, DrivesOne, ReportsAll, Unseen, call_of, calls_of, seen_of}
+use Rattle.fs_driven.specs.Reported.{Called, Drives, DrivesOne, ReportsAll, Unseen, call_of, calls_of}
+use Rattle.fs_driven.specs.Reported.{is_of_queue, seen_of}
 use Rattle.fs_chain.specs.Together.{with_handle}
 use Rattle.fs_chain.specs.declared.chain_handle.ChainHandle.{ChainHandle}
 use Rattle.fs_driven.specs.declared.commands.Command.{Command}
@@ -32,11 +34,12 @@ single (z ∷ y ∷ zs) c is =
 pub at_place : (page_size : ℕ) (ws : List ChainHandle) (k : ℕ) (w new : ChainHandle) (q q' : QueueState)
     (command : Command) (returned : Returned) →
     slice_get ws k ≡ Some w →
+    is_of_queue command ≡ false →
     DrivesOne page_size w new q q' command returned →
     Drives page_size ws (slice_set ws k new) q q'
     (call_of k command returned ∷ [])
 unfolding DrivesOne Drives
-at_place page_size ws k w new q q' command returned there one zs is s i os pops push all =
+at_place page_size ws k w new q q' command returned there mine one zs is s i os pops push all =
     let z = single zs (call_of k command returned) is in
     let a = one ws k there z.0 s i os pops push all in
     let d : Desk = desk s ws q os pops push in
@@ -51,7 +54,7 @@ at_place page_size ws k w new q q' command returned there one zs is s i os pops 
       a.5,
       a.6,
       subst (λ (l : List Seen). ReportsAll i page_size d l a.0 end) (sym z.1)
-          (a.0, [], end, sym (append-nil a.0), inl (w, new, there, refl, a.7), (refl, refl)),
+          (a.0, [], end, sym (append-nil a.0), (a.5, a.6), inl (mine, w, new, there, refl, a.7), (refl, refl)),
     )
 
 nowhere : {A : Type 0} (xs : List A) (k : ℕ) → length xs ≤ k → slice_get xs k ≡ None
@@ -61,10 +64,10 @@ nowhere {A} (y ∷ ys) (suc k) past = let more : length ys ≤ k = omega arith i
 
 -- there is no such handle
 pub no_place : (page_size : ℕ) (ws : List ChainHandle) (k : ℕ) (q : QueueState) (command : Command)
-    → length ws ≤ k
+    → length ws ≤ k → is_of_queue command ≡ false
     → Drives page_size ws ws q q (call_of k command gives.NoHandle ∷ [])
 unfolding Drives
-no_place page_size ws k q command past zs is s i os pops push all =
+no_place page_size ws k q command past mine zs is s i os pops push all =
     let z = single zs (call_of k command gives.NoHandle) is in
     let d : Desk = desk s ws q os pops push in (
       [],
@@ -75,7 +78,7 @@ no_place page_size ws k q command past zs is s i os pops push all =
       refl,
       all,
       subst (λ (l : List Seen). ReportsAll i page_size d l [] d) (sym z.1)
-          ([], [], d, refl, inr (inl (nowhere ws k past, refl, refl, refl)), (refl, refl)),
+          ([], [], d, refl, (refl, all), inr (inl (mine, nowhere ws k past, refl, refl, refl)), (refl, refl)),
     )
 
 -- no calls

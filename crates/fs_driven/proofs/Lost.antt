@@ -127,6 +127,7 @@ abandoned old new q freed abandons page_size ws k there u s i os pops push all =
           (ap is_out freed.0.3),
       (
         freed,
+        refl,
         subst (λ (b : Bool). AbandonReports (turn i page_size k (desk s ws q os pops push)
             (desk s (with_handle ws k new) q os (with_pop pops k no_pop) push) old new) b []) (sym none) refl,
       ),
@@ -154,6 +155,7 @@ abandoned old new q freed abandons page_size ws k there u s i os pops push all =
               (mine.0, fault_of_phase c.phase, refl),
           (
             freed,
+            refl,
             subst (λ (b : Bool). AbandonReports (turn i page_size k (desk s ws q os pops push)
                 (desk after (with_handle ws k new) q (has.ob ++ lost c' ∷ has.oh) (with_pop pops k no_pop) push)
                 old new) b (Abandons c ∷ [])) (sym some)

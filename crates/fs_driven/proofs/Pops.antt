@@ -582,4 +582,8 @@ pop_result old new q q' bytes (Err e) proceeds err same step page_size =
     (sym same.1)
     (refuses page_size old new q (does.Pop bytes) (gives.Popped (Err e))
     (same.0.1, same.0.4, same.0.0.0, same.0.0.1, same.0.2)
-    (λ i k d d' u is. (refl, subst (λ (r : QueueState). RefusesWalk old r bytes.now e) (sym is) err)))
+    (λ i k d d' u is now. (
+      refl,
+      (same.0, now ∙ sym is),
+      subst (λ (r : QueueState). RefusesWalk old r bytes.now e) (sym is) err,
+    )))

@@ -1,7 +1,7 @@
 -- Calls of the queue drive the run: a reset, after which no chain is in flight any more, also none whose handle
 -- was freed, and a store before a sleep.
 use Rattle.std.proofs.Common.{inl, inr, ◌≡◌, ℕ, zero, suc, Bool, true, false, List, [], ◌∷◌, Option, Some, None, arith}
-use Rattle.std.proofs.Common.{All, append-nil, eq-eqb, refl, subst, sym, ap, ◌==◌, map, not, slice_get}
+use Rattle.std.proofs.Common.{All, append-nil, eq-eqb, refl, subst, sym, ap, ◌∙◌, ◌==◌, map, not, slice_get}
 use Rattle.std.specs.Prelude.{◌≤◌, filter, if◌then◌else◌, option_map}
 use Rattle.std.specs.List.{AllByRecursion}
 use Rattle.fs_queue.specs.declared.layout.QueueLayout.{QueueLayout}
@@ -21,7 +21,7 @@ use Rattle.fs_chain.specs.declared.chain_handle.ChainHandle.{ChainHandle}
 use Rattle.fs_chain.specs.declared.queue.QueueState.{QueueState}
 use Rattle.fs_driven.specs.declared.commands.Command.TheVariants as does
 use Rattle.fs_driven.specs.declared.commands.Returned.TheVariants as gives
-use Rattle.fs_driven.specs.Desks.{Desk, FitsRun, In, IsLost, desk, lost}
+use Rattle.fs_driven.specs.Desks.{Desk, Driven, FitsRun, In, IsLost, desk, lost}
 use Rattle.fs_driven.specs.Reported.{Drives, DrivesOne, HasNoChain, MayReset, ReportsAll, call_of, storing}
 use Rattle.fs_driven.proofs.Handles.{Seen, held_out, not_free}
 use Rattle.fs_driven.proofs.Calls.{refuses, same_held}
@@ -87,27 +87,36 @@ reset_done ws q q' layout position may is resets page_size k zs calls s i os pop
     (subst (λ (n : ℕ). 1 ≤ n) (sym max) may.1) most in
     let after : Machine = after_reset s i (live_of q') in
     let d : Desk = desk s ws q os pops push in
-    let end : Desk = desk after ws q' [] pops None in (
+    let end : Desk = desk after ws q' [] pops None in
+    let run : LiveRun any_files s (ResetsQueue i (live_of q') ∷ []) after = (after, e.0, refl) in
+    let driven : Driven after i page_size q' ws [] pops None = record {
+      all = record { chains = all_gone i s.chains lost; held = tt; once = tt };
+      queue = e.1;
+      page = all.page;
+      small = all.small;
+      mine = λ j w c there m. absurd m;
+      outs = λ j w there out. absurd (not_free (is_out w.state) out (none j w there));
+      fits = λ j w there.
+          subst (λ (b : Bool). FitsRun s.places s.limit b (pops j) w) (sym event) (all.fits j w there);
+      left = λ c m. absurd m;
+      still = λ pushing. refl;
+    } in (
       ResetsQueue i (live_of q') ∷ [],
       after,
       [],
       pops,
       None,
-      (after, e.0, refl),
-      record {
-        all = record { chains = all_gone i s.chains lost; held = tt; once = tt };
-        queue = e.1;
-        page = all.page;
-        small = all.small;
-        mine = λ j w c there m. absurd m;
-        outs = λ j w there out. absurd (not_free (is_out w.state) out (none j w there));
-        fits = λ j w there.
-            subst (λ (b : Bool). FitsRun s.places s.limit b (pops j) w) (sym event) (all.fits j w there);
-        left = λ c m. absurd m;
-        still = λ pushing. refl;
-      },
-      subst (λ (l : List Seen). ReportsAll i page_size d l (ResetsQueue i (live_of q') ∷ []) end) (sym z.1)
-          (ResetsQueue i (live_of q') ∷ [], [], end, refl, inr (inr (refl, may, is, refl, refl)), (refl, refl)),
+      run,
+      driven,
+      subst (λ (l : List Seen). ReportsAll i page_size d l (ResetsQueue i (live_of q') ∷ []) end) (sym z.1) (
+        ResetsQueue i (live_of q') ∷ [],
+        [],
+        end,
+        refl,
+        (run, driven),
+        inr (inr (refl, may, is, refl, refl)),
+        (refl, refl),
+      ),
     )
 
 pub reset_not_done : (ws : List ChainHandle) (q : QueueState) (layout : QueueLayout) (position : ℕ)
@@ -126,7 +135,7 @@ reset_not_done ws q layout position not page_size k zs calls s i os pops push al
       refl,
       all,
       subst (λ (l : List Seen). ReportsAll i page_size d l [] d) (sym z.1)
-          ([], [], d, refl, inr (inr (refl, refl, not)), (refl, refl)),
+          ([], [], d, refl, (refl, all), inr (inr (refl, refl, not)), (refl, refl)),
     )
 
 -- for one handle alone it isn't done
@@ -135,7 +144,7 @@ pub no_reset_of_one : (old new : ChainHandle) (q : QueueState) → new ≡ old
     → DrivesOne page_size old new q q (does.Reset layout position) gives.NotOfOne
 no_reset_of_one old new q same page_size layout position =
     refuses page_size old new q (does.Reset layout position) gives.NotOfOne (same_held old new same)
-    (λ i k d d' u is. (refl, same))
+    (λ i k d d' u is now. (refl, (same, now ∙ sym is)))
 
 -- ---- a store before a sleep
 
@@ -146,19 +155,21 @@ pub stored : (ws : List ChainHandle) (q : QueueState) (wanted : Bool) (store : O
 unfolding Drives StoresNotice
 stored ws q wanted store is stores page_size k zs calls s i os pops push all =
     let z = single zs (call_of k (does.Notify wanted) (gives.Store store)) calls in
-    let d : Desk = desk s ws q os pops push in (
+    let d : Desk = desk s ws q os pops push in
+    let run : LiveRun any_files s (storing i s.places store) s = by_store store (stores s i all.queue) in (
       storing i s.places store,
       s,
       os,
       pops,
       push,
-      by_store store (stores s i all.queue),
+      run,
       all,
       subst (λ (l : List Seen). ReportsAll i page_size d l (storing i s.places store) d) (sym z.1) (
         storing i s.places store,
         [],
         d,
         sym (append-nil (storing i s.places store)),
+        (run, all),
         inr (inr (is, refl, refl)),
         (refl, refl),
       ),
@@ -180,4 +191,4 @@ pub no_store_of_one : (old new : ChainHandle) (q : QueueState) → new ≡ old
     → DrivesOne page_size old new q q (does.Notify wanted) gives.NotOfOne
 no_store_of_one old new q same page_size wanted =
     refuses page_size old new q (does.Notify wanted) gives.NotOfOne (same_held old new same)
-    (λ i k d d' u is. (refl, same))
+    (λ i k d d' u is now. (refl, (same, now ∙ sym is)))

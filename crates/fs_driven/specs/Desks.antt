@@ -124,6 +124,12 @@ Leads s i page_size q ws T =
     × Driven after i page_size q ws os pops push
     × T es (desk after ws q os pops push)
 
+-- these events lead from one desk to another, where the handles hold the run's chains
+abbrev pub LeadsTo : (i page_size : ℕ) → (d d' : Desk) → List LiveEvent → Type 0
+LeadsTo i page_size d d' es =
+    LiveRun any_files d.run es d'.run
+    × Driven d'.run i page_size d'.queue d'.handles d'.owned d'.pops d'.push
+
 -- ---- the beginning
 
 -- no loads

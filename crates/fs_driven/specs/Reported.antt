@@ -1,4 +1,5 @@
--- The events of a driver's calls: of each, by its command and what it returned. A refused call has none.
+-- The events of a driver's calls: of each, by its command and what it returned, with what it leaves of its
+-- handle and the queue. A refused call has none, and changes nothing.
 use Rattle.std.specs.Prelude.{◌≡◌, ◌⊎◌, ◌≤◌, ◌-◌, ◌==◌, ℕ, zero, suc, Bool, true, false, List, [], ◌∷◌, ◌++◌}
 use Rattle.std.specs.Prelude.{Option, Some, None, Result, Ok, Err, length, drop, take, slice_get}
 use Rattle.std.specs.Prelude.{All, if◌then◌else◌, option_map}
@@ -27,19 +28,19 @@ use Rattle.fs_chain.specs.Ahead.{PopsAhead, ahead_error}
 use Rattle.fs_driven.specs.Ahead.{AddsAhead}
 use Rattle.fs_chain.specs.Answers.{IfWaits, IsGiven, IsNotTaken}
 use Rattle.fs_chain.specs.Decoding.{IfUndecoded, ReportsMeaning, wanted_after, wanted_by}
-use Rattle.fs_driven.specs.Desks.{Begun, Desk, Driven, In, Leads, desk, lost, own}
+use Rattle.fs_driven.specs.Desks.{Begun, Desk, Driven, In, Leads, LeadsTo, desk, lost, own}
 use Rattle.fs_chain.specs.Holds.{Machine, Pop, calls_decoded, live_of, served_so}
 use Rattle.fs_chain.specs.Listings.{EndsByEntries, EndsByError}
-use Rattle.fs_chain.specs.Loads.{ProceedsSo, RefusesWalk, whole}
+use Rattle.fs_chain.specs.Loads.{IsSame, ProceedsSo, RefusesWalk, whole}
 use Rattle.fs_chain.specs.Orders.{ask_error, end_error, front_of, give_up_error, has_ring, is_out}
 use Rattle.fs_chain.specs.Orders.{push_error, return_error}
-use Rattle.fs_chain.specs.OwnReplies.{own_error}
+use Rattle.fs_chain.specs.OwnReplies.{IfUnanswered, own_error, own_reply}
 use Rattle.fs_chain.specs.Pushes.{IfHasReply, IsFreed, PushesBy}
 use Rattle.fs_chain.specs.Events.{notification_store, store_of}
-use Rattle.fs_chain.specs.Queues.{reset_to}
-use Rattle.fs_chain.specs.Serials.{UnlessRefused, serial_error}
+use Rattle.fs_chain.specs.Queues.{gave, gave_up, reset_to}
+use Rattle.fs_chain.specs.Serials.{UnlessRefused, freed, serial_error}
 use Rattle.fs_chain.specs.Together.{Owned, with_handle}
-use Rattle.fs_chain.specs.Walks.{count}
+use Rattle.fs_chain.specs.Walks.{IsAllBut, IsAllButPlace, count}
 use Rattle.fs_chain.specs.ListingCalls.{listing_calls}
 use Rattle.fs_chain.specs.Pops.{AddsSo}
 use Rattle.fs_chain.specs.declared.answering.Replied.{Replied}
@@ -121,6 +122,20 @@ abbrev pub turn : (i page_size k : ℕ) → (d d' : Desk) → (w w' : ChainHandl
 turn i page_size k d d' w w' =
     record { queue = i; page_size = page_size; handle = k; old = d; new = d'; was = w; now = w' }
 
+-- a refused call changes neither its handle nor the queue
+abbrev pub ChangesNothing : Turn → Type 0
+ChangesNothing t = IsSame t.was t.now × (t.new.queue ≡ t.old.queue)
+
+-- nor does a call that isn't made
+abbrev pub IsNotMade : Turn → Type 0
+IsNotMade t = (t.now ≡ t.was) × (t.new.queue ≡ t.old.queue)
+
+-- of the handle only the chain's state and the session change, and the queue stays
+abbrev pub ChangesSession : Turn → Type 0
+ChangesSession t =
+    (IsAllBut t.was t.now × (t.now.descriptors ≡ t.was.descriptors) × (t.now.part ≡ t.was.part))
+    × (t.new.queue ≡ t.old.queue)
+
 -- ---- pops
 
 -- the loads of a pop, by the state of its handle: none as it begins; with these bytes, if it goes on and
@@ -149,7 +164,7 @@ PopReports t loaded (shows.Faulty head fault) es =
 
 abbrev pub ReportsPop : Turn → (bytes : List ℕ) → Result outcome.LoadOutcome ChainError → List LiveEvent
     → Type 0
-ReportsPop t bytes (Err e) es = (es ≡ []) × RefusesWalk t.was t.old.queue bytes e
+ReportsPop t bytes (Err e) es = (es ≡ []) × ChangesNothing t × RefusesWalk t.was t.old.queue bytes e
 ReportsPop t bytes (Ok outcomes.Part) es =
     (es ≡ []) × ProceedsSo t.was t.old.queue bytes outcomes.Part t.now t.new.queue
 ReportsPop t bytes (Ok (outcomes.On reported)) es =
@@ -161,7 +176,8 @@ ReportsPop t bytes (Ok (outcomes.On reported)) es =
 -- a pop by loads ahead has the loads that it took of them
 abbrev pub ReportsAhead : Turn → List AheadBytes → Result walked.PopOutcome ChainError → List LiveEvent
     → Type 0
-ReportsAhead t ahead (Err e) es = (es ≡ []) × (ahead_error t.was.state t.old.queue ≡ Some e)
+ReportsAhead t ahead (Err e) es =
+    (es ≡ []) × ChangesNothing t × (ahead_error t.was.state t.old.queue ≡ Some e)
 ReportsAhead t ahead (Ok reported) es =
     (pop : PopsAhead ahead t.was t.now t.old.queue t.new.queue (outcomes.On reported))
     × (loaded : Loaded)
@@ -187,13 +203,16 @@ DecodeReports t session request reported es =
 
 abbrev pub ReportsDecode : Turn → Session → (front : List ℕ) → Unseen → Result Decoded ChainError →
     List LiveEvent → Type 0
-ReportsDecode t session front u (Err e) es = (es ≡ []) × (ask_error t.was.state (length front) ≡ Some e)
+ReportsDecode t session front u (Err e) es =
+    (es ≡ []) × ChangesNothing t × (ask_error t.was.state (length front) ≡ Some e)
 ReportsDecode t session front u (Ok reported) es =
     let request = request_of front u (asked_len_of t.was.state) in
     (wanted_by reported ≡ wanted_after front (asked_len_of t.was.state))
     × IfUndecoded t.was.state (λ out. ReportsMeaning
     (setting session.page_size session.options.0 out.room_len)
     (meaning session.options.0 request out.room_len) (drop 80 request) out reported t.now.state)
+    × ChangesSession t
+    × (t.now.session ≡ session)
     × DecodeReports t session request reported es
 
 -- the answer to a FORGET that is owed
@@ -203,12 +222,15 @@ forgetting c (Some node) = ReceivesAnswer c (Forget node.0 node.1 1) Done ∷ []
 
 abbrev pub ReportsAnswer : Turn → (serial : ℕ) → made_answer.FileAnswer → Unseen → Result Replied ChainError →
     List LiveEvent → Type 0
-ReportsAnswer t serial answer u (Err e) es = (es ≡ []) × IsNotTaken t.was serial answer e
+ReportsAnswer t serial answer u (Err e) es =
+    (es ≡ []) × ChangesNothing t × IsNotTaken t.was serial answer e
 ReportsAnswer t serial answer u (Ok reported) es =
     let given = answer_of (data_of answer u) answer in
     IfWaits t.was.state (λ out waiting.
     IsGiven (setting t.was.session.page_size t.was.session.options.0 waiting.room) waiting answer out
     t.now.session.options.0 reported t.now.state)
+    × ChangesSession t
+    × (t.now.session.page_size ≡ t.was.session.page_size)
     × (c : InFlightChain)
     × (call : FileCall)
     × (request : List ℕ)
@@ -226,9 +248,11 @@ replied_to phase u len = exactly len u.request
 abbrev pub ReportsReply : Turn → (serial len : ℕ) → Unseen → Result (Unit {0}) ChainError → List LiveEvent →
     Type 0
 ReportsReply t serial len u (Err e) es =
-    (es ≡ []) × (own_error t.was.state t.was.serial serial len ≡ Some e)
+    (es ≡ []) × ChangesNothing t × (own_error t.was.state t.was.serial serial len ≡ Some e)
 ReportsReply t serial len u (Ok done) es =
     (own_error t.was.state t.was.serial serial len ≡ None)
+    × IfUnanswered t.was.state (λ out. t.now ≡ record (t.was) { state = at.HasReply out (own_reply len) })
+    × (t.new.queue ≡ t.old.queue)
     × (c : InFlightChain)
     × In (own t.handle c) t.old.owned
     × (es ≡ RepliesOwnBytes c (replied_to c.phase u (asked_len_of t.was.state)) (exactly len u.bytes)
@@ -239,6 +263,7 @@ abbrev pub ReportsListing : Turn → (serial : ℕ) → FileAnswer → (Result �
     Result ℕ ChainError → List LiveEvent → Type 0
 ReportsListing t serial answer Replies (Err e) es =
     (es ≡ [])
+    × ChangesNothing t
     × UnlessRefused {A = ℕ} (serial_error t.was.state t.was.serial serial) (Err e) (t.now ≡ t.was)
     (Replies (Err e))
 ReportsListing t serial answer Replies (Ok len) es =
@@ -249,6 +274,8 @@ ReportsListing t serial answer Replies (Ok len) es =
     × In (own t.handle c) t.old.owned
     × (c.phase ≡ Asked request options [])
     × (es ≡ ReceivesAnswer c call answer ∷ [])
+    × IsAllButPlace t.was t.now
+    × (t.new.queue ≡ t.old.queue)
     × Replies (Ok len)
 
 -- an entry, or the end of a listing, is refused
@@ -267,6 +294,7 @@ GatherReports t serial entries names failure added last (Err e) list es =
     (es ≡ [])
     × (added ≡ 0)
     × IsSameHeld t.was t.now
+    × (t.new.queue ≡ t.old.queue)
     × RefusesEntries t.was t.now serial list entries names failure last e
 GatherReports t serial entries names failure added last (Ok len) list es =
     let left = drop added (all_brought entries names) in
@@ -295,18 +323,21 @@ GatherReports t serial entries names failure added last (Ok len) list es =
 abbrev pub ReportsPush : Turn → Result PushStores ChainError → (front : List ℕ) → List LiveEvent → Type 0
 ReportsPush t (Err e) front es =
     (es ≡ [])
+    × ChangesNothing t
     × (push_error (has_ring t.was.state t.was.regions) t.was.state t.old.queue (length front) ≡ Some e)
 ReportsPush t (Ok stores) front es =
     (es ≡ [])
     × (return_error t.was.state t.old.queue (length front) ≡ None)
     × IfHasReply t.was.state (λ out reply. PushesBy t.old.queue out reply stores
-    × (behind : List ℕ)
-    × (front ≡ front_of reply ++ behind))
+    × ((behind : List ℕ) × (front ≡ front_of reply ++ behind))
+    × (t.now ≡ record (t.was) { state = at.Pushing out }))
+    × (t.new.queue ≡ record (t.old.queue) { pushing = true })
     × (t.new.push ≡ Some (record { handle = t.handle; stores = stores; front = front }))
 
 -- a push ends: its stores are those that its begin returned, and its reply begins with that front
 abbrev pub ReportsPushed : Turn → (seen : List ℕ) → Unseen → Result Bool ChainError → List LiveEvent → Type 0
-ReportsPushed t seen u (Err e) es = (es ≡ []) × (end_error t.was.state t.old.queue ≡ Some e)
+ReportsPushed t seen u (Err e) es =
+    (es ≡ []) × ChangesNothing t × (end_error t.was.state t.old.queue ≡ Some e)
 ReportsPushed t seen u (Ok notice) es =
     (c : InFlightChain)
     × (x : Exchange)
@@ -316,15 +347,21 @@ ReportsPushed t seen u (Ok notice) es =
     × (b.handle ≡ t.handle)
     × ((behind : List ℕ) × (x.reply ≡ take b.stores.front_len b.front ++ behind))
     × (es ≡ PushesChain c x notice u.last (stores_of b.stores.used) seen ∷ [])
+    × (t.now ≡ freed t.was)
+    × (t.new.queue ≡ gave t.old.queue)
 
 abbrev pub GiveUpReports : Turn → (is_out : Bool) → List LiveEvent → Type 0
 GiveUpReports t false es = es ≡ []
 GiveUpReports t true es = (c : InFlightChain) × In (own t.handle c) t.old.owned × (es ≡ GivesUpChain c ∷ [])
 
 abbrev pub ReportsGiveUp : Turn → Result (Unit {0}) ChainError → List LiveEvent → Type 0
-ReportsGiveUp t (Err e) es = (es ≡ []) × (give_up_error t.was.state t.old.queue ≡ Some e)
+ReportsGiveUp t (Err e) es =
+    (es ≡ []) × ChangesNothing t × (give_up_error t.was.state t.old.queue ≡ Some e)
 ReportsGiveUp t (Ok done) es =
-    (give_up_error t.was.state t.old.queue ≡ None) × GiveUpReports t (is_out t.was.state) es
+    (give_up_error t.was.state t.old.queue ≡ None)
+    × (t.now ≡ freed t.was)
+    × (t.new.queue ≡ (if is_out t.was.state then gave_up t.old.queue else t.old.queue))
+    × GiveUpReports t (is_out t.was.state) es
 
 -- a handle is freed: its chain stays in flight, without a handle
 abbrev pub AbandonReports : Turn → (is_out : Bool) → List LiveEvent → Type 0
@@ -336,7 +373,8 @@ AbandonReports t true es =
     × In (lost (abandoned_chain c)) t.new.owned
 
 abbrev pub ReportsAbandon : Turn → List LiveEvent → Type 0
-ReportsAbandon t es = IsFreed t.was t.now × AbandonReports t (is_out t.was.state) es
+ReportsAbandon t es =
+    IsFreed t.was t.now × (t.new.queue ≡ t.old.queue) × AbandonReports t (is_out t.was.state) es
 
 -- ---- each call
 
@@ -348,7 +386,7 @@ Reports t (does.PopAhead ahead bytes) u (gives.PoppedAhead r) es =
     ReportsAhead t (loads_ahead ahead.now bytes.now) r es
 Reports t (does.Decode session front) u (gives.Decoded r) es = ReportsDecode t session front.now u r es
 Reports t (does.Decode session front) u gives.OtherSession es =
-    (es ≡ []) × (t.now ≡ t.was) × (session.page_size ≡ t.page_size → ⊥)
+    (es ≡ []) × IsNotMade t × (session.page_size ≡ t.page_size → ⊥)
 Reports t (does.Answer serial answer) u (gives.Answered r) es = ReportsAnswer t serial answer u r es
 Reports t (does.Reply serial len) u (gives.Replied r) es = ReportsReply t serial len u r es
 Reports t (does.EndListing serial) u (gives.Listed r) es =
@@ -362,8 +400,8 @@ Reports t does.Push u (gives.Began r front) es = ReportsPush t r front es
 Reports t (does.Pushed seen) u (gives.Ended r) es = ReportsPushed t seen u r es
 Reports t does.GiveUp u (gives.GaveUp r) es = ReportsGiveUp t r es
 Reports t does.Abandon u gives.Abandoned es = ReportsAbandon t es
-Reports t (does.Reset layout position) u gives.NotOfOne es = (es ≡ []) × (t.now ≡ t.was)
-Reports t (does.Notify wanted) u gives.NotOfOne es = (es ≡ []) × (t.now ≡ t.was)
+Reports t (does.Reset layout position) u gives.NotOfOne es = (es ≡ []) × IsNotMade t
+Reports t (does.Notify wanted) u gives.NotOfOne es = (es ≡ []) × IsNotMade t
 Reports t _ u _ es = ⊥
 
 -- a call of a handle is a step of the run, among any other handles, whatever it doesn't see
@@ -402,6 +440,12 @@ storing i places None = []
 storing i places (Some store) =
     if reach places Write store.address 2 then StoresNotification i (store_of store) ∷ [] else []
 
+-- whether a command is one of the queue, and of no handle
+abbrev pub is_of_queue : Command → Bool
+is_of_queue (does.Reset layout position) = true
+is_of_queue (does.Notify wanted) = true
+is_of_queue _ = false
+
 -- the events of a call of the queue, which is none of a handle
 abbrev pub ReportsOfQueue : (i : ℕ) → (d d' : Desk) → Command → Returned → List LiveEvent → Type 0
 ReportsOfQueue i d d' (does.Reset layout position) (gives.Reset done) es =
@@ -415,18 +459,21 @@ ReportsOfQueue i d d' _ _ es = ⊥
 -- the events of a call of one of the handles, of none if there is no such handle, or of the queue
 abbrev pub ReportsCall : (i page_size : ℕ) → (d d' : Desk) → Called → Unseen → List LiveEvent → Type 0
 ReportsCall i page_size d d' call u es =
-    ((w : ChainHandle)
+    ((is_of_queue call.command ≡ false)
+    × (w : ChainHandle)
     × (w' : ChainHandle)
     × (slice_get d.handles call.place ≡ Some w)
     × (d'.handles ≡ with_handle d.handles call.place w')
     × Reports (turn i page_size call.place d d' w w') call.command u call.returned es)
-    ⊎ ((slice_get d.handles call.place ≡ None)
+    ⊎ ((is_of_queue call.command ≡ false)
+    × (slice_get d.handles call.place ≡ None)
     × (call.returned ≡ gives.NoHandle)
     × (es ≡ [])
     × (d' ≡ d))
     ⊎ ReportsOfQueue i d d' call.command call.returned es
 
--- the events of calls one behind another
+-- the events of calls one behind another. Those of each call lead from the desk before it to the desk after
+-- it
 abbrev pub ReportsAll :
     (i page_size : ℕ) → (d : Desk) → List (Called × Unseen) → List LiveEvent → (d' : Desk) → Type 0
 ReportsAll i page_size d [] es d' = (es ≡ []) × (d' ≡ d)
@@ -435,6 +482,7 @@ ReportsAll i page_size d (z ∷ zs) es d' =
     × (later : List LiveEvent)
     × (mid : Desk)
     × (es ≡ first ++ later)
+    × LeadsTo i page_size d mid first
     × ReportsCall i page_size d mid z.0 z.1 first
     × ReportsAll i page_size mid zs later d'
 

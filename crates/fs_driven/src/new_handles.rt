@@ -1,7 +1,9 @@
 //! Commands of a driver from two new handles on. That they are a run is by `law_driven` and by the
 //! contract of `drive_all`.
 
-ghost use Rattle.std.specs.Prelude.{IfOk};
+ghost use Rattle.std.specs.Prelude.{◌≡◌, IfErr, IfOk, None, OnErr, OnOk, Some};
+ghost use Rattle.fs_chain.specs.Orders.{memory_error};
+ghost use Rattle.fs_chain.specs.declared.state.ChainState.TheVariants as at;
 ghost use Rattle.fs_driven.specs.Begins.{IsNew, RunsFromNew};
 ghost use Rattle.fs_driven.specs.Reported.{calls_of};
 
@@ -14,6 +16,8 @@ use std::alloc::Global;
 // A new handle over a memory, with this limit.
 #[tactic(auto, using(crate::proofs::Begins::is_new))]
 fn new_handle(alloc: Global, regions: GuestMap, limit: u32) -> Result<ChainHandle, ChainError>
+    ensures error { IfErr result (λ e. memory_error at.Free limit ≡ Some e) }
+    ensures ok { OnOk result (memory_error at.Free limit ≡ None) }
     ensures new { IfOk result (λ w. IsNew regions limit w) }
 {
     let mut handle = ChainHandle::new(alloc);
@@ -22,7 +26,7 @@ fn new_handle(alloc: Global, regions: GuestMap, limit: u32) -> Result<ChainHandl
 }
 
 /// Performs commands for two new handles over these memories, which have the same mappings, and returns the
-/// handles. `BadArgument` for a wrong limit.
+/// handles. `BadArgument` for a wrong limit; then no command is performed.
 #[tactic(auto, using(crate::proofs::Begins::runs_from_new))]
 pub fn drive_new<'a>(
     alloc: Global,
@@ -34,6 +38,11 @@ pub fn drive_new<'a>(
     commands: &mut [Command<'a>],
     returned: &mut [Returned<'a>],
 ) -> Result<[ChainHandle; 2], ChainError>
+    ensures error { IfErr result (λ e. memory_error at.Free limit ≡ Some e) }
+    ensures ok { OnOk result (memory_error at.Free limit ≡ None) }
+    ensures same { OnErr result ((queue.new ≡ queue.old)
+        × (commands.new ≡ commands.old)
+        × (returned.new ≡ returned.old)) }
     ensures run { IfOk result (λ handles. RunsFromNew page_size limit memories.0 memories.1
         queue.old queue.new handles (calls_of places.now commands.old returned.new)) }
 {
