@@ -1,15 +1,14 @@
 //! A guest that mounts, looks up a file and reads it, and then breaks its virtqueue.
 
-ghost use Rattle.std.specs.Prelude.{◌≡◌, ◌≤◌, length};
+ghost use Rattle.std.specs.Prelude.{◌≡◌};
 ghost use Rattle.vm_memory_core.specs.Host.{shape};
 ghost use Rattle.vm_memory.specs.Layout.{HostHolds};
 
+use crate::driver::{QUEUE_SIZE, ROOM_LEN, offer, reply};
 use crate::embedding::{LentHost, Vcpu};
-use anyhow::{Context, bail};
-use fs_example::driver::{QUEUE_SIZE, ROOM_LEN, offer, reply};
-use fuse_wire::{EntryOut, InitInCompat};
-use guest_driver::replies::{OUT_HEADER_LEN, body};
-use guest_driver::requests::{init, lookup, read};
+use crate::requests::{OUT_HEADER_LEN, body, bytes_of, request};
+use anyhow::Context;
+use fuse_wire::{EntryOut, InitInCompat, Opcode, ReadIn};
 use std::alloc::Global;
 use vm_memory::GuestMemoryMmap;
 use vm_values::ByteValued;
@@ -32,15 +31,11 @@ pub struct ReadingGuest<'a> {
     pub interrupts: u16,
     pub resets_needed: u16,
     pub contents: Vec<u8>,
-    // The longest name (NAME_MAX in linux/limits.h).
-    ghost short: { length name.now ≤ 255 },
 }
 
 impl<'a> ReadingGuest<'a> {
     // A guest that will read the file of this name.
-    pub fn new(alloc: Global, name: &'a [u8]) -> ReadingGuest<'a>
-        requires { length name.now ≤ 255 }
-    {
+    pub fn new(alloc: Global, name: &'a [u8]) -> ReadingGuest<'a> {
         ReadingGuest {
             alloc,
             name,
@@ -56,11 +51,7 @@ impl<'a> ReadingGuest<'a> {
         requires { HostHolds host.now mem.now }
     {
         let reply = reply(self.alloc, host, mem, self.offered)?.context("no reply")?;
-        match body(&reply, u64::from(self.offered)) {
-            Some(Ok(bytes)) => Ok(bytes.to_vec(self.alloc)?),
-            Some(Err(error)) => bail!("the device answers error {error}"),
-            None => bail!("the reply is to another request"),
-        }
+        Ok(body(&reply, u64::from(self.offered))?.to_vec(self.alloc)?)
     }
 }
 
@@ -68,21 +59,24 @@ impl<'a> Vcpu for ReadingGuest<'a> {
     fn run(&mut self, host: &mut LentHost, mem: &GuestMemoryMmap) -> anyhow::Result<Option<usize>> {
         let alloc = self.alloc;
         let request = match self.offered {
-            0 => init(alloc, 1, &VERSION)?,
+            0 => request(alloc, Opcode::Init, 1, 0, &[&bytes_of(alloc, &VERSION)?])?,
             1 => {
                 self.received(host, mem)?;
-                lookup(alloc, 2, 1, self.name)?
+                request(alloc, Opcode::Lookup, 2, 1, &[self.name, b"\0"])?
             }
             2 => {
                 let found = self.received(host, mem)?;
                 let entry = EntryOut::from_slice(&found).context("a short entry")?;
-                read(
+                let record = ReadIn {
+                    size: ROOM_LEN - OUT_HEADER_LEN as u32,
+                    ..ReadIn::default()
+                };
+                request(
                     alloc,
+                    Opcode::Read,
                     3,
                     entry.nodeid,
-                    0,
-                    0,
-                    ROOM_LEN - OUT_HEADER_LEN as u32,
+                    &[&bytes_of(alloc, &record)?],
                 )?
             }
             3 => {

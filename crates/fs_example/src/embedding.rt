@@ -4,8 +4,8 @@ ghost use Rattle.std.specs.Prelude.{◌≡◌};
 ghost use Rattle.vm_memory_core.specs.Host.{shape};
 ghost use Rattle.vm_memory.specs.Layout.{HostHolds};
 
+use crate::driver::{AVAIL, DESC, QUEUE_SIZE, USED};
 use fs_device::{Device, DeviceError, LEAST_LIMIT};
-use fs_example::driver::{AVAIL, DESC, QUEUE_SIZE, USED};
 use fs_queue::{Queue, QueueError, QueueLayout};
 use std::alloc::Global;
 use virtiofsd_fuse::{FileSystem, Server};

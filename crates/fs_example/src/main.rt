@@ -2,8 +2,10 @@
 //! guest memory. At last the guest breaks its virtqueue, which stops the queue and nothing else.
 #![tactic(auto)]
 
+mod driver;
 mod embedding;
 mod guest;
+mod requests;
 
 use crate::embedding::serve_guest;
 use crate::guest::ReadingGuest;

@@ -1,6 +1,6 @@
 use Rattle.std.proofs.Common.{◌≡◌}
 use Rattle.vm_memory_core.specs.Host.{shape}
-use Rattle.fs_example_run.proofs.embedding.serve_guest.Given as goal
+use Rattle.fs_example.proofs.embedding.serve_guest.Given as goal
 
 -- the host keeps its blocks, so that it has the layout's
 abbrev pub invariant-loop : goal.invariant-loop
