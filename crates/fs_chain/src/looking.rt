@@ -7,12 +7,15 @@ ghost use Rattle.fs_regions.specs.Places.{left_in, places_in};
 ghost use Rattle.fs_regions.specs.Walks.{asked_len};
 ghost use Rattle.fs_regions.specs.Windows.{IsRangeFrom, LiesApart, LiesAt};
 ghost use Rattle.fs_chain.specs.Numbers.{state_number};
-ghost use Rattle.fs_chain.specs.Orders.{is_free, is_listing, is_out, load_len, room_len};
+ghost use Rattle.fs_chain.specs.Orders.{is_free, is_listing, is_out, load_len, memory_error, room_len};
 
 use crate::chain_handle::ChainHandle;
+use crate::error::ChainError;
 use crate::state::ChainState;
+use fs_queue::MOST_LIMIT;
 use fs_regions::range_from;
 use server_phases::Session;
+use virtiofsd_fuse::MAX_REQUEST_LEN;
 use vm_memory_core::Permissions;
 
 impl ChainHandle {
@@ -49,6 +52,28 @@ impl ChainHandle {
             ChainState::Lists(_, _) => 5,
             ChainState::HasReply(_, _) => 6,
             ChainState::Pushing(_) => 7,
+        }
+    }
+
+    /// The greatest length of a request and of a reply buffer, in bytes.
+    pub fn limit(&self) -> u32
+        ensures { result ≡ self.now.limit }
+    {
+        self.limit
+    }
+
+    /// Why `set_memory` doesn't set this limit, with any memory.
+    pub fn memory_refusal(&self, limit: u32) -> Option<ChainError>
+        ensures { result ≡ memory_error self.now.state limit }
+    {
+        match &self.state {
+            ChainState::Free => {
+                if limit < MAX_REQUEST_LEN || MOST_LIMIT < limit {
+                    return Some(ChainError::BadArgument);
+                }
+                None
+            }
+            _ => Some(ChainError::ChainInFlight),
         }
     }
 

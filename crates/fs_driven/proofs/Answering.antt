@@ -121,7 +121,7 @@ answered_all s i page_size k q ws ob oh pops push old new c request options call
       push,
       run,
       keeps s after i page_size q q ws ob oh k old new c c' (pops k) pops push push all there
-          moves chains holds (queue, ready),
+          moves (λ n has. has) chains holds (queue, ready),
       reports after (ob ++ own k c' ∷ oh) (with_pop pops k (pops k)),
     )
 

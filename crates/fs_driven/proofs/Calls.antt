@@ -38,6 +38,7 @@ use Rattle.fs_chain.specs.declared.queue.QueueState.{QueueState}
 use Rattle.fs_chain.specs.declared.state.ChainState as state
 use Rattle.fs_chain.specs.declared.state.ChainState.TheVariants as at
 use Rattle.fs_chain.specs.declared.state.InFlight.{InFlight}
+use Rattle.fs_driven.proofs.Counts.{same_count}
 use Rattle.fs_driven.proofs.Handles.{Moves, SamePlaces, has_own, idles, keeps, not_free, others_same}
 
 -- ---- a call that is refused
@@ -160,7 +161,7 @@ stays s i page_size k q ws os pops push old new T all there same reports = by_ou
           push,
           refl,
           keeps s s i page_size q q ws has.ob has.oh k old new c c (pops k) pops push push has.driven there
-              moves has.chains holds (mine.0, ready),
+              moves (λ n counts. counts) has.chains holds (mine.0, ready),
           reports (has.ob ++ own k c ∷ has.oh) (with_pop pops k (pops k)),
         )
     by_out false free = (
@@ -170,7 +171,7 @@ stays s i page_size k q ws os pops push old new T all there same reports = by_ou
       with_pop pops k (pops k),
       push,
       refl,
-      idles s s i page_size q q ws os k old new (pops k) pops push push all there moves refl free
+      idles s s i page_size q q ws os k old new (pops k) pops push push all there moves (λ n counts. counts) refl free
           (ap is_out same.0 ∙ free),
       reports os (with_pop pops k (pops k)),
     )
@@ -349,6 +350,7 @@ still s i page_size k q q' ws os pops push old new p T all there free same event
           (ap (λ (r : QueueState). r.event_index) is.1)
           (λ head len. ap (λ (r : QueueState). stores_after_reply (returning (live_of r)) head len) is.1)
           (ap (λ (r : QueueState). r.pushing) is.1) all.still
-          (was.0 ∙ ap places_in (sym same.0), was.1 ∙ sym same.1, may)) refl free (ap is_out is.0.state),
+          (was.0 ∙ ap places_in (sym same.0), was.1 ∙ sym same.1, may))
+          (same_count (live_of q) (live_of q') (ap live_of is.1)) refl free (ap is_out is.0.state),
       reports,
     )

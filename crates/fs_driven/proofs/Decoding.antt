@@ -109,8 +109,8 @@ decoded_so s i page_size k q ws ob oh pops push old new c request options report
       push,
       joined any_files s mid after (setting_of options s.options) (e ∷ []) (sets_run s options)
           (after, proceeds.0, refl),
-      keeps s after i page_size q q ws ob oh k old new c c' (pops k) pops push push all there moves refl proceeds.1
-          (queue, ready),
+      keeps s after i page_size q q ws ob oh k old new c c' (pops k) pops push push all there moves (λ n has. has) refl
+          proceeds.1 (queue, ready),
       reports after (ob ++ own k c' ∷ oh) (with_pop pops k (pops k)) (here ob oh (own k c')),
     )
 
@@ -138,7 +138,7 @@ decodes_more s i page_size k q ws ob oh pops push old new c T all there queue fr
       with_pop pops k (pops k),
       push,
       refl,
-      keeps s s i page_size q q ws ob oh k old new c c (pops k) pops push push all there moves chains holds
+      keeps s s i page_size q q ws ob oh k old new c c (pops k) pops push push all there moves (λ n has. has) chains holds
           (queue, fetched_ready page_size s.page_size k q push c c.phase new.state new.session fresh holds),
       reports (ob ++ own k c ∷ oh) (with_pop pops k (pops k)),
     )

@@ -1,5 +1,5 @@
 -- The end of a chain by a handle drives the run: a push in two calls, and a drop.
-use Rattle.std.proofs.Common.{◌≡◌, ℕ, Bool, true, false, List, [], ◌∷◌, ◌++◌, length, Option, Some, None}
+use Rattle.std.proofs.Common.{◌≡◌, ◌<◌, ◌^◌, ℕ, Bool, true, false, List, [], ◌∷◌, ◌++◌, length, Option, Some, None}
 use Rattle.std.proofs.Common.{refl, subst, sym, ap, ◌∙◌}
 use Rattle.std.specs.Prelude.{if◌then◌else◌, not, nat_lt, take, drop, Result, Ok, Err, IfErr, IfOk, OnOk, OnErr}
 use Rattle.fs_chain.specs.declared.error.ChainError.{ChainError}
@@ -45,6 +45,7 @@ use Rattle.fs_chain.specs.declared.state.ChainReply.{ChainReply}
 use Rattle.fs_chain.specs.declared.state.ChainState as state
 use Rattle.fs_chain.specs.declared.state.ChainState.TheVariants as at
 use Rattle.fs_chain.specs.declared.state.InFlight.{InFlight}
+use Rattle.fs_driven.proofs.Counts.{given_up_counts, pushed_counts, same_count}
 use Rattle.fs_driven.proofs.Handles.{IsOnlyOf, Moves, has_own, idles, keeps, leaves, not_free, others_none, others_same}
 use Rattle.fs_chain.proofs.Together.{chains_of}
 use Rattle.fs_driven.proofs.Calls.{fits_out, length_exactly, no_error, refuses, same_all, same_held, stays_put}
@@ -148,7 +149,7 @@ push_drives page_size old new q q' front stores out preserved is idle ok so made
       Some b,
       refl,
       keeps s s i page_size q q' ws has.ob has.oh k old new c c (pops k) pops push (Some b) has.driven there
-          moves has.chains p.0 (
+          moves (same_count (live_of q) (live_of q') (ap live_of pushing)) has.chains p.0 (
             mine.0,
             subst (λ (st : state.ChainState). IsReady page_size k q' (Some b) c st) (sym state_is)
                 (x.0, x.1, under),
@@ -182,10 +183,11 @@ under_way k q c x (Some b) is =
 
 end_drives : (page_size : ℕ) (old new : ChainHandle) (q q' : QueueState) (seen : List ℕ) (notice : Bool)
     (out : InFlight)
-    → old.state ≡ at.Pushing out → new ≡ freed old → q' ≡ gave q → EndsPush old q q' seen notice
+    → old.state ≡ at.Pushing out → new ≡ freed old → q' ≡ gave q → q.next_used < 2 ^ 16
+    → EndsPush old q q' seen notice
     → DrivesOne page_size old new q q' (does.Pushed seen) (gives.Ended (Ok notice))
 unfolding DrivesOne EndsPush
-end_drives page_size old new q q' seen notice out is free gave ends ws k there u s i os pops push all =
+end_drives page_size old new q q' seen notice out is free gave small ends ws k there u s i os pops push all =
     let own_one = all.outs k old there (ap is_out is) in
     let c = own_one.0 in
     let has = has_own s i page_size q ws os k old c pops push all there own_one.1 in
@@ -221,7 +223,7 @@ end_drives page_size old new q q' seen notice out is free gave ends ws k there u
       None,
       (after, e.0, refl),
       leaves s after i page_size q q' ws has.ob has.oh k old new c no_pop pops push None has.driven there moves
-          refl (ap is_out state_is),
+          (pushed_counts q q' gave small) refl (ap is_out state_is),
       (
         c,
         x.0,
@@ -282,8 +284,8 @@ give_up_drives page_size old new q q' clear free left gives_up ws k there u s i 
           with_pop pops k no_pop,
           push,
           refl,
-          idles s s i page_size q q' ws os k old new no_pop pops push push all there moves refl none
-              (ap is_out state_is),
+          idles s s i page_size q q' ws os k old new no_pop pops push push all there moves
+              (same_count (live_of q) (live_of q') (ap live_of same)) refl none (ap is_out state_is),
           (
             clear,
             free,
@@ -319,7 +321,7 @@ give_up_drives page_size old new q q' clear free left gives_up ws k there u s i 
           push,
           (after, e.0, refl),
           leaves s after i page_size q q' ws has.ob has.oh k old new c no_pop pops push push has.driven there
-              moves refl (ap is_out state_is),
+              moves (given_up_counts q q' now) refl (ap is_out state_is),
           (
             clear,
             free,
@@ -424,7 +426,7 @@ reply_drives page_size old new q serial len out without clear kept made replies 
       push,
       (after, r.0, refl),
       keeps s after i page_size q q ws has.ob has.oh k old new c c' (pops k) pops push push has.driven there
-          moves refl r.1
+          moves (λ n counts. counts) refl r.1
           (mine.0, own_ready page_size k q push c request reply new.state out (own_reply len) state_is),
       (clear, kept, refl, c, own_one.1, refl),
     )
@@ -558,17 +560,18 @@ may_end (at.Lists out l) q is = absurd (no_error WrongOrder is)
 may_end (at.HasReply out preserved) q is = absurd (no_error WrongOrder is)
 
 end_at : (old new : ChainHandle) (q q' : QueueState) (seen : List ℕ) (notice : Bool) (st : state.ChainState)
-    → old.state ≡ st → IsBegun st → new ≡ freed old → q' ≡ gave q → EndsPush old q q' seen notice
+    → old.state ≡ st → IsBegun st → new ≡ freed old → q' ≡ gave q → q.next_used < 2 ^ 16
+    → EndsPush old q q' seen notice
     → (page_size : ℕ) → DrivesOne page_size old new q q' (does.Pushed seen) (gives.Ended (Ok notice))
-end_at old new q q' seen notice (at.Pushing out) is begun free gives_it step page_size =
-    end_drives page_size old new q q' seen notice out is free gives_it step
-end_at old new q q' seen notice at.Free is begun free gives_it step page_size = absurd begun
-end_at old new q q' seen notice (at.Walking course pop_id walk) is begun free gives_it step page_size =
+end_at old new q q' seen notice (at.Pushing out) is begun free gives_it small step page_size =
+    end_drives page_size old new q q' seen notice out is free gives_it small step
+end_at old new q q' seen notice at.Free is begun free gives_it small step page_size = absurd begun
+end_at old new q q' seen notice (at.Walking course pop_id walk) is begun free gives_it small step page_size =
     absurd begun
-end_at old new q q' seen notice (at.Taken out) is begun free gives_it step page_size = absurd begun
-end_at old new q q' seen notice (at.Waits out w) is begun free gives_it step page_size = absurd begun
-end_at old new q q' seen notice (at.Lists out l) is begun free gives_it step page_size = absurd begun
-end_at old new q q' seen notice (at.HasReply out preserved) is begun free gives_it step page_size = absurd begun
+end_at old new q q' seen notice (at.Taken out) is begun free gives_it small step page_size = absurd begun
+end_at old new q q' seen notice (at.Waits out w) is begun free gives_it small step page_size = absurd begun
+end_at old new q q' seen notice (at.Lists out l) is begun free gives_it small step page_size = absurd begun
+end_at old new q q' seen notice (at.HasReply out preserved) is begun free gives_it small step page_size = absurd begun
 
 pub pushed_result : (old new : ChainHandle) (q q' : QueueState) (seen : List ℕ)
     (result : Result Bool ChainError)
@@ -577,11 +580,12 @@ pub pushed_result : (old new : ChainHandle) (q q' : QueueState) (seen : List ℕ
     → OnErr result ((new ≡ old) × (q' ≡ q))
     → OnOk result (new ≡ freed old)
     → OnOk result (q' ≡ gave q)
+    → q.next_used < 2 ^ 16
     → IfOk result (λ notice. EndsPush old q q' seen notice)
     → (page_size : ℕ) → DrivesOne page_size old new q q' (does.Pushed seen) (gives.Ended result)
-pushed_result old new q q' seen (Ok notice) err ok same free gives_it step page_size =
-    end_at old new q q' seen notice old.state refl (may_end old.state q ok) free gives_it step page_size
-pushed_result old new q q' seen (Err e) err ok same free gives_it step page_size =
+pushed_result old new q q' seen (Ok notice) err ok same free gives_it small step page_size =
+    end_at old new q q' seen notice old.state refl (may_end old.state q ok) free gives_it small step page_size
+pushed_result old new q q' seen (Err e) err ok same free gives_it small step page_size =
     subst (λ (r : QueueState). DrivesOne page_size old new q r (does.Pushed seen) (gives.Ended (Err e)))
     (sym same.1)
     (refuses page_size old new q (does.Pushed seen) (gives.Ended (Err e)) (same_held old new same.0)

@@ -17,7 +17,7 @@ use Rattle.server_phases.specs.declared.session.Session.{Session}
 use Rattle.fs_chain.specs.Holds.{HoldsChain, IsHeldIn, IsQueue, Machine, Pop, any_files, live_of}
 use Rattle.fs_chain.specs.Orders.{is_out}
 use Rattle.fs_driven.specs.Desks.{Begun, Desk, Driven, FitsRun, In, IsLost, IsReady, IsUnderWay, desk, lost, own}
-use Rattle.fs_driven.specs.Desks.{with_pop}
+use Rattle.fs_driven.specs.Desks.{HasInFlight, with_pop}
 use Rattle.fs_driven.specs.Reported.{Called, Drives, ReportsAll, Unseen, seen_of}
 use Rattle.fs_chain.specs.Together.{HasNone, IsHeldBy, IsNot, Owned, with_handle}
 use Rattle.fs_chain.specs.declared.chain_handle.ChainHandle.{ChainHandle}
@@ -26,6 +26,7 @@ use Rattle.fs_chain.specs.declared.state.ChainState as state
 use Rattle.fs_chain.specs.declared.state.ChainState.TheVariants as at
 use Rattle.fs_chain.proofs.Together.{all_still, amid, chains_of, finds_own, joins_others, keeps_others}
 use Rattle.fs_chain.proofs.Together.{leaves_others}
+use Rattle.fs_driven.proofs.Counts.{CountsLess, CountsMore, CountsSame, with_last, with_one, with_other}
 
 -- ---- chains among others
 
@@ -214,11 +215,11 @@ pub keeps : (s after : Machine) (i page_size : ℕ) (q q' : QueueState) (ws : Li
     (ob oh : List Owned) (k : ℕ) (w new : ChainHandle) (c c' : InFlightChain) (p : Pop) (pops : ℕ → Pop)
     (push push' : Option Begun)
     → Driven s i page_size q ws (ob ++ own k c ∷ oh) pops push → slice_get ws k ≡ Some w →
-    Moves s after i page_size k q q' p push push' new
+    Moves s after i page_size k q q' p push push' new → CountsSame (live_of q) (live_of q')
     → after.chains ≡ chains_of ob ++ c' ∷ chains_of oh → HoldsChain s.page_size c' new →
     MineIn i page_size k q' push' c' new
     → Driven after i page_size q' (with_handle ws k new) (ob ++ own k c' ∷ oh) (with_pop pops k p) push'
-keeps s after i page_size q q' ws ob oh k w new c c' p pops push push' all there moves chains holds mine =
+keeps s after i page_size q q' ws ob oh k w new c c' p pops push push' all there moves counts chains holds mine =
     let none = amid k c ob oh all.all.once in
     record {
       all = keeps_others s after ws ob oh k w new c c' all.all there moves.page chains holds;
@@ -230,6 +231,8 @@ keeps s after i page_size q q' ws ob oh k w new c c' p pops push push' all there
       fits = all_fit s after i page_size q q' ws k w new p pops push push' moves there all.fits;
       left = λ d m. still_lost d (among ob oh (own k c') (lost d) m);
       still = moves.still;
+      counts = counts (length (ob ++ own k c' ∷ oh))
+          (subst (λ (n : ℕ). HasInFlight (live_of q) n) (with_other ob oh (own k c) (own k c')) all.counts);
     }
   where
     still_lost : (d : InFlightChain) → (lost d ≡ own k c') ⊎ In (lost d) (ob ++ oh) → IsLost i d
@@ -280,10 +283,10 @@ pub leaves : (s after : Machine) (i page_size : ℕ) (q q' : QueueState) (ws : L
     (ob oh : List Owned) (k : ℕ) (w new : ChainHandle) (c : InFlightChain) (p : Pop) (pops : ℕ → Pop)
     (push push' : Option Begun)
     → Driven s i page_size q ws (ob ++ own k c ∷ oh) pops push → slice_get ws k ≡ Some w →
-    Moves s after i page_size k q q' p push push' new
+    Moves s after i page_size k q q' p push push' new → CountsLess (live_of q) (live_of q')
     → after.chains ≡ chains_of ob ++ chains_of oh → is_out new.state ≡ false
     → Driven after i page_size q' (with_handle ws k new) (ob ++ oh) (with_pop pops k p) push'
-leaves s after i page_size q q' ws ob oh k w new c p pops push push' all there moves chains free =
+leaves s after i page_size q q' ws ob oh k w new c p pops push push' all there moves counts chains free =
     let none = amid k c ob oh all.all.once in
     record {
       all = leaves_others s after ws ob oh k new c all.all moves.page chains;
@@ -298,6 +301,8 @@ leaves s after i page_size q q' ws ob oh k w new c p pops push push' all there m
       fits = all_fit s after i page_size q q' ws k w new p pops push push' moves there all.fits;
       left = λ d m. all.left d (put ob oh (own k c) (lost d) m);
       still = moves.still;
+      counts = counts (length (ob ++ oh))
+          (subst (λ (n : ℕ). HasInFlight (live_of q) n) (with_one ob oh (own k c)) all.counts);
     }
   where
     others_out : (j : ℕ) (d : InFlightChain) → (k ≡ j → ⊥) → (own j d ≡ own k c) ⊎ In (own j d) (ob ++ oh)
@@ -468,11 +473,11 @@ has_none s i page_size q ws os k w pops push all there free c is =
 pub idles : (s after : Machine) (i page_size : ℕ) (q q' : QueueState) (ws : List ChainHandle)
     (os : List Owned) (k : ℕ) (w new : ChainHandle) (p : Pop) (pops : ℕ → Pop) (push push' : Option Begun)
     → Driven s i page_size q ws os pops push → slice_get ws k ≡ Some w →
-    Moves s after i page_size k q q' p push push' new →
+    Moves s after i page_size k q q' p push push' new → CountsSame (live_of q) (live_of q') →
     after.chains ≡ s.chains
     → is_out w.state ≡ false → is_out new.state ≡ false →
     Driven after i page_size q' (with_handle ws k new) os (with_pop pops k p) push'
-idles s after i page_size q q' ws os k w new p pops push push' all there moves chains free still =
+idles s after i page_size q q' ws os k w new p pops push push' all there moves counts chains free still =
     let none = has_none s i page_size q ws os k w pops push all there free in
     let held = all_still s.page_size ws k new os (none_of k os none) all.all.held in
     record {
@@ -494,6 +499,7 @@ idles s after i page_size q q' ws os k w new p pops push push' all there moves c
       fits = all_fit s after i page_size q q' ws k w new p pops push push' moves there all.fits;
       left = all.left;
       still = moves.still;
+      counts = counts (length os) all.counts;
     }
   where
     its_out : (j : ℕ) (v : ChainHandle) → slice_get (with_handle ws k new) j ≡ Some v → is_out v.state ≡ true
@@ -519,11 +525,11 @@ pub joins : (s after : Machine) (i page_size : ℕ) (q q' : QueueState) (ws : Li
     (os : List Owned) (k : ℕ) (w new : ChainHandle) (c : InFlightChain) (p : Pop) (pops : ℕ → Pop)
     (push push' : Option Begun)
     → Driven s i page_size q ws os pops push → slice_get ws k ≡ Some w →
-    Moves s after i page_size k q q' p push push' new →
+    Moves s after i page_size k q q' p push push' new → CountsMore (live_of q) (live_of q') →
     after.chains ≡ s.chains ++ c ∷ []
     → is_out w.state ≡ false → HoldsChain s.page_size c new → MineIn i page_size k q' push' c new
     → Driven after i page_size q' (with_handle ws k new) (os ++ own k c ∷ []) (with_pop pops k p) push'
-joins s after i page_size q q' ws os k w new c p pops push push' all there moves chains free holds mine =
+joins s after i page_size q q' ws os k w new c p pops push push' all there moves counts chains free holds mine =
     let none = has_none s i page_size q ws os k w pops push all there free in
     record {
       all = joins_others s after ws os k w new c all.all (none_of k os none) there moves.page chains holds;
@@ -535,6 +541,8 @@ joins s after i page_size q q' ws os k w new c p pops push push' all there moves
       fits = all_fit s after i page_size q q' ws k w new p pops push push' moves there all.fits;
       left = λ d m. still_lost d (in_last os (own k c) (lost d) m);
       still = moves.still;
+      counts = subst (λ (n : ℕ). HasInFlight (live_of q') n) (sym (with_last os (own k c)))
+          (counts (length os) all.counts);
     }
   where
     still_lost : (d : InFlightChain) → (lost d ≡ own k c) ⊎ In (lost d) os → IsLost i d

@@ -4,6 +4,7 @@ pub mod Answering
 pub mod Begins
 pub mod Bringing
 pub mod Calls
+pub mod Counts
 pub mod Decoding
 pub mod End
 pub mod Ends
@@ -13,5 +14,7 @@ pub mod ListingCalls
 pub mod Listings
 pub mod Lists
 pub mod Lost
+pub mod Moving
 pub mod Pops
+pub mod Remaps
 pub mod Resets

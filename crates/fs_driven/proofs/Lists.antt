@@ -1,7 +1,6 @@
 -- A call of one of the handles in a list, and calls one behind another.
 use Rattle.std.proofs.Common.{inl, inr, ◌≡◌, ◌⊎◌, ◌<◌, ◌≤◌, ◌+◌, ℕ, zero, suc, List, [], ◌∷◌, ◌++◌, Some, None, arith}
-use Rattle.std.proofs.Common.{false}
-use Rattle.std.proofs.Common.{get_or}
+use Rattle.std.proofs.Common.{false, get_or, zero-le}
 use Rattle.std.proofs.Common.{length, slice_get, refl}
 use Rattle.std.proofs.Common.{subst, sym, ap, ◌∙◌, append-nil}
 use Rattle.std.specs.Prelude.{slice_set, take, drop}
@@ -232,4 +231,5 @@ starts s i page_size q ws none queue page small free =
       );
       left = λ c m. absurd m;
       still = λ pushing. refl;
+      counts = λ few small. zero-le;
     }

@@ -1,12 +1,13 @@
 -- A handle is freed: its chain stays in flight, without a handle.
 use Rattle.std.proofs.Common.{inl, inr, ◌≡◌, ◌⊎◌, ℕ, Bool, true, false, List, [], ◌∷◌, ◌++◌, Option, Some, None}
-use Rattle.std.proofs.Common.{refl, subst, sym, ap, ◌∙◌, slice_get}
+use Rattle.std.proofs.Common.{◌≤◌, arith, length, refl, subst, suc, sym, ap, ◌∙◌, slice_get}
 use Rattle.std.proofs.lemmas.List.{map-append}
 use Rattle.fs_regions.specs.Places.{places_in}
 use Rattle.live_machine.specs.Live.{Abandons, InFlightChain, abandoned_chain, after_abandoning}
 use Rattle.live_machine.specs.Live.{fault_of_phase}
 use Rattle.live_machine.proofs.Alone.{all_both, all_left, all_right}
-use Rattle.fs_chain.specs.Holds.{Machine, Pop}
+use Rattle.live_machine.specs.Several.{in_flight}
+use Rattle.fs_chain.specs.Holds.{Machine, Pop, live_of}
 use Rattle.fs_chain.specs.HoldsAround.{AbandonsChain}
 use Rattle.fs_chain.specs.Orders.{is_out}
 use Rattle.fs_chain.specs.Pushes.{IsFreed}
@@ -17,9 +18,10 @@ use Rattle.fs_chain.specs.declared.state.ChainState as state
 use Rattle.fs_chain.specs.declared.state.ChainState.TheVariants as at
 use Rattle.fs_driven.specs.declared.commands.Command.TheVariants as does
 use Rattle.fs_driven.specs.declared.commands.Returned.TheVariants as gives
-use Rattle.fs_driven.specs.Desks.{Begun, Driven, FitsRun, In, IsLost, Leads, MayPop, desk, lost, no_pop, own, with_pop}
+use Rattle.fs_driven.specs.Desks.{Begun, Driven, FitsRun, HasInFlight, In, IsLost, Leads, MayPop, desk, lost, no_pop, own, with_pop}
 use Rattle.fs_driven.specs.Reported.{AbandonReports, DrivesOne, Reports, turn}
 use Rattle.fs_chain.proofs.Together.{chains_of}
+use Rattle.fs_driven.proofs.Counts.{with_other}
 use Rattle.fs_driven.proofs.Handles.{Moves, among, has_own, here, idles, leaves, not_lost, others_same, put}
 use Rattle.fs_driven.proofs.Calls.{stays_put}
 
@@ -48,8 +50,9 @@ without_it s ob oh = record s { chains = chains_of ob ++ chains_of oh }
 loses : (s : Machine) (i page_size : ℕ) (q : QueueState) (ws : List ChainHandle) (ob oh : List Owned)
     (c : InFlightChain) (pops : ℕ → Pop) (push : Option Begun)
     → Driven (without_it s ob oh) i page_size q ws (ob ++ oh) pops push → IsLost i c
+    → HasInFlight (live_of q) (length (ob ++ lost c ∷ oh))
     → Driven (amid_chains s ob oh c) i page_size q ws (ob ++ lost c ∷ oh) pops push
-loses s i page_size q ws ob oh c pops push all is_lost =
+loses s i page_size q ws ob oh c pops push all is_lost counts =
     let held = all.all.held in
     record {
       all = record {
@@ -69,6 +72,7 @@ loses s i page_size q ws ob oh c pops push all is_lost =
       fits = all.fits;
       left = λ d m. each d (among ob oh (lost c) (lost d) m);
       still = all.still;
+      counts = counts;
     }
   where
     its : (j : ℕ) (d : InFlightChain) → (own j d ≡ lost c) ⊎ In (own j d) (ob ++ oh) → In (own j d) (ob ++ oh)
@@ -78,6 +82,9 @@ loses s i page_size q ws ob oh c pops push all is_lost =
     each : (d : InFlightChain) → (lost d ≡ lost c) ⊎ In (lost d) (ob ++ oh) → IsLost i d
     each d (inl e) = subst (λ (o : Owned). IsLost i o.chain) (sym e) is_lost
     each d (inr m) = all.left d m
+
+one_less : (n m : ℕ) → suc n ≤ m → n ≤ m
+one_less n m less = omega arith
 
 -- ---- abandon
 
@@ -123,8 +130,8 @@ abandoned old new q freed abandons page_size ws k there u s i os pops push all =
       refl,
       idles s s i page_size q q ws os k old new no_pop pops push push all there
           (stays_put s i page_size k q q no_pop push new all.queue refl (λ head len. refl) refl all.still
-          (fits_free s q (pops k) old new freed.0.3 freed.0.0.0 freed.0.0.1 (all.fits k old there))) refl none
-          (ap is_out freed.0.3),
+          (fits_free s q (pops k) old new freed.0.3 freed.0.0.0 freed.0.0.1 (all.fits k old there)))
+          (λ n counts. counts) refl none (ap is_out freed.0.3),
       (
         freed,
         refl,
@@ -144,7 +151,9 @@ abandoned old new q freed abandons page_size ws k there u s i os pops push all =
         (with_pop pops k no_pop) push =
         leaves s (without_it s has.ob has.oh) i page_size q q ws has.ob has.oh k old new c no_pop pops push push
         has.driven there (abandoned_moves s i page_size k q ws os pops push old new
-        (chains_of has.ob ++ chains_of has.oh) all there freed) refl (ap is_out freed.0.3) in (
+        (chains_of has.ob ++ chains_of has.oh) all there freed)
+        (λ n counts few small. one_less n (in_flight (live_of q)) (counts few small))
+        refl (ap is_out freed.0.3) in (
           Abandons c ∷ [],
           after,
           has.ob ++ lost c' ∷ has.oh,
@@ -152,7 +161,8 @@ abandoned old new q freed abandons page_size ws k there u s i os pops push all =
           push,
           (after, e.0, refl),
           loses s i page_size q (with_handle ws k new) has.ob has.oh c' (with_pop pops k no_pop) push rest
-              (mine.0, fault_of_phase c.phase, refl),
+              (mine.0, fault_of_phase c.phase, refl)
+              (subst (λ (n : ℕ). HasInFlight (live_of q) n) (with_other has.ob has.oh (own k c) (lost c')) has.driven.counts),
           (
             freed,
             refl,

@@ -1,8 +1,8 @@
 -- A pop of a handle drives the run.
 use Rattle.std.proofs.Common.{inl, inr, ◌≡◌, ℕ, Bool, false, List, [], ◌∷◌, ◌++◌, length, Option, Some, None}
 use Rattle.std.proofs.Common.{slice_get}
-use Rattle.std.proofs.Common.{refl, subst, sym, ap, ◌∙◌}
-use Rattle.std.specs.Prelude.{Result, Ok, Err, IfErr, IfOk, OnErr, if◌then◌else◌}
+use Rattle.std.proofs.Common.{refl, subst, suc, sym, ap, ◌∙◌}
+use Rattle.std.specs.Prelude.{Result, Ok, Err, IfErr, IfOk, IsTrue, OnErr, if◌then◌else◌}
 use Rattle.std.proofs.Common.{true, ◌⊎◌}
 use Rattle.std.specs.Borrow.{Bor}
 use Rattle.fs_chain.specs.declared.error.ChainError.{ChainError}
@@ -43,7 +43,7 @@ use Rattle.fs_chain.specs.declared.state.PopId.{PopId}
 use Rattle.vm_memory.specs.Memory.{Memory}
 use Rattle.fs_regions.specs.Places.{places_in}
 use Rattle.server_phases.specs.declared.session.Session.{Session}
-use Rattle.live_machine.specs.Several.{LiveQueue, returning}
+use Rattle.live_machine.specs.Several.{LiveQueue, may_take, returning}
 use Rattle.live_machine.specs.Live.{EndsPopIn, InFlightChain, LiveEvent}
 use Rattle.live_machine.specs.Live.{Phase}
 use Rattle.live_machine.specs.Live.{PushedWith}
@@ -62,6 +62,7 @@ use Rattle.fs_driven.specs.declared.commands.Returned.TheVariants as gives
 use Rattle.fs_chain.specs.declared.queue.QueueState.{QueueState}
 use Rattle.fs_chain.specs.declared.state.ChainState as state
 use Rattle.fs_chain.specs.declared.state.ChainState.TheVariants as at
+use Rattle.fs_driven.proofs.Counts.{refused_counts, same_count, took_counts}
 use Rattle.fs_driven.proofs.Handles.{Moves, SamePlaces, held_out, idles, joins, others_same}
 use Rattle.fs_driven.proofs.Calls.{HasNoPush, fetched_ready, fits_out, refuses, stays_put}
 use Rattle.fs_driven.proofs.Calls.{still}
@@ -167,7 +168,7 @@ ended s i page_size k q q' ws os pops push old new loaded step.Idle T all there 
           (places_of q q' (live_of q) now (λ head len. refl)) same.pushing all.still
           (fits_free s.places s.limit q.event_index (pops k) no_pop old new same.memory has
           (all.fits k old there)))
-          refl free (ap is_out has),
+          (same_count (live_of q) (live_of q') now) refl free (ap is_out has),
       reports s os (with_pop pops k no_pop),
     )
 ended s i page_size k q q' ws os pops push old new loaded (step.Refused e) T all there free same happens queue
@@ -192,8 +193,8 @@ ended s i page_size k q q' ws os pops push old new loaded (step.Refused e) T all
       with_pop pops k no_pop,
       push,
       (after, happens, refl),
-      idles s after i page_size q q' ws os k old new no_pop pops push push all there moves refl free
-          (ap is_out has),
+      idles s after i page_size q q' ws os k old new no_pop pops push push all there moves
+          (λ n counts. same_count v (live_of q') now n (refused_counts (live_of q) e n counts)) refl free (ap is_out has),
       reports after os (with_pop pops k no_pop),
     )
 ended s i page_size k q q' ws os pops push old new loaded (step.Chain head fault) T all there free same happens
@@ -202,6 +203,9 @@ ended s i page_size k q q' ws os pops push old new loaded (step.Chain head fault
     let c : InFlightChain = new_chain s i (live_of q) loaded new.descriptors.items head fault in
     let v : LiveQueue = several.took (live_of q) in
     let now : live_of q' ≡ v = queue_now s i q q' v all.queue queue in
+    let room : IsTrue (may_take (live_of q)) =
+    subst (λ (w : LiveQueue). IsTrue (may_take w)) (same_some happens.w (live_of q) (sym happens.there ∙ all.queue))
+    happens.room in
     let moves : Moves s after i page_size k q q' no_pop push push new = record {
       page = refl;
       limit = refl;
@@ -219,7 +223,8 @@ ended s i page_size k q q' ws os pops push old new loaded (step.Chain head fault
       with_pop pops k no_pop,
       push,
       (after, happens, refl),
-      joins s after i page_size q q' ws os k old new c no_pop pops push push all there moves refl free has
+      joins s after i page_size q q' ws os k old new c no_pop pops push push all there moves
+          (λ n counts. same_count v (live_of q') now (suc n) (took_counts (live_of q) room n counts)) refl free has
           (refl, popped_ready page_size s.page_size k q' push c fault new.state new.session refl same.quiet has),
       reports after (os ++ own k c ∷ []) (with_pop pops k no_pop),
     )
@@ -258,8 +263,9 @@ refused s i page_size k q q' ws os pops push old new reported T all there free s
       with_pop pops k no_pop,
       push,
       (r.after, h, sym h.state),
-      idles s after i page_size q q' ws os k old new no_pop pops push push all there moves refl free
-          (ap is_out r.free),
+      idles s after i page_size q q' ws os k old new no_pop pops push push all there moves
+          (λ n counts. same_count v (live_of q') now n (refused_counts h.w r.error n
+          (same_count (live_of q) h.w w_is n counts))) refl free (ap is_out r.free),
       reports after os (with_pop pops k no_pop),
     )
 
@@ -345,8 +351,8 @@ popped s i page_size k q q' ws os pops push old new p (shows.Missing range acces
           (ap (λ (r : QueueState). r.event_index) is.1)
           (λ head len. ap (λ (r : QueueState). stores_after_reply (returning (live_of r)) head len) is.1)
           same.pushing all.still
-          (fits_free s.places s.limit q.event_index (pops k) no_pop old new same.memory is.0 was)) refl free
-          (ap is_out is.0),
+          (fits_free s.places s.limit q.event_index (pops k) no_pop old new same.memory is.0 was))
+          (same_count (live_of q) (live_of q') (ap live_of is.1)) refl free (ap is_out is.0),
       give s os (with_pop pops k no_pop) [] refl,
     )
 popped s i page_size k q q' ws os pops push old new p shows.Idle T all there free same event give is =

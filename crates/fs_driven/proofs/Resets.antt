@@ -2,6 +2,7 @@
 -- was freed, and a store before a sleep.
 use Rattle.std.proofs.Common.{inl, inr, ◌≡◌, ℕ, zero, suc, Bool, true, false, List, [], ◌∷◌, Option, Some, None, arith}
 use Rattle.std.proofs.Common.{All, append-nil, eq-eqb, refl, subst, sym, ap, ◌∙◌, ◌==◌, map, not, slice_get}
+use Rattle.std.proofs.Common.{zero-le}
 use Rattle.std.specs.Prelude.{◌≤◌, filter, if◌then◌else◌, option_map}
 use Rattle.std.specs.List.{AllByRecursion}
 use Rattle.fs_queue.specs.declared.layout.QueueLayout.{QueueLayout}
@@ -100,6 +101,7 @@ reset_done ws q q' layout position may is resets page_size k zs calls s i os pop
           subst (λ (b : Bool). FitsRun s.places s.limit b (pops j) w) (sym event) (all.fits j w there);
       left = λ c m. absurd m;
       still = λ pushing. refl;
+      counts = λ few small. zero-le;
     } in (
       ResetsQueue i (live_of q') ∷ [],
       after,

@@ -1,7 +1,7 @@
 -- A driver of several handles over one queue of a run: its calls, one behind another, are a run of the live
 -- machine, and the run's events have what the calls returned.
-use Rattle.std.specs.Prelude.{◌≡◌, ◌⊎◌, ◌≤◌, ◌^◌, ◌==◌, ◌++◌, ℕ, Bool, true, false, List, [], ◌∷◌, Option}
-use Rattle.std.specs.Prelude.{Some, None, if◌then◌else◌, length, slice_get, take}
+use Rattle.std.specs.Prelude.{◌≡◌, ◌⊎◌, ◌≤◌, ◌<◌, ◌^◌, ◌==◌, ◌++◌, ℕ, Bool, true, false, List, [], ◌∷◌}
+use Rattle.std.specs.Prelude.{Option, Some, None, if◌then◌else◌, length, slice_get, take}
 use Rattle.vm_memory.specs.Memory.{Memory}
 use Rattle.fs_queue.specs.declared.fault.ChainFault.{ChainFault}
 use Rattle.fs_queue.specs.Returning.{stores_after_reply}
@@ -9,7 +9,7 @@ use Rattle.fs_queue.specs.ReturningView.{stores_of}
 use Rattle.fs_regions.specs.Places.{places_in}
 use Rattle.fs_regions.specs.Walks.{nothing}
 use Rattle.plain_machine.specs.Step.{Exchange}
-use Rattle.live_machine.specs.Several.{returning}
+use Rattle.live_machine.specs.Several.{LiveQueue, in_flight, returning}
 use Rattle.live_machine.specs.Live.{Abandoned, InFlightChain, LiveEvent, LiveRun, PushedWith}
 use Rattle.fs_chain.specs.Holds.{HoldsPop, IsQueue, Machine, Pop, any_files, live_of}
 use Rattle.fs_chain.specs.Orders.{is_out}
@@ -78,6 +78,10 @@ FitsRun places limit event_index p w =
 abbrev pub with_pop : (ℕ → Pop) → ℕ → Pop → ℕ → Pop
 with_pop pops k p j = if k == j then p else pops j
 
+-- at least n chains of a queue are in flight. Its numbers have 16 bits
+abbrev pub HasInFlight : LiveQueue → (n : ℕ) → Type 0
+HasInFlight w n = w.max_in_flight < 2 ^ 16 → w.next_used < 2 ^ 16 → n ≤ in_flight w
+
 -- the handles hold the chains of a run, all of queue i, but those whose handle was freed, and no others. No
 -- FORGET is owed
 pub record Driven (s : Machine) (i page_size : ℕ) (q : QueueState) (ws : List ChainHandle)
@@ -94,6 +98,7 @@ pub record Driven (s : Machine) (i page_size : ℕ) (q : QueueState) (ws : List 
       FitsRun s.places s.limit q.event_index (pops k) w
   pub left : (c : InFlightChain) → In (lost c) os → IsLost i c
   pub still : q.pushing ≡ false → push ≡ None
+  pub counts : HasInFlight (live_of q) (length os)
 
 -- what a driver has of a run: its state, the handles and their queue, the chain of each handle, the loads of
 -- its pop, and the push under way

@@ -3,5 +3,7 @@ pub mod Ahead
 pub mod Begins
 pub mod Desks
 pub mod Entries
+pub mod Moving
+pub mod NewMemory
 pub mod Preserved
 pub mod Reported

@@ -66,6 +66,8 @@ use Rattle.fs_chain.specs.declared.state.ChainState.TheVariants as at
 use Rattle.fs_chain.specs.declared.state.InFlight.{InFlight}
 use Rattle.fs_driven.specs.Adding.{BringsSo, EndsSo}
 use Rattle.fs_driven.specs.Entries.{IsOfLast, all_brought, answers_of, ending_of}
+use Rattle.fs_driven.specs.Moving.{MoveReports}
+use Rattle.fs_driven.specs.NewMemory.{RemapReports}
 use Rattle.fs_driven.specs.Preserved.{IsSameHeld}
 use Rattle.fs_driven.specs.declared.entries.ListedEntry.{ListedEntry}
 
@@ -402,6 +404,8 @@ Reports t does.GiveUp u (gives.GaveUp r) es = ReportsGiveUp t r es
 Reports t does.Abandon u gives.Abandoned es = ReportsAbandon t es
 Reports t (does.Reset layout position) u gives.NotOfOne es = (es ≡ []) × IsNotMade t
 Reports t (does.Notify wanted) u gives.NotOfOne es = (es ≡ []) × IsNotMade t
+Reports t (does.Remap alloc regions) u gives.NotOfOne es = (es ≡ []) × IsNotMade t
+Reports t (does.Move alloc regions) u gives.NotOfOne es = (es ≡ []) × IsNotMade t
 Reports t _ u _ es = ⊥
 
 -- a call of a handle is a step of the run, among any other handles, whatever it doesn't see
@@ -444,6 +448,8 @@ storing i places (Some store) =
 abbrev pub is_of_queue : Command → Bool
 is_of_queue (does.Reset layout position) = true
 is_of_queue (does.Notify wanted) = true
+is_of_queue (does.Remap alloc regions) = true
+is_of_queue (does.Move alloc regions) = true
 is_of_queue _ = false
 
 -- the events of a call of the queue, which is none of a handle
@@ -454,6 +460,8 @@ ReportsOfQueue i d d' (does.Notify wanted) (gives.Store store) es =
     (option_map store_of store ≡ notification_store d.queue wanted)
     × (es ≡ storing i d.run.places store)
     × (d' ≡ d)
+ReportsOfQueue i d d' (does.Remap alloc regions) (gives.Remapped r) es = RemapReports d d' regions.now r es
+ReportsOfQueue i d d' (does.Move alloc regions) (gives.Moved r) es = MoveReports i d d' regions.now r es
 ReportsOfQueue i d d' _ _ es = ⊥
 
 -- the events of a call of one of the handles, of none if there is no such handle, or of the queue

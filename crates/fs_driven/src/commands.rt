@@ -7,15 +7,17 @@ ghost use Rattle.fs_driven.specs.declared.commands.Command.TheVariants as does;
 ghost use Rattle.fs_driven.specs.declared.commands.Returned.TheVariants as gives;
 
 use crate::entries::{ListedEntry, drive_gather};
+use crate::new_memory::{drive_move, drive_remap};
 use fs_chain::{
     Added, ChainError, ChainHandle, Decoded, LoadOutcome, NotificationStore, PopOutcome,
     PushStores, QueueState, Replied,
 };
 use fs_queue::QueueLayout;
-use fs_regions::LoadAhead;
+use fs_regions::{LoadAhead, MemoryRegion};
 use fuse_values::FileAnswer;
 use fuse_wire::Errno;
 use server_phases::Session;
+use std::alloc::Global;
 use std::mem;
 
 /// A command for a handle.
@@ -50,6 +52,11 @@ pub enum Command<'a> {
     Reset(QueueLayout, u16),
     /// Enables the driver's notifications of new chains, or disables them. Any handle may be named.
     Notify(bool),
+    /// Sets the memory of each handle to these regions, of which this allocator makes copies. Any handle may
+    /// be named.
+    Remap(Global, &'a [MemoryRegion]),
+    /// Moves the device, and each handle to these regions. Any handle may be named.
+    Move(Global, &'a [MemoryRegion]),
 }
 
 /// What a command returned.
@@ -88,6 +95,10 @@ pub enum Returned<'a> {
     Reset(bool),
     /// The store that enables notifications, or disables them.
     Store(Option<NotificationStore>),
+    /// Of new memory.
+    Remapped(Result<(), ChainError>),
+    /// Of a move.
+    Moved(Result<(), ChainError>),
     /// A command of the queue is none for one handle alone.
     NotOfOne,
 }
@@ -202,6 +213,8 @@ pub fn drive_pushed(
     ensures step { (page_size : ℕ) → DrivesOne page_size handle.old handle.new queue.old queue.new
         (does.Pushed seen) (gives.Ended result) }
 {
+    // A number of 16 bits.
+    let _next_used = queue.next_used;
     handle.pushed(queue, seen)
 }
 
@@ -312,6 +325,34 @@ fn no_store_of_one<'a>(handle: &mut ChainHandle, queue: &QueueState) -> Returned
     Returned::NotOfOne
 }
 
+// Nor is new memory.
+#[tactic(auto, using(crate::proofs::Remaps::no_memory_of_one))]
+fn no_memory_of_one<'a>(
+    handle: &mut ChainHandle,
+    queue: &QueueState,
+    alloc: Global,
+    regions: &'a [MemoryRegion],
+) -> Returned<'a>
+    ensures step { (page_size : ℕ) → DrivesOne page_size handle.old handle.new queue.now queue.now
+        (does.Remap alloc regions.entry) result }
+{
+    Returned::NotOfOne
+}
+
+// Nor is a move.
+#[tactic(auto, using(crate::proofs::Moving::no_move_of_one))]
+fn no_move_of_one<'a>(
+    handle: &mut ChainHandle,
+    queue: &QueueState,
+    alloc: Global,
+    regions: &'a [MemoryRegion],
+) -> Returned<'a>
+    ensures step { (page_size : ℕ) → DrivesOne page_size handle.old handle.new queue.now queue.now
+        (does.Move alloc regions.entry) result }
+{
+    Returned::NotOfOne
+}
+
 /// Performs a command for a handle, and returns what it returned. `Push` takes its place.
 pub fn drive_one<'a>(
     handle: &mut ChainHandle,
@@ -350,6 +391,8 @@ pub fn drive_one<'a>(
         }
         Command::Reset(layout, position) => no_reset_of_one(handle, queue, layout, position),
         Command::Notify(_) => no_store_of_one(handle, queue),
+        Command::Remap(alloc, regions) => no_memory_of_one(handle, queue, alloc, regions),
+        Command::Move(alloc, regions) => no_move_of_one(handle, queue, alloc, regions),
     }
 }
 
@@ -425,6 +468,12 @@ pub fn drive<'a>(
     }
     if let Command::Notify(wanted) = command {
         return Returned::Store(drive_notify(handles, queue, *wanted));
+    }
+    if let Command::Remap(alloc, regions) = command {
+        return Returned::Remapped(drive_remap(*alloc, handles, queue, regions));
+    }
+    if let Command::Move(alloc, regions) = command {
+        return Returned::Moved(drive_move(*alloc, handles, queue, regions));
     }
     if k < handles.len() {
         return drive_one(&mut handles[k], queue, page_size, command);

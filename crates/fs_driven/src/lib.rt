@@ -6,6 +6,7 @@ mod commands;
 mod entries;
 pub mod laws;
 pub mod new_handles;
+mod new_memory;
 pub mod two_chains;
 
 pub use commands::{
@@ -14,3 +15,4 @@ pub use commands::{
     drive_reset,
 };
 pub use entries::{ListedEntry, drive_gather};
+pub use new_memory::{drive_move, drive_remap};

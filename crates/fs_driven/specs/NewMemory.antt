@@ -1,0 +1,68 @@
+-- New memory for each handle of a driver, while no chain is in flight.
+use Rattle.std.specs.Prelude.{◌≡◌, ◌⊎◌, ℕ, ◌==◌, List, [], ◌∷◌, length, Option, Some, None, Result, Ok, Err}
+use Rattle.std.specs.Prelude.{if◌then◌else◌, option_map}
+use Rattle.std.specs.Option.{option_or}
+use Rattle.vm_memory.specs.Collecting.{RegionsWereRefused, fault_of}
+use Rattle.vm_memory.specs.Layout.{Region}
+use Rattle.fs_regions.specs.Places.{places_in, untranslated}
+use Rattle.live_machine.specs.Live.{LiveEvent, Remaps}
+use Rattle.fs_chain.specs.Orders.{memory_error}
+use Rattle.fs_chain.specs.Queues.{in_flight}
+use Rattle.fs_chain.specs.declared.chain_handle.ChainHandle.{ChainHandle}
+use Rattle.fs_chain.specs.declared.error.ChainError.{ChainError}
+use Rattle.fs_chain.specs.declared.error.ChainError.TheVariants as error
+use Rattle.fs_chain.specs.declared.queue.QueueState.{QueueState}
+use Rattle.fs_chain.specs.declared.state.ChainState.TheVariants as at
+use Rattle.fs_driven.specs.Desks.{Desk}
+
+-- why regions aren't a memory
+abbrev pub regions_error : List Region → Option ChainError
+regions_error regions = option_map (λ fault. error.BadArgument) (fault_of regions)
+
+-- why a handle doesn't take these regions with the limit that it has
+abbrev pub handle_error : ChainHandle → List Region → Option ChainError
+handle_error w regions = option_or (memory_error w.state w.limit) (regions_error regions)
+
+-- why one of the handles doesn't
+abbrev pub handles_error : List ChainHandle → List Region → Option ChainError
+handles_error [] regions = None
+handles_error (w ∷ ws) regions = option_or (handle_error w regions) (handles_error ws regions)
+
+-- the same, while chains of the queue may be in flight
+abbrev pub remap_error : List ChainHandle → QueueState → List Region → Option ChainError
+remap_error ws q regions = if in_flight q == 0 then handles_error ws regions else Some error.ChainInFlight
+
+-- a call returns the error that it has, or an allocation for n regions failed
+abbrev pub IsErrorOf : Option ChainError → (n : ℕ) → ChainError → Type 0
+IsErrorOf why n e = (why ≡ Some e) ⊎ ((e ≡ error.OutOfMemory) × RegionsWereRefused n)
+
+-- a free handle has these regions now. All else that it has is as it was
+abbrev pub TakesMemory : List Region → (old new : ChainHandle) → Type 0
+TakesMemory regions old new =
+    (old.state ≡ at.Free)
+    × (new.regions ≡ untranslated regions)
+    × (new.limit ≡ old.limit)
+    × (new.state ≡ old.state)
+    × (new.part ≡ old.part)
+    × (new.session ≡ old.session)
+    × (new.serial ≡ old.serial)
+    × (new.list_len ≡ old.list_len)
+
+-- each of them has
+abbrev pub TakeMemory : List Region → (olds news : List ChainHandle) → Type 0
+TakeMemory regions [] [] = Unit {0}
+TakeMemory regions [] (new ∷ news) = ⊥
+TakeMemory regions (old ∷ olds) [] = ⊥
+TakeMemory regions (old ∷ olds) (new ∷ news) = TakesMemory regions old new × TakeMemory regions olds news
+
+-- the event of new memory, while no chain is in flight; or none, if it isn't set
+abbrev pub RemapReports : (d d' : Desk) → List Region → Result (Unit {0}) ChainError → List LiveEvent → Type 0
+RemapReports d d' regions (Ok done) es =
+    (es ≡ Remaps (places_in (untranslated regions)) ∷ [])
+    × (remap_error d.handles d.queue regions ≡ None)
+    × TakeMemory regions d.handles d'.handles
+    × (d'.queue ≡ d.queue)
+    × (d.owned ≡ [])
+    × (d'.owned ≡ [])
+RemapReports d d' regions (Err e) es =
+    (es ≡ []) × (d' ≡ d) × IsErrorOf (remap_error d.handles d.queue regions) (length regions) e
