@@ -55,7 +55,7 @@ from_regions (at.Walking course pop_id walk) bs old new q q' reported h =
     on_regions q.stopped course pop_id walk bs old new q q' reported h
 from_regions st bs old new q q' reported h = absurd h
 
-proceeds_regions : (old new : ChainHandle) (q q' : QueueState) (bs : List ℕ) (reported : outcome.LoadOutcome)
+pub proceeds_regions : (old new : ChainHandle) (q q' : QueueState) (bs : List ℕ) (reported : outcome.LoadOutcome)
     → ProceedsSo old q bs reported new q'
     → new.regions ≡ old.regions
 proceeds_regions old new q q' bs outcomes.Part h = h.3.0.0

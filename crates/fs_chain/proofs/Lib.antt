@@ -12,7 +12,6 @@ pub mod HoldsQueues
 pub mod HoldsListed
 pub mod SoFar
 pub mod PoppingAhead
-pub mod PopWalks
 pub mod LeftOut
 pub mod Lengths
 pub mod ListingEntries

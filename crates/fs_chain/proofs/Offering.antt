@@ -1,28 +1,48 @@
--- What a walk tells is what the memory offers.
-use Rattle.std.proofs.Common.{◌≡◌, ℕ, List, [], false, Option, Some, None, sym, subst, refl, arith}
+-- What a pop that ended returned is what the memory offers.
+use Rattle.std.proofs.Common.{◌≡◌, ℕ, List, [], Bool, false, true, Option, Some, None, refl, sym, subst, arith}
+use Rattle.std.specs.Prelude.{if◌then◌else◌, slice_get}
 use Rattle.fs_queue.specs.declared.fault.QueueError.{QueueError}
+use Rattle.fs_queue.specs.declared.fault.QueueError.TheVariants as stop
 use Rattle.vm_memory_core.specs.Host.{Host}
 use Rattle.vm_memory.specs.Memory.{Memory}
 use Rattle.fs_queue.specs.Chain.{Descriptor}
 use Rattle.fs_queue.specs.Queue.{Queue}
-use Rattle.fs_queue.specs.Taking.{offer}
-use Rattle.fs_regions.specs.declared.course.Course.{Course}
+use Rattle.fs_queue.specs.Taking.{Offer, offer}
 use Rattle.fs_regions.specs.declared.step.CourseStep as comes
 use Rattle.fs_regions.specs.declared.step.CourseStep.TheVariants as step
-use Rattle.fs_regions.specs.declared.walk.QueueWalk.{QueueWalk}
 use Rattle.fs_regions.specs.Laws.{HasLoaded, OffersAreTheMemorys}
 use Rattle.fs_regions.specs.Places.{Mapped, memory_over, places_in}
-use Rattle.fs_regions.specs.Walks.{ComesBy, IsCourseStep, Loaded, IsWalkAt, nothing, queue_of}
-use Rattle.fs_chain.specs.declared.queue.QueueState.{QueueState}
-use Rattle.fs_chain.specs.declared.state.ChainState as state
-use Rattle.fs_chain.specs.declared.state.ChainState.TheVariants as at
-use Rattle.fs_chain.specs.declared.state.PopId.{PopId}
-use Rattle.fs_chain.specs.declared.popping.PopOutcome as walked
-use Rattle.fs_chain.specs.declared.chain_handle.ChainHandle.{ChainHandle}
-use Rattle.fs_chain.specs.Laws.{ContinuesByLoads, IsOfferOf, ReportsOffer, WalksAreOffers}
-use Rattle.fs_chain.specs.Walks.{BeginsUnless, BeginsWhere, ContinuesUnless, HasEvents, RefusalHasEvents, WalksFrom, WalksOn, course_of}
+use Rattle.fs_regions.specs.Walks.{Loaded, OffersBy}
+use Rattle.live_machine.specs.Live.{EndsPopIn, EndsPopSo, after_pop, pop_refusal}
+use Rattle.live_machine.specs.Several.{LiveQueue}
+use Rattle.fs_chain.specs.Holds.{IsQueue, Machine, live_of}
+use Rattle.fs_chain.specs.Laws.{IsOfferOf, WalksAreOffers}
 use Rattle.fs_chain.specs.Walks.{reported_of}
-use Rattle.fs_chain.proofs.Steps.{begun_has_events}
+use Rattle.fs_chain.specs.declared.popping.PopOutcome as walked
+use Rattle.fs_chain.specs.declared.queue.QueueState.{QueueState}
+
+-- ---- the queue of a pop that ended
+
+same_live : (x : Option LiveQueue) (v w : LiveQueue) → x ≡ Some v → x ≡ Some w → w ≡ v
+same_live x v w is too = cc
+
+runs_on : (b : Bool) (x : Option QueueError) → (if b then Some stop.Stopped else x) ≡ None → b ≡ false
+runs_on false x is = refl
+runs_on true x is = cc
+
+-- it is the run's
+pub ended_queue : (s : Machine) (i : ℕ) (q : QueueState) (loaded : Loaded) (ds : List Descriptor) (came : comes.CourseStep)
+    (after : Machine) → IsQueue s i q → (e : EndsPopSo s i loaded ds came after) → e.w ≡ live_of q
+ended_queue s i q loaded ds came after there e = same_live (slice_get s.queues i) (live_of q) e.w there e.there
+
+-- and isn't stopped
+pub ended_runs : (s : Machine) (i : ℕ) (q : QueueState) (loaded : Loaded) (ds : List Descriptor) (came : comes.CourseStep)
+    (after : Machine) → IsQueue s i q → EndsPopSo s i loaded ds came after → (live_of q).queue.stopped ≡ false
+ended_runs s i q loaded ds came after there e =
+    runs_on (live_of q).queue.stopped _ (subst (λ (v : LiveQueue). pop_refusal s.places v ≡ None)
+    (ended_queue s i q loaded ds came after there e) e.proceeds)
+
+-- ---- what it was offered
 
 -- without a request nothing is owed of it
 unasked : (m : Memory) (q : Queue) (loaded : Loaded) (request : List ℕ) → HasLoaded m q loaded request → HasLoaded m q loaded []
@@ -33,60 +53,34 @@ unasked m q loaded request has = record {
   request_is = λ head waits some. absurd (omega (arith, some));
 }
 
--- what a walk comes to is offered, as it is told
-comes_to : OffersAreTheMemorys → (h : Host) (regions : Mapped) (limit : ℕ) (q : Queue) (loaded : Loaded) (ds : List Descriptor)
-    (came : comes.CourseStep) (request : List ℕ) → q.stopped ≡ false
-    → IsCourseStep (places_in regions) limit q loaded ds came → HasLoaded (memory_over h regions) q loaded request
-    → IsOfferOf ds (reported_of ds came) request (offer (memory_over h regions) limit q)
-comes_to law h regions limit q loaded ds (step.Load walk) request runs came has = tt
-comes_to law h regions limit q loaded ds step.Idle request runs came has =
-    sym (law h regions limit q loaded [] _ runs came (unasked (memory_over h regions) q loaded request has))
-comes_to law h regions limit q loaded ds (step.Missing range access) request runs came has = tt
-comes_to law h regions limit q loaded ds (step.Refused e) request runs came has =
-    sym (law h regions limit q loaded [] _ runs came.0 (unasked (memory_over h regions) q loaded request has))
-comes_to law h regions limit q loaded ds (step.Chain head (Some fault)) request runs came has =
-    sym (law h regions limit q loaded [] _ runs came.0 (unasked (memory_over h regions) q loaded request has))
-comes_to law h regions limit q loaded ds (step.Chain head None) request runs came has =
-    λ len. sym (law h regions limit q loaded request _ runs (came.0.1 request len) has)
+-- how a pop ends is offered, as it is reported
+module _ (law : OffersAreTheMemorys) (s : Machine) (i : ℕ) (w : LiveQueue) (h : Host) (regions : Mapped) (loaded : Loaded)
+    (ds : List Descriptor) (runs : w.queue.stopped ≡ false) (places : s.places ≡ places_in regions) where
+  is_offer : (request : List ℕ) (o : Offer) → OffersBy s.places s.limit w.queue loaded request o
+      → HasLoaded (memory_over h regions) w.queue loaded request → offer (memory_over h regions) s.limit w.queue ≡ o
+  is_offer request o by has =
+      let here = subst (λ (m : Memory). OffersBy m s.limit w.queue loaded request o) places by in
+      sym (law h regions s.limit w.queue loaded request o runs here has)
 
-begins : OffersAreTheMemorys → (h : Host) (bytes request : List ℕ) (old new : ChainHandle) (before after : QueueState)
-    (reported : walked.PopOutcome) → before.stopped ≡ None
-    → RefusalHasEvents reported old before → old.state ≡ at.Free → WalksOn bytes old new before after reported
-    → HasLoaded (memory_over h old.regions) (queue_of (course_of before old.limit)) nothing request
-    → ReportsOffer (memory_over h old.regions) (course_of before old.limit) new reported request
-begins law h bytes request old new before after reported running refusal free walks has =
-    let course : Course = course_of before old.limit in
-    let from : WalksFrom at.Free bytes old new before after reported =
-    subst (λ (s : state.ChainState). WalksFrom s bytes old new before after reported) free walks in
-    let unless : BeginsUnless None old new before after reported =
-    subst (λ (o : Option QueueError). BeginsUnless o old new before after reported) running from in
-    let events : HasEvents old before = begun_has_events old new before after reported refusal unless in
-    let outcome : BeginsWhere None old new before after reported =
-    subst (λ (f : Option QueueError). BeginsWhere f old new before after reported) events unless in
-    subst (λ (t : walked.PopOutcome). ReportsOffer (memory_over h old.regions) course new t request) (sym outcome.1.0)
-    (comes_to law h old.regions course.limit (queue_of course) nothing new.descriptors.items outcome.0 request refl outcome.2 has)
-
-carries_on : OffersAreTheMemorys → (loaded : Loaded) (course : Course) (pop_id : PopId) (walk : QueueWalk) (bytes : List ℕ)
-    (old new : ChainHandle) (before after : QueueState) (reported : walked.PopOutcome)
-    → before.stopped ≡ None → old.state ≡ at.Walking course pop_id walk → WalksOn bytes old new before after reported
-    → IsWalkAt (places_in old.regions) (queue_of course) loaded old.descriptors.items walk
-    → ContinuesByLoads loaded course walk bytes old new reported
-carries_on law loaded course pop_id walk bytes old new before after reported running here walks stands =
-    let from : WalksFrom (at.Walking course pop_id walk) bytes old new before after reported =
-    subst (λ (s : state.ChainState). WalksFrom s bytes old new before after reported) here walks in
-    let outcome : ContinuesUnless None course pop_id walk bytes old new before after reported =
-    subst (λ (o : Option QueueError). ContinuesUnless o course pop_id walk bytes old new before after reported) running from in
-    let by : ComesBy (places_in old.regions) course.limit (queue_of course) loaded walk bytes new.descriptors.items outcome.0 =
-    outcome.2 loaded stands in
-    record {
-      came = outcome.0;
-      reported_so = outcome.1.0;
-      after = by.after;
-      adds = by.adds;
-      offers = λ h request has.
-          subst (λ (t : walked.PopOutcome). ReportsOffer (memory_over h old.regions) course new t request) (sym outcome.1.0)
-          (comes_to law h old.regions course.limit (queue_of course) by.after new.descriptors.items outcome.0 request refl by.comes has);
-    }
+  ends_so : (came : comes.CourseStep) (request : List ℕ) (after : Machine) → EndsPopIn s i w loaded ds came after
+      → HasLoaded (memory_over h regions) w.queue loaded request
+      → IsOfferOf ds (reported_of ds came) request (offer (memory_over h regions) s.limit w.queue)
+  ends_so (step.Load walk) request after ends has = absurd ends
+  ends_so (step.Missing range access) request after ends has = absurd ends
+  ends_so step.Idle request after ends has = is_offer [] _ ends.0 (unasked (memory_over h regions) w.queue loaded request has)
+  ends_so (step.Refused e) request after ends has = is_offer [] _ ends.0 (unasked (memory_over h regions) w.queue loaded request has)
+  ends_so (step.Chain head (Some fault)) request after ends has =
+      is_offer [] _ ends.0 (unasked (memory_over h regions) w.queue loaded request has)
+  ends_so (step.Chain head None) request after ends has = λ len. is_offer request _ (ends.0.1 request len) has
 
 pub walks_are_offers : OffersAreTheMemorys → WalksAreOffers
-walks_are_offers law = record { begins = begins law; carries_on = carries_on law }
+walks_are_offers law s i q q' loaded new reported h regions request there ends places has =
+    let w = live_of q in
+    let ds = new.descriptors.items in
+    let e = ends.happens in
+    let end = after_pop s i w loaded ds ends.came in
+    let runs = ended_runs s i q loaded ds ends.came end there e in
+    let so : EndsPopIn s i w loaded ds ends.came end =
+    subst (λ (v : LiveQueue). EndsPopIn s i v loaded ds ends.came end) (ended_queue s i q loaded ds ends.came end there e) e.ends in
+    subst (λ (t : walked.PopOutcome). IsOfferOf ds t request (offer (memory_over h regions) s.limit w.queue)) (sym ends.reported_is)
+    (ends_so law s i w h regions loaded ds runs places ends.came request end so has)

@@ -1,7 +1,5 @@
 -- What a walk came to, by the descriptors that are kept of it.
 use Rattle.std.proofs.Common.{◌≡◌, ℕ, List, Option, Some, None, refl, subst, sym}
-use Rattle.vm_iotlb.specs.declared.iova.IovaRange.{IovaRange}
-use Rattle.vm_iotlb.specs.declared.permissions.Permissions.{Permissions}
 use Rattle.vm_memory.specs.Memory.{Memory}
 use Rattle.fs_queue.specs.declared.fault.QueueError.{QueueError}
 use Rattle.fs_queue.specs.Chain.{Descriptor}
@@ -17,11 +15,10 @@ use Rattle.fs_chain.specs.declared.state.ChainState as state
 use Rattle.fs_chain.specs.declared.state.ChainState.TheVariants as at
 use Rattle.fs_chain.specs.declared.state.PopId.{PopId}
 use Rattle.fs_chain.specs.declared.popping.PopOutcome as walked
-use Rattle.fs_chain.specs.declared.popping.PopOutcome.TheVariants as reports
 use Rattle.fs_chain.specs.declared.chain_handle.ChainHandle.{ChainHandle}
-use Rattle.fs_chain.specs.Events.{event_fault, event_miss}
-use Rattle.fs_chain.specs.Walks.{BeginsPop, BeginsUnless, BeginsWhere, Continues, ContinuesUnless, HasEvents, LacksEvents, LeavesNone}
-use Rattle.fs_chain.specs.Walks.{RefusalHasEvents, WalksFrom, WalksOn, left_of}
+use Rattle.fs_chain.specs.Events.{event_fault}
+use Rattle.fs_chain.specs.Walks.{BeginsPop, BeginsUnless, BeginsWhere, Continues, ContinuesUnless, LeavesNone}
+use Rattle.fs_chain.specs.Walks.{WalksFrom, WalksOn, left_of}
 
 -- of a faulty chain none are kept, and none are spoken of
 pub comes_left : (m : Memory) (limit : ℕ) (q : Queue) (loaded : Loaded) (ds : List Descriptor) (came : comes.CourseStep)
@@ -59,37 +56,6 @@ pub begins_where :
 begins_where old new before after reported fault proceeds is begins =
     let there = subst (λ (f : Option QueueError). BeginsWhere f old new before after reported) is begins in
     subst (λ (s : Option QueueError). BeginsUnless s old new before after reported) (sym proceeds) there
-
--- a walk that begins tells a refusal or a miss alone where the event index isn't mapped
-abbrev IsRefused : walked.PopOutcome → Type 0
-IsRefused (reports.Refused e) = Unit {0}
-IsRefused (reports.Missing range access) = Unit {0}
-IsRefused _ = ⊥
-
-refused_so : (old new : ChainHandle) (before after : QueueState) (reported : walked.PopOutcome) (e : QueueError)
-    (miss : Option (IovaRange × Permissions)) → LacksEvents e miss old new before after reported → IsRefused reported
-refused_so old new before after reported e None begins = subst IsRefused (sym begins.0) tt
-refused_so old new before after reported e (Some miss) begins = subst IsRefused (sym begins.0) tt
-
-proceeds_by_none : (old new : ChainHandle) (before after : QueueState) (reported : walked.PopOutcome) (fault : Option QueueError)
-    → (IsRefused reported → ⊥) → BeginsWhere fault old new before after reported → fault ≡ None
-proceeds_by_none old new before after reported None proceeds begins = refl
-proceeds_by_none old new before after reported (Some e) proceeds begins =
-    absurd (proceeds (refused_so old new before after reported e (event_miss (places_in old.regions) before) begins))
-
-pub begun_has_events : (old new : ChainHandle) (before after : QueueState) (reported : walked.PopOutcome)
-    → RefusalHasEvents reported old before
-    → BeginsUnless None old new before after reported → HasEvents old before
-begun_has_events old new before after (reports.Refused e) has begins = has
-begun_has_events old new before after (reports.Missing range access) has begins = has
-begun_has_events old new before after (reports.Load n) has begins =
-    proceeds_by_none old new before after (reports.Load n) (event_fault (places_in old.regions) before) (λ no. no) begins
-begun_has_events old new before after reports.Idle has begins =
-    proceeds_by_none old new before after reports.Idle (event_fault (places_in old.regions) before) (λ no. no) begins
-begun_has_events old new before after (reports.Chain head n r) has begins =
-    proceeds_by_none old new before after (reports.Chain head n r) (event_fault (places_in old.regions) before) (λ no. no) begins
-begun_has_events old new before after (reports.Faulty head fault) has begins =
-    proceeds_by_none old new before after (reports.Faulty head fault) (event_fault (places_in old.regions) before) (λ no. no) begins
 
 -- a handle's walk goes on, unless its queue was stopped
 pub walks_unless : (course : Course) (pop_id : PopId) (walk : QueueWalk) (bytes : List ℕ) (old new : ChainHandle)

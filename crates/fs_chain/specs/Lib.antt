@@ -21,6 +21,5 @@ pub mod Rings
 pub mod Pushes
 pub mod Serials
 pub mod Walks
-pub mod Missed
 pub mod Tables
 pub mod Together

@@ -155,17 +155,6 @@ Continues course pop_id walk bytes old new before after reported =
     → ComesBy (places_in old.regions) course.limit (queue_of course) loaded walk bytes
     new.descriptors.items came)
 
--- used_event and avail_event are mapped, if the queue has the event index
-abbrev pub HasEvents : ChainHandle → QueueState → Type 0
-HasEvents w q = event_fault (places_in w.regions) q ≡ None
-
--- after a refusal or a miss, used_event and avail_event are mapped. A pop that begins while they aren't is
--- refused, or misses them
-abbrev pub RefusalHasEvents : walked.PopOutcome → ChainHandle → QueueState → Type 0
-RefusalHasEvents (reports.Refused e) w q = HasEvents w q
-RefusalHasEvents (reports.Missing range access) w q = HasEvents w q
-RefusalHasEvents _ w q = Unit {0}
-
 -- used_event or avail_event of the queue isn't mapped. If the table doesn't map one of them, the pop misses
 -- it, and the queue stays as it was; else the pop is refused, and the queue stops. The handle drops the
 -- descriptors of an earlier pop

@@ -1,36 +1,20 @@
 //! Theorems about the definitions, as contracts of functions that do nothing.
 
-ghost use Rattle.fs_regions.specs.Laws.{MissesCanBeMapped};
 ghost use Rattle.fs_chain.specs.Held.{AskedIsMapped, HeldIsUnreplied, LoadsAreFew, LoadsCount};
 ghost use Rattle.fs_chain.specs.HoldsListings.{BeginsListing, LeavesOut, LooksUp, ReadsDirectory};
 ghost use Rattle.fs_chain.specs.Laws.{WalksAreOffers};
-ghost use Rattle.fs_chain.specs.Missed.{EventFaultRefuses, EventMissIsNoStep, MissIsNoStep};
 ghost use Rattle.fs_chain.specs.Together.{FindsOwn, JoinsOthers, KeepsOthers, LeavesOthers};
 
-use fs_regions::laws::{law_misses_can_be_mapped, law_offers};
+use fs_regions::laws::law_offers;
 
-/// For a queue that wasn't stopped, the result of `pop` is the offer of each memory that has all its
-/// loads in the handle's regions: no chain, a refusal, or the chain, with its fault or with its request
-/// and the addresses of its reply buffer. Only one refusal is the pop's own: used_event or avail_event
-/// isn't mapped.
+/// The result of a pop that ended is the offer of each memory that has all its loads in the run's mappings:
+/// no chain, a refusal, or the chain, with its fault or with its request and the addresses of its reply
+/// buffer. `pop` ensures how a pop ends (`step`). Only one refusal is the pop's own: used_event or
+/// avail_event isn't mapped.
 pub fn law_walks()
     ensures { WalksAreOffers }
 {
     law_offers();
-}
-
-/// A pop that misses addresses changes neither the queue nor the settings of the handle, which is free for
-/// another pop. It returns the addresses that it needs first and the table doesn't map, with the access. A
-/// table of whole pages can map them: none of them is in the last page. With the event index a pop misses
-/// used_event or avail_event before any load; if one of them isn't mapped and that is no miss, the pop is
-/// refused, even if a chain is available, and the queue is stopped.
-pub fn law_misses()
-    ensures missed { MissIsNoStep }
-    ensures events { EventMissIsNoStep }
-    ensures refused { EventFaultRefuses }
-    ensures mapped { MissesCanBeMapped }
-{
-    law_misses_can_be_mapped();
 }
 
 /// Several handles of one run. A call of one of them, by which it keeps, gets or loses its chain, leaves the

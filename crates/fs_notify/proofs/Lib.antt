@@ -1,4 +1,3 @@
-pub mod Amid
 pub mod Drops
 pub mod Returns
 pub mod Walks

@@ -1,7 +1,7 @@
--- Whole walks: by which index they take a chain, and by which they find none.
+-- Pops that ended: by which index they take a chain, and by which they find none.
 use Rattle.std.proofs.Common.{arith, ◌≡◌, ℕ, ◌+◌, ◌-◌, ◌%◌, ◌^◌, ◌<◌, ◌==◌, ◌&&◌, ◌||◌, Bool, true, false, not, List, [], ◌∷◌, ◌++◌, length}
 use Rattle.std.proofs.Common.{replicate, Option, Some, None, IsTrue, refl, sym, ap, subst, ◌∙◌, if◌then◌else◌}
-use Rattle.std.specs.Prelude.{is_some, nat_lt, nat_le, option_and_then, option_map}
+use Rattle.std.specs.Prelude.{is_some, nat_lt, nat_le, option_and_then, option_map, slice_get}
 use Rattle.std.specs.Int.{w16, from_le_bytes}
 use Rattle.std.proofs.lemmas.Bool.{eqb-true}
 use Rattle.std.proofs.lemmas.Bool.Decides.{nat_tests}
@@ -10,6 +10,7 @@ use Rattle.std.proofs.lemmas.Nat.{mod_below}
 use Rattle.vm_iotlb.specs.declared.permissions.Permissions.TheVariants.{Read, Write}
 use Rattle.vm_memory.specs.Memory.{Memory, number, reach}
 use Rattle.fs_queue.specs.declared.layout.QueueLayout.{QueueLayout}
+use Rattle.fs_queue.specs.declared.fault.ChainFault.{ChainFault}
 use Rattle.fs_queue.specs.declared.fault.QueueError.TheVariants.{AvailFlagsUnreachable, AvailIndexUnreachable, RingEntryUnreachable}
 use Rattle.fs_queue.specs.declared.fault.QueueError.TheVariants.{HeadOutOfTable, UsedUnreachable}
 use Rattle.fs_queue.specs.Chain.{Found, IsChain, HasFault, StopsQueue}
@@ -25,26 +26,22 @@ use Rattle.fs_queue.specs.Taking.{total_len, readable, writable, addresses_of, I
 use Rattle.fs_queue.specs.Chain.{Descriptor}
 use Rattle.fs_regions.specs.declared.step.CourseStep as comes
 use Rattle.fs_regions.specs.declared.step.CourseStep.TheVariants as step
-use Rattle.fs_regions.specs.Places.{places_in}
-use Rattle.fs_regions.specs.Walks.{Loaded, IsCourseStep, OffersBy, queue_of}
-use Rattle.fs_chain.specs.declared.error.ChainError.TheVariants.{BadArgument, ChainInFlight}
-use Rattle.fs_chain.specs.declared.loads.LoadOutcome as outcome
-use Rattle.fs_chain.specs.declared.loads.LoadOutcome.TheVariants as outcomes
+use Rattle.fs_regions.specs.Walks.{FetchesBy, Loaded, OffersBy}
+use Rattle.live_machine.specs.Live.{EndsPopSo, after_pop}
+use Rattle.live_machine.specs.Several.{LiveQueue, in_flight, took}
+use Rattle.live_machine.specs.Several as several
+use Rattle.live_machine.proofs.Queues.{there_same}
 use Rattle.fs_chain.specs.declared.queue.QueueState.{QueueState}
-use Rattle.fs_chain.specs.declared.state.ChainState as state
 use Rattle.fs_chain.specs.declared.popping.PopOutcome as walked
 use Rattle.fs_chain.specs.declared.popping.PopOutcome.TheVariants as shows
-use Rattle.fs_chain.specs.declared.chain_handle.ChainHandle.{ChainHandle}
-use Rattle.fs_chain.specs.Loads.{whole}
-use Rattle.fs_chain.specs.Orders.{begin_error, load_len, walk_error}
-use Rattle.fs_chain.specs.Queues.{may_take, took}
-use Rattle.fs_chain.specs.Walks.{course_of, queue_after, reported_of}
-use Rattle.fs_chain.specs.Pops.{BeginsPopBy, LoadsOf, WalksBy}
-use Rattle.fs_chain.proofs.PopWalks.{came_is, faulty_is, walk_comes}
+use Rattle.fs_chain.specs.Holds.{IsQueue, Machine, live_of}
+use Rattle.fs_chain.specs.Queues.{may_take}
+use Rattle.fs_chain.specs.Walks.{reported_of}
+use Rattle.fs_chain.proofs.Offering.{ended_queue, ended_runs}
 use Rattle.notify.specs.Kicks.{ahead}
 use Rattle.notify.specs.Threads.{ThreadedQueue, Walker, Rearmer, walks, is_rearmer, may_act, after_act, TakesOne, SleepsNow}
 use Rattle.notify.proofs.Rings.{ahead_zero}
-use Rattle.fs_notify.specs.Takers.{FindsNoneByWalk, HasU16Numbers, IsIndex, IsModelOf, SleepsInOrder, TakesByWalk, ways_of}
+use Rattle.fs_notify.specs.Takers.{FindsNoneByPop, HasPopped, HasU16Numbers, IsIndex, IsModelOf, SleepsInOrder, TakesByPop, ways_of}
 
 -- ---- an offer by what waits
 
@@ -232,28 +229,26 @@ offer_shows m limit l position loaded request o by offers =
     let w = by_waits m limit q (loaded.entries ++ by.1) request (available_by q loaded.index loaded.entry) o by.3 in
     index_shows l position loaded.index loaded.entry w.0 o w.1 w.2 offers
 
--- ---- a walk
+-- ---- a pop that ended
 
-may_of : (b c : Bool) → (if not b then Some BadArgument else if not c then Some ChainInFlight else None) ≡ None → c ≡ true
-may_of false c none = cc
-may_of true false none = cc
-may_of true true none = refl
+-- a queue of the run as the model has it
+abbrev IsLiveModel : LiveQueue → ThreadedQueue → Type 0
+IsLiveModel v s = (s.position ≡ v.queue.position) × (s.out ≡ in_flight v)
 
-first_may : (old new : ChainHandle) (before after : QueueState) (reported : outcome.LoadOutcome) → BeginsPopBy old new before after reported
-    → may_take before ≡ true
-first_may old new before after outcomes.Part by =
-    let none : begin_error before (load_len old.state) ≡ None =
-    subst (λ (s : state.ChainState). walk_error s before (load_len old.state) ≡ None) by.0 by.1.2 in
-    may_of (load_len old.state == 0) (may_take before) none
-first_may old new before after (outcomes.On reported) by =
-    let none : begin_error before (length (whole old [])) ≡ None =
-    subst (λ (s : state.ChainState). walk_error s before (length (whole old [])) ≡ None) by.0 by.1.3 in
-    may_of (length (whole old []) == 0) (may_take before) none
+same_live : (x : Option LiveQueue) (v w : LiveQueue) → x ≡ Some v → x ≡ Some w → w ≡ v
+same_live x v w is too = cc
 
-walk_may : (given : List (List ℕ)) (old new : ChainHandle) (before after : QueueState) (reported : outcome.LoadOutcome) →
-    WalksBy given old new before after reported → may_take before ≡ true
-walk_may [] old new before after reported by = first_may old new before after reported by
-walk_may (bs ∷ given) old new before after reported by = walk_may given old by.0 before by.1 by.2 by.3
+-- what such a pop says of its queue: it isn't stopped, and may have one more chain in flight
+module _ (m : Machine) (i : ℕ) (before : QueueState) (loaded : Loaded) (ds : List Descriptor) (came : comes.CourseStep) (end : Machine)
+    (there : IsQueue m i before) (e : EndsPopSo m i loaded ds came end) where
+  may : may_take before ≡ true
+  may = subst (λ (v : LiveQueue). several.may_take v ≡ true) (ended_queue m i before loaded ds came end there e) e.room
+
+  laid : e.w.queue ≡ at_position before.layout before.next_avail
+  laid =
+      ap (λ (v : LiveQueue). v.queue) (ended_queue m i before loaded ds came end there e)
+      ∙ ap (λ (b : Bool). record (at_position before.layout before.next_avail) { stopped = b })
+      (ended_runs m i before loaded ds came end there e)
 
 one_taken : (p r most : ℕ) → p < 2 ^ 16 → r < 2 ^ 16 → most < 2 ^ 16 → nat_lt ((p + (2 ^ 16 - r)) % 2 ^ 16) most ≡ true
     → (p + (2 ^ 16 - r)) % 2 ^ 16 + 1 ≡ ((p + 1) % 2 ^ 16 + (2 ^ 16 - r)) % 2 ^ 16
@@ -269,76 +264,73 @@ lt_of n some = grind (arith, nat_tests)
 
 -- the act of taking, where so many are ahead
 takes_so : (q after : QueueState) (s : ThreadedQueue) (index : ℕ) → HasU16Numbers q → may_take q ≡ true → 0 < ahead index q.next_avail
-    → after ≡ took q → IsModelOf q s → s.holder ≡ Walker → s.known ≡ index
+    → live_of after ≡ took (live_of q) → IsModelOf q s → s.holder ≡ Walker → s.known ≡ index
     → IsTrue (may_act (ways_of q) s TakesOne) × IsModelOf after (after_act (ways_of q) s TakesOne)
 takes_so q after s index counted may some gone is walker known =
     let ahead_is : ahead s.known s.position ≡ ahead index q.next_avail = rw (known, is.0) refl in
-    let there : IsModelOf (took q) (after_act (ways_of q) s TakesOne) = (
+    let there : IsLiveModel (took (live_of q)) (after_act (ways_of q) s TakesOne) = (
       ap (λ (n : ℕ). (n + 1) % 2 ^ 16) is.0,
       ap (λ (n : ℕ). n + 1) is.1 ∙ one_taken q.next_avail q.next_used q.max_in_flight counted.0 counted.1 counted.2 may,
     ) in (
       three (walks s.holder) (nat_lt s.out q.max_in_flight) (nat_lt 0 (ahead s.known s.position)) (ap walks walker) (rw is.1 may)
           (lt_of (ahead s.known s.position) (subst (λ (n : ℕ). 0 < n) (sym ahead_is) some)),
-      subst (λ (k : QueueState). IsModelOf k (after_act (ways_of q) s TakesOne)) (sym gone) there,
+      subst (λ (v : LiveQueue). IsLiveModel v (after_act (ways_of q) s TakesOne)) (sym gone) there,
     )
 
-abbrev TakesSo : (given : List (List ℕ)) (old new : ChainHandle) (before after : QueueState) (reported : walked.PopOutcome)
-    (s : ThreadedQueue) → WalksBy given old new before after (outcomes.On reported) → Type 0
-TakesSo given old new before after reported s walks =
-    (loaded : Loaded) × LoadsOf given old new before after (outcomes.On reported) walks loaded × (index : ℕ) × IsIndex loaded index
+abbrev TakesSo : (before after : QueueState) (loaded : Loaded) (s : ThreadedQueue) → Type 0
+TakesSo before after loaded s =
+    (index : ℕ) × IsIndex loaded index
     × (s.known ≡ index → IsTrue (may_act (ways_of before) s TakesOne) × IsModelOf after (after_act (ways_of before) s TakesOne))
 
--- by what was offered
-takes_by : (given : List (List ℕ)) (old new : ChainHandle) (before after : QueueState) (reported : walked.PopOutcome) (s : ThreadedQueue)
-    (walks : WalksBy given old new before after (outcomes.On reported)) (loaded : Loaded)
-    (head : ℕ) (fetched : RequestAndRoom) → LoadsOf given old new before after (outcomes.On reported) walks loaded
-    → IndexShows loaded.index before.next_avail (Offers head fetched)
-    → HasU16Numbers before → after ≡ took before → IsModelOf before s → s.holder ≡ Walker
-    → TakesSo given old new before after reported s walks
-takes_by given old new before after reported s walks loaded head fetched loads shows counted gone is walker = (
-  loaded,
-  loads,
-  from_le_bytes w16 shows.0,
-  (shows.0, shows.1, refl),
-  λ known.
-      takes_so before after s (from_le_bytes w16 shows.0) counted (walk_may given old new before after (outcomes.On reported) walks) shows.2
-      gone is
-      walker known,
-)
+-- what it was offered
+abbrev IsOffered : Memory → (limit : ℕ) → Ring → Loaded → Type 0
+IsOffered m limit q loaded =
+    (head : ℕ) × (request : List ℕ) × (fetched : RequestAndRoom) × OffersBy m limit q loaded request (Offers head fetched)
 
-pub takes : TakesByWalk
-takes given old new before after (shows.Load n) s counted proceeds taken walks is walker = absurd taken
-takes given old new before after shows.Idle s counted proceeds taken walks is walker = absurd taken
-takes given old new before after (shows.Missing range access) s counted proceeds taken walks is walker = absurd taken
-takes given old new before after (shows.Refused e) s counted proceeds taken walks is walker = absurd taken
-takes given old new before after (shows.Chain head request_len room_len) s counted proceeds taken walks is walker =
-    let m = places_in old.regions in
-    let q = queue_of (course_of before old.limit) in
-    let all = walk_comes given old new before after (shows.Chain head request_len room_len) proceeds tt walks in
-    let came = (came_is new.descriptors.items all.2.0 head request_len room_len all.2.1.0).0 in
-    let ds = new.descriptors.items in
-    let comes_so : IsCourseStep m old.limit q all.0 ds (step.Chain head None) =
-    subst (λ (c : comes.CourseStep). IsCourseStep m old.limit q all.0 ds c) came all.2.2 in
-    let found = comes_so.0 in
+offered : (m : Memory) (limit : ℕ) (q : Ring) (loaded : Loaded) (ds : List Descriptor) (head : ℕ) (fault : Option ChainFault)
+    → FetchesBy m limit q loaded ds head fault → IsOffered m limit q loaded
+offered m limit q loaded ds head None by =
     let n = total_len (readable ds) in
-    let by = found.1 (replicate n 0) (length-replicate n 0) in
-    let gone : after ≡ took before = all.2.1.2 ∙ ap (queue_after before) came in
-    takes_by given old new before after (shows.Chain head request_len room_len) s walks all.0 head
-    (IsRequest (replicate n 0) (addresses_of (writable ds))) all.1
-    (offer_shows m old.limit before.layout before.next_avail all.0 (replicate n 0)
-    (Offers head (IsRequest (replicate n 0) (addresses_of (writable ds)))) by tt) counted gone is walker
-takes given old new before after (shows.Faulty head fault) s counted proceeds taken walks is walker =
-    let m = places_in old.regions in
-    let q = queue_of (course_of before old.limit) in
-    let all = walk_comes given old new before after (shows.Faulty head fault) proceeds tt walks in
-    let came = faulty_is new.descriptors.items all.2.0 head fault all.2.1.0 in
-    let ds = new.descriptors.items in
-    let comes_so : IsCourseStep m old.limit q all.0 ds (step.Chain head (Some fault)) =
-    subst (λ (c : comes.CourseStep). IsCourseStep m old.limit q all.0 ds c) came all.2.2 in
-    let found = comes_so.0 in
-    let gone : after ≡ took before = all.2.1.2 ∙ ap (queue_after before) came in
-    takes_by given old new before after (shows.Faulty head fault) s walks all.0 head (CannotFetch fault) all.1
-    (offer_shows m old.limit before.layout before.next_avail all.0 [] (Offers head (CannotFetch fault)) found tt) counted gone is walker
+    (head, replicate n 0, IsRequest (replicate n 0) (addresses_of (writable ds)), by.1 (replicate n 0) (length-replicate n 0))
+offered m limit q loaded ds head (Some why) by = (head, [], CannotFetch why, by)
+
+-- by a chain's pop
+takes_chain : (m end : Machine) (i : ℕ) (before after : QueueState) (loaded : Loaded) (ds : List Descriptor) (head : ℕ)
+    (fault : Option ChainFault) (s : ThreadedQueue) → HasU16Numbers before → IsQueue m i before
+    → EndsPopSo m i loaded ds (step.Chain head fault) end
+    → IsQueue (after_pop m i (live_of before) loaded ds (step.Chain head fault)) i after
+    → IsModelOf before s → s.holder ≡ Walker → TakesSo before after loaded s
+takes_chain m end i before after loaded ds head fault s counted there e left is walker =
+    let came : comes.CourseStep = step.Chain head fault in
+    let found = offered m.places m.limit e.w.queue loaded ds head fault e.ends.0 in
+    let by = subst (λ (q : Ring). OffersBy m.places m.limit q loaded found.1 (Offers found.0 found.2))
+    (laid m i before loaded ds came end there e) found.3 in
+    let shows = offer_shows m.places m.limit before.layout before.next_avail loaded found.1 (Offers found.0 found.2) by tt in
+    let gone : live_of after ≡ took (live_of before) =
+    same_live (slice_get (after_pop m i (live_of before) loaded ds came).queues i) (took (live_of before)) (live_of after)
+    (there_same m.queues i i (λ _. took (live_of before)) (live_of before) refl there) left in (
+      from_le_bytes w16 shows.0,
+      (shows.0, shows.1, refl),
+      λ known.
+          takes_so before after s (from_le_bytes w16 shows.0) counted (may m i before loaded ds came end there e) shows.2 gone is walker
+          known,
+    )
+
+takes_by : (m end : Machine) (i : ℕ) (before after : QueueState) (loaded : Loaded) (ds : List Descriptor) (came : comes.CourseStep)
+    (s : ThreadedQueue) → HasU16Numbers before → HasPopped (reported_of ds came) → IsQueue m i before
+    → EndsPopSo m i loaded ds came end → IsQueue (after_pop m i (live_of before) loaded ds came) i after
+    → IsModelOf before s → s.holder ≡ Walker → TakesSo before after loaded s
+takes_by m end i before after loaded ds (step.Chain head fault) s counted taken there e left is walker =
+    takes_chain m end i before after loaded ds head fault s counted there e left is walker
+takes_by m end i before after loaded ds (step.Load walk) s counted taken there e left is walker = absurd taken
+takes_by m end i before after loaded ds step.Idle s counted taken there e left is walker = absurd taken
+takes_by m end i before after loaded ds (step.Refused why) s counted taken there e left is walker = absurd taken
+takes_by m end i before after loaded ds (step.Missing range access) s counted taken there e left is walker = absurd taken
+
+pub takes : TakesByPop
+takes m i before after loaded new reported s counted taken there ends is walker =
+    takes_by m (after_pop m i (live_of before) loaded new.descriptors.items ends.came) i before after loaded new.descriptors.items ends.came
+    s counted (subst HasPopped ends.reported_is taken) there ends.happens ends.queue is walker
 
 -- ---- none is found
 
@@ -367,27 +359,25 @@ sleeps_so q s none is asker shown =
     (ap not shown)
     (or_left (s.index == s.position) (nat_le q.max_in_flight s.out) (same_index s.index s.position none))
 
-pub finds_none : FindsNoneByWalk
-finds_none given old new before after s counted fits proceeds walks is asker shown =
-    let m = places_in old.regions in
-    let q = queue_of (course_of before old.limit) in
-    let all = walk_comes given old new before after shows.Idle proceeds tt walks in
-    let came = idle_is new.descriptors.items all.2.0 all.2.1.0 in
+pub finds_none : FindsNoneByPop
+finds_none m i before after loaded new s counted fits there ends is asker shown =
     let ds = new.descriptors.items in
-    let found : IsCourseStep m old.limit q all.0 ds step.Idle =
-    subst (λ (c : comes.CourseStep). IsCourseStep m old.limit q all.0 ds c) came all.2.2 in
-    let gone : after ≡ before = all.2.1.2 ∙ ap (queue_after before) came in
-    let shows = offer_shows m old.limit before.layout before.next_avail all.0 [] taking.Idle found tt in
-    let index = from_le_bytes w16 shows.0 in (
-      all.0,
-      all.1,
-      index,
+    let came = idle_is ds ends.came ends.reported_is in
+    let e : EndsPopSo m i loaded ds step.Idle m =
+    subst (λ (c : comes.CourseStep). EndsPopSo m i loaded ds c (after_pop m i (live_of before) loaded ds c)) came ends.happens in
+    let left : IsQueue m i after =
+    subst (λ (c : comes.CourseStep). IsQueue (after_pop m i (live_of before) loaded ds c) i after) came ends.queue in
+    let by = subst (λ (q : Ring). OffersBy m.places m.limit q loaded [] taking.Idle) (laid m i before loaded ds step.Idle m there e)
+    e.ends.0 in
+    let gone : live_of after ≡ live_of before = same_live (slice_get m.queues i) (live_of before) (live_of after) there left in
+    let shows = offer_shows m.places m.limit before.layout before.next_avail loaded [] taking.Idle by tt in (
+      from_le_bytes w16 shows.0,
       (shows.0, shows.1, refl),
       λ same.
           let none : s.index ≡ before.next_avail =
-          ahead_zero s.index before.next_avail fits counted.0 (ap (λ (i : ℕ). ahead i before.next_avail) same ∙ shows.2) in (
+          ahead_zero s.index before.next_avail fits counted.0 (ap (λ (k : ℕ). ahead k before.next_avail) same ∙ shows.2) in (
             sleeps_so before s (none ∙ sym is.0) is asker shown,
-            subst (λ (k : QueueState). IsModelOf k (after_act (ways_of before) s SleepsNow)) (sym gone) is,
+            subst (λ (v : LiveQueue). IsLiveModel v (after_act (ways_of before) s SleepsNow)) (sym gone) is,
           ),
     )
 

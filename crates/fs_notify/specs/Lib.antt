@@ -1,3 +1,2 @@
-pub mod Amid
 pub mod Givers
 pub mod Takers

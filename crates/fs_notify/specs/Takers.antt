@@ -10,7 +10,6 @@ use Rattle.fs_queue.specs.Queue.{has_bit}
 use Rattle.fs_queue.specs.Returning.{Store}
 use Rattle.fs_regions.specs.Walks.{Loaded}
 use Rattle.fs_chain.specs.declared.error.ChainError.TheVariants.{ChainInFlight}
-use Rattle.fs_chain.specs.declared.loads.LoadOutcome.TheVariants as outcomes
 use Rattle.fs_chain.specs.declared.queue.QueueState.{QueueState}
 use Rattle.fs_chain.specs.declared.state.ChainState as state
 use Rattle.fs_chain.specs.declared.state.InFlight.{InFlight}
@@ -21,7 +20,7 @@ use Rattle.fs_chain.specs.declared.chain_handle.ChainHandle.{ChainHandle}
 use Rattle.fs_chain.specs.Events.{avail_event_at, notification_store}
 use Rattle.fs_chain.specs.Orders.{begin_error, end_error, give_up_error}
 use Rattle.fs_chain.specs.Queues.{gave, in_flight, gave_up}
-use Rattle.fs_chain.specs.Pops.{LoadsOf, WalksBy}
+use Rattle.fs_chain.specs.Holds.{EndsBy, IsQueue, Machine}
 use Rattle.notify.specs.Threads.{Ways, right_ways, ThreadedQueue, Walker, Rearmer, Nobody, may_act, after_act}
 use Rattle.notify.specs.Threads.{ActsOver}
 use Rattle.notify.specs.Threads.{Wishes, WishIsThere, Silences, TakesOne, DropsOne, SleepsNow, ReturnsChains}
@@ -90,44 +89,41 @@ HasPopped (shows.Chain head request_len room_len) = Unit {0}
 HasPopped (shows.Faulty head fault) = Unit {0}
 HasPopped _ = ⊥
 
--- the available index that a pop was given
+-- the available index that a pop was given, by its loads
 abbrev pub IsIndex : Loaded → (index : ℕ) → Type 0
 IsIndex loaded index = (bytes : List ℕ) × (loaded.index ≡ Some bytes) × (from_le_bytes w16 bytes ≡ index)
 
--- a pop that returns a chain was given an index by which the model's thread may take it, now or
--- earlier. The queue afterwards is the model's
-abbrev pub TakesByWalk : Type 0
-TakesByWalk =
-    (given : List (List ℕ)) (old new : ChainHandle) (before after : QueueState)
+-- a pop that ended with a chain was given an index by which the model's thread may take it, now or earlier.
+-- The queue afterwards is the model's
+abbrev pub TakesByPop : Type 0
+TakesByPop =
+    (m : Machine) (i : ℕ) (before after : QueueState) (loaded : Loaded) (new : ChainHandle)
     (reported : walked.PopOutcome) (s : ThreadedQueue)
     → HasU16Numbers before
-    → before.stopped ≡ None
     → HasPopped reported
-    → (walks : WalksBy given old new before after (outcomes.On reported))
+    → IsQueue m i before
+    → EndsBy m i before after loaded new reported
     → IsModelOf before s
     → s.holder ≡ Walker
-    → (loaded : Loaded)
-    × LoadsOf given old new before after (outcomes.On reported) walks loaded
-    × (index : ℕ)
+    → (index : ℕ)
     × IsIndex loaded index
     × (s.known ≡ index
     → IsTrue (may_act (ways_of before) s TakesOne) × IsModelOf after (after_act (ways_of before) s TakesOne))
 
--- a pop that finds no chain was given an index. By it the model's thread may sleep, if two conditions hold.
--- Its wish is in memory, behind a barrier. The index is the one in memory now, not an earlier one
-abbrev pub FindsNoneByWalk : Type 0
-FindsNoneByWalk =
-    (given : List (List ℕ)) (old new : ChainHandle) (before after : QueueState) (s : ThreadedQueue)
+-- a pop that ended without a chain was given an index. By it the model's thread may sleep, if two conditions
+-- hold. Its wish is in memory, behind a barrier. The index is the one in memory now, not an earlier one
+abbrev pub FindsNoneByPop : Type 0
+FindsNoneByPop =
+    (m : Machine) (i : ℕ) (before after : QueueState) (loaded : Loaded) (new : ChainHandle)
+    (s : ThreadedQueue)
     → HasU16Numbers before
     → s.index < 2 ^ 16
-    → before.stopped ≡ None
-    → (walks : WalksBy given old new before after (outcomes.On shows.Idle))
+    → IsQueue m i before
+    → EndsBy m i before after loaded new shows.Idle
     → IsModelOf before s
     → s.holder ≡ Rearmer
     → s.hidden ≡ false
-    → (loaded : Loaded)
-    × LoadsOf given old new before after (outcomes.On shows.Idle) walks loaded
-    × (index : ℕ)
+    → (index : ℕ)
     × IsIndex loaded index
     × (s.index ≡ index
     → IsTrue (may_act (ways_of before) s SleepsNow)

@@ -19,21 +19,19 @@
 #![tactic(auto)]
 
 ghost use Rattle.fs_notify.specs.Givers.{ChecksBySeen, MachineChecks, PublishesByStore, ReturnsInOrder};
-ghost use Rattle.fs_notify.specs.Amid.{FindsNoneAmidRefusals, TakesAmidRefusals};
-ghost use Rattle.fs_notify.specs.Takers.{RearmsByStore, DropIsAnAct, FindsNoneByWalk, FullIsAnAct};
+ghost use Rattle.fs_notify.specs.Takers.{RearmsByStore, DropIsAnAct, FindsNoneByPop, FullIsAnAct};
 ghost use Rattle.fs_notify.specs.Takers.{MutesByStore, ReturnIsAnAct};
-ghost use Rattle.fs_notify.specs.Takers.{SleepsInOrder, TakesByWalk};
+ghost use Rattle.fs_notify.specs.Takers.{SleepsInOrder, TakesByPop};
 
 /// The acts of a thread that holds the queue's lock: a call's result allows the act, and the call makes
-/// it. Calls of a pop may have been refused between its others. A wish and a later pop that finds no
-/// chain, in this order, are a run of the model after which the thread sleeps.
+/// it. Of a pop that is the call that ends it, by what `pop` ensures of that call (`EndsBy` in `fs_chain`).
+/// A wish and a later pop that finds no chain, in this order, are a run of the model after which the
+/// thread sleeps.
 pub fn law_takers()
     ensures rearms { RearmsByStore }
     ensures mutes { MutesByStore }
-    ensures takes { TakesByWalk }
-    ensures none { FindsNoneByWalk }
-    ensures takes_amid { TakesAmidRefusals }
-    ensures none_amid { FindsNoneAmidRefusals }
+    ensures takes { TakesByPop }
+    ensures none { FindsNoneByPop }
     ensures full { FullIsAnAct }
     ensures drops { DropIsAnAct }
     ensures returns { ReturnIsAnAct }

@@ -1,10 +1,11 @@
-pub mod GivenBytes
 pub mod HeldPop
 pub mod InARowRun
 pub mod MissedEvent
 pub mod ModelActs
+pub mod Offered
+pub mod OverFiles
+pub mod Popped
 pub mod Results
 pub mod StaysAlike
-pub mod TookQueue
 pub mod TwoPasses
 pub mod WorkedReturns

@@ -1,5 +1,5 @@
 -- used_event is missed if the table maps nothing. Without regions it is unmapped.
-use Rattle.std.proofs.Common.{arith, ◌≡◌, ℕ, ◌+◌, ◌≤◌, Bool, List, [], ◌∷◌, None, Some, refl}
+use Rattle.std.proofs.Common.{arith, ◌≡◌, ℕ, ◌+◌, ◌≤◌, Bool, List, [], ◌∷◌, Option, None, Some, refl, subst}
 use Rattle.std.specs.Prelude.{◌&&◌, ◌^◌, false, true, nat_le, nat_lt}
 use Rattle.std.proofs.lemmas.Bool.Decides.{nat_tests}
 use Rattle.vm_iotlb.specs.AddressRuns.{missing, run_of, runs}
@@ -7,11 +7,21 @@ use Rattle.vm_iotlb.specs.Ranges.{table_held}
 use Rattle.vm_iotlb.specs.declared.permissions.Permissions.TheVariants.{Read, Write}
 use Rattle.vm_memory.specs.Layout.{Region, place}
 use Rattle.vm_memory.specs.Memory.{addresses, reach}
+use Rattle.fs_queue.specs.declared.fault.QueueError.{QueueError}
 use Rattle.fs_queue.specs.declared.fault.QueueError.TheVariants.{AvailFlagsUnreachable}
 use Rattle.fs_regions.specs.Misses.{Area, first_miss, last_page}
 use Rattle.fs_regions.specs.Places.{Mapped, behind, places_in, untranslated}
 use Rattle.fs_chain.specs.Events.{avail_event_at, event_fault, event_miss, used_event_at}
+use Rattle.fs_chain.specs.Loads.{ProceedsSo, whole}
+use Rattle.fs_chain.specs.Walks.{BeginsPop, BeginsUnless, BeginsWhere, LacksEvents, WalksFrom}
+use Rattle.fs_chain.specs.declared.chain_handle.ChainHandle.{ChainHandle}
+use Rattle.fs_chain.specs.declared.loads.LoadOutcome as outcome
+use Rattle.fs_chain.specs.declared.loads.LoadOutcome.TheVariants as outcomes
+use Rattle.fs_chain.specs.declared.popping.PopOutcome as walked
 use Rattle.fs_chain.specs.declared.queue.QueueState.{QueueState}
+use Rattle.fs_chain.specs.declared.state.ChainState as state
+use Rattle.fs_chain.specs.declared.state.ChainState.TheVariants as at
+use Rattle.fs_chain.proofs.HoldsPopped.{begins_none}
 
 -- regions behind a table without mappings
 abbrev pub behind_none : List Region → Mapped
@@ -50,3 +60,19 @@ pub unmapped_event : (q : QueueState) → q.event_index ≡ true
     → (event_fault (places_in (untranslated [])) q ≡ Some AvailFlagsUnreachable)
     × (event_miss (places_in (untranslated [])) q ≡ None)
 unmapped_event q event = (rw event (rw (none_mapped (used_event_at q.layout)) refl), rw event refl)
+
+-- ---- the first call of such a pop
+
+pub lacking : (old new : ChainHandle) (q q' : QueueState) (came : outcome.LoadOutcome) (e : QueueError) → old.state ≡ at.Free
+    → q.stopped ≡ None → event_fault (places_in old.regions) q ≡ Some e → ProceedsSo old q [] came new q'
+    → (reported : walked.PopOutcome) × (came ≡ outcomes.On reported)
+    × LacksEvents e (event_miss (places_in old.regions) q) old new q q' reported × (new.part.items ≡ [])
+lacking old new q q' outcomes.Part e free running fault call = absurd (begins_none old q [] new q' free call)
+lacking old new q q' (outcomes.On reported) e free running fault call =
+    let begins : BeginsPop old new q q' reported =
+    subst (λ (st : state.ChainState). WalksFrom st (whole old []) old new q q' reported) free call.4 in
+    let unless : BeginsUnless None old new q q' reported =
+    subst (λ (s : Option QueueError). BeginsUnless s old new q q' reported) running begins in
+    let lacks : BeginsWhere (Some e) old new q q' reported =
+    subst (λ (f : Option QueueError). BeginsWhere f old new q q' reported) fault unless in
+    (reported, refl, lacks, call.1)

@@ -1,5 +1,5 @@
 pub mod InARow
 pub mod Marks
 pub mod Notified
-pub mod Refusals
+pub mod OverFiles
 pub mod WorkedRuns

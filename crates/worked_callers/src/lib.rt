@@ -3,6 +3,7 @@
 //! share the marks of `vm_atomic_bitmaps`. `chain_tests` runs them all.
 #![tactic(auto)]
 
+pub mod files;
 pub mod givers;
 pub mod held;
 pub mod live_queues;
@@ -10,7 +11,6 @@ pub mod marks;
 pub mod missed_event;
 pub mod misses;
 pub mod offers;
-pub mod pops;
 pub mod refusals;
 pub mod takers;
 pub mod untouched;

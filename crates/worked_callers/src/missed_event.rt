@@ -9,8 +9,6 @@ ghost use Rattle.fs_regions.specs.Places.{behind, untranslated};
 ghost use Rattle.fs_chain.specs.Events.{used_event_at};
 ghost use Rattle.fs_chain.specs.declared.state.ChainState.TheVariants as at;
 
-use crate::pops::walk_by;
-use fs_chain::laws::law_misses;
 use fs_chain::{ChainError, ChainHandle, LoadOutcome, PopOutcome, QueueState};
 use fs_queue::QueueError;
 use fs_regions::{GuestMap, GuestRegions};
@@ -43,7 +41,6 @@ pub fn miss_used_event(
         × (handle.new.serial ≡ handle.old.serial)
         × (handle.new.list_len ≡ handle.old.list_len)) }
 {
-    law_misses();
     handle.set_memory(GuestMap::behind(regions, Iotlb::new(alloc)), 0x101000)?;
     handle.pop(queue, &[])
 }
@@ -70,7 +67,6 @@ pub fn pop_without_regions(
         × (handle.new.serial ≡ handle.old.serial)
         × (handle.new.list_len ≡ handle.old.list_len)) }
 {
-    law_misses();
     handle.set_memory(GuestMap::none(alloc), 0x101000)?;
-    walk_by(handle, queue, &[])
+    handle.pop(queue, &[])
 }

@@ -1,26 +1,25 @@
 //! A thread that holds a queue's lock: its calls are acts of the model in which no notification is lost
 //! (crate `notify`).
 
-ghost use Rattle.std.specs.Prelude.{◌≡◌, ◌<◌, ◌^◌, ℕ, false, IfOk, IsTrue, [], ◌∷◌, None, OnOk, option_map};
-ghost use Rattle.std.specs.Prelude.{Err, IfErr, OnErr};
+ghost use Rattle.std.specs.Prelude.{◌≡◌, ◌≤◌, ◌<◌, ◌^◌, ℕ, false, IfOk, IsTrue, [], ◌∷◌, None, Some, OnOk};
+ghost use Rattle.std.specs.Prelude.{Err, IfErr, OnErr, option_map};
+ghost use Rattle.fs_regions.specs.Places.{places_in};
+ghost use Rattle.fs_regions.specs.Walks.{Loaded};
 ghost use Rattle.fs_chain.specs.Events.{store_of};
-ghost use Rattle.fs_chain.specs.Loads.{ProceedsSo, IsSame, RefusesWalk};
-ghost use Rattle.fs_chain.specs.Pops.{IsWalked};
-ghost use Rattle.fs_chain.specs.Queues.{gave_up, took};
+ghost use Rattle.fs_chain.specs.Holds.{HoldsPop, IsQueue, Machine, Pop};
+ghost use Rattle.fs_chain.specs.Loads.{ProceedsSo, IsSame, RefusesWalk, whole};
+ghost use Rattle.fs_chain.specs.Orders.{give_up_error};
+ghost use Rattle.fs_chain.specs.Pops.{AddsSo};
 ghost use Rattle.fs_chain.specs.Serials.{freed};
-ghost use Rattle.fs_chain.specs.declared.error.ChainError.{ChainError};
 ghost use Rattle.fs_chain.specs.declared.popping.PopOutcome.{PopOutcome};
-ghost use Rattle.fs_chain.specs.declared.chain_handle.ChainHandle.{ChainHandle};
-ghost use Rattle.fs_chain.specs.declared.queue.QueueState.{QueueState};
 ghost use Rattle.fs_chain.specs.declared.state.ChainState.TheVariants as at;
+ghost use Rattle.fs_chain.specs.declared.state.InFlight.{InFlight};
 ghost use Rattle.notify.specs.Threads.{ActsOver, Rearmer, DropsOne, Loads, Nobody, Silences, SleepsNow};
 ghost use Rattle.notify.specs.Threads.{TakesOne, ThreadedQueue, Walker, WishIsThere, Wishes, after_act};
 ghost use Rattle.notify.specs.Threads.{may_act};
-ghost use Rattle.fs_notify.specs.Takers.{HasU16Numbers, IsModelOf, MutesBy, ways_of};
-ghost use Rattle.worked_callers.specs.Notified.{ActsTo, IsStoredWish, IsWalkedBy, PopsWithIndex};
-ghost use Rattle.worked_callers.specs.Notified.{given_so_far};
+ghost use Rattle.fs_notify.specs.Takers.{HasPopped, HasU16Numbers, IsIndex, IsModelOf, MutesBy, ways_of};
+ghost use Rattle.worked_callers.specs.Notified.{ActsTo, IsStoredWish};
 
-use crate::pops::{walk_by, walk_to_end};
 use fs_chain::{ChainError, ChainHandle, LoadOutcome, NotificationStore, PopOutcome, QueueState};
 use fs_notify::law_takers;
 
@@ -55,138 +54,92 @@ pub fn disable_store(queue: &QueueState) -> Option<NotificationStore>
     queue.notification_store(false)
 }
 
-/// Pops a queue and finds no chain. Fails with `WrongOrder` if one is available, or if the pop is refused.
-pub fn walk_idle(
-    handle: &mut ChainHandle,
-    queue: &mut QueueState,
-    given: &[&[u8]],
-) -> Result<(), ChainError>
-    requires free { handle.old.state ≡ at.Free }
-    ensures walked { OnOk result (IsWalkedBy given.now handle.old handle.new queue.old queue.new
-        (LoadOutcome.On PopOutcome.Idle)) }
-{
-    match walk_to_end(handle, queue, given)? {
-        PopOutcome::Idle => Ok(()),
-        _ => Err(ChainError::WrongOrder),
-    }
-}
-
-/// Pops a queue by these loads, finds no available chain, and returns the store of the wish for the next one.
-/// If its caller makes the store, then a barrier, then the loads, its thread sleeps as the model's does. Any
-/// other result of the pop is the error `WrongOrder`.
+/// Goes on with a pop. If it finds no chain, and its caller had made the store of the wish for the next one
+/// (`enable_store`), then a barrier, then the load of the index, its thread sleeps as the model's does.
 pub fn sleep_if_idle(
     handle: &mut ChainHandle,
     queue: &mut QueueState,
-    given: &[&[u8]],
-) -> Result<Option<NotificationStore>, ChainError>
-    requires free { handle.old.state ≡ at.Free }
+    bytes: &[u8],
+) -> Result<LoadOutcome, ChainError>
     requires proceeds { queue.old.stopped ≡ None }
-    ensures wish { IfOk result (λ store. (s : ThreadedQueue)
-        → IsModelOf queue.old s
-        → s.holder ≡ Walker
-        → IsStoredWish queue.old s store) }
-    ensures sleeps { OnOk result ((n : ℕ)
-        × ((s : ThreadedQueue)
+    ensures error { IfErr result (RefusesWalk handle.old queue.old bytes.now) }
+    ensures sleeps { IfOk result (λ outcome. (m : Machine) (i : ℕ) (p : Pop) (s : ThreadedQueue)
+        → outcome ≡ LoadOutcome.On PopOutcome.Idle
+        → HoldsPop m.limit p handle.old
+        → IsQueue m i queue.old
+        → m.places ≡ places_in handle.old.regions
+        → p.event_index ≡ queue.old.event_index
+        → m.limit ≤ 2 ^ 31
         → IsModelOf queue.old s
         → s.holder ≡ Walker
         → s.index < 2 ^ 16
-        → (let ways = ways_of queue.old in
+        → (loaded : Loaded)
+        × AddsSo handle.old.state outcome handle.new.descriptors.items p.loaded (whole handle.old bytes.now)
+        loaded
+        × (index : ℕ)
+        × IsIndex loaded index
+        × (let ways = ways_of queue.old in
         let end = after_act ways (after_act ways (after_act ways s Wishes) WishIsThere) SleepsNow in
-        PopsWithIndex (given_so_far n given.now) handle.old handle.new queue.old queue.new PopOutcome.Idle
-        (ActsTo queue.old s (Wishes ∷ WishIsThere ∷ SleepsNow ∷ []) end queue.new)))) }
-    ensures order { OnOk result ((s : ThreadedQueue)
+        ActsTo queue.old s (Wishes ∷ WishIsThere ∷ SleepsNow ∷ []) end queue.new index)) }
+    ensures order { (s : ThreadedQueue)
         → IsModelOf queue.old s
         → s.holder ≡ Walker
         → s.index ≡ queue.old.next_avail
         → (let ways = ways_of queue.old in
         let end = after_act ways (after_act ways (after_act ways s Wishes) WishIsThere) SleepsNow in
-        ActsOver ways s (Wishes ∷ WishIsThere ∷ SleepsNow ∷ []) end × (end.holder ≡ Nobody))) }
+        ActsOver ways s (Wishes ∷ WishIsThere ∷ SleepsNow ∷ []) end × (end.holder ≡ Nobody)) }
 {
     law_takers();
     have_u16_numbers(queue);
-    let store = enable_store(queue);
-    walk_idle(handle, queue, given)?;
-    Ok(store)
+    handle.pop(queue, bytes)
 }
 
-/// Pops a chain: its head, the length of its request in bytes, and that of its reply buffer. Fails with
-/// `WrongOrder` if the pop ends otherwise.
-pub fn walk_chain(
-    handle: &mut ChainHandle,
-    queue: &mut QueueState,
-    given: &[&[u8]],
-) -> Result<(u16, usize, usize), ChainError>
-    requires free { handle.old.state ≡ at.Free }
-    ensures queue { OnOk result (queue.new ≡ took queue.old) }
-    ensures walked { IfOk result (λ c. IsWalked handle.old handle.new queue.old queue.new
-        (LoadOutcome.On (PopOutcome.Chain c.0 c.1 c.2))) }
-    ensures given { IfOk result (λ c. IsWalkedBy given.now handle.old handle.new queue.old queue.new
-        (LoadOutcome.On (PopOutcome.Chain c.0 c.1 c.2))) }
-{
-    match walk_by(handle, queue, given)? {
-        LoadOutcome::On(
-            PopOutcome::Chain {
-                head,
-                request_len,
-                room_len,
-            },
-        ) => Ok((head, request_len, room_len)),
-        _ => Err(ChainError::WrongOrder),
-    }
-}
-
-/// Pops a chain: its head, and the lengths of request and reply buffer. The model's thread loads the index,
-/// and takes one.
+/// Goes on with a pop. If it returns a chain, the model's thread loads the index, and takes one.
 pub fn take_one(
     handle: &mut ChainHandle,
     queue: &mut QueueState,
-    given: &[&[u8]],
-) -> Result<(u16, usize, usize), ChainError>
-    requires free { handle.old.state ≡ at.Free }
+    bytes: &[u8],
+) -> Result<LoadOutcome, ChainError>
     requires proceeds { queue.old.stopped ≡ None }
-    ensures takes { IfOk result (λ c. (n : ℕ)
-        × ((s : ThreadedQueue)
+    ensures error { IfErr result (RefusesWalk handle.old queue.old bytes.now) }
+    ensures takes { IfOk result
+        (λ outcome. (reported : PopOutcome) (m : Machine) (i : ℕ) (p : Pop) (s : ThreadedQueue)
+        → outcome ≡ LoadOutcome.On reported
+        → HasPopped reported
+        → HoldsPop m.limit p handle.old
+        → IsQueue m i queue.old
+        → m.places ≡ places_in handle.old.regions
+        → p.event_index ≡ queue.old.event_index
+        → m.limit ≤ 2 ^ 31
         → IsModelOf queue.old s
         → s.holder ≡ Walker
-        → (let ways = ways_of queue.old in
-        PopsWithIndex (given_so_far n given.now) handle.old handle.new queue.old queue.new
-        (PopOutcome.Chain c.0 c.1 c.2)
-        (ActsTo queue.old s (Loads ∷ TakesOne ∷ []) (after_act ways (after_act ways s Loads) TakesOne)
-        queue.new)))) }
+        → (loaded : Loaded)
+        × AddsSo handle.old.state outcome handle.new.descriptors.items p.loaded (whole handle.old bytes.now)
+        loaded
+        × (index : ℕ)
+        × IsIndex loaded index
+        × (let ways = ways_of queue.old in
+        ActsTo queue.old s (Loads ∷ TakesOne ∷ []) (after_act ways (after_act ways s Loads) TakesOne)
+        queue.new index)) }
 {
     law_takers();
     have_u16_numbers(queue);
-    walk_chain(handle, queue, given)
+    handle.pop(queue, bytes)
 }
 
-/// Pops a chain and gives it up. The model's thread takes one and drops it.
-pub fn drop_one(
-    handle: &mut ChainHandle,
-    queue: &mut QueueState,
-    given: &[&[u8]],
-) -> Result<(), ChainError>
-    requires free { handle.old.state ≡ at.Free }
-    requires proceeds { queue.old.stopped ≡ None }
-    ensures popped { OnOk result ((popped : ChainHandle) × (after : QueueState) × (head : ℕ)
-        × (lens : ℕ × ℕ)
-        × IsWalkedBy given.now handle.old popped queue.old after
-        (LoadOutcome.On (PopOutcome.Chain head lens.0 lens.1))
-        × (handle.new ≡ freed popped)) }
-    ensures queue { OnOk result (queue.new ≡ gave_up (took queue.old)) }
-    ensures drops { OnOk result ((n : ℕ) × (taken : ChainHandle) × (mid : QueueState) × (head : ℕ)
-        × (request : ℕ) × (room : ℕ)
-        × ((s : ThreadedQueue)
+/// Gives up a chain whose request wasn't decoded: the model's thread drops it.
+pub fn drop_one(handle: &mut ChainHandle, queue: &mut QueueState) -> Result<(), ChainError>
+    ensures error { IfErr result (λ e. give_up_error handle.old.state queue.old ≡ Some e) }
+    ensures free { OnOk result (handle.new ≡ freed handle.old) }
+    ensures drops { OnOk result ((out : InFlight) (s : ThreadedQueue)
+        → handle.old.state ≡ at.Taken out
         → IsModelOf queue.old s
         → s.holder ≡ Walker
-        → (let ways = ways_of queue.old in
-        let end = after_act ways (after_act ways (after_act ways s Loads) TakesOne) DropsOne in
-        PopsWithIndex (given_so_far n given.now) handle.old taken queue.old mid
-        (PopOutcome.Chain head request room)
-        (ActsTo queue.old s (Loads ∷ TakesOne ∷ DropsOne ∷ []) end queue.new)))) }
+        → IsTrue (may_act (ways_of queue.old) s DropsOne)
+        × IsModelOf queue.new (after_act (ways_of queue.old) s DropsOne)) }
 {
     law_takers();
     have_u16_numbers(queue);
-    let (_, _len, _) = walk_chain(handle, queue, given)?;
     handle.give_up(queue)
 }
 

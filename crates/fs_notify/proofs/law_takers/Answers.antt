@@ -1,4 +1,3 @@
-use Rattle.fs_notify.proofs.Amid.{finds_none_amid, takes_amid}
 use Rattle.fs_notify.proofs.Drops.{drops, ends_return, full}
 use Rattle.fs_notify.proofs.Walks.{finds_none, sleeps, takes}
 use Rattle.fs_notify.proofs.Wishes.{mutes, rearms}
@@ -10,8 +9,6 @@ returns c = record {
   mutes = mutes;
   takes = takes;
   none = finds_none;
-  takes_amid = takes_amid;
-  none_amid = finds_none_amid;
   full = full;
   drops = drops;
   returns = ends_return;

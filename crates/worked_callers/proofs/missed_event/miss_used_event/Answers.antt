@@ -1,10 +1,15 @@
-use Rattle.std.proofs.Common.{◌≡◌, [], Some, ap, subst, sym, ◌∙◌}
+use Rattle.std.proofs.Common.{◌≡◌, Option, Some, ap, subst, sym, ◌∙◌}
 use Rattle.vm_iotlb.specs.AddressRuns.{run_of}
+use Rattle.vm_iotlb.specs.declared.iova.IovaRange.{IovaRange}
+use Rattle.vm_iotlb.specs.declared.permissions.Permissions.{Permissions}
 use Rattle.vm_iotlb.specs.declared.permissions.Permissions.TheVariants.{Read}
 use Rattle.fs_queue.specs.declared.fault.QueueError.TheVariants.{AvailFlagsUnreachable}
 use Rattle.fs_regions.specs.Places.{Mapped, behind, places_in}
 use Rattle.fs_chain.specs.Events.{event_fault, event_miss, used_event_at}
-use Rattle.worked_callers.proofs.MissedEvent.{missed_event}
+use Rattle.fs_chain.specs.Walks.{LacksEvents}
+use Rattle.fs_chain.specs.declared.loads.LoadOutcome.TheVariants as outcomes
+use Rattle.fs_chain.specs.declared.popping.PopOutcome as walked
+use Rattle.worked_callers.proofs.MissedEvent.{lacking, missed_event}
 use Rattle.worked_callers.proofs.Results.{if_ok}
 use Rattle.worked_callers.proofs.missed_event.miss_used_event.Goals as goal
 
@@ -24,19 +29,20 @@ returns c =
     let miss = subst (λ (g : Mapped). event_miss (places_in g) q ≡ Some (at, Read)) (sym is) events.1 in
     record {
       missed = if_ok c.pop.result _ _
-          (λ reported proceeds.
-          let m = c.law_misses.ensures.events [] AvailFlagsUnreachable at Read old new q after reported c.requires.proceeds fault miss
-          (free, proceeds) in (
-            m.0,
-            m.5,
-            m.3.0.3 ∙ free,
-            m.3.1,
-            m.4,
-            m.3.0.0.0 ∙ is,
-            m.3.0.0.1 ∙ set.1,
-            m.3.0.4 ∙ set.4,
-            m.3.0.0.2 ∙ set.5,
-            m.3.0.0.3 ∙ set.6,
+          (λ came proceeds.
+          let m = lacking old new q after came AvailFlagsUnreachable free c.requires.proceeds fault proceeds in
+          let lacks : LacksEvents AvailFlagsUnreachable (Some (at, Read)) old new q after m.0 =
+          subst (λ (r : Option (IovaRange × Permissions)). LacksEvents AvailFlagsUnreachable r old new q after m.0) miss m.2 in (
+            m.1 ∙ ap (λ (k : walked.PopOutcome). outcomes.On k) lacks.0,
+            lacks.2,
+            lacks.1.0.3 ∙ free,
+            lacks.1.1,
+            m.3,
+            lacks.1.0.0.0 ∙ is,
+            lacks.1.0.0.1 ∙ set.1,
+            lacks.1.0.4 ∙ set.4,
+            lacks.1.0.0.2 ∙ set.5,
+            lacks.1.0.0.3 ∙ set.6,
           ))
           c.pop.ensures.proceeds;
     }

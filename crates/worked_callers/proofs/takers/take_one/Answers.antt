@@ -1,17 +1,20 @@
 use Rattle.worked_callers.proofs.ModelActs.{takes_so}
+use Rattle.worked_callers.proofs.Popped.{pop_ends, popped_ends}
 use Rattle.worked_callers.proofs.Results.{if_ok}
 use Rattle.worked_callers.proofs.takers.take_one.Goals as goal
 
-pub returns : goal.returns
-returns c =
+pub returns-clause-takes : goal.returns-clause-takes
+returns-clause-takes c =
+    let old = c.args.handle.now in
+    let new = c.pop.new.self in
     let q = c.args.queue.now in
+    let q' = c.pop.new.queue in
+    let runs = c.requires.proceeds in
+    if_ok c.pop.result _ _
+    (λ came pops reported m i p s is popped from there places index small of walker.
+    let end = popped_ends reported popped in
+    let ends = pop_ends old new q q' c.args.bytes.now came reported m i p runs pops is end from there places index small in
     let counted = c.have_u16_numbers.ensures in
-    record {
-      takes = if_ok c.walk_chain.result _ _
-          (λ k by. (
-            by.0,
-            takes_so c.law_takers.ensures.takes _ c.args.handle.now c.walk_chain.new.handle q c.walk_chain.new.queue k.0 k.1 k.2
-                counted c.requires.proceeds by.1,
-          ))
-          c.walk_chain.ensures.given;
-    }
+    let takes = takes_so c.law_takers.ensures.takes m i q q' ends.0 new reported counted popped there ends.2 s of walker in
+    (ends.0, ends.1, takes.0, takes.1, takes.2))
+    c.pop.ensures.step

@@ -1,0 +1,28 @@
+-- An answer to a chain is a run over each file system that may answer so.
+use Rattle.std.proofs.Common.{[], ◌∷◌, refl}
+use Rattle.fuse_fs.specs.Calls.{FileAnswer, FileCall}
+use Rattle.fuse_values.specs.Answers.{answer_of}
+use Rattle.fuse_values.specs.declared.answer.FileAnswer as made_answer
+use Rattle.virtiofsd_fuse.specs.Serving.{May}
+use Rattle.live_machine.specs.Files.{RunsOverFiles}
+use Rattle.live_machine.specs.Live.{ReceivesAnswer, after_answer}
+use Rattle.fs_chain.specs.Holds.{Answers, Machine}
+use Rattle.fs_chain.specs.declared.answering.Replied.{Replied}
+use Rattle.fs_chain.specs.declared.chain_handle.ChainHandle.{ChainHandle}
+use Rattle.worked_callers.specs.OverFiles.{AnswersOver}
+
+pub over_files : {F : Type 0} (may : May F) → RunsOverFiles may → (old new : ChainHandle) (answer : made_answer.FileAnswer)
+    (reported : Replied) → Answers old new answer reported → AnswersOver may old new answer
+unfolding Answers
+over_files may law old new answer reported answers s before behind c request bytes options files left out phase holds reported_so =
+    let is = answers s before behind c request bytes options out phase holds reported_so in
+    let call : FileCall = is.0 in
+    let made : FileAnswer = answer_of bytes answer in
+    let after : Machine = after_answer s before behind c request options ((call, made) ∷ []) tt in (
+      call,
+      (
+        is.1.1,
+        λ may_so.
+            law s after (ReceivesAnswer c call made ∷ []) files left (after, is.1.0, refl) (left, is.1.0.is_one, may_so, refl),
+      ),
+    )

@@ -1,0 +1,116 @@
+-- What a call of a pop came to in a run: the end of a pop, or a miss.
+use Rattle.std.proofs.Common.{◌≡◌, ◌⊎◌, inl, inr, ◌≤◌, ◌<◌, ◌+◌, ◌^◌, ℕ, Bool, List, [], ◌∷◌, Option, Some, None, subst}
+use Rattle.std.proofs.Common.{sym}
+use Rattle.std.specs.Prelude.{true, false, if◌then◌else◌}
+use Rattle.vm_iotlb.specs.declared.iova.IovaRange.{IovaRange}
+use Rattle.vm_iotlb.specs.declared.permissions.Permissions.{Permissions}
+use Rattle.vm_iotlb.specs.declared.permissions.Permissions.TheVariants.{Read, Write}
+use Rattle.vm_memory.specs.Memory.{Memory}
+use Rattle.fs_queue.specs.Chain.{Descriptor}
+use Rattle.fs_queue.specs.declared.fault.QueueError.{QueueError}
+use Rattle.fs_regions.specs.Laws.{MissesCanBeMapped}
+use Rattle.fs_regions.specs.Misses.{Area, first_miss, last_page, needed_at}
+use Rattle.fs_regions.specs.Places.{places_in}
+use Rattle.fs_regions.specs.Walks.{Loaded, nothing}
+use Rattle.live_machine.specs.Live.{pop_refusal}
+use Rattle.live_machine.specs.Several.{LiveQueue, avail_event_at, used_event_at}
+use Rattle.fs_chain.specs.Holds.{BeginsAPop, ContinuesAPop, EndsBy, HoldsPop, IsQueue, Machine, MissesUnless, Pop, PopContinues, PopIs}
+use Rattle.fs_chain.specs.Holds.{PopsBy, RefusedBy, live_of}
+use Rattle.fs_chain.specs.Loads.{whole}
+use Rattle.fs_chain.specs.Pops.{AddsSo}
+use Rattle.fs_chain.specs.declared.chain_handle.ChainHandle.{ChainHandle}
+use Rattle.fs_chain.specs.declared.loads.LoadOutcome as outcome
+use Rattle.fs_chain.specs.declared.loads.LoadOutcome.TheVariants as outcomes
+use Rattle.fs_chain.specs.declared.popping.PopOutcome as walked
+use Rattle.fs_chain.specs.declared.popping.PopOutcome.TheVariants as shows
+use Rattle.fs_chain.specs.declared.queue.QueueState.{QueueState}
+use Rattle.fs_chain.specs.declared.state.ChainState as state
+use Rattle.fs_chain.specs.declared.state.ChainState.TheVariants as at
+use Rattle.fs_notify.specs.Takers.{HasPopped}
+
+-- ---- a pop that ended
+
+-- it isn't refused, and has ended
+abbrev pub IsEnd : walked.PopOutcome → Type 0
+IsEnd shows.Idle = Unit {0}
+IsEnd reported = HasPopped reported
+
+pub popped_ends : (reported : walked.PopOutcome) → HasPopped reported → IsEnd reported
+popped_ends (shows.Chain head n r) popped = tt
+popped_ends (shows.Faulty head why) popped = tt
+popped_ends reported popped = absurd popped
+
+module _ (s : Machine) (i : ℕ) (q q' : QueueState) (p : Pop) (new : ChainHandle) where
+  ended : (reported : walked.PopOutcome) → IsEnd reported → EndsBy s i q q' p.loaded new reported ⊎ RefusedBy s i q q' new reported
+      → EndsBy s i q q' p.loaded new reported
+  ended reported end (inl e) = e
+  ended reported end (inr r) = absurd (subst IsEnd r.reported_is end)
+
+  ends_of : (reported : walked.PopOutcome) → IsEnd reported → PopIs s i q q' p new reported → EndsBy s i q q' p.loaded new reported
+  ends_of shows.Idle end is = ended shows.Idle end is
+  ends_of (shows.Chain head n r) end is = ended (shows.Chain head n r) end is
+  ends_of (shows.Faulty head why) end is = ended (shows.Faulty head why) end is
+  ends_of (shows.Load n) end is = absurd end
+  ends_of (shows.Missing range access) end is = absurd end
+  ends_of (shows.Refused e) end is = absurd end
+
+-- the loads of a call that ended a pop
+abbrev pub EndsAfter : Machine → (i : ℕ) → (q q' : QueueState) → Pop → (old new : ChainHandle) → (bytes : List ℕ) →
+    outcome.LoadOutcome → walked.PopOutcome → Type 0
+EndsAfter s i q q' p old new bytes came reported =
+    (loaded : Loaded) × AddsSo old.state came new.descriptors.items p.loaded (whole old bytes) loaded × EndsBy s i q q' loaded new reported
+
+pub pop_ends : (old new : ChainHandle) (q q' : QueueState) (bytes : List ℕ) (came : outcome.LoadOutcome) (reported : walked.PopOutcome)
+    (s : Machine) (i : ℕ) (p : Pop) → q.stopped ≡ None → PopsBy old.state old new q q' bytes came → came ≡ outcomes.On reported
+    → IsEnd reported → HoldsPop s.limit p old → IsQueue s i q → s.places ≡ places_in old.regions → p.event_index ≡ q.event_index
+    → s.limit ≤ 2 ^ 31 → EndsAfter s i q q' p old new bytes came reported
+unfolding ContinuesAPop
+pop_ends old new q q' bytes came reported s i p runs pops is end from there places index small =
+    let by : ContinuesAPop old new q q' bytes came =
+    subst (λ (st : state.ChainState). PopsBy st old new q q' bytes came) from.state pops in
+    let on : PopContinues s i q q' p old new bytes (outcomes.On reported) =
+    subst (λ (t : outcome.LoadOutcome). PopContinues s i q q' p old new bytes t) is (by s i p from there places index small) in (
+      on.0,
+      subst (λ (t : outcome.LoadOutcome). AddsSo old.state t new.descriptors.items p.loaded (whole old bytes) on.0) (sym is) (on.1 runs),
+      ends_of s i q q' (record p { loaded = on.0 }) new reported end on.2,
+    )
+
+-- ---- a pop that misses
+
+none_some : {A : Type 0} (x : A) → ◌≡◌ {A = Option A} None (Some x) → ⊥
+none_some x is = cc
+
+by_event : (b : Bool) (m : Memory) (areas : List Area) (range : IovaRange) (access : Permissions)
+    → (if b then first_miss m areas else None) ≡ Some (range, access) → first_miss m areas ≡ Some (range, access)
+by_event true m areas range access is = is
+by_event false m areas range access is = absurd (none_some (range, access) is)
+
+mappable : MissesCanBeMapped → (fault : Option QueueError) (s : Machine) (w : LiveQueue) (loaded : Loaded) (ds : List Descriptor)
+    (range : IovaRange) (access : Permissions) → MissesUnless fault s w loaded ds range access
+    → (0 < range.length) × (range.base.0 + range.length ≤ last_page)
+mappable law None s w loaded ds range access m = law s.places (needed_at w.queue m.0) range access m.2
+mappable law (Some e) s w loaded ds range access m =
+    let areas : List Area = record { from = used_event_at w.queue; len = 2; access = Read }
+    ∷ record { from = avail_event_at w.queue; len = 2; access = Write } ∷ [] in
+    law s.places areas range access (by_event w.event_index s.places areas range access m.0)
+
+abbrev pub MissedSo : Machine → (q q' : QueueState) → ChainHandle → IovaRange → Permissions → Type 0
+MissedSo s q q' new range access =
+    (q' ≡ q)
+    × (new.state ≡ at.Free)
+    × MissesUnless (pop_refusal s.places (live_of q)) s (live_of q) nothing new.descriptors.items range access
+    × (0 < range.length)
+    × (range.base.0 + range.length ≤ last_page)
+
+pub missed_so : MissesCanBeMapped → (old new : ChainHandle) (q q' : QueueState) (came : outcome.LoadOutcome)
+    → old.state ≡ at.Free → PopsBy old.state old new q q' [] came → (s : Machine) (i : ℕ) (range : IovaRange) (access : Permissions)
+    → came ≡ outcomes.On (shows.Missing range access) → IsQueue s i q → s.places ≡ places_in old.regions → s.limit ≡ old.limit
+    → s.limit ≤ 2 ^ 31 → MissedSo s q q' new range access
+unfolding BeginsAPop
+missed_so law old new q q' came free pops s i range access is there places limit small =
+    let begun : BeginsAPop old new q q' came = subst (λ (st : state.ChainState). PopsBy st old new q q' [] came) free pops in
+    let on : BeginsAPop old new q q' (outcomes.On (shows.Missing range access)) =
+    subst (λ (t : outcome.LoadOutcome). BeginsAPop old new q q' t) is begun in
+    let misses = on s i there places limit small in
+    let mapped = mappable law (pop_refusal s.places (live_of q)) s (live_of q) nothing new.descriptors.items range access misses.2 in
+    (misses.1, misses.0, misses.2, mapped.0, mapped.1)
