@@ -1,5 +1,5 @@
 -- A pop by loads ahead is a step of the live machine, since each of its calls is.
-use Rattle.std.proofs.Common.{◌≡◌, ◌∙◌, ◌≤◌, ◌^◌, ℕ, List, [], ◌∷◌, Bool, Option, Some, None, ap, subst, sym}
+use Rattle.std.proofs.Common.{◌≡◌, ◌∙◌, ◌≤◌, ◌^◌, ℕ, List, [], ◌∷◌, Option, Some, None, ap, refl, subst, sym}
 use Rattle.vm_iotlb.specs.declared.iova.IovaRange.{IovaRange}
 use Rattle.vm_iotlb.specs.declared.permissions.Permissions.{Permissions}
 use Rattle.fs_queue.specs.declared.fault.QueueError.{QueueError}
@@ -9,12 +9,12 @@ use Rattle.fs_regions.specs.Walks.{Loaded, nothing}
 use Rattle.fs_regions.specs.declared.course.Course.{Course}
 use Rattle.fs_regions.specs.declared.walk.QueueWalk.{QueueWalk}
 use Rattle.fs_chain.specs.Ahead.{PopsAhead, WalksAhead}
-use Rattle.fs_chain.specs.AheadSteps.{PopsAheadBy}
+use Rattle.fs_chain.specs.AheadSteps.{AddsAhead, PopsAheadBy}
 use Rattle.fs_chain.specs.Events.{event_fault, event_miss}
-use Rattle.fs_chain.specs.Holds.{BeginsAPop, ContinuesAPop, HoldsPop, IsQueue, Machine, Pop, PopContinues, PopIs, PopsBy}
+use Rattle.fs_chain.specs.Holds.{BeginsAPop, ContinuesAPop, HoldsPop, IsPopOf, IsQueue, Machine, Pop, PopContinues, PopIs, PopsBy, pop_of}
 use Rattle.fs_chain.specs.Loads.{ProceedsSo, whole}
 use Rattle.fs_chain.specs.Walks.{BeginsUnless, BeginsWhere, ContinuesUnless, LacksEvents, WalksFrom}
-use Rattle.fs_chain.specs.Pops.{WantsBytes}
+use Rattle.fs_chain.specs.Pops.{AddsSo, WantsBytes}
 use Rattle.fs_chain.specs.declared.chain_handle.ChainHandle.{ChainHandle}
 use Rattle.fs_chain.specs.declared.loads.LoadOutcome as outcome
 use Rattle.fs_chain.specs.declared.loads.LoadOutcome.TheVariants as outcomes
@@ -68,7 +68,7 @@ ahead_regions (l ∷ taken) old new q q' reported (w, k, earlier, walks, wants, 
     proceeds_regions w new k q' l.bytes reported proceeds ∙ ahead_regions taken old w q k earlier walks
 
 -- what such a pop is, also after a part of a load
-abbrev AheadIs : (s : Machine) (i : ℕ) (q q' : QueueState) (p : Pop) (new : ChainHandle) → outcome.LoadOutcome → Type 0
+abbrev pub AheadIs : (s : Machine) (i : ℕ) (q q' : QueueState) (p : Pop) (new : ChainHandle) → outcome.LoadOutcome → Type 0
 AheadIs s i q q' p new outcomes.Part = HoldsPop s.limit p new × (q' ≡ q)
 AheadIs s i q q' p new (outcomes.On reported) = PopIs s i q q' p new reported
 
@@ -80,41 +80,43 @@ held s i q q' p new (outcomes.On reported) wants h = absurd wants
 
 begins_is : (old new : ChainHandle) (q q' : QueueState) (reported : outcome.LoadOutcome) → BeginsAPop old new q q' reported
     → (s : Machine) (i : ℕ) → IsQueue s i q → s.places ≡ places_in old.regions → s.limit ≡ old.limit → s.limit ≤ 2 ^ 31
-    → AheadIs s i q q' (record { loaded = nothing; event_index = q.event_index }) new reported
+    → AheadIs s i q q' (pop_of q nothing) new reported
 unfolding BeginsAPop
 begins_is old new q q' outcomes.Part begins s i queue places limit small = absurd begins
 begins_is old new q q' (outcomes.On reported) begins s i queue places limit small = begins s i queue places limit small
 
-carries_on_is : (s : Machine) (i : ℕ) (q q' : QueueState) (l : Loaded) (e : Bool) (old new : ChainHandle) (bytes : List ℕ)
-    (reported : outcome.LoadOutcome) → PopContinues s i q q' (record { loaded = l; event_index = e }) old new bytes reported
-    → (loaded : Loaded) × AheadIs s i q q' (record { loaded = loaded; event_index = e }) new reported
-carries_on_is s i q q' l e old new bytes outcomes.Part h = (l, h)
-carries_on_is s i q q' l e old new bytes (outcomes.On reported) h = (h.0, h.2)
+carries_on_is : (s : Machine) (i : ℕ) (from q q' : QueueState) (l : Loaded) (old new : ChainHandle) (bytes : List ℕ)
+    (reported : outcome.LoadOutcome) → PopContinues s i q q' (pop_of from l) old new bytes reported
+    → (loaded : Loaded) × (q.stopped ≡ None → AddsSo old.state reported new.descriptors.items l (whole old bytes) loaded)
+    × AheadIs s i q q' (pop_of from loaded) new reported
+carries_on_is s i from q q' l old new bytes outcomes.Part h = (l, (λ proceeds. refl), h)
+carries_on_is s i from q q' l old new bytes (outcomes.On reported) h = (h.0, h.1, h.2)
 
-steps_ahead : (taken : List AheadBytes) (old new : ChainHandle) (q q' : QueueState) (reported : outcome.LoadOutcome)
-    → WalksAhead taken old new q q' reported → (s : Machine) (i : ℕ) → IsQueue s i q → s.places ≡ places_in old.regions
+pub steps_ahead : (taken : List AheadBytes) (old new : ChainHandle) (q q' : QueueState) (reported : outcome.LoadOutcome)
+    → (walks : WalksAhead taken old new q q' reported) → (s : Machine) (i : ℕ) → IsQueue s i q → s.places ≡ places_in old.regions
     → s.limit ≡ old.limit → s.limit ≤ 2 ^ 31
-    → (loaded : Loaded) × AheadIs s i q q' (record { loaded = loaded; event_index = q.event_index }) new reported
+    → (loaded : Loaded) × AddsAhead taken old new q q' reported walks loaded × AheadIs s i q q' (pop_of q loaded) new reported
 unfolding ContinuesAPop
 steps_ahead [] old new q q' reported (free, proceeds) s i queue places limit small =
     let begins : BeginsAPop old new q q' reported =
     subst (λ (st : state.ChainState). PopsBy st old new q q' [] reported) free (pops old new q q' [] reported proceeds) in
-    (nothing, begins_is old new q q' reported begins s i queue places limit small)
+    (nothing, refl, begins_is old new q q' reported begins s i queue places limit small)
 steps_ahead (l ∷ taken) old new q q' reported (w, k, earlier, walks, wants, is, long, proceeds) s i queue places limit small =
     let before = steps_ahead taken old w q k earlier walks s i queue places limit small in
-    let p : Pop = record { loaded = before.0; event_index = q.event_index } in
-    let have = held s i q k p w earlier wants before.1 in
+    let p : Pop = pop_of q before.0 in
+    let have = held s i q k p w earlier wants before.2 in
     let by : ContinuesAPop w new k q' l.bytes reported =
     subst (λ (st : state.ChainState). PopsBy st w new k q' l.bytes reported) have.0.state (pops w new k q' l.bytes reported proceeds) in
     let here : IsQueue s i k = subst (λ (x : QueueState). IsQueue s i x) (sym have.1) queue in
     let same : s.places ≡ places_in w.regions = places ∙ ap places_in (sym (ahead_regions taken old w q k earlier walks)) in
-    let index : p.event_index ≡ k.event_index = ap (λ (x : QueueState). x.event_index) (sym have.1) in
-    let next = carries_on_is s i k q' before.0 q.event_index w new l.bytes reported (by s i p have.0 here same index small) in
-    let P : QueueState → Type 0 = λ x. AheadIs s i x q' (record { loaded = next.0; event_index = q.event_index }) new reported in
-    (next.0, subst P have.1 next.1)
+    let index : IsPopOf k p = subst (λ (x : QueueState). IsPopOf x p) (sym have.1) refl in
+    let next = carries_on_is s i q k q' before.0 w new l.bytes reported (by s i p have.0 here same index small) in
+    let P : QueueState → Type 0 = λ x. AheadIs s i x q' (pop_of q next.0) new reported in
+    (next.0, (before.0, before.1, next.1), subst P have.1 next.2)
 
 pub pops_ahead : (ahead : List AheadBytes) (old new : ChainHandle) (q q' : QueueState) (reported : walked.PopOutcome)
     → PopsAhead ahead old new q q' (outcomes.On reported) → PopsAheadBy old new q q' reported
 unfolding PopsAheadBy
 pops_ahead ahead old new q q' reported by = λ s i queue places limit small.
-    steps_ahead (last_first by.first []) old new q q' (outcomes.On reported) by.walks s i queue places limit small
+    let step = steps_ahead (last_first by.first []) old new q q' (outcomes.On reported) by.walks s i queue places limit small in
+    (step.0, step.2)

@@ -1,24 +1,24 @@
 -- Freeing a handle, a store before a sleep, a reset, and another memory, as events of a run.
-use Rattle.std.proofs.Common.{◌≡◌, ◌⊎◌, inl, inr, ◌<◌, ◌≤◌, ◌^◌, ℕ, Bool, true, false, List, [], ◌∷◌, Option, Some, None, refl, subst, sym}
+use Rattle.std.proofs.Common.{◌≡◌, inl, inr, ◌<◌, ◌^◌, ℕ, Bool, List, Option, Some, None, refl, subst, sym}
 use Rattle.std.proofs.Common.{ap, ◌∙◌}
-use Rattle.std.specs.Prelude.{if◌then◌else◌, option_map}
-use Rattle.std.specs.Int.{w16, to_le_bytes}
+use Rattle.std.specs.Prelude.{option_map}
 use Rattle.std.specs.List.{AllByRecursion}
-use Rattle.std.proofs.lemmas.Bool.{true≢false}
 use Rattle.fs_queue.specs.Returning.{Store}
 use Rattle.fs_queue.specs.declared.layout.QueueLayout.{QueueLayout}
 use Rattle.fs_regions.specs.Places.{places_in}
-use Rattle.live_machine.specs.Live.{HasValidMaximum, InFlightChain, KeepsQueue, StoreIsMapped}
+use Rattle.live_machine.specs.Live.{InFlightChain, KeepsQueue, StoreIsMapped}
+use Rattle.live_machine.specs.Several.{LiveQueue, avail_event_at}
 use Rattle.live_machine.proofs.Declined.{has_events}
-use Rattle.live_machine.proofs.Queues.{none_some, same_some, there_same}
+use Rattle.live_machine.proofs.Queues.{there_same}
+use Rattle.live_machine.proofs.Wishes.{none_stored, wish_by_event, wish_stored}
 use Rattle.fs_chain.specs.Events as events
 use Rattle.fs_chain.specs.Events.{store_of}
-use Rattle.fs_chain.specs.Holds.{IsQueue, Machine, live_of}
+use Rattle.fs_chain.specs.Holds.{live_of}
 use Rattle.fs_chain.specs.HoldsAround.{AbandonsChain, NotificationIs, Resets, SetsMemory, StoresNotice}
 use Rattle.fs_chain.specs.Pushes.{IsFreed}
-use Rattle.fs_chain.specs.Queues.{reset_to}
+use Rattle.fs_chain.specs.Queues.{reset_to, set_as}
 use Rattle.fs_chain.specs.declared.chain_handle.ChainHandle.{ChainHandle}
-use Rattle.fs_chain.specs.declared.event_index.NotificationStore.{NotificationStore}
+use Rattle.fs_chain.specs.declared.notifications.NotificationStore.{NotificationStore}
 use Rattle.fs_chain.specs.declared.queue.QueueState.{QueueState}
 
 pub abandons : (old new : ChainHandle) → IsFreed old new → AbandonsChain new
@@ -27,48 +27,29 @@ abandons old new freed s before behind c out = (record { before = before; behind
 
 -- ---- a store before a sleep
 
-not_stored : (event wanted : Bool) (one other : Store) → (if event then (if wanted then Some one else None) else Some other) ≡ None →
-    (event ≡ true) × (wanted ≡ false)
-not_stored true true one other is = absurd (none_some one (sym is))
-not_stored true false one other is = (refl, refl)
-not_stored false wanted one other is = absurd (none_some other (sym is))
-
--- with the event index it is stored as avail_event
-stored_event : (event wanted : Bool) (one other store : Store) →
-    Some store ≡ (if event then (if wanted then Some one else None) else Some other) → event ≡ true → store ≡ one
-stored_event true true one other store is event = same_some store one is
-stored_event true false one other store is event = absurd (none_some store (sym is))
-stored_event false wanted one other store is event = absurd (true≢false (sym event))
-
 pub stores_notice : (q : QueueState) (wanted : Bool) (store : Option NotificationStore) →
     option_map store_of store ≡ events.notification_store q wanted → StoresNotice q wanted store
 unfolding StoresNotice
 stores_notice q wanted store is s i there = by_store store is
   where
-    event : Store
-    event = record { address = events.avail_event_at q.layout; bytes = to_le_bytes w16 q.next_avail }
-
-    flags : Store
-    flags = record { address = q.layout.used; bytes = to_le_bytes w16 (if wanted then 0 else 1) }
-
     by_store : (store : Option NotificationStore) → option_map store_of store ≡ events.notification_store q wanted →
         NotificationIs s i q wanted store
     by_store (Some store) is = (
       λ place. record { w = live_of q; there = there; wanted = wanted; stores = sym is; place = place; state = refl },
       λ has proceeds.
-          let same = stored_event q.event_index wanted event flags (store_of store) is has in
-          subst (λ (a : ℕ). StoreIsMapped s.places a) (sym (ap (λ (k : Store). k.address) same))
-          (has_events s.places (live_of q) proceeds has).1,
+          let at : store.address ≡ avail_event_at (live_of q).queue =
+          ap (λ (k : Store). k.address) (wish_stored (live_of q) wanted (store_of store) (sym is)).1 ∙ wish_by_event (live_of q) has in
+          subst (λ (a : ℕ). StoreIsMapped s.places a) (sym at) (has_events s.places (live_of q) proceeds has).1,
     )
-    by_store None is = not_stored q.event_index wanted event flags (sym is)
+    by_store None is = none_stored (live_of q) wanted (sym is)
 
 -- ---- a reset, and another memory
 
 pub resets : (old new : QueueState) (layout : QueueLayout) (position : ℕ) → new ≡ reset_to old layout position → position < 2 ^ 16 →
     Resets old new
 unfolding Resets
-resets old new layout position is small s i max_in_flight event_index stopped there some few =
-    let set : QueueState = record new { max_in_flight = max_in_flight; event_index = event_index; stopped = stopped } in (
+resets old new layout position is small s i set there some few =
+    let w : LiveQueue = live_of (set_as new set) in (
       record {
         old = live_of old;
         there = there;
@@ -79,7 +60,7 @@ resets old new layout position is small s i max_in_flight event_index stopped th
         few = (some, few);
         state = refl;
       },
-      there_same s.queues i i (λ _. live_of set) (live_of old) refl there,
+      there_same s.queues i i (λ _. w) (live_of old) refl there,
     )
 
 pub sets_memory : (new : ChainHandle) → SetsMemory new

@@ -1,19 +1,17 @@
 -- The calls of a pop, each as it finds its queue.
-use Rattle.std.proofs.Common.{arith, inl, inr, ◌≡◌, ◌+◌, ◌≤◌, ◌<◌, ◌^◌, ℕ, Bool, true, List, [], ◌∷◌, length, Option, Some, None, slice_get}
+use Rattle.std.proofs.Common.{arith, inl, inr, ◌≡◌, ◌≤◌, ◌^◌, ℕ, Bool, true, List, [], length, Option, Some, None}
 use Rattle.std.proofs.Common.{refl, subst, sym, ap, ◌∙◌}
 use Rattle.fs_chain.specs.declared.error.ChainError.{ChainError}
 use Rattle.std.specs.Prelude.{IfOk, Result, Ok, Err}
-use Rattle.std.specs.Prelude.{◌⊎◌, false, is_some, if◌then◌else◌, not, IsTrue, unwrap_or}
+use Rattle.std.specs.Prelude.{false, is_some, if◌then◌else◌, not, unwrap_or}
 use Rattle.std.proofs.lemmas.Bool.{true≢false}
 use Rattle.vm_iotlb.specs.declared.iova.IovaRange.{IovaRange}
 use Rattle.vm_iotlb.specs.declared.permissions.Permissions.{Permissions}
-use Rattle.vm_iotlb.specs.declared.permissions.Permissions.TheVariants.{Read, Write}
-use Rattle.vm_memory.specs.Memory.{Memory, reach}
+use Rattle.vm_memory.specs.Memory.{Memory}
 use Rattle.fs_queue.specs.Chain.{Descriptor}
 use Rattle.fs_queue.specs.Queue.{Queue, with_stop}
 use Rattle.fs_queue.specs.Taking.{Refuses, addresses_of, after_refusal, readable, stops_queue, total_len, writable}
 use Rattle.fs_queue.specs.WalkingView.{at_position}
-use Rattle.fs_queue.specs.declared.fault.ChainFault.{ChainFault}
 use Rattle.fs_queue.specs.declared.fault.QueueError.{QueueError}
 use Rattle.fs_queue.specs.declared.fault.QueueError.TheVariants as stop
 use Rattle.fs_regions.specs.Places.{Mapped, places_in}
@@ -22,20 +20,18 @@ use Rattle.fs_regions.specs.Walks.{queue_of}
 use Rattle.fs_regions.specs.declared.course.Course.{Course}
 use Rattle.fs_regions.specs.declared.step.CourseStep as comes
 use Rattle.fs_regions.specs.declared.step.CourseStep.TheVariants as step
-use Rattle.fs_regions.specs.declared.walk.QueueWalk.{QueueWalk}
-use Rattle.live_machine.specs.Several.{LiveQueue}
+use Rattle.live_machine.specs.Several.{LiveQueue, event_miss_of}
 use Rattle.live_machine.specs.Several as several
-use Rattle.live_machine.specs.Live.{EndsPop, EndsPopIn, EndsPopSo, Happens, LoadsAreMapped, after_pop, event_miss_of, new_chain}
+use Rattle.live_machine.specs.Live.{EndsPopIn, LoadsAreMapped, after_pop, new_chain}
 use Rattle.live_machine.specs.Live.{pop_refusal}
 use Rattle.live_machine.specs.Live.{with_live}
 use Rattle.live_machine.proofs.MappedLoads.{more_mapped, none_mapped}
 use Rattle.live_machine.proofs.Queues.{none_some, there_same}
 use Rattle.live_machine.proofs.Refusals.{refusal_stops}
 use Rattle.fs_chain.specs.Events.{event_fault, event_miss}
-use Rattle.fs_chain.specs.Events as chain_events
 use Rattle.fs_chain.specs.Holds.{BeginsAPop, ContinuesAPop, EndsBy, HasPopped, HoldsPop, IsOutAs, IsQueue, KeepsReplyOf, Machine, Pop}
 use Rattle.fs_chain.specs.Holds.{MissesUnless, PopIs}
-use Rattle.fs_chain.specs.Holds.{IsHeldIn, PopContinues, PopsBy, RefusedBy, any_files, live_of, queue_with}
+use Rattle.fs_chain.specs.Holds.{IsHeldIn, IsPopOf, PopContinues, PopsBy, RefusedBy, live_of, pop_of, queue_with}
 use Rattle.fs_chain.specs.Loads.{ProceedsSo, whole}
 use Rattle.fs_chain.specs.Orders.{begin_error, give_error, load_len, walk_error}
 use Rattle.fs_chain.specs.Queues.{may_take, pop_id_of}
@@ -53,7 +49,7 @@ use Rattle.fs_chain.specs.declared.state.ChainState as state
 use Rattle.fs_chain.specs.declared.state.ChainState.TheVariants as at
 use Rattle.fs_chain.specs.declared.state.InFlight.{InFlight}
 use Rattle.fs_chain.specs.declared.state.PopId.{PopId}
-use Rattle.fs_chain.proofs.HoldsQueues.{begun_room, proceeds_at}
+use Rattle.fs_chain.proofs.HoldsQueues.{begun_room, proceeds_at, same_pop}
 use Rattle.fs_chain.proofs.Lengths.{fits_limit}
 
 -- ---- refusals
@@ -112,8 +108,7 @@ refused_event : (s : Machine) (i : ℕ) (q q' : QueueState) (p : Pop) (old new :
 refused_event s i q q' p old new reported e there may proceeds places fault none reported_is free left =
     let m = places_in old.regions in
     let v : LiveQueue = record (live_of q) { queue = after_refusal (live_of q).queue e } in
-    let stops = lacks_stop q.event_index (reach m Read (chain_events.used_event_at q.layout) 2)
-    (reach m Write (chain_events.avail_event_at q.layout) 2) e fault in
+    let stops = lacks_stop _ _ _ e fault in
     let declined = declined_by s q e old places proceeds fault in
     let by : RefusedBy s i q q' new (shows.Refused e) = record {
       error = e;
@@ -146,8 +141,8 @@ record CameTo (s : Machine) (i : ℕ) (q q' : QueueState) (course : Course) (pop
   small : s.limit ≤ 2 ^ 31
   laid : (live_of q).queue ≡ queue_of course
   room : may_take q ≡ true
-  index : p.event_index ≡ q.event_index
-  events : pop_refusal (places_in new.regions) (queue_with (queue_of course) p.event_index) ≡ None
+  index : IsPopOf q p
+  events : pop_refusal (places_in new.regions) (queue_with (queue_of course) p) ≡ None
   ring : pop_id.ring ≡ ring_of (places_in new.regions) course.layout.used
   keeps : KeepsStep course pop_id came new new q q' reported
   is : IsCourseStep (places_in new.regions) course.limit (queue_of course) p.loaded new.descriptors.items came
@@ -167,9 +162,10 @@ events_there : (s : Machine) (i : ℕ) (q q' : QueueState) (course : Course) (po
     → pop_refusal s.places (live_of q) ≡ None
 events_there s i q q' course pop_id p came new reported c =
     let m = places_in new.regions in
-    let f : Memory → Queue → Bool → Option QueueError = λ m k b. pop_refusal m (queue_with k b) in
-    ap (λ (k : Memory). f k (live_of q).queue q.event_index) c.places ∙ ap (λ (k : Queue). f m k q.event_index) c.laid
-    ∙ ap (λ (b : Bool). f m (queue_of course) b) (sym c.index) ∙ c.events
+    let f : Memory → Queue → Pop → Option QueueError = λ m k r. pop_refusal m (queue_with k r) in
+    let mine : Pop = pop_of q p.loaded in
+    ap (λ (k : Memory). f k (live_of q).queue mine) c.places ∙ ap (λ (k : Queue). f m k mine) c.laid
+    ∙ ap (λ (r : Pop). f m (queue_of course) r) (same_pop q p c.index) ∙ c.events
 
 -- the event of a pop that ended
 ends_by : (s : Machine) (i : ℕ) (q q' : QueueState) (course : Course) (pop_id : PopId) (p : Pop) (came : comes.CourseStep)
@@ -315,13 +311,13 @@ begun_on : (s : Machine) (i : ℕ) (old new : ChainHandle) (q q' : QueueState) (
     → IsQueue s i q → s.places ≡ places_in old.regions → s.limit ≡ old.limit → s.limit ≤ 2 ^ 31 → may_take q ≡ true → q.stopped ≡ None
     → event_fault (places_in old.regions) q ≡ None
     → BeginsOn (course_of q old.limit) (pop_id_of old.regions q) old new q q' reported
-    → PopIs s i q q' (record { loaded = nothing; event_index = q.event_index }) new reported
+    → PopIs s i q q' (pop_of q nothing) new reported
 begun_on s i old new q q' reported there places limit small may proceeds events by =
     let course = course_of q old.limit in
     let same : new.regions ≡ old.regions = by.1.4.0 in
     let R : Mapped → Type 0 = λ r. IsCourseStep (places_in r) course.limit (queue_of course) nothing new.descriptors.items by.0 in
-    let E : Mapped → Type 0 = λ r. pop_refusal (places_in r) (queue_with (queue_of course) q.event_index) ≡ None in
-    is_reported s i q q' course (pop_id_of old.regions q) (record { loaded = nothing; event_index = q.event_index }) by.0 new reported
+    let E : Mapped → Type 0 = λ r. pop_refusal (places_in r) (queue_with (queue_of course) (pop_of q nothing)) ≡ None in
+    is_reported s i q q' course (pop_id_of old.regions q) (pop_of q nothing) by.0 new reported
     (record {
       there = there;
       places = places ∙ sym (ap places_in same);
@@ -340,16 +336,16 @@ begun_on s i old new q q' reported there places limit small may proceeds events 
 begun_where : (s : Machine) (i : ℕ) (old new : ChainHandle) (q q' : QueueState) (reported : walked.PopOutcome) (fault : Option QueueError)
     → IsQueue s i q → s.places ≡ places_in old.regions → s.limit ≡ old.limit → s.limit ≤ 2 ^ 31 → may_take q ≡ true → q.stopped ≡ None
     → old.state ≡ at.Free → event_fault (places_in old.regions) q ≡ fault → BeginsWhere fault old new q q' reported
-    → PopIs s i q q' (record { loaded = nothing; event_index = q.event_index }) new reported
+    → PopIs s i q q' (pop_of q nothing) new reported
 begun_where s i old new q q' reported None there places limit small may proceeds free is by =
     begun_on s i old new q q' reported there places limit small may proceeds is by
 begun_where s i old new q q' reported (Some e) there places limit small may proceeds free is by =
     by_miss (event_miss (places_in old.regions) q) refl by
   where
     by_miss : (miss : Option (IovaRange × Permissions)) → event_miss (places_in old.regions) q ≡ miss →
-        LacksEvents e miss old new q q' reported → PopIs s i q q' (record { loaded = nothing; event_index = q.event_index }) new reported
+        LacksEvents e miss old new q q' reported → PopIs s i q q' (pop_of q nothing) new reported
     by_miss None none lacks =
-        refused_event s i q q' (record { loaded = nothing; event_index = q.event_index }) old new reported e there may proceeds places is
+        refused_event s i q q' (pop_of q nothing) old new reported e there may proceeds places is
         none
         lacks.0 (lacks.1.0.3 ∙ free) lacks.2
     by_miss (Some (range, access)) some lacks =
@@ -360,16 +356,16 @@ begun_where s i old new q q' reported (Some e) there places limit small may proc
         let misses : MissesUnless (pop_refusal s.places (live_of q)) s (live_of q) nothing ds range access =
         subst (λ (fault : Option QueueError). MissesUnless fault s (live_of q) nothing ds range access) (sym declined)
         (miss, refl, lacks.1.1) in
-        subst (λ (t : walked.PopOutcome). PopIs s i q q' (record { loaded = nothing; event_index = q.event_index }) new t) (sym lacks.0)
+        subst (λ (t : walked.PopOutcome). PopIs s i q q' (pop_of q nothing) new t) (sym lacks.0)
         (lacks.1.0.3 ∙ free, lacks.2, misses)
 
 begun_unless : (s : Machine) (i : ℕ) (old new : ChainHandle) (q q' : QueueState) (reported : walked.PopOutcome)
     (stopped : Option QueueError)
     → IsQueue s i q → s.places ≡ places_in old.regions → s.limit ≡ old.limit → s.limit ≤ 2 ^ 31 → may_take q ≡ true → q.stopped ≡ stopped
     → old.state ≡ at.Free → BeginsUnless stopped old new q q' reported
-    → PopIs s i q q' (record { loaded = nothing; event_index = q.event_index }) new reported
+    → PopIs s i q q' (pop_of q nothing) new reported
 begun_unless s i old new q q' reported (Some why) there places limit small may is free by =
-    refused_stopped s i q q' (record { loaded = nothing; event_index = q.event_index }) new reported why there may is by.0 (by.1.3 ∙ free)
+    refused_stopped s i q q' (pop_of q nothing) new reported why there may is by.0 (by.1.3 ∙ free)
     by.2
 begun_unless s i old new q q' reported None there places limit small may is free by =
     begun_where s i old new q q' reported (event_fault (places_in old.regions) q) there places limit small may is free refl by
@@ -395,7 +391,7 @@ some_none x why is none = none_some why (sym none ∙ is)
 
 on_unless : (s : Machine) (i : ℕ) (p : Pop) (bytes : List ℕ) (old new : ChainHandle) (q q' : QueueState) (reported : walked.PopOutcome)
     (stopped : Option QueueError) (from : HoldsPop s.limit p old)
-    → IsQueue s i q → s.places ≡ places_in old.regions → p.event_index ≡ q.event_index → s.limit ≤ 2 ^ 31 → q.stopped ≡ stopped
+    → IsQueue s i q → s.places ≡ places_in old.regions → IsPopOf q p → s.limit ≤ 2 ^ 31 → q.stopped ≡ stopped
     → (at_position q.layout q.next_avail ≡ queue_of from.course) × (may_take q ≡ true) × (length (whole old bytes) ≡ asked_len from.walk)
     → ContinuesUnless stopped from.course from.pop_id from.walk (whole old bytes) old new q q' reported
     → PopContinues s i q q' p old new bytes (outcomes.On reported)
@@ -419,7 +415,7 @@ on_unless s i p bytes old new q q' reported None from there places index small i
     finds.2 by.adds from.mapped in
     let M : Mapped → Type 0 = λ r. LoadsAreMapped (places_in r) (queue_of course) by.after in
     let R : Mapped → Type 0 = λ r. IsCourseStep (places_in r) course.limit (queue_of course) by.after new.descriptors.items on.0 in
-    let E : Mapped → Type 0 = λ r. pop_refusal (places_in r) (queue_with (queue_of course) p.event_index) ≡ None in (
+    let E : Mapped → Type 0 = λ r. pop_refusal (places_in r) (queue_with (queue_of course) p) ≡ None in (
       by.after,
       λ none. adds,
       is_reported s i q q' course from.pop_id next on.0 new reported (record {
@@ -447,7 +443,7 @@ continues old new q q' bytes outcomes.Part call s i p from there places index sm
     let T : Mapped → Type 0 = λ r. IsThere (places_in r) from.walk in
     let L : Mapped → Type 0 = λ r. IsLongestStretch (places_in r) (queue_of from.course) new.descriptors.items from.walk in
     let M : Mapped → Type 0 = λ r. LoadsAreMapped (places_in r) (queue_of from.course) p.loaded in
-    let E : Mapped → Type 0 = λ r. pop_refusal (places_in r) (queue_with (queue_of from.course) p.event_index) ≡ None in
+    let E : Mapped → Type 0 = λ r. pop_refusal (places_in r) (queue_with (queue_of from.course) p) ≡ None in
     let D : List Descriptor → Type 0 = λ ds. IsWalkAt (places_in old.regions) (queue_of from.course) p.loaded ds from.walk in
     let S : List Descriptor → Type 0 = λ ds. IsLongestStretch (places_in old.regions) (queue_of from.course) ds from.walk in (
       record {

@@ -1,25 +1,23 @@
 -- A push of a chain that the handle holds, and its end.
-use Rattle.std.proofs.Common.{◌≡◌, ℕ, Bool, List, [], ◌∷◌, ◌++◌, length, Option, Some, None, refl, subst, sym, ap, ◌∙◌}
-use Rattle.std.specs.Prelude.{drop, take, slice_get}
+use Rattle.std.proofs.Common.{◌≡◌, ℕ, Bool, List, ◌++◌, length, Some, None, refl, subst, sym, ap, ◌∙◌}
+use Rattle.std.specs.Prelude.{drop, take}
 use Rattle.std.specs.Prelude.{◌==◌, true}
 use Rattle.std.proofs.Math.Seq.{take-append_seam}
 use Rattle.std.proofs.lemmas.Bool.{and_parts, eqb-true, true≢false}
 use Rattle.fs_queue.specs.Queue.{Queue}
 use Rattle.fs_queue.specs.Returning.{stores_after_reply}
 use Rattle.fs_queue.specs.ReturningView.{stores_of}
-use Rattle.fs_queue.specs.Taking.{addresses_of, writable}
-use Rattle.fs_queue.specs.WalkingView.{at_position}
 use Rattle.plain_machine.specs.Step.{Exchange}
 use Rattle.live_machine.specs.Several.{returning, seen_at}
 use Rattle.live_machine.specs.Several as several
-use Rattle.live_machine.specs.Live.{Abandoned, Asked, Fetched, InFlightChain, Own, Phase, PoppedFaulty, PushedWith, room_of}
+use Rattle.live_machine.specs.Live.{Asked, InFlightChain, Own, Phase, PoppedFaulty, PushedWith, room_of}
 use Rattle.live_machine.specs.Live.{room_of_phase}
 use Rattle.live_machine.proofs.Queues.{none_some, there_same}
 use Rattle.server_phases.specs.declared.session.Session.{Session}
 use Rattle.fs_chain.specs.Events.{notifies_of}
 use Rattle.fs_chain.specs.Holds.{EndsPush, HoldsChain, IsHeldIn, IsOutAs, KeepsReplyOf, Pushes, live_of, served_so}
 use Rattle.fs_regions.specs.Places.{Mapped, places_in}
-use Rattle.fs_chain.specs.Orders.{front_len, front_of, has_ring, reply_len, return_error}
+use Rattle.fs_chain.specs.Orders.{front_len, front_of, has_ring, return_error}
 use Rattle.fs_chain.specs.Rings.{is_same_ring, ring_of}
 use Rattle.fs_chain.specs.declared.ring_place.RingPlace as ring
 use Rattle.fs_chain.specs.declared.ring_place.RingPlace.TheVariants.{Physical, Translated, Unmapped}
@@ -54,8 +52,8 @@ replies page_size c (Asked request options calls) x out preserved session is hel
 replies page_size c p x out preserved session is held proceeds = absurd held
 
 -- where the two bytes stand that are seen
-abbrev seen_of : (event_index : Bool) → Queue → ℕ
-seen_of event_index q = seen_at (record { queue = q; next_used = 0; max_in_flight = 0; event_index = event_index })
+abbrev seen_of : QueueState → Queue → ℕ
+seen_of q k = seen_at (record (live_of q) { queue = k })
 
 -- ---- a push
 
@@ -109,7 +107,7 @@ by_state page_size c x (at.HasReply out preserved) old new q front front' stores
     ∙ ap (λ (h : ℕ). stores_after_reply (at_return q out) h n) is_out.head
     ∙ ap (λ (k : Queue). stores_after_reply k c.head n) (sym (pushed_there q out preserved (length front) q.next_used clear)) in
     let seen : stores.seen_at ≡ seen_at (live_of q) =
-    by.2 ∙ ap (λ (k : Queue). seen_of q.event_index k) (sym (pushed_there q out preserved (length front) 0 clear)) in
+    by.2 ∙ ap (λ (k : Queue). seen_of q k) (sym (pushed_there q out preserved (length front) q.next_avail clear)) in
     let begins : take stores.front_len front' ≡ front_of preserved =
     ap (λ (k : ℕ). take k front') by.0 ∙ ap (λ (bs : List ℕ). take (front_len preserved) bs) put
     ∙ take-append_seam (front_of preserved) (drop (front_len preserved) front) in (

@@ -1,5 +1,5 @@
 -- What a call that isn't refused tells of its queue.
-use Rattle.std.proofs.Common.{◌≡◌, ℕ, Bool, Option, Some, None, refl, sym, ap, ◌∙◌}
+use Rattle.std.proofs.Common.{◌≡◌, ℕ, Bool, Some, None, refl, sym, ap, ◌∙◌}
 use Rattle.std.specs.Prelude.{◌==◌, ◌&&◌, false, true, if◌then◌else◌, nat_lt, not}
 use Rattle.std.proofs.lemmas.Bool.{and_parts, eqb-true}
 use Rattle.fs_queue.specs.Queue.{Queue}
@@ -8,7 +8,9 @@ use Rattle.fs_queue.specs.declared.layout.QueueLayout.{QueueLayout}
 use Rattle.fs_regions.specs.Walks.{queue_of}
 use Rattle.fs_regions.specs.declared.course.Course.{Course}
 use Rattle.fs_chain.specs.Orders.{begin_error, front_len, give_error, return_error}
-use Rattle.fs_chain.specs.Queues.{fits_pop, in_flight, is_in_flight_of, is_laid_out, may_take}
+use Rattle.live_machine.specs.Several.{LiveQueue}
+use Rattle.fs_chain.specs.Holds.{IsPopOf, Pop, pop_of}
+use Rattle.fs_chain.specs.Queues.{SameEventIndex, fits_pop, in_flight, is_in_flight_of, is_laid_out, live_of, may_take}
 use Rattle.fs_chain.specs.declared.error.ChainError.TheVariants as error
 use Rattle.fs_chain.specs.declared.queue.QueueState.{QueueState}
 use Rattle.fs_chain.specs.declared.state.ChainReply.{ChainReply}
@@ -28,6 +30,19 @@ same_layout a b position is =
     ∙ ap (λ (n : ℕ). q b.size n a.avail a.used) (eqb-true a.desc b.desc three.1)
     ∙ ap (λ (n : ℕ). q b.size b.desc n a.used) (eqb-true a.avail b.avail two.1)
     ∙ ap (λ (n : ℕ). q b.size b.desc b.avail n) (eqb-true a.used b.used one.1)
+
+-- ---- the event index
+
+-- a pop of a queue is known by its loads
+pub same_pop : (q : QueueState) (p : Pop) → IsPopOf q p → pop_of q p.loaded ≡ p
+same_pop q p is = ap (λ (b : Bool). record p { event_index = b }) (sym is)
+
+-- equal queues have it both, or neither; a queue has what it has in a run
+pub same_index : (p q : QueueState) → p ≡ q → SameEventIndex p q
+same_index p q same = ap (λ (r : QueueState). r.event_index) same
+
+pub live_index : (q : QueueState) (w : LiveQueue) → live_of q ≡ w → q.event_index ≡ w.event_index
+live_index q w same = ap (λ (v : LiveQueue). v.event_index) same
 
 -- ---- a push
 

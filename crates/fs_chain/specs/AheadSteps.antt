@@ -1,11 +1,26 @@
 -- A pop by loads ahead, as a step of the live machine.
-use Rattle.std.specs.Prelude.{◌≡◌, ◌≤◌, ◌^◌, ℕ}
+use Rattle.std.specs.Prelude.{◌≡◌, ◌≤◌, ◌^◌, ℕ, List, [], ◌∷◌, None}
+use Rattle.fs_regions.specs.Ahead.{AheadBytes}
 use Rattle.fs_regions.specs.Places.{places_in}
-use Rattle.fs_regions.specs.Walks.{Loaded}
-use Rattle.fs_chain.specs.Holds.{IsQueue, Machine, PopIs}
+use Rattle.fs_regions.specs.Walks.{Loaded, nothing}
+use Rattle.fs_chain.specs.Ahead.{WalksAhead}
+use Rattle.fs_chain.specs.Holds.{IsQueue, Machine, PopIs, pop_of}
+use Rattle.fs_chain.specs.Loads.{whole}
+use Rattle.fs_chain.specs.Pops.{AddsSo}
 use Rattle.fs_chain.specs.declared.chain_handle.ChainHandle.{ChainHandle}
+use Rattle.fs_chain.specs.declared.loads.LoadOutcome as outcome
 use Rattle.fs_chain.specs.declared.popping.PopOutcome as walked
 use Rattle.fs_chain.specs.declared.queue.QueueState.{QueueState}
+
+-- the loads of a pop by loads ahead: those of its calls, as long as its queue isn't stopped
+abbrev pub AddsAhead : (taken : List AheadBytes) (old new : ChainHandle) (before after : QueueState)
+    (reported : outcome.LoadOutcome) → WalksAhead taken old new before after reported → Loaded → Type 0
+AddsAhead [] old new before after reported walks loaded = loaded ≡ nothing
+AddsAhead (l ∷ taken) old new before after reported walks loaded =
+    (earlier : Loaded)
+    × AddsAhead taken old walks.0 before walks.1 walks.2 walks.3 earlier
+    × (walks.1.stopped ≡ None →
+    AddsSo walks.0.state reported new.descriptors.items earlier (whole walks.0 l.bytes) loaded)
 
 -- a pop that begins and goes on by loads ahead is one step at most, by some loads: it asks for the next one,
 -- or misses addresses, or ends, or is refused
@@ -16,4 +31,4 @@ PopsAheadBy old new q q' reported =
     s.places ≡ places_in old.regions →
     s.limit ≡ old.limit →
     s.limit ≤ 2 ^ 31 →
-    (loaded : Loaded) × PopIs s i q q' (record { loaded = loaded; event_index = q.event_index }) new reported
+    (loaded : Loaded) × PopIs s i q q' (pop_of q loaded) new reported

@@ -2,7 +2,7 @@
 -- each state of the live machine in which the handle holds a chain, or none, the call is an event of that
 -- machine, or none; and afterwards the handle holds what the event left.
 use Rattle.std.specs.Prelude.{◌≡◌, ◌⊎◌, ◌≤◌, ◌^◌, ℕ, Bool, List, [], ◌∷◌, ◌++◌, length, take}
-use Rattle.std.specs.Prelude.{drop, is_some, Option, Some, None}
+use Rattle.std.specs.Prelude.{drop, false, Option, Some, None}
 use Rattle.std.specs.Prelude.{slice_get}
 use Rattle.vm_iotlb.specs.declared.iova.IovaRange.{IovaRange}
 use Rattle.vm_iotlb.specs.declared.permissions.Permissions.{Permissions}
@@ -12,7 +12,6 @@ use Rattle.fs_queue.specs.Queue.{Queue}
 use Rattle.fs_queue.specs.Returning.{stores_after_reply}
 use Rattle.fs_queue.specs.ReturningView.{stores_of}
 use Rattle.fs_queue.specs.Taking.{addresses_of, readable, total_len, writable}
-use Rattle.fs_queue.specs.WalkingView.{at_position}
 use Rattle.fs_regions.specs.declared.course.Course.{Course}
 use Rattle.fs_regions.specs.declared.step.CourseStep as comes
 use Rattle.fs_regions.specs.declared.step.CourseStep.TheVariants as step
@@ -32,7 +31,7 @@ use Rattle.server_phases.specs.Asking.{AsksCall, IsRequestFront}
 use Rattle.server_phases.specs.declared.session.Session.{Session}
 use Rattle.plain_machine.specs.Step.{Calls, Exchange, answers_alone, calls_alone}
 pub use Rattle.live_machine.specs.Files.{any_files}
-use Rattle.live_machine.specs.Several.{LiveQueue, returning, seen_at}
+use Rattle.live_machine.specs.Several.{LiveQueue, event_miss_of, returning, seen_at}
 use Rattle.live_machine.specs.Live.{Asked, DecodesRequest, EndsPop, Fetched, GivesUpChain, Happens}
 use Rattle.live_machine.specs.Live.{InFlightChain}
 use Rattle.live_machine.specs.Live.{IsUnreplied, RepliesOwnBytes, after_giving_up, after_own}
@@ -40,10 +39,11 @@ use Rattle.live_machine.specs.Live.{LiveState, LoadsAreMapped, Own, Phase, Poppe
 use Rattle.live_machine.specs.Live.{PushesChain}
 use Rattle.live_machine.specs.Live.{ReceivesAnswer, RefusesPop, after_answer, after_decoding, after_pop}
 use Rattle.live_machine.specs.Live.{after_push}
-use Rattle.live_machine.specs.Live.{asked_chain, event_miss_of, new_chain, pop_refusal}
+use Rattle.live_machine.specs.Live.{asked_chain, new_chain, pop_refusal}
 use Rattle.fs_chain.specs.Decoding.{AsksListing, WaitsForNoListing}
 use Rattle.fs_chain.specs.Loads.{whole}
 use Rattle.fs_chain.specs.Orders.{front_of, reply_len}
+pub use Rattle.fs_chain.specs.Queues.{live_of}
 use Rattle.fs_chain.specs.Rings.{ring_of}
 use Rattle.fs_chain.specs.Walks.{reported_of}
 use Rattle.fs_chain.specs.Pops.{AddsSo}
@@ -69,15 +69,6 @@ use Rattle.fs_chain.specs.declared.state.PopId.{PopId}
 -- calls are a run
 abbrev pub Machine : Type 0
 Machine = LiveState (Unit {0})
-
--- a `QueueState` as a queue of a run
-abbrev pub live_of : QueueState → LiveQueue
-live_of q = record {
-  queue = record (at_position q.layout q.next_avail) { stopped = is_some q.stopped };
-  next_used = q.next_used;
-  max_in_flight = q.max_in_flight;
-  event_index = q.event_index;
-}
 
 -- queue i of the run is this one
 abbrev pub IsQueue : Machine → ℕ → QueueState → Type 0
@@ -151,9 +142,21 @@ pub record Pop : Type 0 where
   pub loaded : Loaded
   pub event_index : Bool
 
--- a queue as far as the mappings of its event index tell
-abbrev pub queue_with : Queue → (event_index : Bool) → LiveQueue
-queue_with q event_index = record { queue = q; next_used = 0; max_in_flight = 0; event_index = event_index }
+-- a pop of this queue with these loads
+abbrev pub pop_of : QueueState → Loaded → Pop
+pop_of q loaded = record { loaded = loaded; event_index = q.event_index }
+
+-- the queue has the event index as when the pop began
+abbrev pub IsPopOf : QueueState → Pop → Type 0
+IsPopOf q p = p.event_index ≡ q.event_index
+
+-- of a handle without a pop
+abbrev pub no_pop : Pop
+no_pop = record { loaded = nothing; event_index = false }
+
+-- the queue of a pop, as far as the mappings of its event index tell
+abbrev pub queue_with : Queue → Pop → LiveQueue
+queue_with q p = record { queue = q; next_used = 0; max_in_flight = 0; event_index = p.event_index }
 
 -- a handle makes this pop: the loads so far lead to the one that it asks for, and are of mapped addresses
 pub record HoldsPop (limit : ℕ) (p : Pop) (w : ChainHandle) : Type 0 where
@@ -167,7 +170,7 @@ pub record HoldsPop (limit : ℕ) (p : Pop) (w : ChainHandle) : Type 0 where
   pub there : IsThere (places_in w.regions) walk
   pub longest : IsLongestStretch (places_in w.regions) (queue_of course) w.descriptors.items walk
   pub mapped : LoadsAreMapped (places_in w.regions) (queue_of course) p.loaded
-  pub events : pop_refusal (places_in w.regions) (queue_with (queue_of course) p.event_index) ≡ None
+  pub events : pop_refusal (places_in w.regions) (queue_with (queue_of course) p) ≡ None
 
 -- ---- what the calls do
 
@@ -370,7 +373,7 @@ BeginsAPop old new q q' (outcomes.On reported) =
     s.places ≡ places_in old.regions →
     s.limit ≡ old.limit →
     s.limit ≤ 2 ^ 31 →
-    PopIs s i q q' (record { loaded = nothing; event_index = q.event_index }) new reported
+    PopIs s i q q' (pop_of q nothing) new reported
 
 -- a pop that continues, in a run whose mappings are those of its beginning. A part of a load adds nothing; a
 -- whole load adds its bytes
@@ -392,7 +395,7 @@ ContinuesAPop old new q q' bytes reported =
     HoldsPop s.limit p old →
     IsQueue s i q →
     s.places ≡ places_in old.regions →
-    p.event_index ≡ q.event_index →
+    IsPopOf q p →
     s.limit ≤ 2 ^ 31 →
     PopContinues s i q q' p old new bytes reported
 

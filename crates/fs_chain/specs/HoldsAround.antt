@@ -1,17 +1,18 @@
 -- What the calls around a chain do to a run: freeing its handle, a store before a sleep, a reset of its
 -- queue, and another memory.
-use Rattle.std.specs.Prelude.{◌≡◌, ◌⊎◌, ◌≤◌, ℕ, Bool, true, false, List, [], ◌∷◌, ◌++◌, Option, Some, None}
+use Rattle.std.specs.Prelude.{◌≡◌, ◌⊎◌, ◌≤◌, ℕ, Bool, false, List, [], ◌∷◌, ◌++◌, Option, Some, None}
 use Rattle.std.specs.List.{AllByRecursion}
-use Rattle.fs_queue.specs.declared.fault.QueueError.{QueueError}
 use Rattle.fs_regions.specs.Places.{places_in}
 use Rattle.live_machine.specs.Live.{Abandons, Happens, InFlightChain, KeepsQueue, Remaps}
 use Rattle.live_machine.specs.Live.{ResetsQueue}
 use Rattle.live_machine.specs.Live.{StoreIsMapped, StoresNotification, after_abandoning, after_reset}
 use Rattle.live_machine.specs.Live.{pop_refusal}
+use Rattle.live_machine.specs.Several.{HasEventIndex}
 use Rattle.fs_chain.specs.Events.{store_of}
 use Rattle.fs_chain.specs.Holds.{IsQueue, Machine, any_files, live_of}
+use Rattle.fs_chain.specs.Queues.{set_as}
 use Rattle.fs_chain.specs.declared.chain_handle.ChainHandle.{ChainHandle}
-use Rattle.fs_chain.specs.declared.event_index.NotificationStore.{NotificationStore}
+use Rattle.fs_chain.specs.declared.notifications.NotificationStore.{NotificationStore}
 use Rattle.fs_chain.specs.declared.queue.QueueState.{QueueState}
 use Rattle.fs_chain.specs.declared.state.ChainState.TheVariants as at
 
@@ -30,8 +31,10 @@ abbrev pub NotificationIs : Machine → (i : ℕ) → QueueState → (wanted : B
     Type 0
 NotificationIs s i q wanted (Some store) =
     (StoreIsMapped s.places store.address → Happens any_files s (StoresNotification i (store_of store)) s)
-    × (q.event_index ≡ true → pop_refusal s.places (live_of q) ≡ None → StoreIsMapped s.places store.address)
-NotificationIs s i q wanted None = (q.event_index ≡ true) × (wanted ≡ false)
+    × (HasEventIndex (live_of q) →
+    pop_refusal s.places (live_of q) ≡ None →
+    StoreIsMapped s.places store.address)
+NotificationIs s i q wanted None = HasEventIndex (live_of q) × (wanted ≡ false)
 
 unfoldable pub StoresNotice : QueueState → (wanted : Bool) → Option NotificationStore → Type 0
 StoresNotice q wanted store = (s : Machine) (i : ℕ) → IsQueue s i q → NotificationIs s i q wanted store
@@ -41,13 +44,13 @@ StoresNotice q wanted store = (s : Machine) (i : ℕ) → IsQueue s i q → Noti
 -- is stopped
 unfoldable pub Resets : (old new : QueueState) → Type 0
 Resets old new =
-    (s : Machine) (i max_in_flight : ℕ) (event_index : Bool) (stopped : Option QueueError) →
+    (s : Machine) (i : ℕ) (set : QueueState) →
     IsQueue s i old →
-    1 ≤ max_in_flight →
-    max_in_flight ≤ new.layout.size →
-    let set = record new { max_in_flight = max_in_flight; event_index = event_index; stopped = stopped } in
-    Happens any_files s (ResetsQueue i (live_of set)) (after_reset s i (live_of set))
-    × IsQueue (after_reset s i (live_of set)) i set
+    1 ≤ set.max_in_flight →
+    set.max_in_flight ≤ new.layout.size →
+    let q = set_as new set in
+    Happens any_files s (ResetsQueue i (live_of q)) (after_reset s i (live_of q))
+    × IsQueue (after_reset s i (live_of q)) i q
 
 -- a handle's new memory is the event `Remaps`: its next pops are in a run with these mappings. For the queues
 -- of the chains in flight, they must map an address of pushes exactly if the run's do

@@ -26,7 +26,7 @@ abbrev pub PushesBy : QueueState → InFlight → ChainReply → PushStores → 
 PushesBy q out reply s =
     (s.front_len ≡ front_len reply)
     × (stores_of s.used ≡ stores_after_reply (at_return q out) out.head (reply_len out reply))
-    × (s.seen_at ≡ seen_at q.event_index out.course.layout)
+    × (s.seen_at ≡ seen_at q out.course.layout)
     × (s.used.flags ≡ out.course.layout.avail)
 
 -- P, if the chain's reply is known

@@ -1,23 +1,38 @@
 -- The chains of a queue that are in flight, and the position of its next push (VIRTIO 1.2, 2.7.6 and
 -- 2.7.8).
-use Rattle.std.specs.Prelude.{ℕ, ◌+◌, ◌-◌, ◌%◌, ◌^◌, Bool, false, not, ◌==◌, ◌&&◌, nat_lt, None}
+use Rattle.std.specs.Prelude.{◌≡◌, ℕ, ◌+◌, ◌-◌, ◌%◌, ◌^◌, Bool, false, not, ◌==◌, ◌&&◌, nat_lt, None, is_some}
 use Rattle.fs_queue.specs.declared.layout.QueueLayout.{QueueLayout}
 use Rattle.fs_queue.specs.Queue.{Queue}
 use Rattle.fs_queue.specs.WalkingView.{at_position}
 use Rattle.fs_regions.specs.Places.{Mapped, places_in}
 use Rattle.fs_regions.specs.declared.course.Course.{Course}
+use Rattle.live_machine.specs.Several as live
+use Rattle.live_machine.specs.Several.{LiveQueue}
 use Rattle.fs_chain.specs.declared.queue.QueueState.{QueueState}
 use Rattle.fs_chain.specs.declared.state.InFlight.{InFlight}
 use Rattle.fs_chain.specs.declared.state.PopId.{PopId}
 use Rattle.fs_chain.specs.Rings.{ring_of}
 
+-- a `QueueState` as a queue of a run
+abbrev pub live_of : QueueState → LiveQueue
+live_of q = record {
+  queue = record (at_position q.layout q.next_avail) { stopped = is_some q.stopped };
+  next_used = q.next_used;
+  max_in_flight = q.max_in_flight;
+  event_index = q.event_index;
+}
+
 -- how many chains are in flight
 abbrev pub in_flight : QueueState → ℕ
-in_flight q = (q.next_avail + (2 ^ 16 - q.next_used)) % 2 ^ 16
+in_flight q = live.in_flight (live_of q)
 
 -- whether one more chain may be popped
 abbrev pub may_take : QueueState → Bool
-may_take q = nat_lt (in_flight q) q.max_in_flight
+may_take q = live.may_take (live_of q)
+
+-- whether VIRTIO_F_EVENT_IDX was negotiated for both queues, or for neither
+abbrev pub SameEventIndex : (p q : QueueState) → Type 0
+SameEventIndex p q = p.event_index ≡ q.event_index
 
 -- the identity of a pop, and then of its chain: as the pop begins, the queue's counts, and where its rings
 -- are
@@ -29,18 +44,21 @@ pop_id_of g q =
       ring = ring_of (places_in g) q.layout.used;
     }
 
+-- a queue at the positions of this one
+abbrev pub at_positions : QueueState → LiveQueue → QueueState
+at_positions q w = record q { next_avail = w.queue.position; next_used = w.next_used }
+
 -- a chain was popped: the next one is popped at the next position
 abbrev pub took : QueueState → QueueState
-took q = record q { next_avail = (q.next_avail + 1) % 2 ^ 16; pop_count = (q.pop_count + 1) % 2 ^ 32 }
+took q = record (at_positions q (live.took (live_of q))) { pop_count = (q.pop_count + 1) % 2 ^ 32 }
 
 -- the chain that was popped last is given up: the queue's next pop finds it again
 abbrev pub gave_up : QueueState → QueueState
-gave_up q =
-    record q { next_avail = (q.next_avail + (2 ^ 16 - 1)) % 2 ^ 16; pop_count = (q.pop_count + 1) % 2 ^ 32 }
+gave_up q = record (at_positions q (live.gave_up (live_of q))) { pop_count = (q.pop_count + 1) % 2 ^ 32 }
 
 -- a chain was pushed: the next one is pushed at the next position
 abbrev pub gave : QueueState → QueueState
-gave q = record q { next_used = (q.next_used + 1) % 2 ^ 16; pushing = false }
+gave q = record (at_positions q (live.gave (live_of q))) { pushing = false }
 
 -- the queue for a chain's push, at its next position in the used ring; chains may be pushed in another
 -- order than they were popped
@@ -60,6 +78,12 @@ new_queue layout position max_in_flight = record {
   event_index = false;
   stopped = None;
 }
+
+-- a queue with what its caller sets after a reset, as in another: how many chains may be in flight, the event
+-- index, and whether it is stopped
+abbrev pub set_as : (q set : QueueState) → QueueState
+set_as q set =
+    record q { max_in_flight = set.max_in_flight; event_index = set.event_index; stopped = set.stopped }
 
 -- a queue that was reset: none of its chains is in flight any more
 abbrev pub reset_to : QueueState → QueueLayout → (position : ℕ) → QueueState

@@ -12,7 +12,6 @@ ghost use Rattle.fs_chain.specs.declared.state.ChainState.TheVariants as at;
 
 use crate::chain_handle::ChainHandle;
 use crate::error::ChainError;
-use crate::event_index::seen_at;
 use crate::queue::QueueState;
 use crate::ring_place::RingPlace;
 use crate::state::{ChainReply, ChainState, InFlight};
@@ -99,7 +98,7 @@ fn stores_of(
         out.head,
         len.min(u32::MAX as usize) as u32,
     );
-    let seen_at = seen_at(queue.event_index, &layout);
+    let seen_at = queue.seen_at(&layout);
     Ok(PushStores {
         front_len,
         used,

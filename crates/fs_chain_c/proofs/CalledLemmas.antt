@@ -12,7 +12,7 @@ use Rattle.fs_chain.specs.declared.queue.QueueState.{QueueState}
 use Rattle.notify.specs.Kicks.{NotifyState, ChecksWish, after}
 use Rattle.notify.specs.Threads.{ThreadedQueue, Walker}
 use Rattle.fs_notify.specs.Givers.{rules_of}
-use Rattle.fs_notify.specs.Takers.{HasU16Numbers, IsModelOf, ShowsWish}
+use Rattle.fs_notify.specs.Takers.{HasU16Numbers, IsModelOf, ShowsWish, ShowsWishBy, ways_of}
 use Rattle.fs_chain_c.specs.declared.notifications.FsStore.{FsStore}
 use Rattle.fs_chain_c.specs.declared.queue.FsQueue.{FsQueue}
 use Rattle.fs_chain_c.specs.Handles.{EndsPush}
@@ -68,8 +68,8 @@ wishes_so law (Some b) (Some b') q reported status asks avail used few done =
     wishes_by law b q reported (subst (λ (n : ℕ). SetsNotification b q 1 reported n) done asks.0) avail used few
 
 -- the driver's two bytes are its wish, as flags and as an event
-shows_so : (event_index : Bool) (bytes : List ℕ)
-    → ShowsWish event_index bytes (from_le_bytes w16 bytes) (has_bit (from_le_bytes w16 bytes) 0)
+shows_so : (by_event : Bool) (bytes : List ℕ)
+    → ShowsWishBy by_event bytes (from_le_bytes w16 bytes) (has_bit (from_le_bytes w16 bytes) 0)
 shows_so true bytes = refl
 shows_so false bytes = refl
 
@@ -85,9 +85,9 @@ checks_by law b b' q q' seen notify (inr is) fits used =
           let made = law b b' q q' seen notify at (inr is) fits in
           let same : made.0 ≡ k = state_same q made.0 k made.1 is.2 in
           subst (λ (j : QueueState). j.next_used < 2 ^ 16 → at.published ≡ (gave j).next_used → at.unchecked ≡ 1
-          → ShowsWish j.event_index (to_le_bytes w16 seen) at.event at.muted
+          → ShowsWish j (to_le_bytes w16 seen) at.event at.muted
           → (after (rules_of j) at ChecksWish).owes ≡ (at.owes || notify == 1)) same
-          made.2 (subst (λ (n : ℕ). n < 2 ^ 16) (sym is.2.next_used) used) refl refl (shows_so k.event_index (to_le_bytes w16 seen)),
+          made.2 (subst (λ (n : ℕ). n < 2 ^ 16) (sym is.2.next_used) used) refl refl (shows_so (ways_of k).by_event (to_le_bytes w16 seen)),
     )
 
 pub checks_so : NotifyIsACheck → (before now : Option ChainHandle) (q q' : FsQueue) (seen notify status : ℕ)

@@ -48,7 +48,7 @@ wishes b q reported s (inr is) = (
       reported_store b.regions store reported (subst (λ (x : Option Store). ReportsStore b.regions x reported 0) asked.1 is.3) in (
         subst (λ (a : ℕ). StandsHere b.regions Write a 2 reported.at) asked.2 stored.0,
         stored.2,
-        subst (λ (bytes : List ℕ). ShowsWish is.1.event_index bytes end.event end.muted) stored.1 asked.5,
+        subst (λ (bytes : List ℕ). ShowsWish is.1 bytes end.event end.muted) stored.1 asked.5,
         asked.6,
       ),
 )

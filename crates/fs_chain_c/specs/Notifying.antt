@@ -22,7 +22,7 @@ StoresItsWish b k s reported =
     let asked = after_act (ways_of k) (after_act (ways_of k) s Wishes) WishIsThere in
     StandsHere b.regions Write (wish_at k) 2 reported.at
     × (reported.len ≡ 2)
-    × ShowsWish k.event_index (to_le_bytes w16 reported.value) asked.event asked.muted
+    × ShowsWish k (to_le_bytes w16 reported.value) asked.event asked.muted
     × IsModelOf k asked
 
 -- the store that C makes before a thread sleeps is the model's wish for the next chain
@@ -46,5 +46,5 @@ NotifyIsACheck =
     × (k.next_used < 2 ^ 16
     → u.published ≡ (gave k).next_used
     → u.unchecked ≡ 1
-    → ShowsWish k.event_index (to_le_bytes w16 seen) u.event u.muted
+    → ShowsWish k (to_le_bytes w16 seen) u.event u.muted
     → (after (rules_of k) u ChecksWish).owes ≡ (u.owes || notify == 1))

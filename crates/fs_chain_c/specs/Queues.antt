@@ -1,10 +1,11 @@
 -- Queues as numbers that C keeps, and as the core has them.
-use Rattle.std.specs.Prelude.{◌≡◌, ◌⊎◌, ◌==◌, ◌<◌, ◌≤◌, ◌+◌, ◌-◌, ◌%◌, ◌^◌, max, ℕ, Bool, true, false, Option}
+use Rattle.std.specs.Prelude.{◌≡◌, ◌⊎◌, ◌==◌, ◌<◌, ◌≤◌, ◌+◌, ◌%◌, ◌^◌, max, ℕ, Bool, true, false, Option}
 use Rattle.std.specs.Prelude.{Some, None, IsSome, if◌then◌else◌}
 use Rattle.fs_queue.specs.Lawful.{layout_error}
 use Rattle.fs_queue.specs.Numbers.{queue_number}
 use Rattle.fs_queue.specs.declared.fault.QueueError.{QueueError}
 use Rattle.fs_queue.specs.declared.fault.QueueError.TheVariants as stop
+use Rattle.live_machine.specs.Several.{in_flight_between}
 use Rattle.fs_chain.specs.declared.error.ChainError.TheVariants.{BadArgument}
 use Rattle.fs_chain.specs.declared.queue.QueueState.{QueueState}
 use Rattle.fs_chain.specs.Numbers.{chain_error_number}
@@ -35,7 +36,7 @@ flag false = 0
 flag true = 1
 
 abbrev pub chains_in_flight : FsQueue → ℕ
-chains_in_flight q = (q.next_avail + (2 ^ 16 - q.next_used)) % 2 ^ 16
+chains_in_flight q = in_flight_between q.next_avail q.next_used
 
 -- these are a queue's numbers: no more chains are in flight, or may be, than it has descriptors
 abbrev pub IsQueue : FsQueue → Type 0

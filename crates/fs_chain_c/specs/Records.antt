@@ -113,7 +113,7 @@ restored_over [] (q ∷ qs) = []
 restored_over (old ∷ olds) (q ∷ qs) = numbers_over old q ∷ restored_over olds qs
 
 -- queues fit a record: each of the record's, over the earlier numbers at its place, has a queue's numbers. So
--- no more chains may be in flight than it has descriptors, and `event_index` is 0 or 1
+-- no more chains may be in flight than it has descriptors, and the event index is 0 or 1
 abbrev pub FitRecord : (olds : List FsQueue) → List Queue → Type 0
 FitRecord olds qs =
     (k : ℕ) (old : FsQueue) (q : Queue)

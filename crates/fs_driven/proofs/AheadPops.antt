@@ -6,8 +6,8 @@ use Rattle.std.specs.Borrow.{Bor}
 use Rattle.fs_chain.specs.declared.error.ChainError.{ChainError}
 use Rattle.fs_chain.specs.declared.error.ChainError.TheVariants.{WrongOrder}
 use Rattle.fs_chain.specs.Ahead.{PopsAhead, WalksAhead, ahead_error}
-use Rattle.fs_driven.specs.Ahead.{PopsAheadBy}
-use Rattle.fs_driven.proofs.Ahead.{pops_ahead}
+use Rattle.fs_chain.proofs.HoldsAhead.{steps_ahead}
+use Rattle.fs_chain.specs.Holds.{pop_of}
 use Rattle.fs_chain.specs.Loads.{ProceedsSo, whole}
 use Rattle.fs_chain.specs.Orders.{load_len}
 use Rattle.fs_chain.specs.Walks.{WalksFrom}
@@ -75,13 +75,13 @@ ahead_drives : (page_size : ℕ) (old new : ChainHandle) (q q' : QueueState) (ah
     (bytes : Bor (List ℕ)) (reported : walked.PopOutcome) → old.state ≡ at.Free → Popping old new q q'
     → (pop : PopsAhead (loads_ahead ahead.now bytes.now) old new q q' (outcomes.On reported))
     → DrivesOne page_size old new q q' (does.PopAhead ahead bytes) (gives.PoppedAhead (Ok reported))
-unfolding DrivesOne PopsAheadBy
+unfolding DrivesOne
 ahead_drives page_size old new q q' ahead bytes reported free same pop ws k there u s i os pops push all =
     let was = all.fits k old there in
-    let by = pops_ahead (loads_ahead ahead.now bytes.now) old new q q' reported pop s i all.queue was.0 was.1
+    let by = steps_ahead (last_first pop.first []) old new q q' (outcomes.On reported) pop.walks s i all.queue was.0 was.1
     all.small in
     popped s i page_size k q q' ws os pops push old new
-    (record { loaded = by.0; event_index = q.event_index }) reported
+    (pop_of q by.0) reported
     (λ es d. Reports (turn i page_size k (desk s ws q os pops push) d old new) (does.PopAhead ahead bytes) u
     (gives.PoppedAhead (Ok reported)) es)
     all there (ap is_out free) same refl

@@ -69,7 +69,7 @@ pop_same limit p old new same h =
           places (subst (λ (ds : List Descriptor). IsLongestStretch (places_in old.regions)
           (queue_of h.course) ds h.walk) (sym same.4) h.longest);
       mapped = subst (λ (m : Memory). LoadsAreMapped m (queue_of h.course) p.loaded) places h.mapped;
-      events = subst (λ (m : Memory). pop_refusal m (queue_with (queue_of h.course) p.event_index) ≡ None)
+      events = subst (λ (m : Memory). pop_refusal m (queue_with (queue_of h.course) p) ≡ None)
           places h.events;
     }
 

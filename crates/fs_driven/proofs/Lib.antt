@@ -1,4 +1,3 @@
-pub mod Ahead
 pub mod AheadPops
 pub mod Answering
 pub mod Begins

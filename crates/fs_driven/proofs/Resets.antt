@@ -14,7 +14,7 @@ use Rattle.vm_iotlb.specs.declared.permissions.Permissions.TheVariants.{Write}
 use Rattle.fs_chain.specs.Events.{notification_store, store_of}
 use Rattle.fs_chain.specs.Holds.{Machine, any_files, live_of}
 use Rattle.fs_chain.specs.HoldsAround.{NotificationIs, Resets, StoresNotice}
-use Rattle.fs_chain.specs.declared.event_index.NotificationStore.{NotificationStore}
+use Rattle.fs_chain.specs.declared.notifications.NotificationStore.{NotificationStore}
 use Rattle.fs_chain.specs.Orders.{is_out}
 use Rattle.fs_chain.specs.Queues.{reset_to}
 use Rattle.fs_chain.specs.Together.{IsHeldBy, Owned}
@@ -84,7 +84,7 @@ reset_done ws q q' layout position may is resets page_size k zs calls s i os pop
     let most : q'.max_in_flight ≤ q'.layout.size =
     subst (λ (n : ℕ). n ≤ q'.layout.size) (sym max)
     (subst (λ (l : QueueLayout). q.max_in_flight ≤ l.size) (sym laid) may.2) in
-    let e = resets s i q'.max_in_flight q'.event_index q'.stopped all.queue
+    let e = resets s i q' all.queue
     (subst (λ (n : ℕ). 1 ≤ n) (sym max) may.1) most in
     let after : Machine = after_reset s i (live_of q') in
     let d : Desk = desk s ws q os pops push in

@@ -1,5 +1,4 @@
 pub mod Adding
-pub mod Ahead
 pub mod Begins
 pub mod Desks
 pub mod Entries

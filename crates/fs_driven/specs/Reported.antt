@@ -25,7 +25,7 @@ use Rattle.live_machine.specs.Live.{LiveEvent, Phase, RepliesOwnBytes, ResetsQue
 use Rattle.live_machine.specs.Live.{PushesChain, ReceivesAnswer, RefusesPop, SetsOptions, abandoned_chain}
 use Rattle.live_machine.specs.Live.{StoresNotification, asked_chain}
 use Rattle.fs_chain.specs.Ahead.{PopsAhead, ahead_error}
-use Rattle.fs_driven.specs.Ahead.{AddsAhead}
+use Rattle.fs_chain.specs.AheadSteps.{AddsAhead}
 use Rattle.fs_chain.specs.Answers.{IfWaits, IsGiven, IsNotTaken}
 use Rattle.fs_chain.specs.Decoding.{IfUndecoded, ReportsMeaning, wanted_after, wanted_by}
 use Rattle.fs_driven.specs.Desks.{Begun, Desk, Driven, In, Leads, LeadsTo, desk, lost, own}
@@ -51,7 +51,7 @@ use Rattle.fs_driven.specs.declared.commands.Command.TheVariants as does
 use Rattle.fs_driven.specs.declared.commands.Returned.{Returned}
 use Rattle.fs_driven.specs.declared.commands.Returned.TheVariants as gives
 use Rattle.fs_chain.specs.declared.decoding.Decoded.{Decoded}
-use Rattle.fs_chain.specs.declared.event_index.NotificationStore.{NotificationStore}
+use Rattle.fs_chain.specs.declared.notifications.NotificationStore.{NotificationStore}
 use Rattle.fs_chain.specs.declared.decoding.Decoded.TheVariants as asks
 use Rattle.fs_chain.specs.declared.error.ChainError.{ChainError}
 use Rattle.fs_chain.specs.declared.loads.LoadOutcome as outcome

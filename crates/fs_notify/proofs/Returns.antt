@@ -11,7 +11,7 @@ use Rattle.fs_chain.specs.Queues.{at_return}
 use Rattle.notify.specs.Kicks.{ahead, moved, must}
 use Rattle.notify.proofs.Rings.{of_one_chain, waits}
 use Rattle.fs_notify.specs.Givers.{ChecksBySeen, MachineChecks, PublishesByStore, ReturnsInOrder}
-use Rattle.fs_notify.specs.Takers.{ShowsWish}
+use Rattle.fs_notify.specs.Takers.{ShowsWishBy, ways_of}
 
 pub publishes : PublishesByStore
 publishes q out reply s u by at =
@@ -24,7 +24,7 @@ publishes q out reply s u by at =
     )
 
 seen_by : (b : Bool) (event returned : ℕ) (muted : Bool) (seen : List ℕ) → returned < 2 ^ 16 → from_le_bytes w16 seen < 2 ^ 16
-    → ShowsWish b seen event muted
+    → ShowsWishBy b seen event muted
     → must b event muted (moved returned 1) 1 ≡ (if b then from_le_bytes w16 seen == returned else notifies seen)
 seen_by true event returned muted seen fr fs shows =
     ap (λ (n : ℕ). must true n muted (moved returned 1) 1) (sym shows) ∙ of_one_chain (from_le_bytes w16 seen) returned true muted fs fr
@@ -32,9 +32,10 @@ seen_by false event returned muted seen fr fs shows = ap not (sym shows)
 
 pub checks : ChecksBySeen
 checks q seen u fr fs at one shows =
-    let e : must q.event_index u.event u.muted u.published u.unchecked ≡ must q.event_index u.event u.muted (moved q.next_used 1) 1 =
+    let by = (ways_of q).by_event in
+    let e : must by u.event u.muted u.published u.unchecked ≡ must by u.event u.muted (moved q.next_used 1) 1 =
     rw (at, one) refl in
-    ap (λ (b : Bool). u.owes || b) (e ∙ seen_by q.event_index u.event q.next_used u.muted seen fr fs shows)
+    ap (λ (b : Bool). u.owes || b) (e ∙ seen_by by u.event q.next_used u.muted seen fr fs shows)
 
 pub machine : MachineChecks
 machine m q event = (refl, refl)

@@ -17,7 +17,7 @@ AsksSo q s =
     × (store.address ≡ wish_at q)
     × IsTrue (may_act (ways_of q) s Wishes)
     × IsTrue (may_act (ways_of q) asking WishIsThere)
-    × ShowsWish q.event_index store.bytes asked.event asked.muted
+    × ShowsWish q store.bytes asked.event asked.muted
     × IsModelOf q asked
 
 rearms_so : (q : QueueState) (s : ThreadedQueue) (b : Bool) → q.event_index ≡ b → HasU16Numbers q → IsModelOf q s
@@ -44,9 +44,9 @@ rearms_so q s false e counted is walker = (
 pub rearms : RearmsByStore
 rearms q s counted is walker = rearms_so q s q.event_index refl counted is walker
 
-mutes_so : (q : QueueState) (s : ThreadedQueue) (b : Bool) → q.event_index ≡ b → IsModelOf q s → MutesBy b q s (notification_store q false)
+mutes_so : (q : QueueState) (s : ThreadedQueue) (b : Bool) → q.event_index ≡ b → IsModelOf q s → MutesBy q s (notification_store q false)
 mutes_so q s true e is = rw e refl
-mutes_so q s false e is = rw e (refl, refl, is)
+mutes_so q s false e is = rw e (refl, refl, refl, is)
 
 may_mute : (walking hidden : Bool) → walking ≡ true → (walking || hidden) ≡ true
 may_mute walking hidden is = rw is refl

@@ -19,11 +19,11 @@ use Rattle.fs_chain.specs.Pushes.{PushesBy}
 use Rattle.notify.specs.Kicks.{Rules, right, NotifyState, Publishes, IndexArrives, ChecksWish, Runs, ahead}
 use Rattle.notify.specs.Kicks.{moved}
 use Rattle.notify.specs.Kicks.{must, after}
-use Rattle.fs_notify.specs.Takers.{ShowsWish}
+use Rattle.fs_notify.specs.Takers.{ShowsWish, ways_of}
 
 -- the rules that a device keeps when it returns chains to this queue
 abbrev pub rules_of : QueueState → Rules
-rules_of q = right q.layout.size q.event_index
+rules_of q = right q.layout.size (ways_of q).by_event
 
 -- the last store of a return is the used index that the model's giver publishes
 abbrev pub PublishesByStore : Type 0
@@ -46,7 +46,7 @@ ChecksBySeen =
     → from_le_bytes w16 seen < 2 ^ 16
     → u.published ≡ (gave q).next_used
     → u.unchecked ≡ 1
-    → ShowsWish q.event_index seen u.event u.muted
+    → ShowsWish q seen u.event u.muted
     → (after (rules_of q) u ChecksWish).owes ≡ (u.owes || notifies_of q seen)
 
 -- the store of the used index, the barrier and the load, in this order, are a run of the model. The driver

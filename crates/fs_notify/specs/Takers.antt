@@ -4,7 +4,7 @@
 -- event index the first is avail_event, and the second means nothing; without it the second is bit 0 of the
 -- used ring's flags (VIRTIO 1.2, 2.7.10).
 use Rattle.std.specs.Prelude.{◌≡◌, ℕ, ◌^◌, ◌<◌, Bool, true, false, IsTrue, List, [], ◌∷◌, Option, Some}
-use Rattle.std.specs.Prelude.{None, if◌then◌else◌}
+use Rattle.std.specs.Prelude.{None}
 use Rattle.std.specs.Int.{w16, from_le_bytes}
 use Rattle.fs_queue.specs.Queue.{has_bit}
 use Rattle.fs_queue.specs.Returning.{Store}
@@ -17,9 +17,11 @@ use Rattle.fs_chain.specs.declared.state.ChainState.TheVariants as at
 use Rattle.fs_chain.specs.declared.popping.PopOutcome as walked
 use Rattle.fs_chain.specs.declared.popping.PopOutcome.TheVariants as shows
 use Rattle.fs_chain.specs.declared.chain_handle.ChainHandle.{ChainHandle}
-use Rattle.fs_chain.specs.Events.{avail_event_at, notification_store}
+use Rattle.live_machine.specs.Several as live
+use Rattle.live_machine.specs.Several.{HasEventIndex, LacksEventIndex}
+use Rattle.fs_chain.specs.Events.{notification_store}
 use Rattle.fs_chain.specs.Orders.{begin_error, end_error, give_up_error}
-use Rattle.fs_chain.specs.Queues.{gave, in_flight, gave_up}
+use Rattle.fs_chain.specs.Queues.{gave, gave_up, in_flight, live_of}
 use Rattle.fs_chain.specs.Holds.{EndsBy, IsQueue, Machine}
 use Rattle.notify.specs.Threads.{Ways, right_ways, ThreadedQueue, Walker, Rearmer, Nobody, may_act, after_act}
 use Rattle.notify.specs.Threads.{ActsOver}
@@ -41,12 +43,16 @@ IsModelOf q s = (s.position ≡ q.next_avail) × (s.out ≡ in_flight q)
 
 -- the address at which the device stores its wish
 abbrev pub wish_at : QueueState → ℕ
-wish_at q = if q.event_index then avail_event_at q.layout else q.layout.used
+wish_at q = live.wish_at (live_of q)
 
--- these two bytes at that address are the wish in the model's memory
-abbrev pub ShowsWish : (event_index : Bool) → (bytes : List ℕ) → (event : ℕ) → (muted : Bool) → Type 0
-ShowsWish true bytes event muted = from_le_bytes w16 bytes ≡ event
-ShowsWish false bytes event muted = has_bit (from_le_bytes w16 bytes) 0 ≡ muted
+-- two bytes are the wish in the model's memory
+abbrev pub ShowsWishBy : (by_event : Bool) → (bytes : List ℕ) → (event : ℕ) → (muted : Bool) → Type 0
+ShowsWishBy true bytes event muted = from_le_bytes w16 bytes ≡ event
+ShowsWishBy false bytes event muted = has_bit (from_le_bytes w16 bytes) 0 ≡ muted
+
+-- those of a queue are, at the address of its wish, or at the driver's
+abbrev pub ShowsWish : QueueState → (bytes : List ℕ) → (event : ℕ) → (muted : Bool) → Type 0
+ShowsWish q bytes event muted = ShowsWishBy (ways_of q).by_event bytes event muted
 
 -- the store that enables notifications is the wish for the next chain, once it has reached memory
 abbrev pub RearmsByStore : Type 0
@@ -62,23 +68,25 @@ RearmsByStore =
     × (store.address ≡ wish_at q)
     × IsTrue (may_act (ways_of q) s Wishes)
     × IsTrue (may_act (ways_of q) asking WishIsThere)
-    × ShowsWish q.event_index store.bytes asked.event asked.muted
+    × ShowsWish q store.bytes asked.event asked.muted
     × IsModelOf q asked
 
 -- the store that disables notifications is the model's; with the event index there is none
-abbrev pub MutesBy : (event_index : Bool) → QueueState → ThreadedQueue → Option Store → Type 0
-MutesBy true q s store = store ≡ None
-MutesBy false q s None = ⊥
-MutesBy false q s (Some store) =
+abbrev pub MutesBy : QueueState → ThreadedQueue → Option Store → Type 0
+MutesBy q s None = HasEventIndex (live_of q)
+MutesBy q s (Some store) =
     let muted = after_act (ways_of q) s (Silences s.event) in
-    (store.address ≡ wish_at q) × ShowsWish false store.bytes muted.event muted.muted × IsModelOf q muted
+    LacksEventIndex (live_of q)
+    × (store.address ≡ wish_at q)
+    × ShowsWish q store.bytes muted.event muted.muted
+    × IsModelOf q muted
 
 abbrev pub MutesByStore : Type 0
 MutesByStore =
     (q : QueueState) (s : ThreadedQueue)
     → IsModelOf q s
     → s.holder ≡ Walker
-    → MutesBy q.event_index q s (notification_store q false)
+    → MutesBy q s (notification_store q false)
     × IsTrue (may_act (ways_of q) s (Silences s.event))
 
 -- ---- the pop

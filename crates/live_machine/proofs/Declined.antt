@@ -1,12 +1,11 @@
 -- What a queue has whose pops aren't refused.
-use Rattle.std.proofs.Common.{◌≡◌, ℕ, Bool, Option, Some, None, refl, sym, ap, ◌∙◌}
-use Rattle.std.specs.Prelude.{true, false, is_some, not, if◌then◌else◌}
+use Rattle.std.proofs.Common.{◌≡◌, ℕ, Bool, Some, None, refl, sym}
+use Rattle.std.specs.Prelude.{true, false, not, if◌then◌else◌}
 use Rattle.std.proofs.lemmas.Bool.{true≢false}
 use Rattle.vm_iotlb.specs.declared.permissions.Permissions.TheVariants.{Read, Write}
 use Rattle.vm_memory.specs.Memory.{Memory, reach}
-use Rattle.fs_queue.specs.declared.fault.QueueError.{QueueError}
 use Rattle.fs_queue.specs.declared.fault.QueueError.TheVariants as stop
-use Rattle.live_machine.specs.Several.{LiveQueue, avail_event_at, seen_at, used_event_at}
+use Rattle.live_machine.specs.Several.{HasEventIndex, LiveQueue, avail_event_at, seen_at, used_event_at}
 use Rattle.live_machine.specs.Live.{pop_refusal}
 use Rattle.live_machine.specs.Runs.{HasUsedEvent}
 use Rattle.live_machine.proofs.Queues.{none_some}
@@ -21,11 +20,9 @@ declined_tests false true true false is event = absurd (none_some stop.UsedUnrea
 declined_tests false true true true is event = (refl, refl)
 
 -- with the event index used_event and avail_event have places
-pub has_events : (m : Memory) (w : LiveQueue) → pop_refusal m w ≡ None → w.event_index ≡ true
+pub has_events : (m : Memory) (w : LiveQueue) → pop_refusal m w ≡ None → HasEventIndex w
     → (reach m Read (used_event_at w.queue) 2 ≡ true) × (reach m Write (avail_event_at w.queue) 2 ≡ true)
-has_events m w proceeds event =
-    declined_tests w.queue.stopped w.event_index (reach m Read (used_event_at w.queue) 2)
-    (reach m Write (avail_event_at w.queue) 2) proceeds event
+has_events m w proceeds event = declined_tests _ _ _ _ proceeds event
 
 -- the two bytes that are seen have one
 seen_tests : (m : Memory) (b : Bool) (flags event : ℕ) → reach m Read flags 2 ≡ true → (b ≡ true → reach m Read event 2 ≡ true) →
@@ -35,4 +32,4 @@ seen_tests m false flags event one two = one
 
 pub seen_has_a_place :
     (m : Memory) (w : LiveQueue) → reach m Read w.queue.avail 2 ≡ true → HasUsedEvent m w → reach m Read (seen_at w) 2 ≡ true
-seen_has_a_place m w flags event = seen_tests m w.event_index w.queue.avail (used_event_at w.queue) flags event
+seen_has_a_place m w flags event = seen_tests m _ w.queue.avail (used_event_at w.queue) flags event

@@ -22,4 +22,5 @@ pub mod Serial
 pub mod SeveralRuns
 pub mod Steps
 pub mod Stored
+pub mod Wishes
 pub mod Within

@@ -6,9 +6,9 @@ use Rattle.vm_memory_core.specs.Host.{changed_at}
 use Rattle.vm_memory.specs.Memory.{Memory}
 use Rattle.fs_queue.specs.Queue.{Queue}
 use Rattle.virtiofsd_fuse.specs.Serving.{May}
-use Rattle.live_machine.specs.Several.{LiveQueue, InFlightId}
+use Rattle.live_machine.specs.Several.{LiveQueue, InFlightId, unrecorded}
 use Rattle.live_machine.specs.Live.{Happens, KeepsQueue, LiveEvent, LiveRun, LiveState, MovesDeviceSo, InFlightChain, Remaps, ResetsQueueSo}
-use Rattle.live_machine.specs.Runs.{HasNoneInFlight, MovedContinues, PositionsAgree, in_flight_on, unrecorded}
+use Rattle.live_machine.specs.Runs.{HasNoneInFlight, MovedContinues, PositionsAgree, in_flight_on}
 use Rattle.live_machine.proofs.Placed.{Ahead, run_preserved, started}
 use Rattle.live_machine.proofs.Queues.{preserved_not, one_ticket, same_some}
 

@@ -1,7 +1,7 @@
 -- Which pages the stores of a run mark.
-use Rattle.std.proofs.Common.{arith, ◌≡◌, ℕ, zero, suc, Bool, List, [], ◌∷◌, ◌++◌, length, map, take, drop, zip, flat_map, Option, Some}
-use Rattle.std.proofs.Common.{None, refl, subst, sym, ap, ◌∙◌, append_assoc, append-nil}
-use Rattle.std.specs.Prelude.{true, false, ◌||◌, ◌==◌, option_map}
+use Rattle.std.proofs.Common.{arith, ◌≡◌, ℕ, zero, suc, Bool, List, [], ◌∷◌, ◌++◌, length, map, take, drop, zip, flat_map, Option}
+use Rattle.std.proofs.Common.{refl, subst, sym, ap, ◌∙◌, append_assoc, append-nil}
+use Rattle.std.specs.Prelude.{◌||◌, ◌==◌, option_map}
 use Rattle.std.specs.Int.{w16, w32, to_le_bytes}
 use Rattle.std.specs.List.{list_any}
 use Rattle.std.proofs.Math.Bool.{or_comm}
@@ -19,7 +19,7 @@ use Rattle.plain_machine.specs.Step.{Exchange}
 use Rattle.plain_machine.specs.StepBy.{reply_stores, stores_among}
 use Rattle.plain_machine.proofs.PageLemmas.{writes_mark}
 use Rattle.plain_machine.proofs.StepByLemmas.{reply_writes}
-use Rattle.live_machine.specs.Several.{LiveQueue, avail_event_at, returning, sleep_store}
+use Rattle.live_machine.specs.Several.{LiveQueue, returning, wish_at}
 use Rattle.live_machine.specs.Live.{FillsBuffer, Happens, LiveEvent, LiveState, InFlightChain, PushesChain, PushesChainSo}
 use Rattle.live_machine.specs.Live.{StoresNotification}
 use Rattle.live_machine.specs.Live.{StoresNotificationSo, event_acts}
@@ -27,6 +27,7 @@ use Rattle.live_machine.specs.Live.{room_of}
 use Rattle.live_machine.specs.Runs.{LogsAsReported, MarksAsReported, PagesAreReported, ReturnsReport, page_of, reported_by, queue_addresses}
 use Rattle.live_machine.specs.Runs.{written_by}
 use Rattle.live_machine.proofs.Stored.{among_return, among_stores}
+use Rattle.live_machine.proofs.Wishes.{wish_stored}
 
 -- ---- lists
 
@@ -124,19 +125,8 @@ returns_reported s mid c x notice last used seen h =
     ∙ sym (returned_are (returning h.w) c.head (room_of c) x.reply)
 
 -- a store of two bytes
-abbrev ReportsTwo : Option Store → Type 0
-ReportsTwo None = Unit {0}
-ReportsTwo (Some store) = firsts (flat_map writes_of (store ∷ [])) ≡ addresses store.address 2
-
 two_reported : (a v : ℕ) → firsts (flat_map writes_of (record { address = a; bytes = to_le_bytes w16 v } ∷ [])) ≡ addresses a 2
 two_reported a v = ap firsts (append-nil (zip (addresses a 2) (to_le_bytes w16 v))) ∙ whole_firsts a 2 (to_le_bytes w16 v) refl
-
-sleep_reported : (q : Queue) (next_used max_in_flight : ℕ) (event wanted : Bool) →
-    ReportsTwo (sleep_store (record { queue = q; next_used = next_used; max_in_flight = max_in_flight; event_index = event }) wanted)
-sleep_reported q next_used max_in_flight true true = two_reported (avail_event_at q) q.position
-sleep_reported q next_used max_in_flight true false = tt
-sleep_reported q next_used max_in_flight false true = two_reported q.used 0
-sleep_reported q next_used max_in_flight false false = two_reported q.used 1
 
 -- stores in a room
 fills_reported :
@@ -156,7 +146,11 @@ one_event may s mid (PushesChain c x notice last used seen) h p =
     ∙ ap (list_any p) (sym (returns_reported s mid c x notice last used seen so))
 one_event may s mid (StoresNotification i store) h p =
     let so : StoresNotificationSo s i store mid = h in
-    ap (list_any p) (subst ReportsTwo so.stores (sleep_reported so.w.queue so.w.next_used so.w.max_in_flight so.w.event_index so.wanted))
+    let wish = wish_stored so.w so.wanted store so.stores in
+    let two : firsts (flat_map writes_of (store ∷ [])) ≡ addresses store.address 2 =
+    subst (λ (k : Store). firsts (flat_map writes_of (k ∷ [])) ≡ addresses k.address 2) (sym wish.1)
+    (two_reported (wish_at so.w) wish.0) in
+    ap (list_any p) two
 one_event may s mid (FillsBuffer c stores) h p =
     ap (list_any p) (ap (λ (l : List Store). firsts (flat_map writes_of l)) (among_stores stores) ∙ fills_reported stores)
 one_event may s mid e h p = refl

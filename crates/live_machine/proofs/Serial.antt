@@ -34,7 +34,7 @@ use Rattle.live_machine.specs.Live.{new_chain, with_popped}
 use Rattle.live_machine.specs.Live.{room_of, serving, event_acts}
 use Rattle.live_machine.specs.Live.{PushedWith}
 use Rattle.live_machine.specs.Runs.{IsAskedIn, IsServedPhase, options_left, after_alone, chain_loads, request_of_phase}
-use Rattle.live_machine.specs.Several.{LiveQueue, took, gave, returning, wants}
+use Rattle.live_machine.specs.Several.{LacksEventIndex, LiveQueue, took, gave, returning, wants}
 use Rattle.live_machine.specs.Serial.{IsAtRest, SingleIsStep, SerialIsKick, return_in, IsOfChain, plain}
 use Rattle.live_machine.proofs.Alone.{all_reach_same, reach_same, Walked, IsWhole, Exchanging, asked_walked, new_walked, exchange_of}
 use Rattle.live_machine.proofs.Alone.{room_offered, effects_of}
@@ -344,7 +344,7 @@ state_same m files queues queues' options options' limit limit' page_size page_s
 
 -- ---- a chain alone
 
-wants_flags : (w : LiveQueue) (seen : List ℕ) → w.event_index ≡ false → wants w seen ≡ notifies seen
+wants_flags : (w : LiveQueue) (seen : List ℕ) → LacksEventIndex w → wants w seen ≡ notifies seen
 wants_flags w seen no_event = rw no_event refl
 
 pub single_is_step : {F : Type 0} (may : May F) → SingleIsStep may
@@ -409,7 +409,7 @@ single_is_step {F} may s after r m w none there rest of run found =
     (ap (λ (x : LiveState F). x.options) b.state ∙ a.options) (ap (λ (x : LiveState F). x.limit) b.state ∙ a.limit)
     (ap (λ (x : LiveState F). x.page_size) b.state ∙ a.page_size) in
     let notice_is : r.notice ≡ notifies r.seen =
-    b.reported ∙ wants_flags b.w r.seen (ap (λ (u : LiveQueue). u.event_index) w_is ∙ calm.0) in (
+    b.reported ∙ wants_flags b.w r.seen (subst (λ (u : LiveQueue). LacksEventIndex u) (sym w_is) calm.0) in (
       subst (λ (mm : Memory). Step may (plain s m) i (calls_in r.chain.phase) (Exchanged r.exchange r.notice) (plain after mm))
           (sym memory_is)
           (subst (λ (st : State F). Step may (plain s m) i (calls_in r.chain.phase) (Exchanged r.exchange r.notice) st) (sym after_is)

@@ -1,5 +1,5 @@
 -- Runs of takes and returns.
-use Rattle.std.proofs.Common.{arith, ◌≡◌, ℕ, ◌+◌, ◌-◌, ◌%◌, ◌^◌, ◌<◌, true, List, [], ◌∷◌, ◌++◌, IsPermutation, map, refl, subst, sym, ap}
+use Rattle.std.proofs.Common.{arith, ◌≡◌, ℕ, ◌+◌, ◌-◌, ◌%◌, ◌^◌, ◌<◌, List, [], ◌∷◌, ◌++◌, IsPermutation, map, refl, subst, sym, ap}
 use Rattle.std.proofs.Common.{◌∙◌, append_assoc, append-nil}
 use Rattle.std.proofs.lemmas.List.{map-append}
 use Rattle.std.proofs.lemmas.List.Sorted.{IsPermutation-refl, IsPermutation-sym, IsPermutation-cons, IsPermutation-trans}
@@ -9,7 +9,7 @@ use Rattle.std.specs.Prelude.{◌==◌, nat_lt}
 use Rattle.std.proofs.lemmas.Bool.Decides.{nat_tests}
 use Rattle.fs_queue.specs.Returning.{Store, stores_after_reply}
 use Rattle.live_machine.specs.Several.{ByEvent, LiveQueue, InFlightId, QueueEvent, PopsOne, DropsLast, PushesOne, RunsOver, UsedFrom}
-use Rattle.live_machine.specs.Several.{returns_among}
+use Rattle.live_machine.specs.Several.{HasEventIndex, returns_among}
 use Rattle.live_machine.specs.Several.{took, gave, gave_up}
 use Rattle.live_machine.specs.Several.{wants, IsSerial, StoresAsTaken, heads_taken, heads_ended, IsOldestFirst, AtTheirPositions}
 
@@ -144,7 +144,7 @@ passed : (event old : ℕ) → old < 2 ^ 16 → event < 2 ^ 16
     → nat_lt (((old + 1) % 2 ^ 16 + (2 ^ 16 - 1 - event)) % 2 ^ 16) (((old + 1) % 2 ^ 16 + (2 ^ 16 - old)) % 2 ^ 16) ≡ (event == old)
 passed event old low small = grind (arith, nat_tests)
 
-by_flag : (w : LiveQueue) (seen : List ℕ) → w.event_index ≡ true → wants w seen ≡ (from_le_bytes w16 seen == w.next_used)
+by_flag : (w : LiveQueue) (seen : List ℕ) → HasEventIndex w → wants w seen ≡ (from_le_bytes w16 seen == w.next_used)
 by_flag w seen is = rw is refl
 
 pub by_event : ByEvent

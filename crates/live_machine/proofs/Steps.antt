@@ -1,6 +1,6 @@
 -- A pop without a chain is a step by its loads, and a returned chain is one over a memory that has its loads.
 use Rattle.std.proofs.Common.{◌≡◌, ℕ, Bool, List, [], ◌∷◌, ◌++◌, length, Option, Some, slice_get, refl, subst, sym, ap, ◌∙◌, append-nil}
-use Rattle.std.specs.Prelude.{false, flat_map}
+use Rattle.std.specs.Prelude.{flat_map}
 use Rattle.std.specs.List.{AllByRecursion}
 use Rattle.vm_memory.specs.Memory.{Memory, bytes, stored_all}
 use Rattle.vm_memory.proofs.Places.{stored_all-append}
@@ -23,7 +23,7 @@ use Rattle.plain_machine.specs.StepBy.{ActsBy, FindFlags, StepOfBy, after_stores
 use Rattle.live_machine.specs.Live.{InFlightChain, LiveState, LiveEvent, PushesChain, PushedWith, EndsPopIn, Happens, LoadsAreMapped}
 use Rattle.live_machine.specs.Live.{calls_in, event_acts, room_of}
 use Rattle.live_machine.specs.Runs.{IsBefore, IsServedPhase, after_alone}
-use Rattle.live_machine.specs.Several.{LiveQueue, returning, seen_at, wants}
+use Rattle.live_machine.specs.Several.{LacksEventIndex, LiveQueue, returning, seen_at, wants}
 use Rattle.live_machine.specs.Steps.{HasLoadsOf, IsAStepOver, IsBeforePop, IsInOrder, IsPopStep, PopIsStepBy, ReturnedBesideIsStep}
 use Rattle.live_machine.specs.Steps.{ReturnedIsStep, RunBeside, StepOfPop, no_effects, pop_loads}
 use Rattle.live_machine.proofs.Alone.{AllWalked, Walked, exchange_of, keeps, mapped_over, offers_over, one_walked, step_by_walk}
@@ -115,7 +115,7 @@ used_there w c head len order = ap (λ (q : Queue). stores_after_reply q head le
 -- ---- a chain over a memory
 
 by_flags_reported : (w : LiveQueue) (m : Memory) (avail : ℕ) (seen : List ℕ) (notice : Bool)
-    → notice ≡ wants w seen → w.queue.avail ≡ avail → w.event_index ≡ false → seen ≡ bytes m (seen_at w) 2
+    → notice ≡ wants w seen → w.queue.avail ≡ avail → LacksEventIndex w → seen ≡ bytes m (seen_at w) 2
     → notice ≡ notifies (bytes m avail 2)
 by_flags_reported w m avail seen notice reported same no_event found =
     let at : seen_at w ≡ avail = (rw no_event refl) ∙ same in

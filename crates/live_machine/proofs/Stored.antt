@@ -1,7 +1,6 @@
 -- Where the stores of a run go.
-use Rattle.std.proofs.Common.{arith, ◌≡◌, ℕ, Bool, List, [], ◌∷◌, ◌++◌, length, map, take, drop, zip, flat_map, Option, Some, None, refl}
+use Rattle.std.proofs.Common.{arith, ◌≡◌, ℕ, List, [], ◌∷◌, ◌++◌, length, map, take, drop, zip, flat_map, Option, refl}
 use Rattle.std.proofs.Common.{subst, sym, ap, take-append-drop}
-use Rattle.std.specs.Prelude.{true, false}
 use Rattle.std.specs.Int.{w16, to_le_bytes}
 use Rattle.std.specs.List.{AllByRecursion, Contains}
 use Rattle.std.proofs.lemmas.List.Concat.{flat_map-append}
@@ -13,10 +12,11 @@ use Rattle.fs_queue.proofs.ReturnLemmas.{returns_by_stores}
 use Rattle.virtiofsd_fuse.specs.Serving.{May}
 use Rattle.plain_machine.specs.StepBy.{StoresBytes, reply_stores, return_acts, stores_among}
 use Rattle.plain_machine.proofs.StepByLemmas.{reply_writes}
-use Rattle.live_machine.specs.Several.{LiveQueue, avail_event_at, returning, sleep_store}
+use Rattle.live_machine.specs.Several.{LiveQueue, returning, wish_at}
 use Rattle.live_machine.specs.Live.{InFlightChain, LiveState, LiveEvent, PushesChain, StoresNotification, FillsBuffer}
 use Rattle.live_machine.specs.Live.{FillsBufferSo, Happens, IsStoredIn, PushesChainSo, StoresNotificationSo, event_acts, room_of}
 use Rattle.live_machine.specs.Runs.{StoresStayThere, StoresThere, queue_addresses, sleep_addresses}
+use Rattle.live_machine.proofs.Wishes.{wish_stored}
 
 abbrev AllThere : List ℕ → List (ℕ × ℕ) → Type 0
 AllThere target ws = AllByRecursion (λ (w : ℕ × ℕ). Contains target w.0) ws
@@ -77,19 +77,6 @@ module _ (q : Queue) (room : List ℕ) where
 two_there : (a v : ℕ) → AllThere (addresses a 2) (flat_map writes_of (record { address = a; bytes = to_le_bytes w16 v } ∷ []))
 two_there a v = both_there (addresses a 2) _ _ (zipped_there (addresses a 2) (to_le_bytes w16 v) (addresses a 2) (λ b is. is)) tt
 
--- a store before the device sleeps, in avail_event or in the used flags
-abbrev LandsThere : LiveQueue → Option Store → Type 0
-LandsThere w (Some store) = AllThere (sleep_addresses (Some w)) (flat_map writes_of (store ∷ []))
-LandsThere w None = Unit {0}
-
-sleep_there : (q : Queue) (next_used max_in_flight : ℕ) (event wanted : Bool) →
-    let w : LiveQueue = record { queue = q; next_used = next_used; max_in_flight = max_in_flight; event_index = event } in
-    LandsThere w (sleep_store w wanted)
-sleep_there q next_used max_in_flight true true = two_there (avail_event_at q) q.position
-sleep_there q next_used max_in_flight true false = tt
-sleep_there q next_used max_in_flight false true = two_there q.used 0
-sleep_there q next_used max_in_flight false false = two_there q.used 1
-
 -- stores in a room
 pub among_stores : (stores : List Store) → stores_among (map StoresBytes stores) ≡ stores
 among_stores [] = refl
@@ -116,11 +103,12 @@ one_event may s mid (PushesChain c x notice last used seen) h =
           (return_there (returning out.w) (room_of c) c.head x.reply last used seen out.used_is),
     )
 one_event may s mid (StoresNotification i store) h =
-    let so : StoresNotificationSo s i store mid = h in (
+    let so : StoresNotificationSo s i store mid = h in
+    let wish = wish_stored so.w so.wanted store so.stores in (
       tt,
       subst (λ (k : Option LiveQueue). AllThere (sleep_addresses k) (flat_map writes_of (store ∷ []))) (sym so.there)
-          (subst (λ (k : Option Store). LandsThere so.w k) so.stores
-          (sleep_there so.w.queue so.w.next_used so.w.max_in_flight so.w.event_index so.wanted)),
+          (subst (λ (k : Store). AllThere (addresses (wish_at so.w) 2) (flat_map writes_of (k ∷ []))) (sym wish.1)
+          (two_there (wish_at so.w) wish.0)),
     )
 one_event may s mid (FillsBuffer c stores) h =
     let so : FillsBufferSo s c stores mid = h in (

@@ -3,15 +3,12 @@ use Rattle.std.specs.Prelude.{◌≡◌, ◌≤◌, ◌<◌, ◌+◌, ◌%◌, �
 use Rattle.std.specs.Prelude.{List, [], ◌∷◌, ◌++◌, length, filter, Option, Some, None, is_some, slice_get}
 use Rattle.std.specs.Prelude.{if◌then◌else◌}
 use Rattle.std.specs.List.{AllByRecursion, Contains}
-use Rattle.vm_iotlb.specs.declared.iova.IovaRange.{IovaRange}
-use Rattle.vm_iotlb.specs.declared.permissions.Permissions.{Permissions}
 use Rattle.vm_iotlb.specs.declared.permissions.Permissions.TheVariants.{Read, Write}
 use Rattle.vm_memory_core.specs.Host.{changed_at}
 use Rattle.vm_memory.specs.Memory.{Memory, addresses, reach}
 use Rattle.fs_queue.specs.declared.fault.ChainFault.{ChainFault}
 use Rattle.fs_queue.specs.declared.fault.QueueError.{QueueError}
-use Rattle.fs_queue.specs.declared.fault.QueueError.TheVariants.{AvailFlagsUnreachable, Stopped}
-use Rattle.fs_queue.specs.declared.fault.QueueError.TheVariants.{UsedUnreachable}
+use Rattle.fs_queue.specs.declared.fault.QueueError.TheVariants.{Stopped}
 use Rattle.fs_queue.specs.Chain.{Descriptor}
 use Rattle.fs_queue.specs.Loads.{Load}
 use Rattle.fs_queue.specs.Queue.{Queue, avail_index_at, ring_entry_at}
@@ -20,16 +17,14 @@ use Rattle.fs_queue.specs.Taking.{after_refusal}
 use Rattle.fs_queue.specs.Returning.{Store, stores_after_reply}
 use Rattle.fs_regions.specs.declared.step.CourseStep as comes
 use Rattle.fs_regions.specs.declared.step.CourseStep.TheVariants as step
-use Rattle.fs_regions.specs.Misses.{first_miss}
 use Rattle.fs_regions.specs.Walks.{FaultIsNoMiss, FetchesBy, Loaded, OffersBy, RefusalIsNoMiss}
 use Rattle.fuse_fs.specs.Calls.{FileCall, FileAnswer, suits}
 use Rattle.virtiofsd_fuse.specs.Grammar.{meaning}
 use Rattle.virtiofsd_fuse.specs.Serving.{May, ServedMessage, served, setting}
 use Rattle.plain_machine.specs.Step.{Exchange, Calls, answers_alone, calls_alone, faulty, served_exchange}
 use Rattle.plain_machine.specs.StepBy.{Act, StoresBytes, reply_stores, return_acts}
-use Rattle.live_machine.specs.Several.{LiveQueue, avail_event_at, gave, may_take, returning, sleep_store}
-use Rattle.live_machine.specs.Several.{took}
-use Rattle.live_machine.specs.Several.{gave_up, used_event_at, wants}
+use Rattle.live_machine.specs.Several.{LiveQueue, event_miss_of, event_refusal, gave, gave_up, may_take}
+use Rattle.live_machine.specs.Several.{returning, sleep_store, took, used_event_at, wants}
 
 -- ---- states
 
@@ -200,18 +195,7 @@ after_pop s i w loaded ds _ = s
 -- used_event or avail_event isn't mapped. A stopped queue also refuses a pop's next load
 abbrev pub pop_refusal : Memory → LiveQueue → Option QueueError
 pop_refusal m w =
-    if w.queue.stopped then Some Stopped
-    else if not w.event_index then None
-    else if not (reach m Read (used_event_at w.queue) 2) then Some AvailFlagsUnreachable
-    else if not (reach m Write (avail_event_at w.queue) 2) then Some UsedUnreachable
-    else None
-
--- the first range of used_event and avail_event that the table doesn't map, with the access that is needed
-abbrev pub event_miss_of : Memory → LiveQueue → Option (IovaRange × Permissions)
-event_miss_of m w =
-    if w.event_index
-    then first_miss m (record { from = used_event_at w.queue; len = 2; access = Read }
-    ∷ record { from = avail_event_at w.queue; len = 2; access = Write } ∷ []) else None
+    if w.queue.stopped then Some Stopped else event_refusal m w
 
 -- the 16 bytes of a table's entry were loaded, and are mapped
 abbrev pub IsMappedEntry : Memory → Load → Type 0

@@ -1,5 +1,5 @@
 -- Two chains in flight at once, which are returned in the other order.
-use Rattle.std.specs.Prelude.{ℕ, true, false, List, [], ◌∷◌, Some, None}
+use Rattle.std.specs.Prelude.{ℕ, true, List, [], ◌∷◌, Some, None}
 use Rattle.fs_queue.specs.Chain.{Descriptor}
 use Rattle.fs_queue.specs.Loads.{Load}
 use Rattle.fs_queue.specs.Returning.{Store}
@@ -10,7 +10,7 @@ use Rattle.virtiofsd_fuse.specs.Examples.{le16, le32, in_header_bytes, zeros}
 use Rattle.virtiofsd_fuse.specs.Serving.{May}
 use Rattle.plain_machine.specs.Examples.{blank, descriptor_bytes, queue}
 use Rattle.plain_machine.specs.Step.{Exchange}
-use Rattle.live_machine.specs.Several.{LiveQueue}
+use Rattle.live_machine.specs.Several.{LiveQueue, by_flags}
 use Rattle.live_machine.specs.Live.{Fetched, Asked, InFlightChain, LiveState, EndsPop, DecodesRequest}
 use Rattle.live_machine.specs.Live.{ReceivesAnswer}
 use Rattle.live_machine.specs.Live.{PushesChain, LiveRun}
@@ -59,13 +59,7 @@ second_table =
 
 -- the queue with its two positions
 abbrev pub at_positions : (taken next_used : ℕ) → LiveQueue
-at_positions taken next_used =
-    record {
-      queue = record queue { position = taken };
-      next_used = next_used;
-      max_in_flight = 4;
-      event_index = false;
-    }
+at_positions taken next_used = by_flags (record queue { position = taken }) next_used 4
 
 -- one queue over 64 KiB from address 0 on
 abbrev pub state : {F : Type 0} → F → LiveQueue → (options : ℕ) → List InFlightChain → LiveState F

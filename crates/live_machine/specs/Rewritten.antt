@@ -11,7 +11,7 @@ use Rattle.virtiofsd_fuse.specs.Examples.{le16, le32, le64, in_header_bytes, nob
 use Rattle.virtiofsd_fuse.specs.Serving.{May}
 use Rattle.plain_machine.specs.Examples.{blank, descriptor_bytes}
 use Rattle.plain_machine.specs.Step.{Exchange}
-use Rattle.live_machine.specs.Several.{LiveQueue}
+use Rattle.live_machine.specs.Several.{LiveQueue, by_flags}
 use Rattle.live_machine.specs.Live.{Fetched, Asked, InFlightChain, EndsPop, DecodesRequest, ReceivesAnswer}
 use Rattle.live_machine.specs.Live.{PushesChain}
 use Rattle.live_machine.specs.Live.{LiveRun}
@@ -31,23 +31,11 @@ queue = record { size = 1; desc = 0; avail = 0x100; used = 0x200; position = 0; 
 
 -- the queue with its two positions
 abbrev pub at_positions : (taken next_used : ℕ) → LiveQueue
-at_positions taken next_used =
-    record {
-      queue = record queue { position = taken };
-      next_used = next_used;
-      max_in_flight = 2;
-      event_index = false;
-    }
+at_positions taken next_used = by_flags (record queue { position = taken }) next_used 2
 
 -- the queue with its two positions, once it is stopped
 abbrev pub stopped_at : (taken next_used : ℕ) → LiveQueue
-stopped_at taken next_used =
-    record {
-      queue = with_stop (record queue { position = taken });
-      next_used = next_used;
-      max_in_flight = 2;
-      event_index = false;
-    }
+stopped_at taken next_used = by_flags (with_stop (record queue { position = taken })) next_used 2
 
 -- the loads of the first pop: an index of 1, head 0, and the table's one entry
 abbrev pub first_loads : Loaded

@@ -20,8 +20,8 @@ use Rattle.fs_regions.specs.Walks.{IsLost, OffersBy, RingIsAsked}
 use Rattle.plain_machine.specs.StepBy.{Act, StepLoads, StepBy, ReturnsBy, after_stores, return_acts}
 use Rattle.plain_machine.specs.StepBy.{return_stores, stores_among}
 use Rattle.live_machine.specs.Several.{LiveQueue, InFlightId, QueueEvent, RunsOver, UsedFrom, heads_taken}
-use Rattle.live_machine.specs.Several.{heads_ended, returns_among, returning, avail_event_at, seen_at}
-use Rattle.live_machine.specs.Several.{used_event_at, wants}
+use Rattle.live_machine.specs.Several.{HasEventIndex, heads_ended, returns_among, returning, seen_at}
+use Rattle.live_machine.specs.Several.{unrecorded, used_event_at, wants, wish_at}
 use Rattle.live_machine.specs.Several as several
 pub use Rattle.live_machine.specs.Live.{HasNoneInFlight}
 use Rattle.live_machine.specs.Live.{Phase, Asked, Own, InFlightChain, LiveState, LiveEvent, EndsPop}
@@ -177,8 +177,7 @@ queue_addresses (Some w) = addresses (element_at (returning w)) 8 ++ addresses (
 -- the addresses that a queue's store before a sleep may write: avail_event, or the used ring's flags
 abbrev pub sleep_addresses : Option LiveQueue → List ℕ
 sleep_addresses None = []
-sleep_addresses (Some w) =
-    if w.event_index then addresses (avail_event_at w.queue) 2 else addresses w.queue.used 2
+sleep_addresses (Some w) = addresses (wish_at w) 2
 
 -- the addresses that an event may write
 abbrev pub may_store : {F : Type 0} → LiveState F → LiveEvent → List ℕ
@@ -216,7 +215,7 @@ StoresStayThere {F} may =
 
 -- with the event index used_event is mapped, readable
 abbrev pub HasUsedEvent : Memory → LiveQueue → Type 0
-HasUsedEvent m w = w.event_index ≡ true → reach m Read (used_event_at w.queue) 2 ≡ true
+HasUsedEvent m w = HasEventIndex w → reach m Read (used_event_at w.queue) 2 ≡ true
 
 -- whether each address of a reply buffer is mapped, writable
 abbrev pub are_mapped : Memory → (room : List ℕ) → Bool
@@ -381,10 +380,6 @@ PositionsAgree {F} may =
     slice_get now.queues i ≡ Some w →
     in_flight_on i now.chains ≡ [] →
     HasNoneInFlight w × ((after : LiveState F) → Happens may now (ResetsQueue i w) after → after ≡ now)
-
--- the parts of a queue that no record has
-abbrev pub unrecorded : LiveQueue → ℕ × Bool
-unrecorded w = (w.max_in_flight, w.event_index)
 
 -- a device moves between two chains, and is given there the parts that no record has. It goes on as one that
 -- didn't move and whose guest's memory got these mappings. Over the same mappings it goes on as if nothing

@@ -1,5 +1,5 @@
 -- One chain at a time: the plain machine's run for one available buffer notification.
-use Rattle.std.specs.Prelude.{◌≡◌, ℕ, Bool, false, List, [], ◌∷◌, ◌++◌, length, map, Option, Some, None}
+use Rattle.std.specs.Prelude.{◌≡◌, ℕ, Bool, List, [], ◌∷◌, ◌++◌, length, map, Option, Some, None}
 use Rattle.std.specs.Prelude.{slice_get}
 use Rattle.std.specs.List.{AllByRecursion}
 use Rattle.vm_memory.specs.Memory.{Memory, location}
@@ -13,7 +13,7 @@ use Rattle.virtiofsd_fuse.specs.Serving.{May}
 use Rattle.plain_machine.specs.Run.{KickRun, Turn}
 use Rattle.plain_machine.specs.Step.{State, Exchange, Exchanged, Step}
 use Rattle.plain_machine.specs.StepBy.{FindFlags, MayStoreLast, after_stores, stores_among}
-use Rattle.live_machine.specs.Several.{LiveQueue}
+use Rattle.live_machine.specs.Several.{LacksEventIndex, LiveQueue}
 use Rattle.live_machine.specs.Live.{InFlightChain, LiveState, LiveEvent, EndsPop, DecodesRequest}
 use Rattle.live_machine.specs.Live.{ReceivesAnswer}
 use Rattle.live_machine.specs.Live.{PushesChain}
@@ -64,7 +64,7 @@ plain s m =
 
 -- a queue without the event index and without chains in flight: its two positions are one
 abbrev pub IsAtRest : LiveQueue → Type 0
-IsAtRest w = (w.event_index ≡ false) × (w.next_used ≡ w.queue.position)
+IsAtRest w = LacksEventIndex w × (w.next_used ≡ w.queue.position)
 
 -- one memory has the loaded bytes, the flags too, at the moment of each load, and has the run's mappings. The
 -- bytes of the reply that are stored last lie apart from the rest

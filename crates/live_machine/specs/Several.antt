@@ -1,10 +1,18 @@
 -- Several chains of one queue in flight: the next available and the next used position are apart, and chains
 -- are returned in any order (VIRTIO 1.2, 2.7.6, 2.7.8).
-use Rattle.std.specs.Prelude.{◌≡◌, ℕ, ◌+◌, ◌-◌, ◌*◌, ◌%◌, ◌^◌, ◌<◌, ◌==◌, Bool, true, nat_lt, List, [], ◌∷◌}
-use Rattle.std.specs.Prelude.{◌++◌, map, IsTrue, IsPermutation, Option, Some, None, if◌then◌else◌}
+use Rattle.std.specs.Prelude.{◌≡◌, ℕ, ◌+◌, ◌-◌, ◌*◌, ◌%◌, ◌^◌, ◌<◌, ◌==◌, Bool, true, false, not, nat_lt}
+use Rattle.std.specs.Prelude.{List, [], ◌∷◌, ◌++◌, map, IsTrue, IsPermutation, Option, Some, None}
+use Rattle.std.specs.Prelude.{if◌then◌else◌}
 use Rattle.std.specs.Int.{w16, to_le_bytes, from_le_bytes}
+use Rattle.vm_iotlb.specs.declared.iova.IovaRange.{IovaRange}
+use Rattle.vm_iotlb.specs.declared.permissions.Permissions.{Permissions}
+use Rattle.vm_iotlb.specs.declared.permissions.Permissions.TheVariants.{Read, Write}
+use Rattle.vm_memory.specs.Memory.{Memory, reach}
+use Rattle.fs_queue.specs.declared.fault.QueueError.{QueueError}
+use Rattle.fs_queue.specs.declared.fault.QueueError.TheVariants.{AvailFlagsUnreachable, UsedUnreachable}
 use Rattle.fs_queue.specs.Queue.{Queue}
 use Rattle.fs_queue.specs.Returning.{Store, stores_after_reply, next_position, advanced, notifies}
+use Rattle.fs_regions.specs.Misses.{first_miss}
 
 -- a queue of which several chains may be in flight. The next chain is popped at its queue's `position`, and
 -- returned at `next_used`, both modulo 2^16. It has a limit of chains in flight, and whether
@@ -15,9 +23,21 @@ pub record LiveQueue : Type 0 where
   pub max_in_flight : ℕ
   pub event_index : Bool
 
--- how many chains are in flight
+-- a queue with these parts, without the event index
+abbrev pub by_flags : Queue → (next_used max_in_flight : ℕ) → LiveQueue
+by_flags q next_used max_in_flight =
+    record { queue = q; next_used = next_used; max_in_flight = max_in_flight; event_index = false }
+
+-- the parts of a queue that no record of a device has
+abbrev pub unrecorded : LiveQueue → ℕ × Bool
+unrecorded w = (w.max_in_flight, w.event_index)
+
+-- how many chains are in flight, by the positions of the next pop and the next return
+abbrev pub in_flight_between : (next_avail next_used : ℕ) → ℕ
+in_flight_between next_avail next_used = (next_avail + (2 ^ 16 - next_used)) % 2 ^ 16
+
 abbrev pub in_flight : LiveQueue → ℕ
-in_flight w = (w.queue.position + (2 ^ 16 - w.next_used)) % 2 ^ 16
+in_flight w = in_flight_between w.queue.position w.next_used
 
 -- whether one more chain may be in flight
 abbrev pub may_take : LiveQueue → Bool
@@ -164,6 +184,13 @@ used_event_at q = q.avail + 4 + 2 * q.size
 abbrev pub avail_event_at : Queue → ℕ
 avail_event_at q = q.used + 4 + 8 * q.size
 
+-- the queue has the event index, or it hasn't and goes by the rings' flags
+abbrev pub HasEventIndex : LiveQueue → Type 0
+HasEventIndex w = w.event_index ≡ true
+
+abbrev pub LacksEventIndex : LiveQueue → Type 0
+LacksEventIndex w = w.event_index ≡ false
+
 -- the address of the two bytes that are seen as a chain is returned
 abbrev pub seen_at : LiveQueue → ℕ
 seen_at w = if w.event_index then used_event_at w.queue else w.queue.avail
@@ -181,10 +208,15 @@ wants w seen = if w.event_index then from_le_bytes w16 seen == w.next_used else 
 abbrev pub ByEvent : Type 0
 ByEvent =
     (w : LiveQueue) (seen : List ℕ) →
-    w.event_index ≡ true →
+    HasEventIndex w →
     w.next_used < 2 ^ 16 →
     from_le_bytes w16 seen < 2 ^ 16 →
     wants w seen ≡ passes (from_le_bytes w16 seen) w.next_used (next_position (returning w))
+
+-- the address of the two bytes by which the device enables or disables notifications of new chains:
+-- avail_event, or the used ring's flags
+abbrev pub wish_at : LiveQueue → ℕ
+wish_at w = if w.event_index then avail_event_at w.queue else w.queue.used
 
 -- the store that enables or disables the notification of the next chain. With the event index it is the next
 -- chain's position, and nothing is stored to disable. Otherwise it is the used flags, bit 0 of which disables
@@ -194,3 +226,18 @@ sleep_store w wanted =
     if w.event_index then (if wanted then Some
     (record { address = avail_event_at w.queue; bytes = to_le_bytes w16 w.queue.position }) else None)
     else Some (record { address = w.queue.used; bytes = to_le_bytes w16 (if wanted then 0 else 1) })
+
+-- why no chain can be popped from a queue with the event index: used_event or avail_event isn't mapped
+abbrev pub event_refusal : Memory → LiveQueue → Option QueueError
+event_refusal m w =
+    if not w.event_index then None
+    else if not (reach m Read (used_event_at w.queue) 2) then Some AvailFlagsUnreachable
+    else if not (reach m Write (avail_event_at w.queue) 2) then Some UsedUnreachable
+    else None
+
+-- the first range of used_event and avail_event that the table doesn't map, with the access that is needed
+abbrev pub event_miss_of : Memory → LiveQueue → Option (IovaRange × Permissions)
+event_miss_of m w =
+    if w.event_index
+    then first_miss m (record { from = used_event_at w.queue; len = 2; access = Read }
+    ∷ record { from = avail_event_at w.queue; len = 2; access = Write } ∷ []) else None

@@ -1,6 +1,6 @@
 -- Events of a run as steps of the plain machine: a pop without a chain, by its loads; and a returned chain,
 -- over a memory that has its loads.
-use Rattle.std.specs.Prelude.{◌≡◌, ℕ, Bool, false, All, List, [], ◌∷◌, ◌++◌, Some, slice_get}
+use Rattle.std.specs.Prelude.{◌≡◌, ℕ, Bool, All, List, [], ◌∷◌, ◌++◌, Some, slice_get}
 use Rattle.vm_memory.specs.Memory.{Memory, bytes, location}
 use Rattle.fs_queue.specs.Chain.{Descriptor}
 use Rattle.fs_queue.specs.Loads.{Load}
@@ -21,7 +21,7 @@ use Rattle.live_machine.specs.Live.{InFlightChain, LiveState, LiveEvent, EndsPop
 use Rattle.live_machine.specs.Live.{LiveRun}
 use Rattle.live_machine.specs.Live.{LoadsAreMapped, calls_in, event_acts, room_of}
 use Rattle.live_machine.specs.Runs.{IsAStep, IsBefore, IsServedPhase, after_alone, request_of_phase}
-use Rattle.live_machine.specs.Several.{LiveQueue, returning, seen_at}
+use Rattle.live_machine.specs.Several.{LacksEventIndex, LiveQueue, returning, seen_at}
 
 -- ---- a pop without a chain
 
@@ -90,7 +90,7 @@ pub record IsAStepOver {G : Type 0} (other : May G) (m : State G) (files : G) (w
       (Exchanged x (wants_notice (stored_by m.memory e) c.taken))
       (record (after_alone m c files) { memory = stored_by m.memory e })
   pub by_flags :
-      w.event_index ≡ false →
+      LacksEventIndex w →
       seen ≡ bytes (stored_by m.memory e) (seen_at w) 2 →
       notice ≡ wants_notice (stored_by m.memory e) c.taken
 

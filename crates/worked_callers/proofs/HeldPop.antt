@@ -6,7 +6,7 @@ use Rattle.fs_queue.specs.Chain.{Descriptor}
 use Rattle.fs_regions.specs.Places.{Mapped, places_in}
 use Rattle.fs_regions.specs.Walks.{IsLongestStretch, IsThere, IsWalkAt, nothing, queue_of}
 use Rattle.live_machine.specs.Live.{LoadsAreMapped, pop_refusal}
-use Rattle.fs_chain.specs.Holds.{BeginsAPop, HoldsPop, IsQueue, Machine, Pop, PopsBy, queue_with}
+use Rattle.fs_chain.specs.Holds.{BeginsAPop, HoldsPop, IsQueue, Machine, Pop, PopsBy, pop_of, queue_with}
 use Rattle.fs_chain.specs.Loads.{IsSame}
 use Rattle.fs_chain.specs.Rings.{ring_of}
 use Rattle.fs_chain.specs.declared.chain_handle.ChainHandle.{ChainHandle}
@@ -20,7 +20,7 @@ use Rattle.fs_chain.specs.declared.state.ChainState.TheVariants as at
 pub held_first : (old new : ChainHandle) (q q' : QueueState) (reported : outcome.LoadOutcome) (n : ℕ) (s : Machine) (i : ℕ)
     → old.state ≡ at.Free → reported ≡ outcomes.On (shows.Load n) → PopsBy old.state old new q q' [] reported
     → IsQueue s i q → s.places ≡ places_in old.regions → s.limit ≡ old.limit → s.limit ≤ 2 ^ 31
-    → HoldsPop s.limit (record { loaded = nothing; event_index = q.event_index }) new
+    → HoldsPop s.limit (pop_of q nothing) new
 unfolding BeginsAPop
 held_first old new q q' reported n s i free is pops there places limit small =
     let begins : BeginsAPop old new q q' reported = subst (λ (st : state.ChainState). PopsBy st old new q q' [] reported) free pops in
@@ -47,5 +47,5 @@ held_same limit p w v same from =
       there = on (λ m ds. IsThere m from.walk) from.there;
       longest = on (λ m ds. IsLongestStretch m q ds from.walk) from.longest;
       mapped = on (λ m ds. LoadsAreMapped m q p.loaded) from.mapped;
-      events = on (λ m ds. pop_refusal m (queue_with q p.event_index) ≡ None) from.events;
+      events = on (λ m ds. pop_refusal m (queue_with q p) ≡ None) from.events;
     }

@@ -12,6 +12,8 @@ use Rattle.fs_queue.specs.declared.fault.QueueError.TheVariants.{AvailFlagsUnrea
 use Rattle.fs_regions.specs.Misses.{Area, first_miss, last_page}
 use Rattle.fs_regions.specs.Places.{Mapped, behind, places_in, untranslated}
 use Rattle.fs_chain.specs.Events.{avail_event_at, event_fault, event_miss, used_event_at}
+use Rattle.live_machine.specs.Several.{HasEventIndex}
+use Rattle.fs_chain.specs.Holds.{live_of}
 use Rattle.fs_chain.specs.Loads.{ProceedsSo, whole}
 use Rattle.fs_chain.specs.Walks.{BeginsPop, BeginsUnless, BeginsWhere, LacksEvents, WalksFrom}
 use Rattle.fs_chain.specs.declared.chain_handle.ChainHandle.{ChainHandle}
@@ -40,7 +42,7 @@ none_reached : (layout : List Region) (a : ℕ) → reach (places_in (behind_non
 unfolding addresses table_held
 none_reached layout a = never (nat_lt (a + 2) (2 ^ 64))
 
-pub missed_event : (layout : List Region) (q : QueueState) → q.event_index ≡ true → used_event_at q.layout + 2 ≤ last_page
+pub missed_event : (layout : List Region) (q : QueueState) → HasEventIndex (live_of q) → used_event_at q.layout + 2 ≤ last_page
     → (event_fault (places_in (behind_none layout)) q ≡ Some AvailFlagsUnreachable)
     × (event_miss (places_in (behind_none layout)) q ≡ Some (run_of (used_event_at q.layout) 2, Read))
 missed_event layout q event low =
@@ -56,7 +58,7 @@ none_mapped : (a : ℕ) → reach (places_in (untranslated [])) Read a 2 ≡ fal
 unfolding addresses place
 none_mapped a = never (nat_lt (a + 2) (2 ^ 64))
 
-pub unmapped_event : (q : QueueState) → q.event_index ≡ true
+pub unmapped_event : (q : QueueState) → HasEventIndex (live_of q)
     → (event_fault (places_in (untranslated [])) q ≡ Some AvailFlagsUnreachable)
     × (event_miss (places_in (untranslated [])) q ≡ None)
 unmapped_event q event = (rw event (rw (none_mapped (used_event_at q.layout)) refl), rw event refl)

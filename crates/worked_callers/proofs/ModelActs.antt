@@ -12,7 +12,7 @@ use Rattle.fs_chain.specs.Orders.{begin_error, give_up_error, is_out, load_len, 
 use Rattle.fs_chain.specs.Pushes.{IfHasReply, PushesBy}
 use Rattle.fs_chain.specs.Queues.{gave, gave_up}
 use Rattle.fs_chain.specs.declared.error.ChainError.TheVariants as error
-use Rattle.fs_chain.specs.declared.event_index.NotificationStore.{NotificationStore}
+use Rattle.fs_chain.specs.declared.notifications.NotificationStore.{NotificationStore}
 use Rattle.fs_chain.specs.declared.popping.PopOutcome as walked
 use Rattle.fs_chain.specs.declared.popping.PopOutcome.TheVariants as shows
 use Rattle.fs_chain.specs.declared.pushing.PushStores.{PushStores}
@@ -46,7 +46,7 @@ wish_is law q (Some n) is counted s of walker =
     let wished : ThreadedQueue = after_act (ways_of q) (after_act (ways_of q) s Wishes) WishIsThere in
     let same : store_of n ≡ asked.0 = same_some (store_of n) asked.0 (is ∙ asked.1) in (
       ap (λ (st : Store). st.address) same ∙ asked.2,
-      subst (λ (st : Store). ShowsWish q.event_index st.bytes wished.event wished.muted) (sym same) asked.5,
+      subst (λ (st : Store). ShowsWish q st.bytes wished.event wished.muted) (sym same) asked.5,
       (asked.3, (asked.4, refl)),
       asked.6,
     )

@@ -13,7 +13,7 @@ use Rattle.fs_regions.specs.declared.course.Course.{Course}
 use Rattle.fs_regions.specs.declared.step.CourseStep.{CourseStep}
 use Rattle.fs_regions.specs.declared.entries.EntriesWalk.{EntriesWalk}
 use Rattle.fs_regions.specs.declared.walk.QueueWalk.TheVariants as asks
-use Rattle.fs_chain.specs.Holds.{HoldsPop, IsQueue, Machine, Pop, PopsBy, live_of}
+use Rattle.fs_chain.specs.Holds.{HoldsPop, IsPopOf, IsQueue, Machine, Pop, PopsBy, live_of}
 use Rattle.fs_chain.specs.Laws.{IsOfferOf, WalksAreOffers}
 use Rattle.fs_chain.specs.Loads.{whole}
 use Rattle.fs_chain.specs.Pops.{AddsSo}
@@ -40,7 +40,7 @@ OfferedSo s q p old new bytes came reported =
 pub offered_so : WalksAreOffers → (old new : ChainHandle) (q q' : QueueState) (bytes : List ℕ) (came : outcome.LoadOutcome)
     → q.stopped ≡ None → PopsBy old.state old new q q' bytes came
     → (reported : walked.PopOutcome) (s : Machine) (i : ℕ) (p : Pop) → came ≡ outcomes.On reported → HasPopped reported
-    → HoldsPop s.limit p old → IsQueue s i q → s.places ≡ places_in old.regions → p.event_index ≡ q.event_index → s.limit ≤ 2 ^ 31
+    → HoldsPop s.limit p old → IsQueue s i q → s.places ≡ places_in old.regions → IsPopOf q p → s.limit ≤ 2 ^ 31
     → OfferedSo s q p old new bytes came reported
 offered_so law old new q q' bytes came runs pops reported s i p is popped from there places index small =
     let ends = pop_ends old new q q' bytes came reported s i p runs pops is (popped_ends reported popped) from there places index small in

@@ -15,7 +15,7 @@ use Rattle.fs_regions.specs.Walks.{Loaded, nothing}
 use Rattle.live_machine.specs.Live.{pop_refusal}
 use Rattle.live_machine.specs.Several.{LiveQueue, avail_event_at, used_event_at}
 use Rattle.fs_chain.specs.Holds.{BeginsAPop, ContinuesAPop, EndsBy, HoldsPop, IsQueue, Machine, MissesUnless, Pop, PopContinues, PopIs}
-use Rattle.fs_chain.specs.Holds.{PopsBy, RefusedBy, live_of}
+use Rattle.fs_chain.specs.Holds.{IsPopOf, PopsBy, RefusedBy, live_of}
 use Rattle.fs_chain.specs.Loads.{whole}
 use Rattle.fs_chain.specs.Pops.{AddsSo}
 use Rattle.fs_chain.specs.declared.chain_handle.ChainHandle.{ChainHandle}
@@ -62,7 +62,7 @@ EndsAfter s i q q' p old new bytes came reported =
 
 pub pop_ends : (old new : ChainHandle) (q q' : QueueState) (bytes : List ℕ) (came : outcome.LoadOutcome) (reported : walked.PopOutcome)
     (s : Machine) (i : ℕ) (p : Pop) → q.stopped ≡ None → PopsBy old.state old new q q' bytes came → came ≡ outcomes.On reported
-    → IsEnd reported → HoldsPop s.limit p old → IsQueue s i q → s.places ≡ places_in old.regions → p.event_index ≡ q.event_index
+    → IsEnd reported → HoldsPop s.limit p old → IsQueue s i q → s.places ≡ places_in old.regions → IsPopOf q p
     → s.limit ≤ 2 ^ 31 → EndsAfter s i q q' p old new bytes came reported
 unfolding ContinuesAPop
 pop_ends old new q q' bytes came reported s i p runs pops is end from there places index small =
@@ -92,7 +92,7 @@ mappable law None s w loaded ds range access m = law s.places (needed_at w.queue
 mappable law (Some e) s w loaded ds range access m =
     let areas : List Area = record { from = used_event_at w.queue; len = 2; access = Read }
     ∷ record { from = avail_event_at w.queue; len = 2; access = Write } ∷ [] in
-    law s.places areas range access (by_event w.event_index s.places areas range access m.0)
+    law s.places areas range access (by_event _ s.places areas range access m.0)
 
 abbrev pub MissedSo : Machine → (q q' : QueueState) → ChainHandle → IovaRange → Permissions → Type 0
 MissedSo s q q' new range access =

@@ -1,7 +1,7 @@
 -- Calls of a handle as acts of the model's threads (crate notify).
 use Rattle.std.specs.Prelude.{◌≡◌, ℕ, List, [], ◌∷◌, Option, Some, None}
 use Rattle.std.specs.Int.{w16, to_le_bytes}
-use Rattle.fs_chain.specs.declared.event_index.NotificationStore.{NotificationStore}
+use Rattle.fs_chain.specs.declared.notifications.NotificationStore.{NotificationStore}
 use Rattle.fs_chain.specs.declared.queue.QueueState.{QueueState}
 use Rattle.notify.specs.Threads.{ThreadedQueue, ThreadStep, ActsOver, after_act}
 use Rattle.notify.specs.Threads.{Wishes, WishIsThere}
@@ -13,7 +13,7 @@ IsStoredWish q s None = ⊥
 IsStoredWish q s (Some store) =
     let wished = after_act (ways_of q) (after_act (ways_of q) s Wishes) WishIsThere in
     (store.address ≡ wish_at q)
-    × ShowsWish q.event_index (to_le_bytes w16 store.value) wished.event wished.muted
+    × ShowsWish q (to_le_bytes w16 store.value) wished.event wished.muted
     × ActsOver (ways_of q) s (Wishes ∷ WishIsThere ∷ []) wished
     × IsModelOf q wished
 

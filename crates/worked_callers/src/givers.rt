@@ -1,7 +1,6 @@
 //! A push: its stores and its load are steps of the model in which no notification is lost (crate `notify`).
 
 ghost use Rattle.std.specs.Prelude.{◌≡◌, ◌≤◌, ◌+◌, ◌||◌, IfOk, IsTrue, [], ◌∷◌, ◌++◌, List, OnOk};
-ghost use Rattle.std.specs.Prelude.{true};
 ghost use Rattle.std.specs.Int.{w16, to_le_bytes};
 ghost use Rattle.fs_queue.specs.Returning.{Store, next_position};
 ghost use Rattle.fs_queue.specs.ReturningView.{stores_of};
@@ -10,7 +9,7 @@ ghost use Rattle.fs_chain.specs.Pushes.{IfHasReply, PushesBy};
 ghost use Rattle.fs_chain.specs.Queues.{gave};
 ghost use Rattle.fs_chain.specs.Serials.{freed};
 ghost use Rattle.fs_chain.specs.declared.state.ChainState.TheVariants as at;
-ghost use Rattle.live_machine.specs.Several.{passes, returning};
+ghost use Rattle.live_machine.specs.Several.{HasEventIndex, passes, returning};
 ghost use Rattle.notify.specs.Kicks as kicks;
 ghost use Rattle.notify.specs.Kicks.{NotifyState, Runs, ahead};
 ghost use Rattle.notify.specs.Threads.{ReturnsChains, ThreadedQueue, Walker, after_act, may_act};
@@ -33,7 +32,7 @@ pub fn push_one(
     ensures again { OnOk result (handle.new.state ≡ at.Free) }
     ensures freed { OnOk result (handle.new ≡ freed handle.old) }
     ensures queue { OnOk result (queue.new ≡ gave queue.old) }
-    ensures event { IfOk result (λ reported. queue.old.event_index ≡ true
+    ensures event { IfOk result (λ reported. HasEventIndex (live_of queue.old)
         → reported.0 ≡ passes seen queue.old.next_used (next_position (returning (live_of queue.old)))) }
     ensures stores { IfOk result (λ reported. IfHasReply handle.old.state
         (λ out reply. PushesBy queue.old out reply reported.1)) }
@@ -52,7 +51,7 @@ pub fn push_one(
     ensures checks { IfOk result (λ reported. (u : NotifyState)
         → u.published ≡ queue.new.next_used
         → u.unchecked ≡ 1
-        → ShowsWish queue.old.event_index (to_le_bytes w16 seen) u.event u.muted
+        → ShowsWish queue.old (to_le_bytes w16 seen) u.event u.muted
         → (kicks.after (rules_of queue.old) u kicks.ChecksWish).owes ≡ (u.owes || reported.0)) }
     ensures order { OnOk result ((u : NotifyState)
         → u.published ≡ queue.old.next_used

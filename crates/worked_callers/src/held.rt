@@ -6,7 +6,7 @@ ghost use Rattle.vm_memory.specs.Memory.{location};
 ghost use Rattle.fs_regions.specs.Places.{places_in};
 ghost use Rattle.fs_regions.specs.Walks.{asked_by, asked_len, nothing};
 ghost use Rattle.fs_chain.specs.Held.{load_count};
-ghost use Rattle.fs_chain.specs.Holds.{HoldsPop, IsQueue, Machine};
+ghost use Rattle.fs_chain.specs.Holds.{HoldsPop, IsQueue, Machine, pop_of};
 ghost use Rattle.fs_chain.specs.declared.state.ChainState.TheVariants as at;
 
 use fs_chain::laws::law_held;
@@ -25,8 +25,7 @@ pub fn begin_held_pop(
         → s.places ≡ places_in handle.old.regions
         → s.limit ≡ handle.old.limit
         → s.limit ≤ 2 ^ 31
-        → (held : HoldsPop s.limit (record { loaded = nothing; event_index = queue.old.event_index })
-        handle.new)
+        → (held : HoldsPop s.limit (pop_of queue.old nothing) handle.new)
         × (load_count nothing + 1 ≤ held.course.layout.size + 4)
         × ((j : ℕ)
         → j < asked_len held.walk

@@ -1,13 +1,15 @@
 //! A queue with the event index whose used_event isn't mapped. A pop behind a table misses it; without a
 //! table the pop is refused.
 
-ghost use Rattle.std.specs.Prelude.{◌≡◌, ◌≤◌, ◌+◌, [], IfOk, None, Some, true};
+ghost use Rattle.std.specs.Prelude.{◌≡◌, ◌≤◌, ◌+◌, [], IfOk, None, Some};
 ghost use Rattle.vm_iotlb.specs.AddressRuns.{run_of};
 ghost use Rattle.vm_iotlb.specs.declared.permissions.Permissions.{Permissions};
 ghost use Rattle.fs_regions.specs.Misses.{last_page};
 ghost use Rattle.fs_regions.specs.Places.{behind, untranslated};
 ghost use Rattle.fs_chain.specs.Events.{used_event_at};
+ghost use Rattle.fs_chain.specs.Holds.{live_of};
 ghost use Rattle.fs_chain.specs.declared.state.ChainState.TheVariants as at;
+ghost use Rattle.live_machine.specs.Several.{HasEventIndex};
 
 use fs_chain::{ChainError, ChainHandle, LoadOutcome, PopOutcome, QueueState};
 use fs_queue::QueueError;
@@ -26,7 +28,7 @@ pub fn miss_used_event(
 ) -> Result<LoadOutcome, ChainError>
     requires free { handle.old.state ≡ at.Free }
     requires proceeds { queue.old.stopped ≡ None }
-    requires event_index { queue.old.event_index ≡ true }
+    requires events { HasEventIndex (live_of queue.old) }
     requires low { used_event_at queue.old.layout + 2 ≤ last_page }
     ensures missed { IfOk result (λ reported.
         (reported ≡ LoadOutcome.On
@@ -54,7 +56,7 @@ pub fn pop_without_regions(
 ) -> Result<LoadOutcome, ChainError>
     requires free { handle.old.state ≡ at.Free }
     requires proceeds { queue.old.stopped ≡ None }
-    requires event_index { queue.old.event_index ≡ true }
+    requires events { HasEventIndex (live_of queue.old) }
     ensures refused { IfOk result (λ reported.
         (reported ≡ LoadOutcome.On (PopOutcome.Refused QueueError.AvailFlagsUnreachable))
         × (queue.new ≡ record queue.old { stopped = Some QueueError.AvailFlagsUnreachable })

@@ -14,7 +14,7 @@ ghost use Rattle.fs_regions.specs.declared.course.Course.{Course};
 ghost use Rattle.fs_regions.specs.declared.step.CourseStep.{CourseStep};
 ghost use Rattle.fs_regions.specs.declared.entries.EntriesWalk.{EntriesWalk};
 ghost use Rattle.fs_regions.specs.declared.walk.QueueWalk.TheVariants as asks;
-ghost use Rattle.fs_chain.specs.Holds.{HoldsPop, IsQueue, Machine, Pop, live_of};
+ghost use Rattle.fs_chain.specs.Holds.{HoldsPop, IsPopOf, IsQueue, Machine, Pop, live_of};
 ghost use Rattle.fs_chain.specs.Laws.{IsOfferOf};
 ghost use Rattle.fs_chain.specs.Loads.{RefusesWalk, whole};
 ghost use Rattle.fs_chain.specs.Pops.{AddsSo};
@@ -43,7 +43,7 @@ pub fn continue_pop_as_offer(
         → HoldsPop s.limit p handle.old
         → IsQueue s i queue.old
         → s.places ≡ places_in handle.old.regions
-        → p.event_index ≡ queue.old.event_index
+        → IsPopOf queue.old p
         → s.limit ≤ 2 ^ 31
         → (loaded : Loaded)
         × AddsSo handle.old.state outcome handle.new.descriptors.items p.loaded (whole handle.old bytes.now)

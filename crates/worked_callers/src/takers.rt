@@ -6,7 +6,7 @@ ghost use Rattle.std.specs.Prelude.{Err, IfErr, OnErr, option_map};
 ghost use Rattle.fs_regions.specs.Places.{places_in};
 ghost use Rattle.fs_regions.specs.Walks.{Loaded};
 ghost use Rattle.fs_chain.specs.Events.{store_of};
-ghost use Rattle.fs_chain.specs.Holds.{HoldsPop, IsQueue, Machine, Pop};
+ghost use Rattle.fs_chain.specs.Holds.{HoldsPop, IsPopOf, IsQueue, Machine, Pop};
 ghost use Rattle.fs_chain.specs.Loads.{ProceedsSo, IsSame, RefusesWalk, whole};
 ghost use Rattle.fs_chain.specs.Orders.{give_up_error};
 ghost use Rattle.fs_chain.specs.Pops.{AddsSo};
@@ -47,7 +47,7 @@ pub fn disable_store(queue: &QueueState) -> Option<NotificationStore>
     ensures { (s : ThreadedQueue)
         → IsModelOf queue.now s
         → s.holder ≡ Walker
-        → MutesBy queue.now.event_index queue.now s (option_map store_of result)
+        → MutesBy queue.now s (option_map store_of result)
         × IsTrue (may_act (ways_of queue.now) s (Silences s.event)) }
 {
     law_takers();
@@ -68,7 +68,7 @@ pub fn sleep_if_idle(
         → HoldsPop m.limit p handle.old
         → IsQueue m i queue.old
         → m.places ≡ places_in handle.old.regions
-        → p.event_index ≡ queue.old.event_index
+        → IsPopOf queue.old p
         → m.limit ≤ 2 ^ 31
         → IsModelOf queue.old s
         → s.holder ≡ Walker
@@ -109,7 +109,7 @@ pub fn take_one(
         → HoldsPop m.limit p handle.old
         → IsQueue m i queue.old
         → m.places ≡ places_in handle.old.regions
-        → p.event_index ≡ queue.old.event_index
+        → IsPopOf queue.old p
         → m.limit ≤ 2 ^ 31
         → IsModelOf queue.old s
         → s.holder ≡ Walker

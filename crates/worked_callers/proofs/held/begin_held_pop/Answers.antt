@@ -1,6 +1,6 @@
 use Rattle.std.proofs.Common.{◌∙◌, ap}
 use Rattle.fs_regions.specs.Walks.{nothing}
-use Rattle.fs_chain.specs.Holds.{Pop}
+use Rattle.fs_chain.specs.Holds.{Pop, pop_of}
 use Rattle.fs_chain.specs.declared.loads.LoadOutcome.TheVariants as outcomes
 use Rattle.fs_chain.specs.declared.popping.PopOutcome as walked
 use Rattle.worked_callers.proofs.HeldPop.{held_first}
@@ -12,7 +12,7 @@ returns-in-On-Load c =
     let old = c.args.handle.now in
     let new = c.pop.new.self in
     let q = c.args.queue.now in
-    let p : Pop = record { loaded = nothing; event_index = q.event_index } in
+    let p : Pop = pop_of q nothing in
     record {
       held = λ s i there places limit small.
           let held = held_first old new q c.pop.new.queue _ end.len s i c.requires.free

@@ -24,7 +24,7 @@ returns c =
     let is = set.0 ∙ c.behind.ensures
     ∙ ap (λ t. behind c.args.regions t) c.new.ensures in
     let free = set.2 ∙ c.requires.free in
-    let events = missed_event c.args.regions q c.requires.event_index c.requires.low in
+    let events = missed_event c.args.regions q c.requires.events c.requires.low in
     let fault = subst (λ (g : Mapped). event_fault (places_in g) q ≡ Some AvailFlagsUnreachable) (sym is) events.0 in
     let miss = subst (λ (g : Mapped). event_miss (places_in g) q ≡ Some (at, Read)) (sym is) events.1 in
     record {

@@ -7,4 +7,4 @@ pub returns : goal.returns
 returns c s of walker =
     let q = c.args.queue.now in
     let law = c.law_takers.ensures.mutes q s of walker in
-    (subst (λ (store : Option Store). MutesBy q.event_index q s store) (sym c.notification_store.ensures.store) law.0, law.1)
+    (subst (λ (store : Option Store). MutesBy q s store) (sym c.notification_store.ensures.store) law.0, law.1)

@@ -38,18 +38,19 @@ fn avail_event_at(layout: &QueueLayout) -> u64
     layout.used() + 4 + 8 * u64::from(layout.size())
 }
 
-/// The guest address of the two bytes by which the driver enables used buffer notifications.
-pub(crate) fn seen_at(event_index: bool, layout: &QueueLayout) -> u64
-    ensures { result ≡ seen_at event_index layout.now }
-{
-    if event_index {
-        used_event_at(layout)
-    } else {
-        layout.avail()
-    }
-}
-
 impl QueueState {
+    // The guest address of the two bytes by which the driver enables used buffer notifications, in these
+    // areas.
+    pub(crate) fn seen_at(&self, layout: &QueueLayout) -> u64
+        ensures { result ≡ seen_at self.now layout.now }
+    {
+        if self.event_index {
+            used_event_at(layout)
+        } else {
+            layout.avail()
+        }
+    }
+
     // Whether to notify the driver of the next chain that is pushed, by those two bytes.
     pub(crate) fn notifies(&self, seen: [u8; 2]) -> bool
         ensures { result ≡ notifies_of self.now seen }
