@@ -109,7 +109,7 @@ answered_all s i page_size k q ws ob oh pops push old new c request options call
       places = places;
       queue = subst (λ (l : List LiveQueue). slice_get l i ≡ Some (live_of q)) (sym queues) all.queue;
       event = refl;
-      fits = fits_out s.places s.limit q.event_index (pops k) (pops k) old new same
+      fits = fits_out s.places s.limit q (pops k) (pops k) old new same
           (held_out s.page_size c' c'.phase new.state new.session holds) (all.fits k old there);
       others = others_same page_size k q q push (λ head len. refl);
       still = all.still;

@@ -3,6 +3,9 @@ use Rattle.std.proofs.Common.{◌≡◌, ℕ, Bool, true, false, List, [], ◌�
 use Rattle.std.proofs.Common.{slice_get}
 use Rattle.std.proofs.Common.{refl, subst, sym, ap, ◌∙◌, zero, suc}
 use Rattle.vm_memory.specs.Memory.{Memory}
+use Rattle.fs_chain.specs.Holds.{IsPopOf}
+use Rattle.fs_chain.specs.Queues.{SameEventIndex}
+use Rattle.fs_chain.proofs.HoldsQueues.{same_index}
 use Rattle.fs_queue.specs.Chain.{Descriptor}
 use Rattle.fs_queue.specs.Returning.{stores_after_reply}
 use Rattle.fs_regions.specs.Places.{places_in}
@@ -73,49 +76,49 @@ pop_same limit p old new same h =
           places h.events;
     }
 
-may_same : (limit : ℕ) (event_index : Bool) (p : Pop) (old new : ChainHandle) (st : state.ChainState) →
+may_same : (limit : ℕ) (q : QueueState) (p : Pop) (old new : ChainHandle) (st : state.ChainState) →
     IsSameHeld old new →
-    MayPop limit event_index p old st
-    → MayPop limit event_index p new st
-may_same limit event_index p old new (at.Walking course pop_id walk) same may =
+    MayPop limit q p old st
+    → MayPop limit q p new st
+may_same limit q p old new (at.Walking course pop_id walk) same may =
     (pop_same limit p old new same may.0, may.1)
-may_same limit event_index p old new at.Free same may = tt
-may_same limit event_index p old new (at.Taken out) same may = tt
-may_same limit event_index p old new (at.Waits out w) same may = tt
-may_same limit event_index p old new (at.Lists out l) same may = tt
-may_same limit event_index p old new (at.HasReply out preserved) same may = tt
-may_same limit event_index p old new (at.Pushing out) same may = tt
+may_same limit q p old new at.Free same may = tt
+may_same limit q p old new (at.Taken out) same may = tt
+may_same limit q p old new (at.Waits out w) same may = tt
+may_same limit q p old new (at.Lists out l) same may = tt
+may_same limit q p old new (at.HasReply out preserved) same may = tt
+may_same limit q p old new (at.Pushing out) same may = tt
 
-fits_same : (places : Memory) (limit : ℕ) (event_index : Bool) (p : Pop) (old new : ChainHandle) → IsSameHeld old new
-    → FitsRun places limit event_index p old → FitsRun places limit event_index p new
-fits_same places limit event_index p old new same fits = (
+fits_same : (places : Memory) (limit : ℕ) (q : QueueState) (p : Pop) (old new : ChainHandle) → IsSameHeld old new
+    → FitsRun places limit q p old → FitsRun places limit q p new
+fits_same places limit q p old new same fits = (
   fits.0 ∙ ap places_in (sym same.2),
   fits.1 ∙ sym same.3,
-  subst (λ (st : state.ChainState). MayPop limit event_index p new st) (sym same.0)
-      (may_same limit event_index p old new old.state same fits.2),
+  subst (λ (st : state.ChainState). MayPop limit q p new st) (sym same.0)
+      (may_same limit q p old new old.state same fits.2),
 )
 
-may_out : (limit : ℕ) (event_index : Bool) (p : Pop) (w : ChainHandle) (st : state.ChainState) → is_out st ≡ true →
-    MayPop limit event_index p w st
-may_out limit event_index p w (at.Walking course pop_id walk) out = absurd (not_free false out refl)
-may_out limit event_index p w at.Free out = tt
-may_out limit event_index p w (at.Taken o) out = tt
-may_out limit event_index p w (at.Waits o k) out = tt
-may_out limit event_index p w (at.Lists o l) out = tt
-may_out limit event_index p w (at.HasReply o preserved) out = tt
-may_out limit event_index p w (at.Pushing o) out = tt
+may_out : (limit : ℕ) (q : QueueState) (p : Pop) (w : ChainHandle) (st : state.ChainState) → is_out st ≡ true →
+    MayPop limit q p w st
+may_out limit q p w (at.Walking course pop_id walk) out = absurd (not_free false out refl)
+may_out limit q p w at.Free out = tt
+may_out limit q p w (at.Taken o) out = tt
+may_out limit q p w (at.Waits o k) out = tt
+may_out limit q p w (at.Lists o l) out = tt
+may_out limit q p w (at.HasReply o preserved) out = tt
+may_out limit q p w (at.Pushing o) out = tt
 
-pub fits_out : (places : Memory) (limit : ℕ) (event_index : Bool) (p r : Pop) (old new : ChainHandle) →
+pub fits_out : (places : Memory) (limit : ℕ) (q : QueueState) (p r : Pop) (old new : ChainHandle) →
     KeepsMemory old new → is_out new.state ≡ true
-    → FitsRun places limit event_index p old → FitsRun places limit event_index r new
-fits_out places limit event_index p r old new same out fits =
-    (fits.0 ∙ ap places_in (sym same.0), fits.1 ∙ sym same.1, may_out limit event_index r new new.state out)
+    → FitsRun places limit q p old → FitsRun places limit q r new
+fits_out places limit q p r old new same out fits =
+    (fits.0 ∙ ap places_in (sym same.0), fits.1 ∙ sym same.1, may_out limit q r new new.state out)
 
 -- nothing happens, but the queue may be in a push
 pub stays_put : (s : Machine) (i page_size k : ℕ) (q q' : QueueState) (p : Pop) (push : Option Begun)
-    (new : ChainHandle) → IsQueue s i q' → q'.event_index ≡ q.event_index → SamePlaces q q' →
+    (new : ChainHandle) → IsQueue s i q' → SameEventIndex q' q → SamePlaces q q' →
     q'.pushing ≡ q.pushing → (q.pushing ≡ false → push ≡ None)
-    → FitsRun s.places s.limit q.event_index p new → Moves s s i page_size k q q' p push push new
+    → FitsRun s.places s.limit q p new → Moves s s i page_size k q q' p push push new
 stays_put s i page_size k q q' p push new there event same pushing still fits =
     record {
       page = refl;
@@ -143,7 +146,7 @@ stays s i page_size k q ws os pops push old new T all there same reports = by_ou
     moves : Moves s s i page_size k q q (pops k) push push new
     moves =
         stays_put s i page_size k q q (pops k) push new all.queue refl (λ head len. refl) refl all.still
-        (fits_same s.places s.limit q.event_index (pops k) old new same (all.fits k old there))
+        (fits_same s.places s.limit q (pops k) old new same (all.fits k old there))
 
     by_out : (b : Bool) → is_out old.state ≡ b → Leads s i page_size q (with_handle ws k new) T
     by_out true out =
@@ -329,14 +332,14 @@ pub still : (s : Machine) (i page_size k : ℕ) (q q' : QueueState) (ws : List C
     (T : List LiveEvent → Desk → Type 0)
     → Driven s i page_size q ws os pops push → slice_get ws k ≡ Some old → is_out old.state ≡ false →
     KeepsMemory old new
-    → p.event_index ≡ q.event_index
+    → IsPopOf q p
     → HoldsPop s.limit p new × (q' ≡ q)
     → T [] (desk s (with_handle ws k new) q' os (with_pop pops k p) push)
     → Leads s i page_size q' (with_handle ws k new) T
 still s i page_size k q q' ws os pops push old new p T all there free same event is reports =
     let was = all.fits k old there in
-    let may : MayPop s.limit q.event_index p new new.state =
-    subst (λ (st : state.ChainState). MayPop s.limit q.event_index p new st) (sym is.0.state)
+    let may : MayPop s.limit q p new new.state =
+    subst (λ (st : state.ChainState). MayPop s.limit q p new st) (sym is.0.state)
     (is.0, event) in (
       [],
       s,
@@ -347,7 +350,7 @@ still s i page_size k q q' ws os pops push old new p T all there free same event
       idles s s i page_size q q' ws os k old new p pops push push all there
           (stays_put s i page_size k q q' p push new
           (subst (λ (r : QueueState). IsQueue s i r) (sym is.1) all.queue)
-          (ap (λ (r : QueueState). r.event_index) is.1)
+          (same_index q' _ is.1)
           (λ head len. ap (λ (r : QueueState). stores_after_reply (returning (live_of r)) head len) is.1)
           (ap (λ (r : QueueState). r.pushing) is.1) all.still
           (was.0 ∙ ap places_in (sym same.0), was.1 ∙ sym same.1, may))

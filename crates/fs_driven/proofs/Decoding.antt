@@ -77,7 +77,7 @@ decoded_so : (s : Machine) (i page_size k : ℕ) (q : QueueState) (ws : List Cha
     (options : ℕ) (reported : Decoded) (T : List LiveEvent → Desk → Type 0)
     → Driven s i page_size q ws (ob ++ own k c ∷ oh) pops push → slice_get ws k ≡ Some old → c.queue ≡ i →
     KeepsMemory old new
-    → FitsRun s.places s.limit q.event_index (pops k) old
+    → FitsRun s.places s.limit q (pops k) old
     → Happens any_files (record s { options = options })
     (DecodesRequest c request (calls_decoded (drop 80 request) reported))
     (after_decoding (record s { options = options }) (chains_of ob) (chains_of oh) c request)
@@ -97,7 +97,7 @@ decoded_so s i page_size k q ws ob oh pops push old new c request options report
       places = refl;
       queue = all.queue;
       event = refl;
-      fits = fits_out s.places s.limit q.event_index (pops k) (pops k) old new same
+      fits = fits_out s.places s.limit q (pops k) (pops k) old new same
           (held_out s.page_size c' c'.phase new.state new.session proceeds.1) fits;
       others = others_same page_size k q q push (λ head len. refl);
       still = all.still;
@@ -121,7 +121,7 @@ decodes_more : (s : Machine) (i page_size k : ℕ) (q : QueueState) (ws : List C
     → Driven s i page_size q ws (ob ++ own k c ∷ oh) pops push → slice_get ws k ≡ Some old → c.queue ≡ i →
     c.phase ≡ Fetched →
     KeepsMemory old new
-    → FitsRun s.places s.limit q.event_index (pops k) old
+    → FitsRun s.places s.limit q (pops k) old
     → HoldsChain s.page_size c new
     → s.chains ≡ chains_of ob ++ c ∷ chains_of oh
     → ReportsNone s q (with_handle ws k new) push T
@@ -130,7 +130,7 @@ decodes_more s i page_size k q ws ob oh pops push old new c T all there queue fr
     reports =
     let moves : Moves s s i page_size k q q (pops k) push push new =
     stays_put s i page_size k q q (pops k) push new all.queue refl (λ head len. refl) refl all.still
-    (fits_out s.places s.limit q.event_index (pops k) (pops k) old new same
+    (fits_out s.places s.limit q (pops k) (pops k) old new same
     (held_out s.page_size c c.phase new.state new.session holds) fits) in (
       [],
       s,
@@ -157,7 +157,7 @@ decoded_by : (s : Machine) (i page_size k : ℕ) (q : QueueState) (ws : List Cha
     → Driven s i page_size q ws (ob ++ own k c ∷ oh) pops push → slice_get ws k ≡ Some old → c.queue ≡ i →
     c.phase ≡ Fetched →
     KeepsMemory old new
-    → FitsRun s.places s.limit q.event_index (pops k) old
+    → FitsRun s.places s.limit q (pops k) old
     → DecodingIs (record s { options = options }) (chains_of ob) (chains_of oh) c request new reported
     → s.chains ≡ chains_of ob ++ c ∷ chains_of oh
     → ReportsMeaning st m bytes out reported new.state

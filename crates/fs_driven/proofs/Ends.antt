@@ -2,6 +2,7 @@
 use Rattle.std.proofs.Common.{◌≡◌, ◌<◌, ◌^◌, ℕ, Bool, true, false, List, [], ◌∷◌, ◌++◌, length, Option, Some, None}
 use Rattle.std.proofs.Common.{refl, subst, sym, ap, ◌∙◌}
 use Rattle.std.specs.Prelude.{if◌then◌else◌, not, nat_lt, take, drop, Result, Ok, Err, IfErr, IfOk, OnOk, OnErr}
+use Rattle.fs_chain.proofs.HoldsQueues.{same_index}
 use Rattle.fs_chain.specs.declared.error.ChainError.{ChainError}
 use Rattle.fs_chain.specs.declared.error.ChainError.TheVariants.{OtherQueue, ShortBuffer, WrongOrder}
 use Rattle.fs_chain.specs.declared.error.ChainError.TheVariants as error
@@ -134,8 +135,8 @@ push_drives page_size old new q q' front stores out preserved is idle ok so made
       limit = refl;
       places = refl;
       queue = subst (λ (r : QueueState). IsQueue s i r) (sym pushing) all.queue;
-      event = ap (λ (r : QueueState). r.event_index) pushing;
-      fits = fits_out s.places s.limit q.event_index (pops k) (pops k) old new same (ap is_out state_is)
+      event = same_index q' _ pushing;
+      fits = fits_out s.places s.limit q (pops k) (pops k) old new same (ap is_out state_is)
           (all.fits k old there);
       others = others_none page_size k q q' push (Some b) (only_none k push (all.still idle));
       still = λ none. absurd (not_free q'.pushing now_pushing none);
@@ -206,11 +207,11 @@ end_drives page_size old new q q' seen notice out is free gave small ends ws k t
       limit = refl;
       places = refl;
       queue = subst (λ (n : ℕ). IsQueue after n q') mine.0 e.1;
-      event = ap (λ (r : QueueState). r.event_index) gave;
+      event = same_index q' _ gave;
       fits = (
         was.0 ∙ ap places_in (sym (ap (λ (w : ChainHandle). w.regions) free)),
         was.1 ∙ sym (ap (λ (w : ChainHandle). w.limit) free),
-        subst (λ (st : state.ChainState). MayPop s.limit q.event_index no_pop new st) (sym state_is) tt,
+        subst (λ (st : state.ChainState). MayPop s.limit q no_pop new st) (sym state_is) tt,
       );
       others = others_none page_size k q q' push None under.only;
       still = λ none. refl;
@@ -242,11 +243,11 @@ end_drives page_size old new q q' seen notice out is free gave small ends ws k t
 
 -- a handle that is free now
 fits_freed : (s : Machine) (q : QueueState) (p : Pop) (old new : ChainHandle) → new ≡ freed old
-    → FitsRun s.places s.limit q.event_index p old → FitsRun s.places s.limit q.event_index no_pop new
+    → FitsRun s.places s.limit q p old → FitsRun s.places s.limit q no_pop new
 fits_freed s q p old new free was = (
   was.0 ∙ ap places_in (sym (ap (λ (w : ChainHandle). w.regions) free)),
   was.1 ∙ sym (ap (λ (w : ChainHandle). w.limit) free),
-  subst (λ (st : state.ChainState). MayPop s.limit q.event_index no_pop new st)
+  subst (λ (st : state.ChainState). MayPop s.limit q no_pop new st)
       (sym (ap (λ (w : ChainHandle). w.state) free)) tt,
 )
 
@@ -274,7 +275,7 @@ give_up_drives page_size old new q q' clear free left gives_up ws k there u s i 
         let moves : Moves s s i page_size k q q' no_pop push push new =
         stays_put s i page_size k q q' no_pop push new
         (subst (λ (r : QueueState). IsQueue s i r) (sym same) all.queue)
-        (ap (λ (r : QueueState). r.event_index) same)
+        (same_index q' _ same)
         (λ head len. ap (λ (r : QueueState). stores_after_reply (returning (live_of r)) head len) same)
         (ap (λ (r : QueueState). r.pushing) same) all.still
         (fits_freed s q (pops k) old new free (all.fits k old there)) in (
@@ -308,7 +309,7 @@ give_up_drives page_size old new q q' clear free left gives_up ws k there u s i 
           limit = refl;
           places = refl;
           queue = subst (λ (n : ℕ). IsQueue after n q') mine.0 e.1;
-          event = ap (λ (r : QueueState). r.event_index) now;
+          event = same_index q' _ now;
           fits = fits_freed s q (pops k) old new free (all.fits k old there);
           others = others_same page_size k q q' push
               (λ head len. ap (λ (r : QueueState). stores_after_reply (returning (live_of r)) head len) now);
@@ -414,7 +415,7 @@ reply_drives page_size old new q serial len out without clear kept made replies 
       places = refl;
       queue = all.queue;
       event = refl;
-      fits = fits_out s.places s.limit q.event_index (pops k) (pops k) old new same (ap is_out state_is)
+      fits = fits_out s.places s.limit q (pops k) (pops k) old new same (ap is_out state_is)
           (all.fits k old there);
       others = others_same page_size k q q push (λ head len. refl);
       still = all.still;

@@ -8,6 +8,7 @@ use Rattle.vm_memory.specs.Memory.{Memory}
 use Rattle.live_machine.specs.Live.{Abandoned, Asked, Fetched, InFlightChain, Own, Phase}
 use Rattle.live_machine.specs.Live.{LiveEvent, PoppedFaulty}
 use Rattle.plain_machine.specs.Step.{Exchange}
+use Rattle.fs_chain.specs.Queues.{SameEventIndex}
 use Rattle.fs_queue.specs.Returning.{stores_after_reply}
 use Rattle.live_machine.specs.Several.{returning}
 use Rattle.live_machine.proofs.Alone.{all_both}
@@ -16,7 +17,7 @@ use Rattle.live_machine.proofs.Queues.{apart_of, same_some, there_other, there_s
 use Rattle.server_phases.specs.declared.session.Session.{Session}
 use Rattle.fs_chain.specs.Holds.{HoldsChain, IsHeldIn, IsQueue, Machine, Pop, any_files, live_of}
 use Rattle.fs_chain.specs.Orders.{is_out}
-use Rattle.fs_driven.specs.Desks.{Begun, Desk, Driven, FitsRun, In, IsLost, IsReady, IsUnderWay, desk, lost, own}
+use Rattle.fs_driven.specs.Desks.{MayPop, Begun, Desk, Driven, FitsRun, In, IsLost, IsReady, IsUnderWay, desk, lost, own}
 use Rattle.fs_driven.specs.Desks.{HasInFlight, with_pop}
 use Rattle.fs_driven.specs.Reported.{Called, Drives, ReportsAll, Unseen, seen_of}
 use Rattle.fs_chain.specs.Together.{HasNone, IsHeldBy, IsNot, Owned, with_handle}
@@ -166,43 +167,53 @@ pub record Moves (s after : Machine) (i page_size k : ℕ) (q q' : QueueState) (
   pub limit : after.limit ≡ s.limit
   pub places : after.places ≡ s.places
   pub queue : IsQueue after i q'
-  pub event : q'.event_index ≡ q.event_index
-  pub fits : FitsRun s.places s.limit q.event_index p new
+  pub event : SameEventIndex q' q
+  pub fits : FitsRun s.places s.limit q p new
   pub others : OthersReady page_size k q q' push push'
   pub still : q'.pushing ≡ false → push' ≡ None
+
+may_pop : (limit : ℕ) (q q' : QueueState) (p : Pop) (w : ChainHandle) (st : state.ChainState) → SameEventIndex q' q
+    → MayPop limit q p w st → MayPop limit q' p w st
+may_pop limit q q' p w (at.Walking course pop_id walk) same may = (may.0, may.1 ∙ sym same)
+may_pop limit q q' p w st same may = tt
+
+-- a handle's pop may carry on at a queue with the same event index
+pub fits_queue : (places : Memory) (limit : ℕ) (q q' : QueueState) (p : Pop) (w : ChainHandle) → SameEventIndex q' q
+    → FitsRun places limit q p w → FitsRun places limit q' p w
+fits_queue places limit q q' p w same fits = (fits.0, fits.1, may_pop limit q q' p w w.state same fits.2)
 
 fits_after : (s after : Machine) (i page_size k : ℕ) (q q' : QueueState) (p : Pop) (push push' : Option Begun)
     (new : ChainHandle) (r : Pop) (v : ChainHandle) → Moves s after i page_size k q q' p push push' new
     →
-    FitsRun s.places s.limit q.event_index r v → FitsRun after.places after.limit q'.event_index r v
+    FitsRun s.places s.limit q r v → FitsRun after.places after.limit q' r v
 fits_after s after i page_size k q q' p push push' new r v moves fits =
-    let one : FitsRun after.places s.limit q.event_index r v =
-    subst (λ (m : Memory). FitsRun m s.limit q.event_index r v) (sym moves.places) fits in
-    let two : FitsRun after.places after.limit q.event_index r v =
-    subst (λ (n : ℕ). FitsRun after.places n q.event_index r v) (sym moves.limit) one in
-    subst (λ (b : Bool). FitsRun after.places after.limit b r v) (sym moves.event) two
+    let one : FitsRun after.places s.limit q r v =
+    subst (λ (m : Memory). FitsRun m s.limit q r v) (sym moves.places) fits in
+    let two : FitsRun after.places after.limit q r v =
+    subst (λ (n : ℕ). FitsRun after.places n q r v) (sym moves.limit) one in
+    fits_queue after.places after.limit q q' r v moves.event two
 
 all_fit : (s after : Machine) (i page_size : ℕ) (q q' : QueueState) (ws : List ChainHandle) (k : ℕ)
     (w new : ChainHandle) (p : Pop) (pops : ℕ → Pop) (push push' : Option Begun)
     → Moves s after i page_size k q q' p push push' new → slice_get ws k ≡ Some w
     → ((j : ℕ) (v : ChainHandle) → slice_get ws j ≡ Some v →
-    FitsRun s.places s.limit q.event_index (pops j) v)
+    FitsRun s.places s.limit q (pops j) v)
     → (j : ℕ) (v : ChainHandle) → slice_get (with_handle ws k new) j ≡ Some v →
-    FitsRun after.places after.limit q'.event_index (with_pop pops k p j) v
+    FitsRun after.places after.limit q' (with_pop pops k p j) v
 all_fit s after i page_size q q' ws k w new p pops push push' moves there fits j v now =
     by_test (k == j) refl
   where
     by_test : (b : Bool) → (k == j) ≡ b →
-        FitsRun after.places after.limit q'.event_index (with_pop pops k p j) v
+        FitsRun after.places after.limit q' (with_pop pops k p j) v
     by_test true is =
         let pop : p ≡ with_pop pops k p j = sym (ap (λ (b : Bool). if b then p else pops j) is) in
-        subst (λ (x : Pop). FitsRun after.places after.limit q'.event_index x v) pop
+        subst (λ (x : Pop). FitsRun after.places after.limit q' x v) pop
         (fits_after s after i page_size k q q' p push push' new p v moves
-        (subst (λ (x : ChainHandle). FitsRun s.places s.limit q.event_index p x)
+        (subst (λ (x : ChainHandle). FitsRun s.places s.limit q p x)
         (the_new ws k j w new v (eqb-true k j is) there now) moves.fits))
     by_test false is =
         let pop : pops j ≡ with_pop pops k p j = sym (ap (λ (b : Bool). if b then p else pops j) is) in
-        subst (λ (x : Pop). FitsRun after.places after.limit q'.event_index x v) pop
+        subst (λ (x : Pop). FitsRun after.places after.limit q' x v) pop
         (fits_after s after i page_size k q q' p push push' new (pops j) v moves
         (fits j v (another ws k j new v (apart_of k j is) now)))
 

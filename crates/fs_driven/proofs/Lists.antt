@@ -227,7 +227,7 @@ starts s i page_size q ws none queue page small free =
       fits = λ k w there. (
         (free k w there).1,
         (free k w there).2,
-        idle_may s.limit q.event_index no_pop w (free k w there).0,
+        idle_may s.limit q no_pop w (free k w there).0,
       );
       left = λ c m. absurd m;
       still = λ pushing. refl;

@@ -91,11 +91,11 @@ one_less n m less = omega arith
 -- a handle that is free now
 fits_free : (s : Machine) (q : QueueState) (p : Pop) (old new : ChainHandle) → new.state ≡ at.Free →
     new.regions ≡ old.regions → new.limit ≡ old.limit
-    → FitsRun s.places s.limit q.event_index p old → FitsRun s.places s.limit q.event_index no_pop new
+    → FitsRun s.places s.limit q p old → FitsRun s.places s.limit q no_pop new
 fits_free s q p old new free regions limit was = (
   was.0 ∙ ap places_in (sym regions),
   was.1 ∙ sym limit,
-  subst (λ (st : state.ChainState). MayPop s.limit q.event_index no_pop new st) (sym free) tt,
+  subst (λ (st : state.ChainState). MayPop s.limit q no_pop new st) (sym free) tt,
 )
 
 -- the next push is stored where it was, and no handle's push ends

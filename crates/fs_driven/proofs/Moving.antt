@@ -9,6 +9,9 @@ use Rattle.std.proofs.lemmas.Bool.{ltb-false, ltb-true}
 use Rattle.vm_memory.specs.Memory.{Memory}
 use Rattle.vm_memory.specs.Layout.{Region}
 use Rattle.vm_memory_core.specs.Host.{changed_at}
+use Rattle.fs_chain.specs.Queues.{SameEventIndex}
+use Rattle.fs_chain.proofs.HoldsQueues.{same_index}
+use Rattle.fs_driven.proofs.Handles.{fits_queue}
 use Rattle.fs_queue.specs.Queue.{Queue}
 use Rattle.fs_regions.specs.Places.{places_in, untranslated}
 use Rattle.live_machine.specs.Several.{LiveQueue}
@@ -182,10 +185,10 @@ moved ws ws' q q' alloc regions idle few small wide valid clear takes is page_si
       outs = λ j w there out. absurd (not_free (is_out w.state) out
           (ap is_out (is_free regions.now ws ws' j w takes there)));
       fits = λ j w there.
-          let e : q'.event_index ≡ q.event_index = ap (λ (x : QueueState). x.event_index) is in
-          subst (λ (b : Bool). FitsRun r.after.places r.after.limit b (pops j) w) (sym e)
-          (subst (λ (n : ℕ). FitsRun r.after.places n q.event_index (pops j) w) (sym r.limit)
-          (subst (λ (x : Memory). FitsRun x s.limit q.event_index (pops j) w) (sym r.places)
+          let e : SameEventIndex q' q = same_index q' _ is in
+          fits_queue r.after.places r.after.limit q q' (pops j) w e
+          (subst (λ (n : ℕ). FitsRun r.after.places n q (pops j) w) (sym r.limit)
+          (subst (λ (x : Memory). FitsRun x s.limit q (pops j) w) (sym r.places)
           (fits_new s q regions.now ws ws' i page_size j w d all takes there)));
       left = λ c is. absurd is;
       still = λ pushing. refl;

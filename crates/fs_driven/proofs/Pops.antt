@@ -5,6 +5,8 @@ use Rattle.std.proofs.Common.{refl, subst, suc, sym, ap, ◌∙◌}
 use Rattle.std.specs.Prelude.{Result, Ok, Err, IfErr, IfOk, IsTrue, OnErr, if◌then◌else◌}
 use Rattle.std.proofs.Common.{true, ◌⊎◌}
 use Rattle.std.specs.Borrow.{Bor}
+use Rattle.fs_chain.specs.Holds.{IsPopOf, pop_of}
+use Rattle.fs_chain.proofs.HoldsQueues.{live_index, same_index}
 use Rattle.fs_chain.specs.declared.error.ChainError.{ChainError}
 use Rattle.fs_chain.specs.Events.{event_fault, event_miss}
 use Rattle.std.specs.Prelude.{◌+◌, ◌<◌}
@@ -67,17 +69,17 @@ use Rattle.fs_driven.proofs.Handles.{Moves, SamePlaces, held_out, idles, joins, 
 use Rattle.fs_driven.proofs.Calls.{HasNoPush, fetched_ready, fits_out, refuses, stays_put}
 use Rattle.fs_driven.proofs.Calls.{still}
 
-pub idle_may : (limit : ℕ) (event_index : Bool) (p : Pop) (w : ChainHandle) → w.state ≡ at.Free →
-    MayPop limit event_index p w w.state
-idle_may limit event_index p w free =
-    subst (λ (st : state.ChainState). MayPop limit event_index p w st) (sym free) tt
+pub idle_may : (limit : ℕ) (q : QueueState) (p : Pop) (w : ChainHandle) → w.state ≡ at.Free →
+    MayPop limit q p w w.state
+idle_may limit q p w free =
+    subst (λ (st : state.ChainState). MayPop limit q p w st) (sym free) tt
 
-fits_free : (places : Memory) (limit : ℕ) (event_index : Bool) (p r : Pop) (old new : ChainHandle) →
+fits_free : (places : Memory) (limit : ℕ) (q : QueueState) (p r : Pop) (old new : ChainHandle) →
     KeepsMemory old new →
     new.state ≡ at.Free
-    → FitsRun places limit event_index p old → FitsRun places limit event_index r new
-fits_free places limit event_index p r old new same free fits =
-    (fits.0 ∙ ap places_in (sym same.0), fits.1 ∙ sym same.1, idle_may limit event_index r new free)
+    → FitsRun places limit q p old → FitsRun places limit q r new
+fits_free places limit q p r old new same free fits =
+    (fits.0 ∙ ap places_in (sym same.0), fits.1 ∙ sym same.1, idle_may limit q r new free)
 
 -- the queue that a pop leaves
 queue_now : (s : Machine) (i : ℕ) (q q' : QueueState) (v : LiveQueue) → IsQueue s i q →
@@ -164,9 +166,9 @@ ended s i page_size k q q' ws os pops push old new loaded step.Idle T all there 
       (s, happens, refl),
       idles s s i page_size q q' ws os k old new no_pop pops push push all there
           (stays_put s i page_size k q q' no_pop push new queue
-          (ap (λ (r : LiveQueue). r.event_index) now)
+          (live_index q' _ now)
           (places_of q q' (live_of q) now (λ head len. refl)) same.pushing all.still
-          (fits_free s.places s.limit q.event_index (pops k) no_pop old new same.memory has
+          (fits_free s.places s.limit q (pops k) no_pop old new same.memory has
           (all.fits k old there)))
           (same_count (live_of q) (live_of q') now) refl free (ap is_out has),
       reports s os (with_pop pops k no_pop),
@@ -181,8 +183,8 @@ ended s i page_size k q q' ws os pops push old new loaded (step.Refused e) T all
       limit = refl;
       places = refl;
       queue = queue;
-      event = ap (λ (r : LiveQueue). r.event_index) now;
-      fits = fits_free s.places s.limit q.event_index (pops k) no_pop old new same.memory has
+      event = live_index q' _ now;
+      fits = fits_free s.places s.limit q (pops k) no_pop old new same.memory has
           (all.fits k old there);
       others = others_same page_size k q q' push (places_of q q' v now (refused_places (live_of q) e));
       still = still_of q q' push same.pushing all.still;
@@ -211,8 +213,8 @@ ended s i page_size k q q' ws os pops push old new loaded (step.Chain head fault
       limit = refl;
       places = refl;
       queue = queue;
-      event = ap (λ (r : LiveQueue). r.event_index) now;
-      fits = fits_out s.places s.limit q.event_index (pops k) no_pop old new same.memory
+      event = live_index q' _ now;
+      fits = fits_out s.places s.limit q (pops k) no_pop old new same.memory
           (held_out s.page_size c c.phase new.state new.session has) (all.fits k old there);
       others = others_same page_size k q q' push (places_of q q' v now (λ head len. refl));
       still = still_of q q' push same.pushing all.still;
@@ -249,8 +251,9 @@ refused s i page_size k q q' ws os pops push old new reported T all there free s
       limit = refl;
       places = refl;
       queue = queue;
-      event = ap (λ (l : LiveQueue). l.event_index) now ∙ ap (λ (l : LiveQueue). l.event_index) w_is;
-      fits = fits_free s.places s.limit q.event_index (pops k) no_pop old new same.memory r.free
+      event = live_index q' (record (live_of q) { queue = after_refusal (live_of q).queue r.error })
+          (now ∙ ap (λ (l : LiveQueue). record l { queue = after_refusal l.queue r.error }) w_is);
+      fits = fits_free s.places s.limit q (pops k) no_pop old new same.memory r.free
           (all.fits k old there);
       others = others_same page_size k q q' push (places_of q q' v now
           (λ head len. refused_places h.w r.error head len
@@ -329,7 +332,7 @@ pub popped : (s : Machine) (i page_size k : ℕ) (q q' : QueueState) (ws : List 
     (T : List LiveEvent → Desk → Type 0)
     → Driven s i page_size q ws os pops push → slice_get ws k ≡ Some old → is_out old.state ≡ false →
     Popping old new q q'
-    → p.event_index ≡ q.event_index
+    → IsPopOf q p
     → GivesPop i page_size k (desk s ws q os pops push) q' old new p.loaded reported T
     → PopIs s i q q' p new reported
     → Leads s i page_size q' (with_handle ws k new) T
@@ -348,10 +351,10 @@ popped s i page_size k q q' ws os pops push old new p (shows.Missing range acces
       idles s s i page_size q q' ws os k old new no_pop pops push push all there
           (stays_put s i page_size k q q' no_pop push new
           (subst (λ (r : QueueState). IsQueue s i r) (sym is.1) all.queue)
-          (ap (λ (r : QueueState). r.event_index) is.1)
+          (same_index q' _ is.1)
           (λ head len. ap (λ (r : QueueState). stores_after_reply (returning (live_of r)) head len) is.1)
           same.pushing all.still
-          (fits_free s.places s.limit q.event_index (pops k) no_pop old new same.memory is.0 was))
+          (fits_free s.places s.limit q (pops k) no_pop old new same.memory is.0 was))
           (same_count (live_of q) (live_of q') (ap live_of is.1)) refl free (ap is_out is.0),
       give s os (with_pop pops k no_pop) [] refl,
     )
@@ -389,7 +392,7 @@ begins page_size old new q q' bytes (outcomes.On reported) free proceeds begin s
     λ after. subst (λ (st : state.ChainState). IsLoadedBy st
     (turn i page_size k (desk s ws q os pops push) after old new) bytes.now reported nothing) (sym free) refl in
     popped s i page_size k q q' ws os pops push old new
-    (record { loaded = nothing; event_index = q.event_index }) reported
+    (pop_of q nothing) reported
     (λ es d. Reports (turn i page_size k (desk s ws q os pops push) d old new) (does.Pop bytes) u
     (gives.Popped (Ok (outcomes.On reported))) es)
     all there (ap is_out free) same refl
@@ -407,7 +410,7 @@ unfolding DrivesOne ContinuesAPop
 continues page_size old new q q' bytes outcomes.Part course pop_id walk is proceeds go same ws k there u s i os pops
     push all =
     let was = all.fits k old there in
-    let may = subst (λ (st : state.ChainState). MayPop s.limit q.event_index (pops k) old st) is was.2 in
+    let may = subst (λ (st : state.ChainState). MayPop s.limit q (pops k) old st) is was.2 in
     still s i page_size k q q' ws os pops push old new (pops k)
     (λ es d. Reports (turn i page_size k (desk s ws q os pops push) d old new) (does.Pop bytes) u
     (gives.Popped (Ok outcomes.Part)) es)
@@ -417,7 +420,7 @@ continues page_size old new q q' bytes outcomes.Part course pop_id walk is proce
 continues page_size old new q q' bytes (outcomes.On reported) course pop_id walk is proceeds go same ws k there u s i os
     pops push all =
     let was = all.fits k old there in
-    let may = subst (λ (st : state.ChainState). MayPop s.limit q.event_index (pops k) old st) is was.2 in
+    let may = subst (λ (st : state.ChainState). MayPop s.limit q (pops k) old st) is was.2 in
     let on = go s i (pops k) may.0 all.queue was.0 may.1 all.small in
     let adds : q.stopped ≡ None → AddsSo (at.Walking course pop_id walk) (outcomes.On reported) new.descriptors.items
     (pops k).loaded (whole old bytes.now) on.0 =

@@ -62,12 +62,12 @@ is_free regions ws ws' k new takes there =
 pub fits_new : (s : Machine) (q : QueueState) (regions : List Region) (ws ws' : List ChainHandle) (i page_size k : ℕ)
     (new : ChainHandle) (d : Desk)
     → Driven s i page_size q ws d.owned d.pops d.push → TakeMemory regions ws ws' → slice_get ws' k ≡ Some new
-    → FitsRun (places_in (untranslated regions)) s.limit q.event_index (d.pops k) new
+    → FitsRun (places_in (untranslated regions)) s.limit q (d.pops k) new
 fits_new s q regions ws ws' i page_size k new d all takes there =
     let r = took regions ws ws' k new takes there in (
       ap places_in (sym r.takes.1),
       (all.fits k r.old r.there).1 ∙ sym r.takes.2,
-      idle_may s.limit q.event_index (d.pops k) new (r.takes.3 ∙ r.takes.0),
+      idle_may s.limit q (d.pops k) new (r.takes.3 ∙ r.takes.0),
     )
 
 remapped : (ws ws' : List ChainHandle) (q : QueueState) (alloc : Global) (regions : Bor (List Region))

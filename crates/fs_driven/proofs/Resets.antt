@@ -5,6 +5,9 @@ use Rattle.std.proofs.Common.{All, append-nil, eq-eqb, refl, subst, sym, ap, ◌
 use Rattle.std.proofs.Common.{zero-le}
 use Rattle.std.specs.Prelude.{◌≤◌, filter, if◌then◌else◌, option_map}
 use Rattle.std.specs.List.{AllByRecursion}
+use Rattle.fs_chain.specs.Queues.{SameEventIndex}
+use Rattle.fs_chain.proofs.HoldsQueues.{same_index}
+use Rattle.fs_driven.proofs.Handles.{fits_queue}
 use Rattle.fs_queue.specs.declared.layout.QueueLayout.{QueueLayout}
 use Rattle.live_machine.specs.Live.{InFlightChain, LiveRun, ResetsQueue, StoresNotification}
 use Rattle.live_machine.specs.Live.{after_reset}
@@ -79,7 +82,7 @@ reset_done ws q q' layout position may is resets page_size k zs calls s i os pop
     subst (λ (cs : List InFlightChain). AllByRecursion (IsLost i) cs) (sym all.all.chains)
     (each_lost s.page_size i ws os none all.all.held all.left) in
     let max : q'.max_in_flight ≡ q.max_in_flight = ap (λ (r : QueueState). r.max_in_flight) is in
-    let event : q'.event_index ≡ q.event_index = ap (λ (r : QueueState). r.event_index) is in
+    let event : SameEventIndex q' q = same_index q' _ is in
     let laid : q'.layout ≡ layout = ap (λ (r : QueueState). r.layout) is in
     let most : q'.max_in_flight ≤ q'.layout.size =
     subst (λ (n : ℕ). n ≤ q'.layout.size) (sym max)
@@ -98,7 +101,7 @@ reset_done ws q q' layout position may is resets page_size k zs calls s i os pop
       mine = λ j w c there m. absurd m;
       outs = λ j w there out. absurd (not_free (is_out w.state) out (none j w there));
       fits = λ j w there.
-          subst (λ (b : Bool). FitsRun s.places s.limit b (pops j) w) (sym event) (all.fits j w there);
+          fits_queue s.places s.limit q q' (pops j) w event (all.fits j w there);
       left = λ c m. absurd m;
       still = λ pushing. refl;
       counts = λ few small. zero-le;

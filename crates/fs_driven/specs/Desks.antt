@@ -7,11 +7,11 @@ use Rattle.fs_queue.specs.declared.fault.ChainFault.{ChainFault}
 use Rattle.fs_queue.specs.Returning.{stores_after_reply}
 use Rattle.fs_queue.specs.ReturningView.{stores_of}
 use Rattle.fs_regions.specs.Places.{places_in}
-use Rattle.fs_regions.specs.Walks.{nothing}
 use Rattle.plain_machine.specs.Step.{Exchange}
 use Rattle.live_machine.specs.Several.{LiveQueue, in_flight, returning}
 use Rattle.live_machine.specs.Live.{Abandoned, InFlightChain, LiveEvent, LiveRun, PushedWith}
-use Rattle.fs_chain.specs.Holds.{HoldsPop, IsQueue, Machine, Pop, any_files, live_of}
+use Rattle.fs_chain.specs.Holds.{HoldsPop, IsPopOf, IsQueue, Machine, Pop, any_files, live_of}
+pub use Rattle.fs_chain.specs.Holds.{no_pop}
 use Rattle.fs_chain.specs.Orders.{is_out}
 use Rattle.fs_chain.specs.Together.{Owned, Together}
 use Rattle.fs_chain.specs.declared.chain_handle.ChainHandle.{ChainHandle}
@@ -64,15 +64,14 @@ IsReady page_size k q push c (at.Pushing out) =
 IsReady page_size k q push c _ = Unit {0}
 
 -- a pop that is under way has these loads, which lead to it
-abbrev pub MayPop : (limit : ℕ) → (event_index : Bool) → Pop → ChainHandle → state.ChainState → Type 0
-MayPop limit event_index p w (at.Walking course pop_id walk) =
-    HoldsPop limit p w × (p.event_index ≡ event_index)
-MayPop limit event_index p w _ = Unit {0}
+abbrev pub MayPop : (limit : ℕ) → QueueState → Pop → ChainHandle → state.ChainState → Type 0
+MayPop limit q p w (at.Walking course pop_id walk) = HoldsPop limit p w × IsPopOf q p
+MayPop limit q p w _ = Unit {0}
 
 -- a handle over the run's memory
-abbrev pub FitsRun : Memory → (limit : ℕ) → (event_index : Bool) → Pop → ChainHandle → Type 0
-FitsRun places limit event_index p w =
-    (places ≡ places_in w.regions) × (limit ≡ w.limit) × MayPop limit event_index p w w.state
+abbrev pub FitsRun : Memory → (limit : ℕ) → QueueState → Pop → ChainHandle → Type 0
+FitsRun places limit q p w =
+    (places ≡ places_in w.regions) × (limit ≡ w.limit) × MayPop limit q p w w.state
 
 -- the loads of the handles' pops, once handle k has made those
 abbrev pub with_pop : (ℕ → Pop) → ℕ → Pop → ℕ → Pop
@@ -95,7 +94,7 @@ pub record Driven (s : Machine) (i page_size : ℕ) (q : QueueState) (ws : List 
   pub outs : (k : ℕ) (w : ChainHandle) → slice_get ws k ≡ Some w → is_out w.state ≡ true →
       (c : InFlightChain) × In (own k c) os
   pub fits : (k : ℕ) (w : ChainHandle) → slice_get ws k ≡ Some w →
-      FitsRun s.places s.limit q.event_index (pops k) w
+      FitsRun s.places s.limit q (pops k) w
   pub left : (c : InFlightChain) → In (lost c) os → IsLost i c
   pub still : q.pushing ≡ false → push ≡ None
   pub counts : HasInFlight (live_of q) (length os)
@@ -136,10 +135,6 @@ LeadsTo i page_size d d' es =
     × Driven d'.run i page_size d'.queue d'.handles d'.owned d'.pops d'.push
 
 -- ---- the beginning
-
--- no loads
-abbrev pub no_pop : Pop
-no_pop = record { loaded = nothing; event_index = false }
 
 -- free handles over the run's memory, while no chain is in flight
 abbrev pub BeginsDriven : Type 0
