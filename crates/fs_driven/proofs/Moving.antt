@@ -1,5 +1,5 @@
 -- A move drives the run: of a run's only queue it is the device's, and otherwise a reset and new memory.
-use Rattle.std.proofs.Common.{inl, inr, ◌≡◌, ◌⊎◌, ◌≤◌, ◌<◌, ◌^◌, ℕ, zero, suc, Bool, true, false, List, [], ◌∷◌}
+use Rattle.std.proofs.Common.{inl, inr, ◌≡◌, ◌≤◌, ◌<◌, ◌^◌, ℕ, zero, suc, Bool, true, false, List, [], ◌∷◌}
 use Rattle.std.proofs.Common.{Option, Some, None, append-nil, arith, length, refl, subst, sym, ap, ◌∙◌, ◌==◌, slice_get, zero-le}
 use Rattle.std.specs.Prelude.{◌&&◌, Err, IfErr, Ok, OnErr, OnOk, Result, filter, if◌then◌else◌, map, nat_lt, not}
 use Rattle.std.specs.Borrow.{Bor}
@@ -8,7 +8,6 @@ use Rattle.std.specs.List.{AllByRecursion}
 use Rattle.std.proofs.lemmas.Bool.{ltb-false, ltb-true}
 use Rattle.vm_memory.specs.Memory.{Memory}
 use Rattle.vm_memory.specs.Layout.{Region}
-use Rattle.vm_memory_core.specs.Host.{changed_at}
 use Rattle.fs_chain.specs.Queues.{SameEventIndex}
 use Rattle.fs_chain.proofs.HoldsQueues.{same_index}
 use Rattle.fs_driven.proofs.Handles.{fits_queue}
@@ -16,7 +15,6 @@ use Rattle.fs_queue.specs.Queue.{Queue}
 use Rattle.fs_regions.specs.Places.{places_in, untranslated}
 use Rattle.live_machine.specs.Several.{LiveQueue}
 use Rattle.live_machine.specs.Live.{HasNoneInFlight, HasValidMaximum, InFlightChain, KeepsQueue, LiveEvent, LiveRun}
-use Rattle.live_machine.specs.Live.{MovesDevice}
 use Rattle.live_machine.specs.Live.{MovesDeviceSo, Remaps, RemapsSo, ResetsQueue, ResetsQueueSo, after_reset}
 use Rattle.live_machine.proofs.Queues.{none_some, same_some, there_same}
 use Rattle.fs_chain.specs.Holds.{IsQueue, Machine, any_files, live_of}
@@ -31,7 +29,7 @@ use Rattle.fs_driven.specs.declared.commands.Command.TheVariants as does
 use Rattle.fs_driven.specs.declared.commands.Returned.TheVariants as gives
 use Rattle.fs_driven.specs.Desks.{Desk, Driven, FitsRun, desk}
 use Rattle.fs_driven.specs.Moving.{HasMaximum, has_valid_maximum, move_error, moving, restored}
-use Rattle.fs_driven.specs.NewMemory.{IsErrorOf, TakeMemory, handles_error, remap_error}
+use Rattle.fs_driven.specs.NewMemory.{IsErrorOf, TakeMemory, remap_error}
 use Rattle.fs_driven.specs.Reported.{Drives, DrivesOne, ReportsAll, call_of}
 use Rattle.fs_driven.proofs.Calls.{refuses, same_held}
 use Rattle.fs_driven.proofs.Handles.{Seen, not_free}

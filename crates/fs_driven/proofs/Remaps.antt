@@ -1,5 +1,5 @@
 -- New memory drives the run: a handle of it takes regions while no chain is in flight.
-use Rattle.std.proofs.Common.{inl, inr, ◌≡◌, ◌⊎◌, ◌≤◌, ◌<◌, ◌^◌, ℕ, zero, suc, Bool, true, false, List, [], ◌∷◌}
+use Rattle.std.proofs.Common.{inl, inr, ◌≡◌, ◌≤◌, ◌<◌, ◌^◌, ℕ, zero, suc, Bool, true, false, List, [], ◌∷◌}
 use Rattle.std.proofs.Common.{Option, Some, None, arith, length, eqb-true, refl, subst, sym, ap, ◌∙◌, ◌==◌, slice_get, zero-le}
 use Rattle.std.specs.Prelude.{Err, IfErr, Ok, OnErr, OnOk, Result, if◌then◌else◌, map}
 use Rattle.std.specs.Borrow.{Bor}
@@ -10,7 +10,7 @@ use Rattle.vm_memory.specs.Layout.{Region}
 use Rattle.fs_regions.specs.Places.{places_in, untranslated}
 use Rattle.live_machine.specs.Live.{InFlightChain, KeepsQueue, LiveRun, Remaps, RemapsSo}
 use Rattle.live_machine.proofs.Queues.{none_some, same_some}
-use Rattle.fs_chain.specs.Holds.{Machine, any_files, live_of}
+use Rattle.fs_chain.specs.Holds.{Machine, any_files}
 use Rattle.fs_chain.specs.Orders.{is_out}
 use Rattle.fs_chain.specs.Queues.{in_flight}
 use Rattle.fs_chain.specs.Together.{Owned}
